@@ -1,0 +1,98 @@
+//! What a call is refused with.
+ghost use Rattle.std.specs.Prelude.{◌≡◌};
+ghost use Rattle.postscript_base.specs.Error.{code, FromIo};
+ghost use Rattle.postscript_base.specs.declared.error.Error.TheVariants as errors;
+
+use std::alloc::{AllocError, AllocFailed};
+use std::io;
+use thiserror::Error;
+
+/// A result.
+pub type Result<T> = std::result::Result<T, Error>;
+
+/// A refusal.
+#[derive(Debug, Drop, Error)]
+pub enum Error {
+    /// Bytes were wanting, or the tape answered a fault of this kind.
+    #[error("failed to fill whole buffer")]
+    UnexpectedEof,
+    /// The tape answered a fault of another kind.
+    #[error("found a fault of the tape")]
+    Io(io::Error),
+    /// A growth was refused.
+    #[error("failed to find memory")]
+    Memory,
+    /// The bytes spell no number.
+    #[error("found a malformed number")]
+    MalformedNumber,
+    /// The code names no operator.
+    #[error("found an unknown operator")]
+    UnknownOperator,
+    /// A part of the format that this library does not follow.
+    #[error("found an unsupported part")]
+    Unsupported(Part),
+    /// The stack has no length that the operator takes.
+    #[error("found malformed operands")]
+    MalformedOperands,
+    /// An earlier call of this program was refused.
+    #[error("the program has failed before")]
+    AlreadyFailed,
+}
+
+/// A part of the formats that is refused.
+#[derive(Clone, Copy, Debug, PartialEq, Eq)]
+pub enum Part {
+    /// The charstring operator `random`.
+    Random,
+    /// The charstring operator `put`.
+    Put,
+    /// The charstring operator `get`.
+    Get,
+    /// A charstring operator that is not written yet.
+    Later,
+}
+
+impl Error {
+    /// The number of the refusal, the same in every version of this library.
+    pub fn code(&self) -> u8
+        ensures { result ≡ code self.now }
+    {
+        match self {
+            Error::UnexpectedEof => 1,
+            Error::Io(_) => 2,
+            Error::Memory => 3,
+            Error::MalformedNumber => 7,
+            Error::UnknownOperator => 9,
+            Error::Unsupported(_) => 16,
+            Error::MalformedOperands => 20,
+            Error::AlreadyFailed => 30,
+        }
+    }
+}
+
+impl From<io::Error> for Error {
+    ghost from_gives = { FromIo };
+
+    fn from(fault: io::Error) -> Error {
+        match fault.kind() {
+            io::ErrorKind::UnexpectedEof => Error::UnexpectedEof,
+            _ => Error::Io(fault),
+        }
+    }
+}
+
+impl From<AllocError> for Error {
+    ghost from_gives = { λ _ e. e ≡ errors.Memory };
+
+    fn from(_fault: AllocError) -> Error {
+        Error::Memory
+    }
+}
+
+impl<T: Drop> From<AllocFailed<T>> for Error {
+    ghost from_gives = { λ _ e. e ≡ errors.Memory };
+
+    fn from(_fault: AllocFailed<T>) -> Error {
+        Error::Memory
+    }
+}

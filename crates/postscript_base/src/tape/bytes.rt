@@ -1,0 +1,50 @@
+//! So many bytes, as a list.
+ghost use Rattle.std.specs.Prelude.{◌≡◌, ℕ, ◌+◌, ◌<◌, ◌^◌, List, [], ◌∷◌, OnOk, vec_len};
+ghost use Rattle.postscript_base.specs.Error.{IsListed};
+ghost use Rattle.postscript_base.specs.Tape.{Reads};
+ghost use Rattle.postscript_base.specs.Numbers.{slice, slice_behind};
+
+use super::{Tape, Walue};
+use crate::error::Result;
+use std::alloc::Global;
+
+/// By how many bytes a list grows at most before they are read.
+const PIECE: usize = 65_536;
+
+/// The parameter is the number of bytes. The list grows as bytes come.
+#[tactic(auto, unfolding(crate::specs::Numbers::slice))]
+impl Walue for Vec<u8> {
+    type Parameter = usize;
+
+    ghost Shown = { List ℕ };
+
+    ghost view = { λ bytes. bytes.items };
+
+    ghost reading = { slice };
+
+    ghost refusals = { 1 ∷ 2 ∷ 3 ∷ [] };
+
+    fn read<T: Tape>(alloc: Global, tape: &mut T, count: usize) -> Result<Vec<u8>> {
+        let mut bytes = Vec::new(alloc);
+        while bytes.len() < count {
+            let more = (count - bytes.len()).min(PIECE);
+            append(tape, &mut bytes, more)?;
+        }
+        Ok(bytes)
+    }
+}
+
+/// Reads so many more bytes onto the end.
+#[tactic(auto, unfolding(crate::specs::Numbers::slice))]
+fn append<T: Tape>(tape: &mut T, bytes: &mut Vec<u8>, more: usize) -> Result<()>
+    requires { vec_len bytes.old + more < 2 ^ 64 }
+    ensures exact { Reads (λ _. bytes.new.items) (T.state tape.old) result (T.state tape.new)
+        (slice_behind bytes.old.items more) }
+    ensures listed { IsListed (1 ∷ 2 ∷ 3 ∷ []) result }
+    ensures len { OnOk result (vec_len bytes.new ≡ vec_len bytes.old + more) }
+{
+    let start = bytes.len();
+    bytes.resize(start + more, 0)?;
+    tape.read_full(&mut bytes[start..])?;
+    Ok(())
+}

@@ -1,0 +1,68 @@
+//! Values of a fixed number of bytes.
+ghost use Rattle.std.specs.Prelude.{ℕ, List, [], ◌∷◌};
+ghost use Rattle.postscript_base.specs.Outcome.{same};
+ghost use Rattle.postscript_base.specs.Numbers.{slice, number};
+
+use super::{Tape, Value, fixed};
+use crate::error::Result;
+use std::alloc::Global;
+
+#[tactic(auto, unfolding(crate::specs::Numbers::number))]
+impl Value for u8 {
+    ghost Shown = { ℕ };
+
+    ghost view = { same };
+
+    ghost reading = { number 1 };
+
+    ghost refusals = { 1 ∷ 2 ∷ [] };
+
+    fn read<T: Tape>(_alloc: Global, tape: &mut T) -> Result<u8> {
+        let [byte] = fixed::<1, T>(tape)?;
+        Ok(byte)
+    }
+}
+
+#[tactic(auto, unfolding(crate::specs::Numbers::number))]
+impl Value for u16 {
+    ghost Shown = { ℕ };
+
+    ghost view = { same };
+
+    ghost reading = { number 2 };
+
+    ghost refusals = { 1 ∷ 2 ∷ [] };
+
+    fn read<T: Tape>(_alloc: Global, tape: &mut T) -> Result<u16> {
+        Ok(u16::from_be_bytes(fixed(tape)?))
+    }
+}
+
+#[tactic(auto, unfolding(crate::specs::Numbers::number))]
+impl Value for u32 {
+    ghost Shown = { ℕ };
+
+    ghost view = { same };
+
+    ghost reading = { number 4 };
+
+    ghost refusals = { 1 ∷ 2 ∷ [] };
+
+    fn read<T: Tape>(_alloc: Global, tape: &mut T) -> Result<u32> {
+        Ok(u32::from_be_bytes(fixed(tape)?))
+    }
+}
+
+impl Value for [u8; 3] {
+    ghost Shown = { List ℕ };
+
+    ghost view = { same };
+
+    ghost reading = { slice 3 };
+
+    ghost refusals = { 1 ∷ 2 ∷ [] };
+
+    fn read<T: Tape>(_alloc: Global, tape: &mut T) -> Result<[u8; 3]> {
+        fixed(tape)
+    }
+}
