@@ -1,5 +1,7 @@
 //! Readers that seek, and what is known of them.
-ghost use Rattle.std.specs.Prelude.{ℕ, List, Option};
+ghost use Rattle.std.specs.Prelude.{ℕ, List, Option, OnOk};
+ghost use Rattle.std.specs.Io.KnownBytes.{Consumes, Keeps};
+ghost use Rattle.std.specs.Io.Seek.{SeekMoves};
 ghost use Rattle.postscript_base.specs.Tape.{TapeState, untold, FillsBuffer, Seeks};
 ghost use Rattle.postscript_base.specs.Cursor.{cursor_state};
 
@@ -17,11 +19,15 @@ pub trait ReadSeek: Read + Seek + Sized {
 
     /// Fills the whole buffer, as `Read::read_exact` does.
     fn read_full(&mut self, buf: &mut [u8]) -> io::Result<()>
-        ensures fills { FillsBuffer (state self.old) result (state self.new) buf.new };
+        ensures fills { FillsBuffer (state self.old) result (state self.new) buf.new }
+        ensures bytes { OnOk result (Consumes (Self.remaining self.old) (Self.remaining self.new) buf.new) };
 
     /// Goes to a place and answers it, as `Seek::seek` does.
     fn seek_to(&mut self, to: SeekFrom) -> io::Result<u64>
-        ensures seeks { Seeks to (state self.old) result (state self.new) };
+        ensures seeks { Seeks to (state self.old) result (state self.new) }
+        ensures moves { SeekMoves (Self.stream_position self.old) (Self.stream_position self.new)
+            (Self.stream_bytes self.old) to result }
+        ensures bytes { Keeps (Self.stream_bytes self.old) (Self.stream_bytes self.new) };
 }
 
 impl<B: AsBytes> ReadSeek for Cursor<B> {

@@ -1,0 +1,1 @@
+pub use Rattle.postscript_base.specs.Error

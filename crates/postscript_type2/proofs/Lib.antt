@@ -1,0 +1,16 @@
+pub mod Greatest
+pub mod Taken
+pub mod Wholes
+pub mod Roots
+pub mod Rolls
+pub mod Still
+pub mod Rows
+pub mod EffectRows
+pub mod Places
+pub mod Fits
+pub mod Fronts
+pub mod Strides
+pub mod Bytes
+pub mod Pieces
+pub mod Groups
+pub mod Arms

@@ -1,0 +1,188 @@
+-- What each operator does, and which are written.
+use Rattle.std.specs.Option.{ok_or}
+use Rattle.std.specs.Prelude.{ℕ, ◌+◌, ◌-◌, ◌/◌, ◌%◌, ◌^◌, ℤ, pos, negsuc, ◌+ℤ◌, nat_lt, Bool, true, false, ◌==◌, List, [], drop, length, slice_get, Option, Some, None, Result, Ok, Err, if◌then◌else◌}
+use Rattle.postscript_base.specs.declared.error.Part.{Part}
+use Rattle.postscript_base.specs.declared.error.Part.TheVariants as parts
+use Rattle.postscript_type2.specs.declared.operation.Operator.{Operator}
+use Rattle.postscript_type2.specs.declared.operation.Operator.TheVariants.{HStem, VStem, VMoveTo, RLineTo, HLineTo, VLineTo, CallSubr, Return, EndChar, HStemHM, HintMask, CntrMask, RMoveTo, HMoveTo, VStemHM, CallGSubr, And, Or, Not, Abs, Add, Sub, Div, Neg, Eq, Drop, Put, Get, IfElse, Random, Mul, Sqrt, Dup, Exch, Index, Roll}
+use Rattle.postscript_type2.specs.FixedPoint.{absolute_value, opposite, root, sum, difference, product, quotient, both, either, denial, same_bits}
+use Rattle.postscript_type2.specs.Lengths.{taken}
+use Rattle.postscript_type2.specs.Refusals.{Refusal, Unsupported, unexpected_eof, malformed_operands, missing_subroutine, too_many_stems}
+use Rattle.postscript_type2.specs.Stacks.{one_to_one, two_to_one, choice, removal, exchange, duplication, copy, roll}
+use Rattle.postscript_type2.specs.Works.{Work, ◌>>=◌, given, whole_operand}
+
+-- the subroutines of a font set and those of one font
+pub record Lists : Type 0 where
+  pub global : List (List ℕ)
+  pub local : List (List ℕ)
+
+-- the operands, the top last; the stems so far; and the width, once it is settled
+pub record State : Type 0 where
+  pub stack : List ℤ
+  pub stems : ℕ
+  pub width : Option (Option ℤ)
+
+abbrev pub start : State
+start = record { stack = []; stems = 0; width = None }
+
+-- What an operator does: it leaves a stack; it clears the stack, is answered with the operands taken, and so many bytes of
+-- a mask are its own; it calls a routine; it returns; it ends the run; or it is refused.
+pub data Move : Type 0 where
+  Keeps : (stack : List ℤ) → Move
+  Clears : (taken : List ℤ) (stems : ℕ) (width : Option ℤ) (mask : ℕ) → Move
+  Calls : (routine : List ℕ) (stack : List ℤ) → Move
+  Returns : Move
+  Ends : (width : Option ℤ) → Move
+  Refuses : Refusal → Move
+
+-- The width is settled once: the operand beneath the last u of the stack, or none where they are the whole stack
+-- (Technical Note 5177, "Type 2 Charstring Organization").
+abbrev pub settled : Option (Option ℤ) → (stack : List ℤ) → (u : ℕ) → Option ℤ
+settled (Some width) stack u = width
+settled None stack u = if u == length stack then None else slice_get stack (length stack - u - 1)
+
+-- the last n items
+abbrev pub last_of : {A : Type 0} → List A → ℕ → List A
+last_of xs n = drop (length xs - n) xs
+
+-- the stack is cleared, and its last n operands are answered
+abbrev pub clearing : State → (stems : ℕ) → (taken : Option ℕ) → Move
+clearing st stems (Some n) = Clears (last_of st.stack n) stems (settled st.width st.stack n) 0
+clearing st stems None = Refuses malformed_operands
+
+-- an operator that draws ("Path Construction Operators")
+abbrev pub path_move : Operator → State → Move
+path_move op st = clearing st st.stems (taken op (length st.stack))
+
+-- each two operands are a stem ("Hint Operators")
+abbrev pub stems_after : State → ℕ
+stems_after st = st.stems + length st.stack / 2
+
+-- a move of so many stems, where 32 bits count them
+abbrev pub with_stems : ℕ → Move → Move
+with_stems stems move = if nat_lt stems (2 ^ 32) then move else Refuses too_many_stems
+
+-- an operator that declares stems
+abbrev pub stem_move : Operator → State → Move
+stem_move op st = with_stems (stems_after st) (clearing st (stems_after st) (taken op (length st.stack)))
+
+-- one bit for each stem, in whole bytes
+abbrev pub mask_len : (stems : ℕ) → ℕ
+mask_len stems = (stems + 7) / 8
+
+-- the even part of the stack declares stems, and the operand beneath it is the width
+abbrev pub mask_clearing : State → (stems : ℕ) → Move
+mask_clearing st stems = Clears [] stems (settled st.width st.stack (length st.stack - length st.stack % 2)) (mask_len stems)
+
+-- a mask, where these bytes follow its operator
+abbrev pub mask_move : (after : List ℕ) → State → Move
+mask_move after st = with_stems (stems_after st)
+    (if nat_lt (length after) (mask_len (stems_after st)) then Refuses unexpected_eof else mask_clearing st (stems_after st))
+
+-- an operator that works on the stack alone
+abbrev pub work_move : Result (Unit {0} × List ℤ) Refusal → Move
+work_move (Ok done) = Keeps done.1
+work_move (Err e) = Refuses e
+
+-- subroutines are numbered from this number below zero on ("Subroutine Operators")
+abbrev pub bias : (count : ℕ) → ℤ
+bias count = if nat_lt count 1240 then pos 107 else if nat_lt count 33900 then pos 1131 else pos 32768
+
+abbrev pub at : {A : Type 0} → List A → ℤ → Option A
+at xs (pos n) = slice_get xs n
+at xs (negsuc n) = None
+
+-- the subroutine that a number names
+abbrev pub named : List (List ℕ) → ℤ → Option (List ℕ)
+named routines number = at routines (number +ℤ bias (length routines))
+
+-- the subroutine that the number on top names
+abbrev pub subroutine : List (List ℕ) → Work (List ℕ)
+subroutine routines = do
+  number ← whole_operand
+  given (ok_or (named routines number) missing_subroutine)
+
+abbrev pub call_move : Result (List ℕ × List ℤ) Refusal → Move
+call_move (Ok done) = Calls done.0 done.1
+call_move (Err e) = Refuses e
+
+-- EndChar takes four operands or none ("Operator for Finishing a Path")
+abbrev pub end_move : State → Move
+end_move st = Ends (settled st.width st.stack (if nat_lt (length st.stack) 4 then 0 else 4))
+
+-- the kinds of operators
+pub data Kind : Type 0 where
+  Draws : Kind
+  DeclaresStems : Kind
+  Masks : Kind
+  Works : Work (Unit {0}) → Kind
+  CallsFrom : (Lists → List (List ℕ)) → Kind
+  GoesBack : Kind
+  EndsGlyph : Kind
+  IsRefused : Part → Kind
+
+abbrev pub kind : Operator → Kind
+kind HStem = DeclaresStems
+kind VStem = DeclaresStems
+kind HStemHM = DeclaresStems
+kind VStemHM = DeclaresStems
+kind HintMask = Masks
+kind CntrMask = Masks
+kind CallSubr = CallsFrom (λ lists. lists.local)
+kind CallGSubr = CallsFrom (λ lists. lists.global)
+kind Return = GoesBack
+kind EndChar = EndsGlyph
+kind Abs = Works (one_to_one absolute_value)
+kind Neg = Works (one_to_one opposite)
+kind Sqrt = Works (one_to_one root)
+kind Not = Works (one_to_one denial)
+kind Add = Works (two_to_one sum)
+kind Sub = Works (two_to_one difference)
+kind Mul = Works (two_to_one product)
+kind Div = Works (two_to_one quotient)
+kind And = Works (two_to_one both)
+kind Or = Works (two_to_one either)
+kind Eq = Works (two_to_one same_bits)
+kind IfElse = Works choice
+kind Drop = Works removal
+kind Exch = Works exchange
+kind Dup = Works duplication
+kind Index = Works copy
+kind Roll = Works roll
+kind Random = IsRefused parts.Random
+kind Put = IsRefused parts.Put
+kind Get = IsRefused parts.Get
+kind op = Draws
+
+-- what an operator of a kind does, where these bytes follow it
+abbrev pub effect_of : Kind → Lists → Operator → (after : List ℕ) → State → Move
+effect_of Draws lists op after st = path_move op st
+effect_of DeclaresStems lists op after st = stem_move op st
+effect_of Masks lists op after st = mask_move after st
+effect_of (Works work) lists op after st = work_move (work st.stack)
+effect_of (CallsFrom routines) lists op after st = call_move (subroutine (routines lists) st.stack)
+effect_of GoesBack lists op after st = Returns
+effect_of EndsGlyph lists op after st = end_move st
+effect_of (IsRefused part) lists op after st = Refuses (Unsupported part)
+
+-- what an operator does
+abbrev pub effect : Lists → Operator → (after : List ℕ) → State → Move
+effect lists op after st = effect_of (kind op) lists op after st
+
+-- the operators that this library follows so far, and those that it refuses for good
+abbrev pub is_written : Operator → Bool
+is_written RMoveTo = true
+is_written HMoveTo = true
+is_written VMoveTo = true
+is_written RLineTo = true
+is_written HLineTo = true
+is_written VLineTo = true
+is_written EndChar = true
+is_written Random = true
+is_written Put = true
+is_written Get = true
+is_written op = false
+
+-- what an operator does here: one that is not written yet is refused, whatever stands on the stack
+abbrev pub act : Lists → Operator → (after : List ℕ) → State → Move
+act lists op after st = if is_written op then effect lists op after st else Refuses (Unsupported parts.Later)

@@ -1,0 +1,62 @@
+-- Numbers of 16 bits before the point and 16 behind it, over their bits (Technical Note 5177, "Arithmetic Operators" and
+-- "Conditional Operators").
+use Rattle.std.specs.Option.{unwrap_or}
+use Rattle.std.specs.Ordering.{int_eq}
+use Rattle.std.specs.Prelude.{ℕ, ◌*◌, ◌^◌, ℤ, pos, neg_ℤ, nat_abs, ◌+ℤ◌, ◌-ℤ◌, ◌*ℤ◌, int_div, int_lt, int_le, nat_le, Bool, not, ◌&&◌, ◌||◌, Result, Ok, Err, if◌then◌else◌}
+use Rattle.postscript_type2.specs.Lengths.{greatest}
+use Rattle.postscript_type2.specs.Number.{whole}
+use Rattle.postscript_type2.specs.Refusals.{Refusal, overflow, zero_divisor, negative_root}
+
+-- the quotient, cut towards zero
+abbrev pub cut : ℤ → ℤ → ℤ
+cut x y = int_div x y
+
+-- the bits, if 32 bits hold them
+abbrev pub fit : ℤ → Result ℤ Refusal
+fit bits = if int_lt bits (neg_ℤ (pos (2 ^ 31))) || int_le (pos (2 ^ 31)) bits then Err overflow else Ok bits
+
+-- the greatest r with r * r ≤ n
+unfoldable pub whole_root : ℕ → ℕ
+whole_root n = unwrap_or (greatest (λ r. nat_le (r * r) n) n) 0
+
+abbrev pub absolute_value : ℤ → Result ℤ Refusal
+absolute_value a = fit (pos (nat_abs a))
+
+abbrev pub opposite : ℤ → Result ℤ Refusal
+opposite a = fit (neg_ℤ a)
+
+abbrev pub sum : ℤ → ℤ → Result ℤ Refusal
+sum a b = fit (a +ℤ b)
+
+abbrev pub difference : ℤ → ℤ → Result ℤ Refusal
+difference a b = fit (a -ℤ b)
+
+abbrev pub product : ℤ → ℤ → Result ℤ Refusal
+product a b = fit (cut (a *ℤ b) (pos 65536))
+
+abbrev pub quotient : ℤ → ℤ → Result ℤ Refusal
+quotient a b = if int_eq b (pos 0) then Err zero_divisor else fit (cut (a *ℤ pos 65536) b)
+
+-- of a number that is not negative, over its bits: the greatest r with r * r ≤ a * 65536
+abbrev pub root : ℤ → Result ℤ Refusal
+root a = if int_lt a (pos 0) then Err negative_root else Ok (pos (whole_root (nat_abs a * 65536)))
+
+-- what a test answers: one or zero
+abbrev pub truth : Bool → ℤ
+truth b = if b then whole (pos 1) else whole (pos 0)
+
+-- every number but zero is true
+abbrev pub is_true : ℤ → Bool
+is_true a = not (int_eq a (pos 0))
+
+abbrev pub both : ℤ → ℤ → Result ℤ Refusal
+both a b = Ok (truth (is_true a && is_true b))
+
+abbrev pub either : ℤ → ℤ → Result ℤ Refusal
+either a b = Ok (truth (is_true a || is_true b))
+
+abbrev pub denial : ℤ → Result ℤ Refusal
+denial a = Ok (truth (not (is_true a)))
+
+abbrev pub same_bits : ℤ → ℤ → Result ℤ Refusal
+same_bits a b = Ok (truth (int_eq a b))

@@ -1,0 +1,31 @@
+-- Flat text: the phrases of a run in their order, without its calls and returns.
+use Rattle.std.specs.List.{flat_map}
+use Rattle.std.specs.Prelude.{ℕ, ◌-◌, List, [], ◌∷◌, ◌++◌, take, length}
+use Rattle.postscript_type2.specs.declared.operation.Operator.{Operator}
+use Rattle.postscript_type2.specs.declared.operation.Operator.TheVariants.{CallSubr, CallGSubr, Return, Drop}
+use Rattle.postscript_type2.specs.Meaning.{Said}
+
+-- a phrase without its operator, which has one byte
+abbrev pub without_operator : List ℕ → List ℕ
+without_operator bytes = take (length bytes - 1) bytes
+
+-- the phrase with an operator that drops the top
+abbrev pub dropping : List ℕ → Said
+dropping numbers = record { operator = Drop; bytes = numbers ++ 0x0c ∷ 0x12 ∷ [] }
+
+-- a phrase in flat code: a call drops its number, and a return drops a zero that it pushes
+abbrev pub flat_by : Operator → List ℕ → Said
+flat_by CallSubr bytes = dropping (without_operator bytes)
+flat_by CallGSubr bytes = dropping (without_operator bytes)
+flat_by Return bytes = dropping (without_operator bytes ++ 0x8b ∷ [])
+flat_by op bytes = record { operator = op; bytes = bytes }
+
+abbrev pub flat_said : Said → Said
+flat_said said = flat_by said.operator said.bytes
+
+abbrev pub flat_bytes : Said → List ℕ
+flat_bytes said = (flat_said said).bytes
+
+-- the flat text of a trace
+abbrev pub flat_text : List Said → List ℕ
+flat_text trace = flat_map flat_bytes trace

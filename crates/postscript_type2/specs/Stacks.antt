@@ -1,0 +1,80 @@
+-- Operators that work on the stack alone (Technical Note 5177, "Arithmetic Operators" and "Conditional Operators").
+use Rattle.std.specs.Int.{int_rem_euclid}
+use Rattle.std.specs.List.{slice_rotate_right}
+use Rattle.std.specs.Prelude.{ℕ, ◌-◌, ℤ, pos, negsuc, nat_abs, int_le, nat_lt, List, ◌++◌, length, take, drop, Result, Ok, Err, if◌then◌else◌}
+use Rattle.postscript_type2.specs.Refusals.{Refusal, expected_more_operands, invalid_operand}
+use Rattle.postscript_type2.specs.Works.{Work, ◌>>=◌, ◌>>◌, given, operand, whole_operand, operand_below, push}
+
+-- a number for a number
+abbrev pub one_to_one : (ℤ → Result ℤ Refusal) → Work (Unit {0})
+one_to_one f = do
+  a ← operand
+  x ← given (f a)
+  push x
+
+-- a number for two numbers, the second of which was on top
+abbrev pub two_to_one : (ℤ → ℤ → Result ℤ Refusal) → Work (Unit {0})
+two_to_one f = do
+  b ← operand
+  a ← operand
+  x ← given (f a b)
+  push x
+
+-- of p, q, v and w: p where v ≤ w, else q
+abbrev pub choice : Work (Unit {0})
+choice = do
+  w ← operand
+  v ← operand
+  q ← operand
+  p ← operand
+  push (if int_le v w then p else q)
+
+-- the top goes
+abbrev pub removal : Work (Unit {0})
+removal = do
+  _ ← operand
+  given (Ok tt)
+
+-- the two topmost change places
+abbrev pub exchange : Work (Unit {0})
+exchange = do
+  b ← operand
+  a ← operand
+  push b
+  push a
+
+-- the top once more
+abbrev pub duplication : Work (Unit {0})
+duplication = do
+  top ← operand_below 0
+  push top
+
+-- a number as a depth: below zero it is the top
+abbrev pub depth : ℤ → ℕ
+depth (pos n) = n
+depth (negsuc n) = 0
+
+-- an operand from further down once more
+abbrev pub copy : Work (Unit {0})
+copy = do
+  i ← whole_operand
+  x ← operand_below (depth i)
+  push x
+
+-- item k of a list goes to place (k + shift) mod its length
+abbrev pub rolled : (shift : ℤ) → List ℤ → List ℤ
+rolled shift xs = slice_rotate_right xs (nat_abs (int_rem_euclid shift (pos (length xs))))
+
+-- a stack whose topmost items are rolled, as many as the span says
+abbrev pub rolled_top : (shift : ℤ) → (span : ℕ) → List ℤ → List ℤ
+rolled_top shift span stack = take (length stack - span) stack ++ rolled shift (drop (length stack - span) stack)
+
+abbrev pub roll_by : (shift span : ℤ) → Work (Unit {0})
+roll_by shift (pos span) stack = if nat_lt (length stack) span then Err expected_more_operands else Ok (tt, rolled_top shift span stack)
+roll_by shift (negsuc span) stack = Err invalid_operand
+
+abbrev pub roll : Work (Unit {0})
+roll = do
+  shift ← whole_operand
+  span ← whole_operand
+  roll_by shift span

@@ -1,0 +1,17 @@
+-- What a whole run tells.
+use Rattle.std.specs.Prelude.{◌≡◌, ℤ, List, map, Option, Some, None, Vec}
+use Rattle.std.specs.Option.{option_map}
+use Rattle.std.specs.declared.alloc.Global.{Global}
+use Rattle.postscript_type2.specs.declared.operation.Operator.{Operator}
+use Rattle.postscript_type2.specs.declared.program.Answers.{Answers}
+use Rattle.postscript_type2.specs.Meaning.{Run, operation, fault_of, width_of}
+use Rattle.postscript_type2.specs.Refusals.{refusal_of}
+
+abbrev pub operation_of : Operator × Vec ℤ Global → Operator × List ℤ
+operation_of x = (x.0, x.1.items)
+
+-- all operations before the end, the refusal exactly where the end is one, and the width of the run
+pub record Tells (told : Answers) (run : Run) : Type 0 where
+  pub operations : map operation_of told.operations.items ≡ map operation run.answers
+  pub fault : option_map refusal_of told.fault ≡ fault_of run.end
+  pub width : told.width ≡ width_of run

@@ -1,0 +1,46 @@
+-- What the code of operators does, as works and moves.
+use Rattle.std.specs.Prelude.{◌≡◌, ◌⊎◌, ℤ, List, Option, Some, None, Result, Ok, Err}
+use Rattle.postscript_base.specs.declared.error.Error.{Error}
+use Rattle.postscript_base.specs.declared.error.Error.TheVariants.{Memory}
+use Rattle.postscript_type2.specs.declared.program.state.Effect.{Effect}
+use Rattle.postscript_type2.specs.declared.program.state.Effect.TheVariants as effects
+use Rattle.postscript_type2.specs.declared.program.state.State as code
+use Rattle.postscript_type2.specs.Effects.{State, Move, Keeps, Clears, Calls, Returns, Ends, Refuses}
+use Rattle.postscript_type2.specs.Meaning.{stacked, cleared}
+use Rattle.postscript_type2.specs.Refusals.{refusal_of}
+use Rattle.postscript_type2.specs.Works.{Work}
+
+-- From the old stack to the new one the code does a work and gives its value, or it refuses what the work refuses.
+-- Want of memory may come in place of either.
+abbrev pub Performs : {A : Type 0} → Work A → List ℤ → Result A Error → List ℤ → Type 0
+Performs work old (Ok value) new = work old ≡ Ok (value, new)
+Performs work old (Err e) new = (e ≡ Memory) ⊎ (work old ≡ Err (refusal_of e))
+
+-- the code's state
+abbrev pub state_of : code.State → State
+state_of st = record { stack = st.stack.items; stems = st.stems; width = st.width }
+
+-- the width where it is settled, else none
+abbrev pub settled_width : Option (Option ℤ) → Option ℤ
+settled_width (Some width) = width
+settled_width None = None
+
+-- what the code answers of an operator, with the state after it
+abbrev pub move_of : Effect → State → Move
+move_of (effects.Clears operands) st = Clears operands.items st.stems (settled_width st.width) 0
+move_of (effects.Ends width) st = Ends width
+
+-- the state after a move
+abbrev pub after_move : Move → State → State
+after_move (Keeps stack) st = stacked stack st
+after_move (Clears taken stems width mask) st = cleared stems width
+after_move (Calls routine stack) st = stacked stack st
+after_move Returns st = st
+after_move (Ends width) st = st
+after_move (Refuses e) st = st
+
+-- From the old state to the new one the code makes a move, or it refuses what the move refuses. Want of memory may come in
+-- place of either. A refusal settles no width.
+abbrev pub Does : Move → code.State → Result Effect Error → code.State → Type 0
+Does move old (Ok effect) new = (move ≡ move_of effect (state_of new)) × (state_of new ≡ after_move move (state_of old))
+Does move old (Err e) new = ((e ≡ Memory) ⊎ (move ≡ Refuses (refusal_of e))) × (new.width ≡ old.width)

@@ -1,0 +1,322 @@
+//! The operations.
+ghost use Rattle.std.specs.Prelude.{◌≡◌, ◌<◌, ◌≤◌, ℤ, nat_lt, Some, IfSome};
+ghost use Rattle.std.specs.Option.{ok_or};
+ghost use Rattle.postscript_base.specs.declared.error.Error.TheVariants as errors;
+ghost use Rattle.postscript_type2.specs.Lengths.{exactly as the_exactly, groups_and as the_groups_and, curves_of_four as the_curves_of_four, greatest, taken as the_taken};
+ghost use Rattle.postscript_type2.specs.Number.{whole, to_int};
+ghost use Rattle.postscript_type2.specs.Operators.{operator_of, name_of};
+ghost use Rattle.postscript_type2.specs.Texts.{text};
+
+use postscript_base::{Error, Result};
+use std::fmt;
+use std::marker::Model;
+
+/// An operand: a 16.16 number, whose bits `b` stand for `b / 65536`.
+#[derive(Clone, Copy, Debug, PartialEq, Eq, PartialOrd, Ord)]
+pub struct Operand {
+    bits: i32,
+}
+
+impl Model for Operand {
+    ghost Value = { ℤ };
+
+    ghost view = { λ operand. operand.bits };
+
+    ghost inverse = { λ bits. record { bits = bits } };
+}
+
+impl Operand {
+    /// The operand of these bits.
+    pub fn from_bits(bits: i32) -> Operand
+        ensures { result ≡ bits }
+    {
+        Operand { bits }
+    }
+
+    /// The bits, 65536 times the number.
+    pub fn bits(&self) -> i32
+        ensures { result ≡ self.now }
+    {
+        self.bits
+    }
+
+    /// The operand of a whole number.
+    pub fn from_int(number: i16) -> Operand
+        ensures { result ≡ whole number }
+    {
+        Operand {
+            bits: i32::from(number) * 65536,
+        }
+    }
+
+    /// The whole number, if it is one.
+    pub fn to_int(&self) -> Option<i16>
+        ensures { result ≡ to_int self.now }
+    {
+        if self.bits % 65536 == 0 {
+            Some((self.bits / 65536) as i16)
+        } else {
+            None
+        }
+    }
+}
+
+/// The whole number, else the bits followed by `/65536`.
+impl fmt::Display for Operand {
+    ghost output = { λ operand. Some (text operand) };
+
+    fn fmt<W: fmt::Write>(&self, f: &mut fmt::Formatter<W>) -> fmt::Result {
+        match self.to_int() {
+            Some(number) => write!(f, "{number}"),
+            None => {
+                let bits = self.bits;
+                write!(f, "{bits}/65536")
+            }
+        }
+    }
+}
+
+/// An operation.
+pub type Operation = (Operator, Vec<Operand>);
+
+/// A collection of operations.
+pub type Operations = Vec<Operation>;
+
+/// An operator (Technical Note 5177, Appendix A).
+#[derive(Clone, Copy, Debug, PartialEq, Eq)]
+pub enum Operator {
+    HStem,
+    VStem,
+    VMoveTo,
+    RLineTo,
+    HLineTo,
+    VLineTo,
+    RRCurveTo,
+    CallSubr,
+    Return,
+    EndChar,
+    HStemHM,
+    HintMask,
+    CntrMask,
+    RMoveTo,
+    HMoveTo,
+    VStemHM,
+    RCurveLine,
+    RLineCurve,
+    VVCurveTo,
+    HHCurveTo,
+    CallGSubr,
+    VHCurveTo,
+    HVCurveTo,
+    And,
+    Or,
+    Not,
+    Abs,
+    Add,
+    Sub,
+    Div,
+    Neg,
+    Eq,
+    Drop,
+    Put,
+    Get,
+    IfElse,
+    Random,
+    Mul,
+    Sqrt,
+    Dup,
+    Exch,
+    Index,
+    Roll,
+    HFlex,
+    Flex,
+    HFlex1,
+    Flex1,
+}
+
+impl Operator {
+    /// The operator of a code; a code of two bytes is 0x0c00 and the second byte.
+    ///
+    /// Refused: `UnknownOperator`.
+    pub fn from(code: u16) -> Result<Self>
+        ensures { result ≡ ok_or (operator_of code) errors.UnknownOperator }
+    {
+        Ok(match code {
+            0x01 => Operator::HStem,
+            0x03 => Operator::VStem,
+            0x04 => Operator::VMoveTo,
+            0x05 => Operator::RLineTo,
+            0x06 => Operator::HLineTo,
+            0x07 => Operator::VLineTo,
+            0x08 => Operator::RRCurveTo,
+            0x0a => Operator::CallSubr,
+            0x0b => Operator::Return,
+            0x0e => Operator::EndChar,
+            0x12 => Operator::HStemHM,
+            0x13 => Operator::HintMask,
+            0x14 => Operator::CntrMask,
+            0x15 => Operator::RMoveTo,
+            0x16 => Operator::HMoveTo,
+            0x17 => Operator::VStemHM,
+            0x18 => Operator::RCurveLine,
+            0x19 => Operator::RLineCurve,
+            0x1a => Operator::VVCurveTo,
+            0x1b => Operator::HHCurveTo,
+            0x1d => Operator::CallGSubr,
+            0x1e => Operator::VHCurveTo,
+            0x1f => Operator::HVCurveTo,
+            0x0c03 => Operator::And,
+            0x0c04 => Operator::Or,
+            0x0c05 => Operator::Not,
+            0x0c09 => Operator::Abs,
+            0x0c0a => Operator::Add,
+            0x0c0b => Operator::Sub,
+            0x0c0c => Operator::Div,
+            0x0c0e => Operator::Neg,
+            0x0c0f => Operator::Eq,
+            0x0c12 => Operator::Drop,
+            0x0c14 => Operator::Put,
+            0x0c15 => Operator::Get,
+            0x0c16 => Operator::IfElse,
+            0x0c17 => Operator::Random,
+            0x0c18 => Operator::Mul,
+            0x0c1a => Operator::Sqrt,
+            0x0c1b => Operator::Dup,
+            0x0c1c => Operator::Exch,
+            0x0c1d => Operator::Index,
+            0x0c1e => Operator::Roll,
+            0x0c22 => Operator::HFlex,
+            0x0c23 => Operator::Flex,
+            0x0c24 => Operator::HFlex1,
+            0x0c25 => Operator::Flex1,
+            _ => return Err(Error::UnknownOperator),
+        })
+    }
+
+    /// The name of the case.
+    pub fn name(&self) -> &'static str
+        ensures { result.now ≡ name_of self.now }
+    {
+        match self {
+            Operator::HStem => "HStem",
+            Operator::VStem => "VStem",
+            Operator::VMoveTo => "VMoveTo",
+            Operator::RLineTo => "RLineTo",
+            Operator::HLineTo => "HLineTo",
+            Operator::VLineTo => "VLineTo",
+            Operator::RRCurveTo => "RRCurveTo",
+            Operator::CallSubr => "CallSubr",
+            Operator::Return => "Return",
+            Operator::EndChar => "EndChar",
+            Operator::HStemHM => "HStemHM",
+            Operator::HintMask => "HintMask",
+            Operator::CntrMask => "CntrMask",
+            Operator::RMoveTo => "RMoveTo",
+            Operator::HMoveTo => "HMoveTo",
+            Operator::VStemHM => "VStemHM",
+            Operator::RCurveLine => "RCurveLine",
+            Operator::RLineCurve => "RLineCurve",
+            Operator::VVCurveTo => "VVCurveTo",
+            Operator::HHCurveTo => "HHCurveTo",
+            Operator::CallGSubr => "CallGSubr",
+            Operator::VHCurveTo => "VHCurveTo",
+            Operator::HVCurveTo => "HVCurveTo",
+            Operator::And => "And",
+            Operator::Or => "Or",
+            Operator::Not => "Not",
+            Operator::Abs => "Abs",
+            Operator::Add => "Add",
+            Operator::Sub => "Sub",
+            Operator::Div => "Div",
+            Operator::Neg => "Neg",
+            Operator::Eq => "Eq",
+            Operator::Drop => "Drop",
+            Operator::Put => "Put",
+            Operator::Get => "Get",
+            Operator::IfElse => "IfElse",
+            Operator::Random => "Random",
+            Operator::Mul => "Mul",
+            Operator::Sqrt => "Sqrt",
+            Operator::Dup => "Dup",
+            Operator::Exch => "Exch",
+            Operator::Index => "Index",
+            Operator::Roll => "Roll",
+            Operator::HFlex => "HFlex",
+            Operator::Flex => "Flex",
+            Operator::HFlex1 => "HFlex1",
+            Operator::Flex1 => "Flex1",
+        }
+    }
+
+    /// The greatest number of operands, at most `length`, that a clearing operator takes; none for `EndChar` and for
+    /// operators that do not clear.
+    pub(crate) fn taken(&self, length: usize) -> Option<usize>
+        ensures value { result ≡ the_taken self.now length }
+        ensures room { IfSome result (λ n. n ≤ length) }
+    {
+        match self {
+            Operator::RMoveTo => exactly(2, length),
+            Operator::HMoveTo | Operator::VMoveTo => exactly(1, length),
+            Operator::RLineTo
+            | Operator::HStem
+            | Operator::VStem
+            | Operator::HStemHM
+            | Operator::VStemHM => groups_and(2, 0, length),
+            Operator::HLineTo | Operator::VLineTo => any(length),
+            Operator::RRCurveTo => groups_and(6, 0, length),
+            Operator::HHCurveTo | Operator::VVCurveTo | Operator::HVCurveTo | Operator::VHCurveTo =>
+                curves_of_four(length),
+            Operator::RCurveLine => groups_and(6, 2, length),
+            Operator::RLineCurve => groups_and(2, 6, length),
+            Operator::Flex => exactly(13, length),
+            Operator::Flex1 => exactly(11, length),
+            Operator::HFlex => exactly(7, length),
+            Operator::HFlex1 => exactly(9, length),
+            Operator::HintMask | Operator::CntrMask => exactly(0, length),
+            _ => None,
+        }
+    }
+}
+
+/// The one length `m`.
+fn exactly(m: usize, length: usize) -> Option<usize>
+    ensures value { result ≡ greatest (the_exactly m) length }
+    ensures room { IfSome result (λ n. n ≤ length) }
+{
+    if length < m { None } else { Some(m) }
+}
+
+/// All operands, where there are any.
+fn any(length: usize) -> Option<usize>
+    ensures value { result ≡ greatest (nat_lt 0) length }
+    ensures room { IfSome result (λ n. n ≤ length) }
+{
+    if length == 0 { None } else { Some(length) }
+}
+
+/// `k` or `2 k` or `3 k` and so on, and `m` more.
+fn groups_and(k: usize, m: usize, length: usize) -> Option<usize>
+    requires { 0 < k }
+    ensures value { result ≡ greatest (the_groups_and k m) length }
+    ensures room { IfSome result (λ n. n ≤ length) }
+{
+    let rest = length.saturating_sub(m);
+    if rest < k {
+        None
+    } else {
+        Some(length - rest % k)
+    }
+}
+
+/// Curves of four operands each, and perhaps one more.
+fn curves_of_four(length: usize) -> Option<usize>
+    ensures value { result ≡ greatest the_curves_of_four length }
+    ensures room { IfSome result (λ n. n ≤ length) }
+{
+    if length < 4 {
+        None
+    } else {
+        let odd = (length % 4).saturating_sub(1);
+        Some(length - odd)
+    }
+}

@@ -1,0 +1,94 @@
+//! A routine: code, and the place that is reached in it.
+ghost use Rattle.std.specs.Prelude.{◌≡◌};
+ghost use Rattle.postscript_type2.specs.Meaning.{is_empty};
+ghost use Rattle.postscript_type2.specs.Phrases.{is_number};
+ghost use Rattle.postscript_type2.specs.Tokens.{LooksAt, ReadsByte, ReadsNumber, ReadsOperator, ReadsPhrase};
+
+use crate::number;
+use crate::operation::{Operand, Operator};
+use postscript_base::{Error, Result};
+use std::io::Cursor;
+use std::marker::Model;
+
+/// A routine, seen as its bytes that are not read yet.
+#[derive(Drop)]
+pub(crate) struct Routine<'l> {
+    tape: Cursor<&'l [u8]>,
+}
+
+impl<'l> Model for Routine<'l> {
+    ghost use Rattle.std.specs.Prelude.{ℕ, List, drop};
+    ghost use Rattle.std.specs.Io.Cursor.{cursor_position, cursor_inner};
+
+    ghost Value = { List ℕ };
+
+    ghost view = { λ routine. drop (cursor_position routine.tape) (cursor_inner routine.tape).now };
+}
+
+/// Whether a number begins with this byte.
+fn begins_number(first: u8) -> bool
+    ensures { result ≡ is_number first }
+{
+    first == 0x1c || first > 0x1f
+}
+
+impl<'l> Routine<'l> {
+    pub(crate) fn new(code: &'l [u8]) -> Self
+        ensures { result ≡ code.now }
+    {
+        Routine {
+            tape: Cursor::new(code),
+        }
+    }
+
+    /// The next byte, which is not read yet.
+    pub(crate) fn first(&self) -> Option<u8>
+        ensures { LooksAt self.now result }
+    {
+        let place = self.tape.position() as usize;
+        let bytes: &[u8] = self.tape.get_ref();
+        if place < bytes.len() {
+            Some(bytes[place])
+        } else {
+            None
+        }
+    }
+
+    fn byte(&mut self) -> Result<u8>
+        ensures { ReadsByte self.old result self.new }
+    {
+        number::byte(&mut self.tape)
+    }
+
+    fn number(&mut self) -> Result<Operand>
+        ensures { ReadsNumber self.old result self.new }
+    {
+        number::read(&mut self.tape)
+    }
+
+    fn operator(&mut self) -> Result<Operator>
+        ensures { ReadsOperator self.old result self.new }
+    {
+        let first = self.byte()?;
+        if first == 0x0c {
+            let second = self.byte()?;
+            Operator::from(0x0c00 + u16::from(second))
+        } else {
+            Operator::from(u16::from(first))
+        }
+    }
+
+    /// Reads a phrase: puts its numbers onto the stack, and answers its operator.
+    pub(crate) fn phrase(&mut self, stack: &mut Vec<Operand>) -> Result<Operator>
+        ensures { ReadsPhrase self.old stack.old.items result self.new stack.new.items }
+    {
+        while let Some(first) = self.first() {
+            if !begins_number(first) {
+                return self.operator();
+            }
+            let operand = self.number()?;
+            stack.push(operand)?;
+        }
+        Err(Error::UnexpectedEof)
+    }
+}

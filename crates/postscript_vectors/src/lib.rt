@@ -1,0 +1,10 @@
+//! Tests of the library against outside vectors, the tapes that they read, and callers that are proved.
+#![tactic(auto)]
+
+pub mod callers;
+pub mod tapes;
+
+#[cfg(test)]
+mod errors;
+#[cfg(test)]
+mod readings;

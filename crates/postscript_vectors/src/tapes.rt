@@ -1,0 +1,90 @@
+//! Tapes that misbehave.
+use postscript::tape::ReadSeek;
+use std::io;
+use std::io::{Cursor, ErrorKind, Read, Seek, SeekFrom};
+
+/// How a tape misbehaves.
+#[derive(Clone, Copy, Debug, PartialEq, Eq)]
+pub enum Trouble {
+    /// So many reads and seeks pass, and the next one fails with the kind `PermissionDenied`; then it goes on.
+    FailsAfter(u32),
+    /// The first read answers `Interrupted`.
+    Interrupted,
+    /// Each read gives one byte.
+    OneByte,
+}
+
+/// A tape over bytes in memory that misbehaves, and counts its failures.
+#[derive(Drop)]
+pub struct TroubledTape<'l> {
+    bytes: Cursor<&'l [u8]>,
+    trouble: Option<Trouble>,
+    failures: u32,
+}
+
+impl<'l> TroubledTape<'l> {
+    pub fn new(bytes: &'l [u8], trouble: Trouble) -> Self {
+        TroubledTape {
+            bytes: Cursor::new(bytes),
+            trouble: Some(trouble),
+            failures: 0,
+        }
+    }
+
+    /// How many calls have failed with the kind `PermissionDenied`.
+    pub fn failures(&self) -> u32 {
+        self.failures
+    }
+
+    /// The place of the tape, asked of the bytes themselves.
+    pub fn place(&self) -> u64 {
+        self.bytes.position()
+    }
+
+    /// Counts a read or a seek, which fails where it is its turn.
+    fn count(&mut self) -> io::Result<()> {
+        match self.trouble {
+            Some(Trouble::FailsAfter(0)) => {
+                self.trouble = None;
+                self.failures = self.failures.saturating_add(1);
+                Err(io::Error::from(ErrorKind::PermissionDenied))
+            }
+            Some(Trouble::FailsAfter(calls)) => {
+                self.trouble = Some(Trouble::FailsAfter(calls - 1));
+                Ok(())
+            }
+            _ => Ok(()),
+        }
+    }
+}
+
+impl<'l> Read for TroubledTape<'l> {
+    fn read(&mut self, buf: &mut [u8]) -> io::Result<usize> {
+        self.count()?;
+        match self.trouble {
+            Some(Trouble::Interrupted) => {
+                self.trouble = None;
+                Err(io::Error::from(ErrorKind::Interrupted))
+            }
+            Some(Trouble::OneByte) if buf.len() > 1 => self.bytes.read(&mut buf[..1]),
+            _ => self.bytes.read(buf),
+        }
+    }
+}
+
+impl<'l> Seek for TroubledTape<'l> {
+    fn seek(&mut self, to: SeekFrom) -> io::Result<u64> {
+        self.count()?;
+        self.bytes.seek(to)
+    }
+}
+
+impl<'l> ReadSeek for TroubledTape<'l> {
+    fn read_full(&mut self, buf: &mut [u8]) -> io::Result<()> {
+        self.read_exact(buf)
+    }
+
+    fn seek_to(&mut self, to: SeekFrom) -> io::Result<u64> {
+        self.seek(to)
+    }
+}

@@ -1,0 +1,12 @@
+-- The commands.
+use Rattle.std.specs.Prelude.{ℕ, List, codes}
+use Rattle.psfont.specs.declared.command.Command.{Command}
+use Rattle.psfont.specs.declared.command.Command.TheVariants.{Load, Run}
+use Rattle.psfont.specs.declared.command.Place.TheVariants.{Code, Global, Local}
+
+-- what a command is called
+abbrev pub name_of : Command → List ℕ
+name_of (Load Code) = codes "code"
+name_of (Load Global) = codes "global"
+name_of (Load Local) = codes "local"
+name_of Run = codes "run"

@@ -1,0 +1,4 @@
+pub mod Command
+pub mod Line
+pub mod Loaded
+pub mod Piece

@@ -1,0 +1,11 @@
+-- Lines of the input, and what they are made of.
+use Rattle.std.specs.Prelude.{ℕ, List, ◌==◌}
+use Rattle.std.specs.List.{before_first, after_first}
+
+-- what stands before the first space; the whole line where there is none
+abbrev pub word_of : List ℕ → List ℕ
+word_of line = before_first (λ byte. byte == 32) line
+
+-- what stands after the first space; nothing where there is none
+abbrev pub argument_of : List ℕ → List ℕ
+argument_of line = after_first (λ byte. byte == 32) line

@@ -1,0 +1,24 @@
+-- What a run is given, and what a line of the input makes of it.
+use Rattle.std.specs.Prelude.{◌≡◌, ℕ, List, [], ◌∷◌, ◌++◌, Ok}
+use Rattle.hex.specs.Hex.{decode_of}
+use Rattle.psfont.specs.Command.{name_of}
+use Rattle.psfont.specs.Line.{word_of, argument_of}
+use Rattle.psfont.specs.declared.command.Command.TheVariants.{Load}
+use Rattle.psfont.specs.declared.command.Place.{Place}
+use Rattle.psfont.specs.declared.command.Place.TheVariants.{Code, Global, Local}
+
+-- the code, and the subroutines that it may call
+pub record Loaded : Type 0 where
+  pub code : List ℕ
+  pub global : List (List ℕ)
+  pub local : List (List ℕ)
+
+-- bytes put in their place; new code starts without subroutines
+abbrev pub put : Place → List ℕ → Loaded → Loaded
+put Code bytes loaded = record { code = bytes; global = []; local = [] }
+put Global bytes loaded = record loaded { global = loaded.global ++ bytes ∷ [] }
+put Local bytes loaded = record loaded { local = loaded.local ++ bytes ∷ [] }
+
+-- the line is a command that puts these bytes in this place
+abbrev pub Loads : List ℕ → Place → List ℕ → Type 0
+Loads line place bytes = (word_of line ≡ name_of (Load place)) × (decode_of (argument_of line) ≡ Ok bytes)

@@ -1,0 +1,16 @@
+-- What a look at the input moves, where the reader's bytes are known.
+use Rattle.std.specs.Prelude.{◌≡◌, ◌≢◌, ℕ, List, [], ◌∷◌, ◌++◌, Option, All}
+use Rattle.std.specs.Io.KnownBytes.{Consumes}
+use Rattle.psfont.specs.declared.lines.Piece.{Piece}
+use Rattle.psfont.specs.declared.lines.Piece.TheVariants.{Part, Line, End}
+
+-- the bytes that a reader gives up with a piece: a line end goes with the line
+abbrev pub spent : Piece → List ℕ → List ℕ
+spent Part bytes = bytes
+spent Line bytes = bytes ++ 10 ∷ []
+spent End bytes = bytes
+
+-- the line gains bytes without a line end, and the reader gives up those, and no others
+abbrev pub Moves : Piece → Option (List ℕ) → Option (List ℕ) → List ℕ → List ℕ → Type 0
+Moves piece before after old new =
+    (bytes : List ℕ) × (new ≡ old ++ bytes) × All (λ byte. byte ≢ 10) bytes × Consumes before after (spent piece bytes)

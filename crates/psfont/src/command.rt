@@ -1,0 +1,55 @@
+//! What a line asks for.
+ghost use Rattle.std.specs.Prelude.{◌≡◌, Some, IfSome};
+ghost use Rattle.psfont.specs.Line.{word_of, argument_of};
+
+use crate::lines::first_place;
+
+/// A command.
+#[derive(Clone, Copy, Debug, PartialEq, Eq)]
+pub enum Command {
+    /// Put bytes, written as hex, in a place.
+    Load(Place),
+    /// Run the code.
+    Run,
+}
+
+/// Where bytes go.
+#[derive(Clone, Copy, Debug, PartialEq, Eq)]
+pub enum Place {
+    /// The code.
+    Code,
+    /// The end of the global subroutines.
+    Global,
+    /// The end of the local subroutines.
+    Local,
+}
+
+impl Command {
+    ghost use Rattle.psfont.specs.Command.{name_of};
+    ghost use Rattle.psfont.specs.declared.command.Command.{Command};
+
+    /// The command that a word names.
+    pub fn named(word: &[u8]) -> Option<Command>
+        ensures sound { IfSome result (λ command. word.now ≡ name_of command) }
+        ensures complete { (command : Command) → word.now ≡ name_of command → result ≡ Some command }
+    {
+        match word {
+            b"code" => Some(Command::Load(Place::Code)),
+            b"global" => Some(Command::Load(Place::Global)),
+            b"local" => Some(Command::Load(Place::Local)),
+            b"run" => Some(Command::Run),
+            _ => None,
+        }
+    }
+}
+
+/// The word before a line's first space, and the argument after it.
+pub fn split(line: &[u8]) -> (&[u8], &[u8])
+    ensures word { result.0.now ≡ word_of line.now }
+    ensures argument { result.1.now ≡ argument_of line.now }
+{
+    match first_place(line, b' ') {
+        Some(place) => (&line[..place], &line[place + 1..]),
+        None => (line, &[]),
+    }
+}

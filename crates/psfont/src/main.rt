@@ -1,0 +1,107 @@
+//! A conversation about charstrings: lines come in, and each is answered.
+#![tactic(auto)]
+
+ghost use Rattle.std.specs.Prelude.{◌≡◌, ◌≢◌, [], ◌≤◌, ◌↔◌, ◌∷◌, IsOk};
+ghost use Rattle.postscript.specs.Error.{IsListed};
+
+use postscript::{Error, Result};
+use std::alloc::Global;
+use std::env::Env;
+use std::io::{BufRead, BufReader, BufWriter, ErrorKind, Input, Write};
+use std::process::ExitCode;
+use std::{env, io};
+
+mod answer;
+mod command;
+mod lines;
+mod routines;
+#[cfg(test)]
+mod tests;
+
+use answer::answer_line;
+use lines::{Piece, read_piece, without_return};
+use routines::Routines;
+
+/// Answers each line of a reader on a writer, up to the end of the input.
+///
+/// A line ends at 0x0a, and one 0x0d just before it is dropped; the last line may lack its end. Empty lines are
+/// skipped. An interrupted look at the input is made again, and after `u64::MAX` looks the input counts as ended.
+///
+/// Refused: `UnexpectedEof` and `Io` where a read or a write failed, `Memory`.
+pub fn session<R: BufRead, W: Write>(alloc: Global, reader: &mut R, writer: &mut W) -> Result<()>
+    ensures listed { IsListed (1 ∷ 2 ∷ 3 ∷ []) result }
+{
+    let mut routines = Routines::new(alloc);
+    let mut line = Vec::new(alloc);
+    for _ in 0..u64::MAX {
+        match read_piece(reader, &mut line)? {
+            Piece::Part => {}
+            Piece::Line => {
+                answer_line(
+                    alloc,
+                    without_return(line.as_slice()),
+                    &mut routines,
+                    writer,
+                )?;
+                line.clear();
+            }
+            Piece::End => break,
+        }
+    }
+    answer_line(alloc, line.as_slice(), &mut routines, writer)
+}
+
+/// Does what the words after the program's name ask for, and answers the status to end with.
+pub fn start<R: Input + Print + Eprint + AllocGlobal>(rt: &R, words: &[String]) -> u8
+    ensures status { result ≤ 2 }
+    ensures usage { (result ≡ 2) ↔ (words.now ≢ []) }
+{
+    match words {
+        [] => status(rt, converse(rt)),
+        _ => usage(rt),
+    }
+}
+
+/// The session on the standard input and output.
+fn converse<R: Input + Print + AllocGlobal>(rt: &R) -> Result<()> {
+    let alloc = rt.alloc();
+    let mut reader = BufReader::new(alloc, rt.reader()).map_err(|_| Error::Memory)?;
+    let mut writer = BufWriter::new(alloc, io::writer(rt)).map_err(|_| Error::Memory)?;
+    session(alloc, &mut reader, &mut writer)
+}
+
+/// The status of an outcome, whose fault is told on the standard error.
+fn status(rt: &impl Eprint, outcome: Result<()>) -> u8
+    ensures status { result ≤ 1 }
+    ensures ended { (result ≡ 0) ↔ IsOk outcome }
+{
+    match outcome {
+        Ok(()) => 0,
+        Err(fault) => {
+            let code = fault.code();
+            let _ = eprintln!(rt; "psfont: fault {code}");
+            1
+        }
+    }
+}
+
+/// Tells on the standard error which words there are.
+fn usage(rt: &impl Eprint) -> u8
+    ensures { result ≡ 2 }
+{
+    let _ = rt.eprintln("usage: psfont [font PATH]");
+    2
+}
+
+/// The words after the program's name.
+fn words_of<R: Env + AllocGlobal>(rt: &R) -> io::Result<Vec<String>> {
+    Ok(env::args(rt)?.skip(1).collect(rt.alloc())?)
+}
+
+fn main(rt: HostRuntime) -> ExitCode {
+    ExitCode::from(match words_of(&rt) {
+        Ok(words) => start(&rt, words.as_slice()),
+        Err(fault) if fault.kind() == ErrorKind::OutOfMemory => status(&rt, Err(Error::Memory)),
+        Err(_) => usage(&rt),
+    })
+}

@@ -1,0 +1,69 @@
+//! What a run is given.
+ghost use Rattle.std.specs.Prelude.{◌≡◌, [], OnOk, OnErr, ◌∷◌, map, vec_items};
+ghost use Rattle.postscript.specs.Error.{IsListed};
+ghost use Rattle.psfont.specs.Loaded.{Loaded, put};
+
+use crate::command::Place;
+use postscript::Result;
+use postscript::type2::{self, Answers};
+use std::alloc::Global;
+use std::marker::Model;
+
+/// The code, and the subroutines that it may call.
+#[derive(Drop)]
+pub struct Routines {
+    code: Vec<u8>,
+    global: Vec<Vec<u8>>,
+    local: Vec<Vec<u8>>,
+}
+
+impl Model for Routines {
+    ghost Value = { Loaded };
+
+    ghost view = { λ routines. record {
+      code = routines.code.items;
+      global = map vec_items routines.global.items;
+      local = map vec_items routines.local.items;
+    } };
+}
+
+impl Routines {
+    /// No code and no subroutines.
+    pub fn new(alloc: Global) -> Routines
+        ensures { result ≡ record { code = []; global = []; local = [] } }
+    {
+        Routines {
+            code: Vec::new(alloc),
+            global: Vec::new(alloc),
+            local: Vec::new(alloc),
+        }
+    }
+
+    /// Puts bytes in their place. New code starts without subroutines.
+    pub fn load(&mut self, place: Place, bytes: Vec<u8>) -> Result<()>
+        ensures ok { OnOk result (self.new ≡ put place bytes.items self.old) }
+        ensures err { OnErr result (self.new ≡ self.old) }
+        ensures listed { IsListed (3 ∷ []) result }
+    {
+        match place {
+            Place::Code => {
+                self.code = bytes;
+                self.global.clear();
+                self.local.clear();
+            }
+            Place::Global => self.global.push(bytes)?,
+            Place::Local => self.local.push(bytes)?,
+        }
+        Ok(())
+    }
+
+    /// Runs the code. Refused: `Memory`.
+    pub fn run(&self, alloc: Global) -> Result<Answers> {
+        type2::run(
+            alloc,
+            self.code.as_slice(),
+            self.global.as_slice(),
+            self.local.as_slice(),
+        )
+    }
+}
