@@ -1,7 +1,5 @@
 //! A reader of fonts in the Compact Font Format, and an interpreter of their charstrings.
 #![tactic(auto)]
 
-pub use postscript_base::error;
-pub use postscript_base::tape;
-pub use postscript_base::{Error, Result, Tape, Value, Walue};
+pub use postscript_base::{Error, Result, Tape, Value, Walue, error, tape};
 pub use postscript_type2 as type2;

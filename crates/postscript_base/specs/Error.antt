@@ -4,7 +4,7 @@ use Rattle.std.specs.IoError.{error_kind}
 use Rattle.std.specs.declared.io.Error.{Error as IoError}
 use Rattle.std.specs.declared.io.ErrorKind.TheVariants as kinds
 use Rattle.postscript_base.specs.declared.error.Error.{Error}
-use Rattle.postscript_base.specs.declared.error.Error.TheVariants.{UnexpectedEof, Io, Memory, MalformedNumber, UnknownOperator, Unsupported, MalformedOperands, AlreadyFailed}
+use Rattle.postscript_base.specs.declared.error.Error.TheVariants.{UnexpectedEof, Io, Memory, MalformedNumber, UnknownOperator, Unsupported, ExpectedOperand, ExpectedInteger, ExpectedMoreOperands, MalformedOperands, InvalidOperand, MissingSubroutine, ReturnWithoutCaller, TrailingData, TooDeep, Overflow, ZeroDivisor, NegativeRoot, TooManyStems, AlreadyFailed}
 
 -- the number of a refusal
 abbrev pub code : Error → ℕ
@@ -14,7 +14,19 @@ code Memory = 3
 code MalformedNumber = 7
 code UnknownOperator = 9
 code (Unsupported part) = 16
+code ExpectedOperand = 17
+code ExpectedInteger = 18
+code ExpectedMoreOperands = 19
 code MalformedOperands = 20
+code InvalidOperand = 21
+code MissingSubroutine = 22
+code ReturnWithoutCaller = 23
+code TrailingData = 24
+code TooDeep = 25
+code Overflow = 26
+code ZeroDivisor = 27
+code NegativeRoot = 28
+code TooManyStems = 29
 code AlreadyFailed = 30
 
 -- A fault of the kind UnexpectedEof is the end of the tape, and any other is kept as it came.

@@ -31,9 +31,45 @@ pub enum Error {
     /// A part of the format that this library does not follow.
     #[error("found an unsupported part")]
     Unsupported(Part),
+    /// An operand was wanted of an empty stack.
+    #[error("expected an operand")]
+    ExpectedOperand,
+    /// A whole number was wanted of an empty stack, or of another number.
+    #[error("expected an operand of a different type")]
+    ExpectedInteger,
+    /// The stack has fewer operands than the operator names.
+    #[error("expected more operands")]
+    ExpectedMoreOperands,
     /// The stack has no length that the operator takes.
     #[error("found malformed operands")]
     MalformedOperands,
+    /// The operator cannot follow an operand.
+    #[error("found an invalid operand")]
+    InvalidOperand,
+    /// No subroutine has the number.
+    #[error("failed to find a subroutine")]
+    MissingSubroutine,
+    /// The outermost code returns.
+    #[error("found a return operator without a caller")]
+    ReturnWithoutCaller,
+    /// Bytes follow in a subroutine where the glyph ends.
+    #[error("found trailing data after the end operator")]
+    TrailingData,
+    /// An eleventh nested call.
+    #[error("found calls nested too deep")]
+    TooDeep,
+    /// A number is beyond the range of operands.
+    #[error("found an overflow")]
+    Overflow,
+    /// A division by zero.
+    #[error("found a zero divisor")]
+    ZeroDivisor,
+    /// The root of a negative number.
+    #[error("found a root of a negative number")]
+    NegativeRoot,
+    /// 32 bits do not count the stems.
+    #[error("found too many stems")]
+    TooManyStems,
     /// An earlier call of this program was refused.
     #[error("the program has failed before")]
     AlreadyFailed,
@@ -48,8 +84,6 @@ pub enum Part {
     Put,
     /// The charstring operator `get`.
     Get,
-    /// A charstring operator that is not written yet.
-    Later,
 }
 
 impl Error {
@@ -64,7 +98,19 @@ impl Error {
             Error::MalformedNumber => 7,
             Error::UnknownOperator => 9,
             Error::Unsupported(_) => 16,
+            Error::ExpectedOperand => 17,
+            Error::ExpectedInteger => 18,
+            Error::ExpectedMoreOperands => 19,
             Error::MalformedOperands => 20,
+            Error::InvalidOperand => 21,
+            Error::MissingSubroutine => 22,
+            Error::ReturnWithoutCaller => 23,
+            Error::TrailingData => 24,
+            Error::TooDeep => 25,
+            Error::Overflow => 26,
+            Error::ZeroDivisor => 27,
+            Error::NegativeRoot => 28,
+            Error::TooManyStems => 29,
             Error::AlreadyFailed => 30,
         }
     }

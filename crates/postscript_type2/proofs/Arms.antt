@@ -1,6 +1,6 @@
 -- What one phrase comes to, by the move of its operator.
 use Rattle.std.proofs.lemmas.List.{drop-drop}
-use Rattle.std.proofs.Common.{◌≡◌, refl, ap, sym, subst, ◌∙◌, ◌⊎◌, inl, inr, ℕ, suc, ◌+◌, ◌-◌, ◌<◌, true, List, [], ◌∷◌, drop, length, ℤ, Option, Some, None, if◌then◌else◌, arith}
+use Rattle.std.proofs.Common.{◌≡◌, refl, ap, sym, subst, ◌∙◌, ◌⊎◌, inl, inr, ℕ, suc, ◌+◌, ◌-◌, ◌<◌, Bool, true, List, [], ◌∷◌, drop, length, ℤ, Option, Some, None, if◌then◌else◌, arith}
 use Rattle.postscript_base.specs.declared.error.Error.{Error}
 use Rattle.postscript_base.specs.declared.error.Error.TheVariants.{Memory}
 use Rattle.postscript_type2.specs.declared.operation.Operator.{Operator}
@@ -8,10 +8,10 @@ use Rattle.postscript_type2.specs.declared.program.state.Effect.{Effect}
 use Rattle.postscript_type2.specs.declared.program.state.Effect.TheVariants as effects
 use Rattle.postscript_type2.specs.declared.program.state.State as code
 use Rattle.std.specs.Prelude.{Result, Ok, Err}
-use Rattle.postscript_type2.specs.Effects.{Lists, State, Move, Clears, Ends, Refuses, act}
-use Rattle.postscript_type2.specs.Meaning.{Answer, Said, Run, End, Finished, Fault, says, answers, ends, said, stacked, cleared, moved, stride}
+use Rattle.postscript_type2.specs.Effects.{Lists, State, Move, Keeps, Clears, Calls, Returns, Ends, Refuses, effect}
+use Rattle.postscript_type2.specs.Meaning.{Answer, Said, Run, End, UsedUp, Finished, Fault, says, answers, ends, said, stacked, cleared, moved, stride}
 use Rattle.postscript_type2.specs.Phrases.{Complete, Bad, phrase, fronted}
-use Rattle.postscript_type2.specs.Refusals.{Refusal, refusal_of}
+use Rattle.postscript_type2.specs.Refusals.{Refusal, refusal_of, return_without_caller, trailing_data, too_deep}
 use Rattle.postscript_type2.specs.Still.{still, next_still, are_used_up}
 use Rattle.postscript_type2.specs.Working.{state_of, settled_width, move_of, after_move, Does}
 use Rattle.postscript_type2.proofs.Still.{still_end}
@@ -27,40 +27,96 @@ pub record IsRead (bytes rest : List ℕ) (st : State) (ys : List ℤ) (op : Ope
 
 -- what is still answered, by the operator's move
 stepped : (lists : Lists) (left : ℕ) (cs : List (List ℕ)) (bytes rest : List ℕ) (st : State) (ys : List ℤ) (op : Operator) (more : ℕ) (move : Move) →
-    IsRead bytes rest st ys op more → act lists op rest (stacked ys st) ≡ move →
+    IsRead bytes rest st ys op more → effect lists op rest (stacked ys st) ≡ move →
     still lists left bytes cs st ≡ next_still lists left (λ k. drop (k + 1) bytes) cs (moved op more bytes (stacked ys st) move)
 stepped lists left cs bytes rest st ys op more move read does =
     let some : 0 < length bytes = let e : length bytes ≡ suc (length read.others) = ap length read.some in omega arith in
-    let acts : act lists op (drop (more + 1) bytes) (stacked ys st) ≡ move = ap (λ after. act lists op after (stacked ys st)) (sym read.behind) ∙ does in
+    let acts : effect lists op (drop (more + 1) bytes) (stacked ys st) ≡ move = ap (λ after. effect lists op after (stacked ys st)) (sym read.behind) ∙ does in
     let whole : more - 0 ≡ more = omega arith in
-    let strides : stride lists bytes st ≡ moved op more bytes (stacked ys st) (act lists op (drop (more + 1) bytes) (stacked ys st)) =
-        subst (λ n. stride lists bytes st ≡ moved op n bytes (stacked ys st) (act lists op (drop (n + 1) bytes) (stacked ys st))) whole
-        (stride-is lists bytes 0 st ys op more read.spelled) in
+    let strides : stride lists bytes st ≡ moved op more bytes (stacked ys st) (effect lists op (drop (more + 1) bytes) (stacked ys st)) =
+    subst (λ n. stride lists bytes st ≡ moved op n bytes (stacked ys st) (effect lists op (drop (n + 1) bytes) (stacked ys st))) whole
+    (stride-is lists bytes 0 st ys op more read.spelled) in
     still_step-at lists left bytes cs st some
     ∙ ap (next_still lists left (λ k. drop (k + 1) bytes) cs) (strides ∙ ap (moved op more bytes (stacked ys st)) acts)
 
--- an operation is answered
-pub answered : (lists : Lists) (left : ℕ) (cs : List (List ℕ)) (bytes rest : List ℕ) (st : State) (ys : List ℤ) (op : Operator) (more : ℕ) (taken : List ℤ) (now : State) (width : Option ℤ) →
-    IsRead bytes rest st ys op more → act lists op rest (stacked ys st) ≡ Clears taken now.stems width 0 → now ≡ cleared now.stems width →
-    (said : Said) × (still lists left bytes cs st ≡ says said (answers (record { operator = op; operands = taken; width = width }) (still lists left rest cs now)))
-answered lists left cs bytes rest st ys op more taken now width read does is =
-    let step = stepped lists left cs bytes rest st ys op more (Clears taken now.stems width 0) read does in
-    let there : drop (more + 0 + 1) bytes ≡ rest = ap (λ n. drop n bytes) (omega arith) ∙ sym read.behind in
-    (said op (more + 0) bytes,
-    step ∙ ap (λ after. says (said op (more + 0) bytes) (answers (record { operator = op; operands = taken; width = width }) (still lists left after cs (cleared now.stems width)))) there
-    ∙ ap (λ s. says (said op (more + 0) bytes) (answers (record { operator = op; operands = taken; width = width }) (still lists left rest cs s))) (sym is))
+-- a stack is left
+pub kept : (lists : Lists) (left : ℕ) (cs : List (List ℕ)) (bytes rest : List ℕ) (st : State) (ys : List ℤ) (op : Operator) (more : ℕ) (now : State) →
+    IsRead bytes rest st ys op more → effect lists op rest (stacked ys st) ≡ Keeps now.stack → now ≡ stacked now.stack st →
+    (s : Said) × (still lists left bytes cs st ≡ says s (still lists left rest cs now))
+kept lists left cs bytes rest st ys op more now read does is = (
+  said op more bytes,
+  stepped lists left cs bytes rest st ys op more (Keeps now.stack) read does
+      ∙ ap (λ after. says (said op more bytes) (still lists left after cs (stacked now.stack st))) (sym read.behind)
+      ∙ ap (λ s. says (said op more bytes) (still lists left rest cs s)) (sym is),
+)
 
--- EndChar in the outermost code
-pub finished : (lists : Lists) (left : ℕ) (bytes rest : List ℕ) (st : State) (ys : List ℤ) (op : Operator) (more : ℕ) (width : Option ℤ) →
-    IsRead bytes rest st ys op more → act lists op rest (stacked ys st) ≡ Ends width →
-    ((still lists left bytes [] st).answers ≡ []) × ((still lists left bytes [] st).end ≡ Finished width)
-finished lists left bytes rest st ys op more width read does =
-    let step = stepped lists left [] bytes rest st ys op more (Ends width) read does in
+-- an operation is answered, and the bytes of its mask are passed
+pub answered : (lists : Lists) (left : ℕ) (cs : List (List ℕ)) (bytes rest behind : List ℕ) (st : State) (ys : List ℤ) (op : Operator) (more mask : ℕ) (taken : List ℤ) (now : State) (width : Option ℤ) →
+    IsRead bytes rest st ys op more → effect lists op rest (stacked ys st) ≡ Clears taken now.stems width mask → now ≡ cleared now.stems width → behind ≡ drop mask rest →
+    (s : Said) × (still lists left bytes cs st ≡ says s (answers (record { operator = op; operands = taken; width = width }) (still lists left behind cs now)))
+answered lists left cs bytes rest behind st ys op more mask taken now width read does is past =
+    let step = stepped lists left cs bytes rest st ys op more (Clears taken now.stems width mask) read does in
+    let there : drop (more + mask + 1) bytes ≡ behind =
+    ap (λ n. drop n bytes) (omega arith) ∙ sym (drop-drop mask (more + 1) bytes) ∙ ap (drop mask) (sym read.behind) ∙ sym past in (
+      said op (more + mask) bytes,
+      step ∙ ap (λ after. says (said op (more + mask) bytes) (answers (record { operator = op; operands = taken; width = width }) (still lists left after cs (cleared now.stems width)))) there
+          ∙ ap (λ s. says (said op (more + mask) bytes) (answers (record { operator = op; operands = taken; width = width }) (still lists left behind cs s))) (sym is),
+    )
+
+-- a subroutine is entered
+pub entered : (lists : Lists) (left left' : ℕ) (cs cs' : List (List ℕ)) (bytes rest : List ℕ) (st : State) (ys : List ℤ) (op : Operator) (more : ℕ) (code routine : List ℕ) (now : State) →
+    IsRead bytes rest st ys op more → effect lists op rest (stacked ys st) ≡ Calls code now.stack → now ≡ stacked now.stack st → left ≡ suc left' → cs' ≡ rest ∷ cs → routine ≡ code →
+    (s : Said) × (still lists left bytes cs st ≡ says s (still lists left' routine cs' now))
+entered lists left left' cs cs' bytes rest st ys op more code routine now read does is one_less pushed entry =
+    rw (one_less, pushed, entry) (
+      said op more bytes,
+      stepped lists (suc left') cs bytes rest st ys op more (Calls code now.stack) read does
+          ∙ ap (λ after. says (said op more bytes) (still lists left' code (after ∷ cs) (stacked now.stack st))) (sym read.behind)
+          ∙ ap (λ s. says (said op more bytes) (still lists left' code (rest ∷ cs) s)) (sym is),
+    )
+
+-- an eleventh call
+pub too-deep-call : (lists : Lists) (cs : List (List ℕ)) (bytes rest : List ℕ) (st : State) (ys : List ℤ) (op : Operator) (more : ℕ) (routine : List ℕ) (stack : List ℤ) →
+    IsRead bytes rest st ys op more → effect lists op rest (stacked ys st) ≡ Calls routine stack →
+    ((still lists 0 bytes cs st).answers ≡ []) × ((still lists 0 bytes cs st).end ≡ Fault too_deep)
+too-deep-call lists cs bytes rest st ys op more routine stack read does =
+    let step = stepped lists 0 cs bytes rest st ys op more (Calls routine stack) read does in
     (ap (λ run. run.answers) step, ap (λ run. run.end) step)
+
+-- a subroutine returns to its caller, and the outermost code to none
+pub returned : (lists : Lists) (left left' : ℕ) (caller : List ℕ) (cs cs' : List (List ℕ)) (bytes rest : List ℕ) (st : State) (ys : List ℤ) (op : Operator) (more : ℕ) (now : State) →
+    IsRead bytes rest st ys op more → effect lists op rest (stacked ys st) ≡ Returns → now ≡ stacked ys st → left' ≡ suc left → cs ≡ caller ∷ cs' →
+    (s : Said) × (still lists left bytes cs st ≡ says s (still lists left' caller cs' now))
+returned lists left left' caller cs cs' bytes rest st ys op more now read does is one_more popped =
+    rw (one_more, popped) (
+      said op more bytes,
+      stepped lists left (caller ∷ cs') bytes rest st ys op more Returns read does
+          ∙ ap (λ s. says (said op more bytes) (still lists (suc left) caller cs' s)) (sym is),
+    )
+
+pub no-caller : (lists : Lists) (left : ℕ) (bytes rest : List ℕ) (st : State) (ys : List ℤ) (op : Operator) (more : ℕ) →
+    IsRead bytes rest st ys op more → effect lists op rest (stacked ys st) ≡ Returns →
+    ((still lists left bytes [] st).answers ≡ []) × ((still lists left bytes [] st).end ≡ Fault return_without_caller)
+no-caller lists left bytes rest st ys op more read does =
+    let step = stepped lists left [] bytes rest st ys op more Returns read does in
+    (ap (λ run. run.answers) step, ap (λ run. run.end) step)
+
+-- EndChar, by whether the subroutines of the chain are used up
+abbrev pub end_by : Bool → Option ℤ → End
+end_by used_up width = if used_up then Finished width else Fault trailing_data
+
+pub finished : (lists : Lists) (left : ℕ) (cs : List (List ℕ)) (bytes rest : List ℕ) (st : State) (ys : List ℤ) (op : Operator) (more : ℕ) (width : Option ℤ) (used_up : Bool) →
+    IsRead bytes rest st ys op more → effect lists op rest (stacked ys st) ≡ Ends width → used_up ≡ are_used_up rest cs →
+    ((still lists left bytes cs st).answers ≡ []) × ((still lists left bytes cs st).end ≡ end_by used_up width)
+finished lists left cs bytes rest st ys op more width used_up read does is =
+    let step = stepped lists left cs bytes rest st ys op more (Ends width) read does in
+    let here : end_by (are_used_up (drop (more + 1) bytes) cs) width ≡ end_by used_up width =
+    ap (λ after. end_by (are_used_up after cs) width) (sym read.behind) ∙ ap (λ b. end_by b width) (sym is) in
+    (ap (λ run. run.answers) step, ap (λ run. run.end) step ∙ here)
 
 -- a refusal of the operator
 pub refused : (lists : Lists) (left : ℕ) (cs : List (List ℕ)) (bytes rest : List ℕ) (st : State) (ys : List ℤ) (op : Operator) (more : ℕ) (e : Refusal) →
-    IsRead bytes rest st ys op more → act lists op rest (stacked ys st) ≡ Refuses e →
+    IsRead bytes rest st ys op more → effect lists op rest (stacked ys st) ≡ Refuses e →
     ((still lists left bytes cs st).answers ≡ []) × ((still lists left bytes cs st).end ≡ Fault e)
 refused lists left cs bytes rest st ys op more e read does =
     let step = stepped lists left cs bytes rest st ys op more (Refuses e) read does in
@@ -76,7 +132,17 @@ unread lists left cs bytes others first st e is bad =
 
 -- the same, where want of memory may come in place of a refusal
 pub refused-or-memory : (lists : Lists) (left : ℕ) (cs : List (List ℕ)) (bytes rest : List ℕ) (st : State) (ys : List ℤ) (op : Operator) (more : ℕ) (e : Error) →
-    IsRead bytes rest st ys op more → (e ≡ Memory) ⊎ (act lists op rest (stacked ys st) ≡ Refuses (refusal_of e)) →
+    IsRead bytes rest st ys op more → (e ≡ Memory) ⊎ (effect lists op rest (stacked ys st) ≡ Refuses (refusal_of e)) →
     (e ≡ Memory) ⊎ (((still lists left bytes cs st).answers ≡ []) × ((still lists left bytes cs st).end ≡ Fault (refusal_of e)))
 refused-or-memory lists left cs bytes rest st ys op more e read (inl memory) = inl memory
 refused-or-memory lists left cs bytes rest st ys op more e read (inr does) = inr (refused lists left cs bytes rest st ys op more (refusal_of e) read does)
+
+pub unread-or-memory : (lists : Lists) (left : ℕ) (cs : List (List ℕ)) (bytes others : List ℕ) (first : ℕ) (st : State) (e : Error) → bytes ≡ first ∷ others →
+    (e ≡ Memory) ⊎ (phrase bytes ≡ Bad (refusal_of e)) →
+    (e ≡ Memory) ⊎ (((still lists left bytes cs st).answers ≡ []) × ((still lists left bytes cs st).end ≡ Fault (refusal_of e)))
+unread-or-memory lists left cs bytes others first st e is (inl memory) = inl memory
+unread-or-memory lists left cs bytes others first st e is (inr bad) = inr (unread lists left cs bytes others first st (refusal_of e) is bad)
+
+-- a routine that is used up ends the run
+pub used-up : (lists : Lists) (left : ℕ) (cs : List (List ℕ)) (bytes : List ℕ) (st : State) → bytes ≡ [] → still lists left bytes cs st ≡ ends UsedUp
+used-up lists left cs bytes st is = ap (λ rest. still lists left rest cs st) is ∙ still_end lists left cs st

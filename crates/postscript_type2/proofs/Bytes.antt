@@ -8,7 +8,7 @@ use Rattle.postscript_base.specs.Error.{code, IsOneOf, IsListed}
 use Rattle.postscript_base.specs.Outcome.{Outcome, Got, Fault, Past, Reading, after, ◌>>=◌, pure, fault, Answers, RefusedAs}
 use Rattle.postscript_base.specs.Numbers.{slice, number as unsigned, big_endian}
 use Rattle.postscript_base.specs.declared.error.Error.{Error}
-use Rattle.postscript_base.specs.declared.error.Error.TheVariants.{UnexpectedEof, Io, Memory, MalformedNumber, UnknownOperator, Unsupported, MalformedOperands, AlreadyFailed}
+use Rattle.postscript_base.specs.declared.error.Error.TheVariants.{UnexpectedEof, Io, Memory, MalformedNumber, UnknownOperator, Unsupported, ExpectedOperand, ExpectedInteger, ExpectedMoreOperands, MalformedOperands, InvalidOperand, MissingSubroutine, ReturnWithoutCaller, TrailingData, TooDeep, Overflow, ZeroDivisor, NegativeRoot, TooManyStems, AlreadyFailed}
 use Rattle.postscript_type2.specs.Number.{number, spelled, whole, signed, above, below}
 use Rattle.postscript_type2.specs.Refusals.{Numbered, refusal_of}
 use Rattle.postscript_type2.specs.Tokens.{ReadsByte, ReadsNumber}
@@ -85,7 +85,19 @@ numbered-listed (Unsupported x) (inl h) = absurd (omega arith)
 numbered-listed (Unsupported x) (inr (inl h)) = absurd (omega arith)
 numbered-listed (Unsupported x) (inr (inr (inl h))) = absurd (omega arith)
 numbered-listed (Unsupported x) (inr (inr (inr h))) = absurd h
+numbered-listed ExpectedOperand h = refl
+numbered-listed ExpectedInteger h = refl
+numbered-listed ExpectedMoreOperands h = refl
 numbered-listed MalformedOperands h = refl
+numbered-listed InvalidOperand h = refl
+numbered-listed MissingSubroutine h = refl
+numbered-listed ReturnWithoutCaller h = refl
+numbered-listed TrailingData h = refl
+numbered-listed TooDeep h = refl
+numbered-listed Overflow h = refl
+numbered-listed ZeroDivisor h = refl
+numbered-listed NegativeRoot h = refl
+numbered-listed TooManyStems h = refl
 numbered-listed AlreadyFailed h = refl
 
 is-eof : (e : Error) → code e ≡ 1 → e ≡ UnexpectedEof
@@ -95,7 +107,19 @@ is-eof Memory h = absurd (omega arith)
 is-eof MalformedNumber h = absurd (omega arith)
 is-eof UnknownOperator h = absurd (omega arith)
 is-eof (Unsupported x) h = absurd (omega arith)
+is-eof ExpectedOperand h = absurd (omega arith)
+is-eof ExpectedInteger h = absurd (omega arith)
+is-eof ExpectedMoreOperands h = absurd (omega arith)
 is-eof MalformedOperands h = absurd (omega arith)
+is-eof InvalidOperand h = absurd (omega arith)
+is-eof MissingSubroutine h = absurd (omega arith)
+is-eof ReturnWithoutCaller h = absurd (omega arith)
+is-eof TrailingData h = absurd (omega arith)
+is-eof TooDeep h = absurd (omega arith)
+is-eof Overflow h = absurd (omega arith)
+is-eof ZeroDivisor h = absurd (omega arith)
+is-eof NegativeRoot h = absurd (omega arith)
+is-eof TooManyStems h = absurd (omega arith)
 is-eof AlreadyFailed h = absurd (omega arith)
 
 pub got-later : {A : Type 0} (place : ℕ) (o : Outcome A) (x : A) (next : ℕ) → later place o ≡ Got x next → (n : ℕ) × (o ≡ Got x n) × (next ≡ place + n)

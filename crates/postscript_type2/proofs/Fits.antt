@@ -1,7 +1,8 @@
 -- A number fits where the type of 32 bits with a sign holds it.
 use Rattle.std.proofs.lemmas.Bool.{cases_lt}
 use Rattle.std.proofs.lemmas.Bool.Decides.{nat_tests}
-use Rattle.std.proofs.Common.{◌≡◌, ap, ℕ, ◌^◌, ◌<◌, ◌≤◌, Bool, true, false, cond, ℤ, pos, negsuc, nat_le, ◌⊎◌, inl, inr, ◌||◌, Ok, Err, FitsSigned, w32, arith}
+use Rattle.std.proofs.lemmas.Int.{fits_signed_mul}
+use Rattle.std.proofs.Common.{◌≡◌, ap, ℕ, ◌^◌, ◌<◌, ◌≤◌, Bool, true, false, cond, ℤ, pos, negsuc, nat_le, ◌⊎◌, inl, inr, ◌||◌, Ok, Err, FitsSigned, w32, w64, ◌*ℤ◌, unsigned_abs, arith}
 use Rattle.postscript_type2.specs.FixedPoint.{fit}
 use Rattle.postscript_type2.specs.Refusals.{overflow}
 
@@ -27,3 +28,11 @@ above a out = by_size (cases_lt a (2 ^ 31))
 pub fit-past : (x : ℤ) → (FitsSigned w32 x → ⊥) → fit x ≡ Err overflow
 fit-past (pos a) out = natural a true (above a (λ low. out (record { sfits = low })))
 fit-past (negsuc a) out = negative a true (above a (λ low. out (record { sfits = low })))
+
+size : (a : ℤ) → FitsSigned w32 a → unsigned_abs a ≤ 2 ^ 31
+size (pos n) f = let h = f.sfits in omega arith
+size (negsuc n) f = let h = f.sfits in omega arith
+
+-- 64 bits hold the product of two numbers of 32 bits
+pub product_fits : (a b : ℤ) → FitsSigned w32 a → FitsSigned w32 b → FitsSigned w64 (a *ℤ b)
+product_fits a b f g = fits_signed_mul w64 a b (2 ^ 31) (2 ^ 31) (size a f) (size b g) (omega arith)

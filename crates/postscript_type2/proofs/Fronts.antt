@@ -43,8 +43,8 @@ front-number stack at bytes x more h t e =
     let b = get_or bytes at 0 in
     let there : drop more r ≡ drop (at + (more + 1)) bytes = drop-drop more (at + 1) bytes ∙ ap (λ k. drop k bytes) (omega arith) in
     let first : phrase (b ∷ r) ≡ with_number x (phrase_after more r) =
-        ap (λ v. cond v (numbered (spelled b r 0) (λ k. phrase_after k r)) (ending b r)) t
-        ∙ ap (λ v. numbered v (λ k. phrase_after k r)) e in
+    ap (λ v. cond v (numbered (spelled b r 0) (λ k. phrase_after k r)) (ending b r)) t
+    ∙ ap (λ v. numbered v (λ k. phrase_after k r)) e in
     fronted-number stack at more x _
     ∙ sym (ap (fronted stack at) (at-place at bytes h ∙ first ∙ ap (with_number x) (phrase-from more r ∙ ap (λ l. fronted [] more (phrase l)) there)))
 

@@ -58,9 +58,9 @@ pub front-number : (k next : ℕ) (stack : List ℤ) (self rest : List ℕ) (fir
 front-number k next stack self rest first x is begins got =
     let spelled-so : spelled first (first ∷ rest) 1 ≡ Got x next = subst (λ bytes. spelled first bytes 1 ≡ Got x next) is (spelled-at self rest first next x is got) in
     let at-zero : fronted (stack ++ x ∷ []) next (phrase (drop next (first ∷ rest))) ≡ fronted stack 0 (phrase (first ∷ rest)) =
-        front-number_at stack 0 (first ∷ rest) x next (omega arith) begins spelled-so in
+    front-number_at stack 0 (first ∷ rest) x next (omega arith) begins spelled-so in
     let before : fronted stack k (phrase (first ∷ rest)) ≡ shifted k (fronted stack 0 (phrase (first ∷ rest))) =
-        ap (λ n. fronted stack n (phrase (first ∷ rest))) (omega arith) ∙ fronted-shifted k 0 stack (phrase (first ∷ rest)) in
+    ap (λ n. fronted stack n (phrase (first ∷ rest))) (omega arith) ∙ fronted-shifted k 0 stack (phrase (first ∷ rest)) in
     rw is (fronted-shifted k next (stack ++ x ∷ []) (phrase (drop next (first ∷ rest))) ∙ ap (shifted k) at-zero ∙ sym before)
 
 pub front-shorter : (self rest : List ℕ) (first next : ℕ) (x : ℤ) → self ≡ first ∷ rest → number self 0 ≡ Got x next → length (drop next self) < length self
@@ -98,8 +98,8 @@ pub reads-operator : (old self new : List ℕ) (stack stack' : List ℤ) (k : �
 reads-operator old self new stack stack' k (Ok op) there same is read =
     let more = read.0 in
     let whole : fronted stack 0 (phrase old) ≡ Complete stack' op (k + more) =
-        sym same ∙ ap (fronted stack' k) (is ∙ read.1) ∙ ap (λ xs. Complete xs op (k + more)) (append-nil stack') in
+    sym same ∙ ap (fronted stack' k) (is ∙ read.1) ∙ ap (λ xs. Complete xs op (k + more)) (append-nil stack') in
     let behind : new ≡ drop (k + more + 1) old =
-        read.2 ∙ ap (drop (more + 1)) there ∙ drop-drop (more + 1) k old ∙ ap (λ n. drop n old) (omega arith) in
+    read.2 ∙ ap (drop (more + 1)) there ∙ drop-drop (more + 1) k old ∙ ap (λ n. drop n old) (omega arith) in
     (k + more, whole, behind)
 reads-operator old self new stack stack' k (Err e) there same is read = inr (refused-behind k stack stack' (phrase old) (phrase self) (refusal_of e) same (is ∙ read))

@@ -46,9 +46,9 @@ places-add k n (negsuc a) h =
     let s = n - 1 - a % n in
     let q : (a / n + 1) * n ≡ suc a + s = add-mul (a / n) 1 n ∙ omega (arith, d, b) in
     let e : pos k +ℤ negsuc a +ℤ pos ((a / n + 1) * n) ≡ pos (k + s) =
-        ap (λ x. pos k +ℤ negsuc a +ℤ pos x) q
-        ∙ sym (+ℤ_assoc (pos k +ℤ negsuc a) (pos (suc a)) (pos s))
-        ∙ ap (λ z. z +ℤ pos s) (-ℤ-+ℤ_cancel (pos k) (pos (suc a))) in
+    ap (λ x. pos k +ℤ negsuc a +ℤ pos x) q
+    ∙ sym (+ℤ_assoc (pos k +ℤ negsuc a) (pos (suc a)) (pos s))
+    ∙ ap (λ z. z +ℤ pos s) (-ℤ-+ℤ_cancel (pos k) (pos (suc a))) in
     ap nat_abs (int_rem_euclid_is (pos k +ℤ negsuc a) (pos n) n (a / n + 1) (k + s) h refl e)
 
 rotated-item : (xs : List ℤ) (s k : ℕ) (d : ℤ) → s < length xs → k < length xs →
@@ -58,7 +58,7 @@ rotated-item xs s k d h below (inl low) =
 rotated-item xs s k d h below (inr high) =
     let e : k + s ≡ k + s - length xs + length xs = omega arith in
     let f : (k + s) % length xs ≡ k + s - length xs =
-        ap (λ i. i % length xs) e ∙ add-mod_right (k + s - length xs) (length xs) ∙ mod-eq_of_lt (omega arith) in
+    ap (λ i. i % length xs) e ∙ add-mod_right (k + s - length xs) (length xs) ∙ mod-eq_of_lt (omega arith) in
     ap (λ i. get_or (slice_rotate_right xs s) i d) f ∙ rotated-right xs s k d h below high
 
 -- item k of a list goes to place (k + shift) mod its length

@@ -1,7 +1,9 @@
 -- The whole root is the one number between the two squares.
 use Rattle.std.proofs.Math.Nat.{mul-le-mul_left, mul-le-mul_right, le-mul_of_pos_right, le_trans}
+use Rattle.std.proofs.lemmas.Bool.{cases_lt}
 use Rattle.std.proofs.lemmas.Bool.Decides.{nat_tests}
-use Rattle.std.proofs.Common.{◌≡◌, ap, ℕ, zero, suc, ◌+◌, ◌*◌, ◌<◌, ◌≤◌, nat_le, None, Ok, [], ◌∷◌, pos, arith}
+use Rattle.std.proofs.lemmas.Int.{to_z_pos}
+use Rattle.std.proofs.Common.{◌≡◌, ap, ℕ, zero, suc, ◌+◌, ◌*◌, ◌<◌, ◌≤◌, ◌^◌, ◌⊎◌, inl, inr, nat_le, None, Ok, [], ◌∷◌, pos, w32, to_z, sym, ◌∙◌, arith}
 use Rattle.std.specs.Option.{unwrap_or}
 use Rattle.postscript_type2.specs.declared.operation.Operator.TheVariants.{Sqrt}
 use Rattle.postscript_type2.specs.Number.{whole}
@@ -21,6 +23,14 @@ unfolding whole_root
 whole_root-is n r low high =
     ap (λ o. unwrap_or o 0) (greatest-is (λ k. nat_le (k * k) n) n r (le_trans (below-square r) low) (grind (arith, nat_tests))
     (λ j above below. let up : (r + 1) * (r + 1) ≤ j * j = squares-up (r + 1) j (omega arith) in grind (arith, nat_tests)))
+
+root_below : (n r : ℕ) → n < 2 ^ 48 → r * r ≤ n → (r < 2 ^ 31) ⊎ (2 ^ 31 ≤ r) → r < 2 ^ 31
+root_below n r small low (inl h) = h
+root_below n r small low (inr h) = let up : 2 ^ 31 * 2 ^ 31 ≤ r * r = squares-up (2 ^ 31) r h in absurd (omega arith)
+
+-- the bits of a root as a number with a sign
+pub root_of_bits : (n r : ℕ) → n < 2 ^ 48 → r * r ≤ n → n < (r + 1) * (r + 1) → to_z w32 r ≡ pos (whole_root n)
+root_of_bits n r small low high = to_z_pos w32 r (root_below n r small low (cases_lt r (2 ^ 31))) ∙ ap pos (sym (whole_root-is n r low high))
 
 -- the root of two is 92681 of 65536 parts
 root_of_two : root (pos (2 * 65536)) ≡ Ok (pos 92681)

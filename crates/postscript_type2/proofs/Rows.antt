@@ -3,7 +3,7 @@ use Rattle.std.proofs.Common.{◌≡◌, refl, ℕ, List, [], ◌∷◌, Option,
 use Rattle.postscript_base.specs.Numbers.{slice, number}
 use Rattle.postscript_base.specs.declared.error.Part.TheVariants as parts
 use Rattle.postscript_type2.specs.declared.operation.Operator.{Operator}
-use Rattle.postscript_type2.specs.declared.operation.Operator.TheVariants.{RMoveTo, HMoveTo, VMoveTo, RLineTo, HLineTo, VLineTo}
+use Rattle.postscript_type2.specs.declared.operation.Operator.TheVariants.{HStem, VMoveTo, RLineTo, HLineTo, VLineTo, HintMask, CntrMask, RMoveTo, HMoveTo, HVCurveTo}
 use Rattle.postscript_type2.specs.Number.{whole}
 use Rattle.postscript_type2.specs.Meaning.{Run, run_of, operation, fault_of, width_of}
 use Rattle.postscript_type2.specs.Refusals.{Refusal, Unsupported, unexpected_eof, unknown_operator, malformed_operands}
@@ -38,6 +38,30 @@ moves = refl
 
 no_operands : tells (0x06 ∷ []) ≡ ([], Some malformed_operands, None)
 no_operands = refl
+
+-- a mask takes no operands: an even stack beneath it declares stems, and the operand beneath that is the width
+mask_with_width : tells (0x8e ∷ 0x8c ∷ 0x8d ∷ 0x13 ∷ 0x80 ∷ 0x0e ∷ []) ≡ ((HintMask, []) ∷ [], None, Some (n 3))
+mask_with_width = refl
+
+-- a mask whose bytes are cut settles nothing
+cut_mask : tells (0x8e ∷ 0x8c ∷ 0x8d ∷ 0x13 ∷ []) ≡ ([], Some unexpected_eof, None)
+cut_mask = refl
+
+stems_and_mask : tells (0x8c ∷ 0x8d ∷ 0x01 ∷ 0x13 ∷ 0xff ∷ 0x0e ∷ []) ≡ ((HStem, n 1 ∷ n 2 ∷ []) ∷ (HintMask, []) ∷ [], None, None)
+stems_and_mask = refl
+
+-- the ninth stem needs a second byte
+mask_of_nine_stems : tells (0x8c ∷ 0x8c ∷ 0x8c ∷ 0x8c ∷ 0x8c ∷ 0x8c ∷ 0x8c ∷ 0x8c ∷ 0x8c ∷ 0x8c ∷ 0x8c ∷ 0x8c ∷ 0x8c ∷ 0x8c ∷ 0x8c ∷ 0x8c ∷ 0x8c ∷ 0x8d ∷ 0x14 ∷ 0xff ∷ 0x0b ∷ 0x06 ∷ [])
+    ≡ ((CntrMask, []) ∷ [], Some malformed_operands, None)
+mask_of_nine_stems = refl
+
+-- two curves, and one operand more
+odd_curves : tells (0x8c ∷ 0x8d ∷ 0x8e ∷ 0x8f ∷ 0x90 ∷ 0x91 ∷ 0x92 ∷ 0x93 ∷ 0x94 ∷ 0x95 ∷ 0x96 ∷ 0x1f ∷ [])
+    ≡ ((HVCurveTo, n 3 ∷ n 4 ∷ n 5 ∷ n 6 ∷ n 7 ∷ n 8 ∷ n 9 ∷ n 10 ∷ n 11 ∷ []) ∷ [], None, Some (n 2))
+odd_curves = refl
+
+no_curve_before_line : tells (0x8c ∷ 0x8d ∷ 0x18 ∷ []) ≡ ([], Some malformed_operands, None)
+no_curve_before_line = refl
 
 -- the width is settled once
 no_second_width : tells (0x8c ∷ 0x8d ∷ 0x15 ∷ 0x8e ∷ 0x8c ∷ 0x8d ∷ 0x15 ∷ []) ≡ ((RMoveTo, n 1 ∷ n 2 ∷ []) ∷ (RMoveTo, n 1 ∷ n 2 ∷ []) ∷ [], None, None)
@@ -104,16 +128,3 @@ put = refl
 
 get : tells (0x0c ∷ 0x15 ∷ []) ≡ ([], Some (Unsupported parts.Get), None)
 get = refl
-
--- operators that are not written yet
-call_later : tells (0x8c ∷ 0x0a ∷ []) ≡ ([], Some (Unsupported parts.Later), None)
-call_later = refl
-
-return_later : tells (0x0b ∷ []) ≡ ([], Some (Unsupported parts.Later), None)
-return_later = refl
-
-mask_later : tells (0x8c ∷ 0x8d ∷ 0x13 ∷ []) ≡ ([], Some (Unsupported parts.Later), None)
-mask_later = refl
-
-root_later : tells (0x8d ∷ 0x0c ∷ 0x1a ∷ []) ≡ ([], Some (Unsupported parts.Later), None)
-root_later = refl

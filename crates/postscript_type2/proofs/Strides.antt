@@ -2,12 +2,11 @@
 use Rattle.std.proofs.Math.Path.{fun_ext}
 use Rattle.std.proofs.lemmas.List.{drop-drop}
 use Rattle.std.proofs.Common.{◌≡◌, ap, sym, ◌∙◌, ℕ, ◌+◌, ◌-◌, ◌<◌, List, [], ◌∷◌, ◌++◌, drop, length, ℤ, true, false, if◌then◌else◌, arith}
-use Rattle.postscript_base.specs.declared.error.Part.TheVariants as parts
 use Rattle.postscript_type2.specs.declared.operation.Operator.{Operator}
 use Rattle.postscript_type2.specs.Phrases.{Phrase, Complete, Bad, phrase, fronted}
-use Rattle.postscript_type2.specs.Effects.{Lists, State, Refuses, is_written, effect, act}
+use Rattle.postscript_type2.specs.Effects.{Lists, State, effect}
 use Rattle.postscript_type2.specs.Meaning.{stacked, Stop, moved, stride, stride_by}
-use Rattle.postscript_type2.specs.Refusals.{Refusal, Unsupported}
+use Rattle.postscript_type2.specs.Refusals.{Refusal}
 use Rattle.postscript_type2.specs.Still.{still, next_still}
 use Rattle.postscript_type2.proofs.Still.{still_step}
 
@@ -17,7 +16,7 @@ pub still_step-at : (lists : Lists) (left : ℕ) (bytes : List ℕ) (cs : List (
 still_step-at lists left [] cs st h = absurd (omega arith)
 still_step-at lists left (b ∷ r) cs st h =
     let e : (λ (more : ℕ). drop more r) ≡ (λ more. drop (more + 1) (b ∷ r)) =
-        fun_ext (λ more. drop-drop more 1 (b ∷ r) ∙ ap (λ k. drop k (b ∷ r)) (omega arith)) in
+    fun_ext (λ more. drop-drop more 1 (b ∷ r) ∙ ap (λ k. drop k (b ∷ r)) (omega arith)) in
     still_step lists left b r cs st ∙ ap (λ after. next_still lists left after cs (stride lists (b ∷ r) st)) e
 
 -- what a phrase with numbers and bytes before it says of the phrase alone
@@ -34,21 +33,14 @@ of-fronted stack ys k (Bad f) op last e = cc
 pub stride-is : (lists : Lists) (bytes : List ℕ) (place : ℕ) (st : State) (ys : List ℤ) (op : Operator) (last : ℕ) →
     fronted st.stack place (phrase (drop place bytes)) ≡ Complete ys op last →
     stride lists (drop place bytes) st
-    ≡ moved op (last - place) (drop place bytes) (stacked ys st) (act lists op (drop (last - place + 1) (drop place bytes)) (stacked ys st))
+    ≡ moved op (last - place) (drop place bytes) (stacked ys st) (effect lists op (drop (last - place + 1) (drop place bytes)) (stacked ys st))
 stride-is lists bytes place st ys op last e =
     let s = of-fronted st.stack ys place (phrase (drop place bytes)) op last e in
     let r = drop place bytes in
     let more = last - place in
     ap (stride_by lists r st) s.1
-    ∙ ap (λ zs. moved op more r (stacked zs st) (act lists op (drop (more + 1) r) (stacked zs st))) (sym s.2)
+    ∙ ap (λ zs. moved op more r (stacked zs st) (effect lists op (drop (more + 1) r) (stacked zs st))) (sym s.2)
 
 -- a phrase that was refused
 pub stop-is : (lists : Lists) (bytes : List ℕ) (st : State) (e : Refusal) → phrase bytes ≡ Bad e → stride lists bytes st ≡ Stop e
 stop-is lists bytes st e h = ap (stride_by lists bytes st) h
-
--- what an operator does, by whether it is written
-pub act-written : (lists : Lists) (op : Operator) (after : List ℕ) (st : State) → is_written op ≡ true → act lists op after st ≡ effect lists op after st
-act-written lists op after st h = ap (λ b. if b then effect lists op after st else Refuses (Unsupported parts.Later)) h
-
-pub act-later : (lists : Lists) (op : Operator) (after : List ℕ) (st : State) → is_written op ≡ false → act lists op after st ≡ Refuses (Unsupported parts.Later)
-act-later lists op after st h = ap (λ b. if b then effect lists op after st else Refuses (Unsupported parts.Later)) h

@@ -1,10 +1,10 @@
--- What each operator does, and which are written.
+-- What each operator does.
 use Rattle.std.specs.Option.{ok_or}
-use Rattle.std.specs.Prelude.{ℕ, ◌+◌, ◌-◌, ◌/◌, ◌%◌, ◌^◌, ℤ, pos, negsuc, ◌+ℤ◌, nat_lt, Bool, true, false, ◌==◌, List, [], drop, length, slice_get, Option, Some, None, Result, Ok, Err, if◌then◌else◌}
+use Rattle.std.specs.Prelude.{ℕ, ◌+◌, ◌-◌, ◌/◌, ◌%◌, ◌^◌, ℤ, pos, negsuc, ◌+ℤ◌, nat_lt, ◌==◌, List, [], drop, length, slice_get, Option, Some, None, Result, Ok, Err, if◌then◌else◌}
 use Rattle.postscript_base.specs.declared.error.Part.{Part}
 use Rattle.postscript_base.specs.declared.error.Part.TheVariants as parts
 use Rattle.postscript_type2.specs.declared.operation.Operator.{Operator}
-use Rattle.postscript_type2.specs.declared.operation.Operator.TheVariants.{HStem, VStem, VMoveTo, RLineTo, HLineTo, VLineTo, CallSubr, Return, EndChar, HStemHM, HintMask, CntrMask, RMoveTo, HMoveTo, VStemHM, CallGSubr, And, Or, Not, Abs, Add, Sub, Div, Neg, Eq, Drop, Put, Get, IfElse, Random, Mul, Sqrt, Dup, Exch, Index, Roll}
+use Rattle.postscript_type2.specs.declared.operation.Operator.TheVariants.{HStem, VStem, CallSubr, Return, EndChar, HStemHM, HintMask, CntrMask, VStemHM, CallGSubr, And, Or, Not, Abs, Add, Sub, Div, Neg, Eq, Drop, Put, Get, IfElse, Random, Mul, Sqrt, Dup, Exch, Index, Roll}
 use Rattle.postscript_type2.specs.FixedPoint.{absolute_value, opposite, root, sum, difference, product, quotient, both, either, denial, same_bits}
 use Rattle.postscript_type2.specs.Lengths.{taken}
 use Rattle.postscript_type2.specs.Refusals.{Refusal, Unsupported, unexpected_eof, malformed_operands, missing_subroutine, too_many_stems}
@@ -168,21 +168,3 @@ effect_of (IsRefused part) lists op after st = Refuses (Unsupported part)
 -- what an operator does
 abbrev pub effect : Lists → Operator → (after : List ℕ) → State → Move
 effect lists op after st = effect_of (kind op) lists op after st
-
--- the operators that this library follows so far, and those that it refuses for good
-abbrev pub is_written : Operator → Bool
-is_written RMoveTo = true
-is_written HMoveTo = true
-is_written VMoveTo = true
-is_written RLineTo = true
-is_written HLineTo = true
-is_written VLineTo = true
-is_written EndChar = true
-is_written Random = true
-is_written Put = true
-is_written Get = true
-is_written op = false
-
--- what an operator does here: one that is not written yet is refused, whatever stands on the stack
-abbrev pub act : Lists → Operator → (after : List ℕ) → State → Move
-act lists op after st = if is_written op then effect lists op after st else Refuses (Unsupported parts.Later)

@@ -18,3 +18,5 @@ pub mod Machines
 pub mod Programs
 pub mod Lefts
 pub mod Whole
+pub mod Performing
+pub mod Callers

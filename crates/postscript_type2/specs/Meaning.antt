@@ -1,7 +1,7 @@
 -- What a program means: each call is evaluated to its end.
 use Rattle.std.specs.Prelude.{ℕ, zero, suc, ◌+◌, ℤ, Bool, true, false, ◌&&◌, not, List, [], ◌∷◌, ◌++◌, take, drop, Option, Some, None, if◌then◌else◌}
 use Rattle.postscript_type2.specs.declared.operation.Operator.{Operator}
-use Rattle.postscript_type2.specs.Effects.{Lists, State, start, Move, Keeps, Clears, Calls, Returns, Ends, Refuses, act}
+use Rattle.postscript_type2.specs.Effects.{Lists, State, start, Move, Keeps, Clears, Calls, Returns, Ends, Refuses, effect}
 use Rattle.postscript_type2.specs.Phrases.{Phrase, Complete, Bad, phrase}
 use Rattle.postscript_type2.specs.Refusals.{Refusal, return_without_caller, trailing_data, too_deep}
 
@@ -100,7 +100,7 @@ moved op more bytes st (Refuses e) = Stop e
 abbrev pub stride_by : Lists → (bytes : List ℕ) → State → Phrase → Stride
 stride_by lists bytes st (Bad e) = Stop e
 stride_by lists bytes st (Complete numbers op more) =
-    moved op more bytes (pushed numbers st) (act lists op (drop (more + 1) bytes) (pushed numbers st))
+    moved op more bytes (pushed numbers st) (effect lists op (drop (more + 1) bytes) (pushed numbers st))
 
 -- the stride of the phrase at the front
 abbrev pub stride : Lists → (bytes : List ℕ) → State → Stride

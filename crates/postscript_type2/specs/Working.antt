@@ -1,22 +1,22 @@
 -- What the code of operators does, as works and moves.
-use Rattle.std.specs.Prelude.{◌≡◌, ◌⊎◌, ℤ, List, Option, Some, None, Result, Ok, Err}
+use Rattle.std.specs.Borrow.{Bor}
+use Rattle.std.specs.Prelude.{◌≡◌, ◌⊎◌, ℕ, ℤ, List, map, Option, Some, None, Result, Ok, Err, Vec}
+use Rattle.std.specs.declared.alloc.Global.{Global}
 use Rattle.postscript_base.specs.declared.error.Error.{Error}
 use Rattle.postscript_base.specs.declared.error.Error.TheVariants.{Memory}
 use Rattle.postscript_type2.specs.declared.program.state.Effect.{Effect}
 use Rattle.postscript_type2.specs.declared.program.state.Effect.TheVariants as effects
 use Rattle.postscript_type2.specs.declared.program.state.State as code
-use Rattle.postscript_type2.specs.Effects.{State, Move, Keeps, Clears, Calls, Returns, Ends, Refuses}
+use Rattle.postscript_type2.specs.declared.program.calls.Subroutines as code_lists
+use Rattle.postscript_type2.specs.Effects.{Lists, State, Move, Keeps, Clears, Calls, Returns, Ends, Refuses}
 use Rattle.postscript_type2.specs.Meaning.{stacked, cleared}
 use Rattle.postscript_type2.specs.Refusals.{refusal_of}
-use Rattle.postscript_type2.specs.Works.{Work}
+use Rattle.postscript_type2.specs.Routines.{texts}
 
--- From the old stack to the new one the code does a work and gives its value, or it refuses what the work refuses.
--- Want of memory may come in place of either.
-abbrev pub Performs : {A : Type 0} → Work A → List ℤ → Result A Error → List ℤ → Type 0
-Performs work old (Ok value) new = work old ≡ Ok (value, new)
-Performs work old (Err e) new = (e ≡ Memory) ⊎ (work old ≡ Err (refusal_of e))
+-- the code's subroutines and state
+abbrev pub lists_of : code_lists.Subroutines → Lists
+lists_of lists = record { global = texts lists.global.now; local = texts lists.local.now }
 
--- the code's state
 abbrev pub state_of : code.State → State
 state_of st = record { stack = st.stack.items; stems = st.stems; width = st.width }
 
@@ -27,8 +27,16 @@ settled_width None = None
 
 -- what the code answers of an operator, with the state after it
 abbrev pub move_of : Effect → State → Move
-move_of (effects.Clears operands) st = Clears operands.items st.stems (settled_width st.width) 0
+move_of effects.Keeps st = Keeps st.stack
+move_of (effects.Clears operands mask) st = Clears operands.items st.stems (settled_width st.width) mask
+move_of (effects.Calls routine) st = Calls routine.now st.stack
+move_of effects.Returns st = Returns
 move_of (effects.Ends width) st = Ends width
+
+-- how many bytes of a mask belong to an effect
+abbrev pub mask_of : Effect → ℕ
+mask_of (effects.Clears operands mask) = mask
+mask_of effect = 0
 
 -- the state after a move
 abbrev pub after_move : Move → State → State

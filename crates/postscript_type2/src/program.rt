@@ -5,17 +5,27 @@ ghost use Rattle.postscript_type2.specs.Programs.{begun, Next, ended, failed};
 ghost use Rattle.postscript_type2.specs.Routines.{texts};
 ghost use Rattle.postscript_type2.specs.Whole.{Tells};
 
+mod arithmetic;
+mod callers;
+mod calls;
+mod hints;
 mod machine;
 mod routine;
+mod stack;
 mod state;
 
 use crate::operation::{Operand, Operation, Operations};
-use machine::Machine;
+use callers::Callers;
+use calls::Subroutines;
+use machine::{Event, Machine};
 use postscript_base::{Error, Result};
 use routine::Routine;
 use state::State;
 use std::alloc::Global;
 use std::marker::Model;
+
+/// How many calls may nest (Technical Note 5177, Appendix B, "Subr nesting, stack limit").
+const NESTED_CALLS: usize = 10;
 
 /// How far a program has come.
 #[derive(Clone, Copy)]
@@ -40,16 +50,17 @@ impl<'l> Model for Program<'l> {
     ghost use Rattle.postscript_type2.specs.Lefts.{left_of};
 
     ghost view = { λ program. left_of program.phase program.machine };
+
+    ghost use Rattle.std.specs.Prelude.{◌≡◌};
+    ghost use Rattle.postscript_type2.specs.Machines.{IsNested};
+    ghost use Rattle.postscript_type2.specs.declared.program.Phase.TheVariants as phases;
+
+    ghost invariant = { λ program. program.phase ≡ phases.Running → IsNested program.machine };
 }
 
 impl<'l> Program<'l> {
     /// Creates a program of a code, and of the global and the local subroutines.
-    pub fn new(
-        alloc: Global,
-        code: &'l [u8],
-        global: &'l [Vec<u8>],
-        local: &'l [Vec<u8>],
-    ) -> Self
+    pub fn new(alloc: Global, code: &'l [u8], global: &'l [Vec<u8>], local: &'l [Vec<u8>]) -> Self
         ensures { result ≡ begun (run_of (record { global = texts global.now; local = texts local.now }) code.now) }
     {
         let state = State {
@@ -60,9 +71,10 @@ impl<'l> Program<'l> {
         Program {
             machine: Machine {
                 alloc,
-                global,
-                local,
+                lists: Subroutines { global, local },
                 routine: Routine::new(code),
+                callers: Callers::Outermost,
+                left: NESTED_CALLS,
                 state,
             },
             phase: Phase::Running,
@@ -83,15 +95,18 @@ impl<'l> Program<'l> {
             Phase::Ended => return Ok(None),
             Phase::Failed => return Err(Error::AlreadyFailed),
         }
-        match self.machine.advance() {
-            Ok(Some(operation)) => Ok(Some(operation)),
-            Ok(None) => {
-                self.phase = Phase::Ended;
-                Ok(None)
-            }
-            Err(e) => {
-                self.phase = Phase::Failed;
-                Err(e)
+        loop {
+            match self.machine.advance() {
+                Ok(Event::Went) => {}
+                Ok(Event::Answered(operator, operands)) => return Ok(Some((operator, operands))),
+                Ok(Event::Ended) => {
+                    self.phase = Phase::Ended;
+                    return Ok(None);
+                }
+                Err(e) => {
+                    self.phase = Phase::Failed;
+                    return Err(e);
+                }
             }
         }
     }
@@ -120,12 +135,7 @@ pub struct Answers {
 }
 
 /// Runs a code to its end. Want of memory is the only error.
-pub fn run(
-    alloc: Global,
-    code: &[u8],
-    global: &[Vec<u8>],
-    local: &[Vec<u8>],
-) -> Result<Answers>
+pub fn run(alloc: Global, code: &[u8], global: &[Vec<u8>], local: &[Vec<u8>]) -> Result<Answers>
     ensures { MatchResult result
         (λ told. Tells told (run_of (record { global = texts global.now; local = texts local.now }) code.now))
         (λ e. e ≡ Error.Memory) }

@@ -2,9 +2,8 @@
 #![tactic(auto)]
 
 pub mod callers;
-pub mod tapes;
-
 #[cfg(test)]
 mod errors;
 #[cfg(test)]
 mod readings;
+pub mod tapes;

@@ -1,5 +1,5 @@
 //! A routine: code, and the place that is reached in it.
-ghost use Rattle.std.specs.Prelude.{◌≡◌};
+ghost use Rattle.std.specs.Prelude.{◌≡◌, ◌≤◌, length, drop};
 ghost use Rattle.postscript_type2.specs.Meaning.{is_empty};
 ghost use Rattle.postscript_type2.specs.Phrases.{is_number};
 ghost use Rattle.postscript_type2.specs.Tokens.{LooksAt, ReadsByte, ReadsNumber, ReadsOperator, ReadsPhrase};
@@ -51,6 +51,27 @@ impl<'l> Routine<'l> {
             Some(bytes[place])
         } else {
             None
+        }
+    }
+
+    /// How many bytes are not read yet.
+    pub(crate) fn len(&self) -> usize
+        ensures { result ≡ length self.now }
+    {
+        let place = self.tape.position() as usize;
+        let bytes: &[u8] = self.tape.get_ref();
+        bytes.len().saturating_sub(place)
+    }
+
+    /// Passes so many bytes, which are there.
+    pub(crate) fn skip(&mut self, count: usize)
+        requires { count ≤ length self.old }
+        ensures { self.new ≡ drop count self.old }
+    {
+        let place = self.tape.position() as usize;
+        let bytes: &[u8] = self.tape.get_ref();
+        if place < bytes.len() {
+            self.tape.set_position((place + count) as u64);
         }
     }
 

@@ -1,9 +1,12 @@
 //! What an operator does with the stack.
 ghost use Rattle.std.specs.Prelude.{◌≡◌, ◌≤◌, ℕ, List, [], length, Some, OnErr, IfOk, IfErr};
 ghost use Rattle.postscript_base.specs.declared.error.Error.TheVariants.{Memory};
-ghost use Rattle.postscript_type2.specs.Effects.{Lists, settled as the_settled, path_move, last_of, act as the_act};
-ghost use Rattle.postscript_type2.specs.Working.{state_of, Does};
+ghost use Rattle.postscript_type2.specs.Effects.{Lists, settled as the_settled, path_move, last_of, kind, effect};
+ghost use Rattle.postscript_type2.specs.Performing.{IsWork};
+ghost use Rattle.postscript_type2.specs.Working.{lists_of, state_of, mask_of, Does};
 
+use super::calls::Subroutines;
+use super::stack::perform;
 use crate::operation::{Operand, Operator};
 use postscript_base::error::Part;
 use postscript_base::{Error, Result};
@@ -17,10 +20,14 @@ pub(crate) struct State {
     pub(crate) width: Option<Option<Operand>>,
 }
 
-/// What an operator does: it clears the stack and is answered with the operands taken, or it ends the run.
+/// What an operator does: it leaves a stack; it clears the stack and is answered with the operands taken, and so many bytes
+/// of a mask are its own; it calls a subroutine; it returns; or it ends the run.
 #[derive(Drop)]
-pub(crate) enum Effect {
-    Clears(Vec<Operand>),
+pub(crate) enum Effect<'l> {
+    Keeps,
+    Clears(Vec<Operand>, usize),
+    Calls(&'l [u8]),
+    Returns,
     Ends(Option<Operand>),
 }
 
@@ -43,7 +50,12 @@ fn settled(width: Option<Option<Operand>>, stack: &[Operand], counted: usize) ->
 
 impl State {
     /// Takes the last operands off the stack for an operation, and settles the width.
-    fn clear(&mut self, alloc: Global, taken: usize, counted: usize) -> Result<Vec<Operand>>
+    pub(super) fn clear(
+        &mut self,
+        alloc: Global,
+        taken: usize,
+        counted: usize,
+    ) -> Result<Vec<Operand>>
         requires taken { taken ≤ length self.old.stack.items }
         requires counted { counted ≤ length self.old.stack.items }
         ensures taken { IfOk result (λ operands. operands.items ≡ last_of self.old.stack.items taken) }
@@ -61,35 +73,72 @@ impl State {
     }
 
     /// An operator that draws.
-    fn path(&mut self, alloc: Global, operator: Operator) -> Result<Effect>
-        ensures { Does (path_move operator (state_of self.old)) self.old result self.new }
+    fn path<'l>(&mut self, alloc: Global, operator: Operator) -> Result<Effect<'l>>
+        ensures value { Does (path_move operator (state_of self.old)) self.old result self.new }
+        ensures room { IfOk result (λ e. mask_of e ≡ 0) }
     {
         let Some(taken) = operator.taken(self.stack.len()) else {
             return Err(Error::MalformedOperands);
         };
         let operands = self.clear(alloc, taken, taken)?;
-        Ok(Effect::Clears(operands))
+        Ok(Effect::Clears(operands, 0))
     }
 
-    /// What the operator does.
-    pub(crate) fn act(&mut self, alloc: Global, operator: Operator) -> Result<Effect>
-        ensures { (lists : Lists) → (after : List ℕ) → Does (the_act lists operator after (state_of self.old)) self.old result self.new }
+    /// An operator that works on the stack alone.
+    fn work<'l>(&mut self, operator: Operator) -> Result<Effect<'l>>
+        requires { IsWork (kind operator) }
+        ensures value { (lists : Lists) → (bytes : List ℕ) → Does (effect lists operator bytes (state_of self.old)) self.old result self.new }
+        ensures room { IfOk result (λ effect. mask_of effect ≡ 0) }
+    {
+        perform(operator, &mut self.stack)?;
+        Ok(Effect::Keeps)
+    }
+
+    /// What the operator does, where so many bytes follow it.
+    pub(crate) fn act<'l>(
+        &mut self,
+        alloc: Global,
+        lists: Subroutines<'l>,
+        operator: Operator,
+        after: usize,
+    ) -> Result<Effect<'l>>
+        ensures value { (bytes : List ℕ) → length bytes ≡ after →
+            Does (effect (lists_of lists.entry) operator bytes (state_of self.old)) self.old result self.new }
+        ensures room { IfOk result (λ effect. mask_of effect ≤ after) }
     {
         match operator {
-            Operator::RMoveTo
-            | Operator::HMoveTo
-            | Operator::VMoveTo
-            | Operator::RLineTo
-            | Operator::HLineTo
-            | Operator::VLineTo => self.path(alloc, operator),
+            Operator::CallSubr => self.call(lists.local),
+            Operator::CallGSubr => self.call(lists.global),
+            Operator::Return => Ok(Effect::Returns),
             Operator::EndChar => {
                 let counted = if self.stack.len() < 4 { 0 } else { 4 };
                 Ok(Effect::Ends(settled(self.width, &self.stack, counted)))
             }
+            Operator::HStem | Operator::VStem | Operator::HStemHM | Operator::VStemHM => self.stem(
+                alloc, operator,
+            ),
+            Operator::HintMask | Operator::CntrMask => self.mask(alloc, after),
             Operator::Random => Err(Error::Unsupported(Part::Random)),
             Operator::Put => Err(Error::Unsupported(Part::Put)),
             Operator::Get => Err(Error::Unsupported(Part::Get)),
-            _ => Err(Error::Unsupported(Part::Later)),
+            Operator::Abs
+            | Operator::Add
+            | Operator::Sub
+            | Operator::Div
+            | Operator::Neg
+            | Operator::Mul
+            | Operator::Sqrt
+            | Operator::And
+            | Operator::Or
+            | Operator::Not
+            | Operator::Eq
+            | Operator::IfElse
+            | Operator::Drop
+            | Operator::Exch
+            | Operator::Dup
+            | Operator::Index
+            | Operator::Roll => self.work(operator),
+            _ => self.path(alloc, operator),
         }
     }
 }

@@ -7,10 +7,10 @@ use Rattle.postscript_type2.proofs.program.routine.Routine.operator.Goals as goa
 
 pub returns-in_ok-second : goal.returns-in_ok-second
 returns-in_ok-second c =
-  let found : c.from-then-first-eq12.result ≡ ok_or (operator_of (0x0c00 + c.in_ok-second.second)) UnknownOperator = rw (← c.from.ensures) c.from-then-first-eq12.ensures in
-  operator-two _ _ _ c.in_ok-first.first c.in_ok-second.second _ c.in_ok-first.ensures c.in_ok-second.ensures c.if-first-eq12.true found
+    let found : c.from-then-first-eq12.result ≡ ok_or (operator_of (0x0c00 + c.in_ok-second.second)) UnknownOperator = rw (← c.from.ensures) c.from-then-first-eq12.ensures in
+    operator-two _ _ _ c.in_ok-first.first c.in_ok-second.second _ c.in_ok-first.ensures c.in_ok-second.ensures c.if-first-eq12.true found
 
 pub returns-else-first-eq12 : goal.returns-else-first-eq12
 returns-else-first-eq12 c =
-  let found : c.from-else-first-eq12-2.result ≡ ok_or (operator_of c.in_ok-first.first) UnknownOperator = rw (← c.from-else-first-eq12.ensures) c.from-else-first-eq12-2.ensures in
-  operator-one _ _ c.in_ok-first.first _ c.in_ok-first.ensures c.if-first-eq12.false found
+    let found : c.from-else-first-eq12-2.result ≡ ok_or (operator_of c.in_ok-first.first) UnknownOperator = rw (← c.from-else-first-eq12.ensures) c.from-else-first-eq12-2.ensures in
+    operator-one _ _ c.in_ok-first.first _ c.in_ok-first.ensures c.if-first-eq12.false found
