@@ -1,6 +1,8 @@
 -- What one phrase comes to, by the move of its operator.
 use Rattle.std.proofs.lemmas.List.{drop-drop}
-use Rattle.std.proofs.Common.{◌≡◌, refl, ap, sym, subst, ◌∙◌, ◌⊎◌, inl, inr, ℕ, suc, ◌+◌, ◌-◌, ◌<◌, Bool, true, List, [], ◌∷◌, drop, length, ℤ, Option, Some, None, if◌then◌else◌, arith}
+use Rattle.std.proofs.lemmas.Bool.{eqb-false}
+use Rattle.std.proofs.Common.{eqb-true, ◌≢◌, ◌==◌, ◌≡◌, refl, ap, sym, subst, ◌∙◌, ◌⊎◌, inl, inr, ℕ, zero, suc, ◌+◌, ◌-◌, ◌<◌, Bool, true, false, List, [], ◌∷◌, take, drop, length, ℤ, Option, Some, None, if◌then◌else◌, length-drop, arith}
+use Rattle.std.proofs.lemmas.Grind.{common_steps}
 use Rattle.postscript_base.specs.declared.error.Error.{Error}
 use Rattle.postscript_base.specs.declared.error.Error.TheVariants.{Memory}
 use Rattle.postscript_type2.specs.declared.operation.Operator.{Operator}
@@ -9,7 +11,7 @@ use Rattle.postscript_type2.specs.declared.program.state.Effect.TheVariants as e
 use Rattle.postscript_type2.specs.declared.program.state.State as code
 use Rattle.std.specs.Prelude.{Result, Ok, Err}
 use Rattle.postscript_type2.specs.Effects.{Lists, State, Move, Keeps, Clears, Calls, Returns, Ends, Refuses, effect}
-use Rattle.postscript_type2.specs.Meaning.{Answer, Said, Run, End, UsedUp, Finished, Fault, says, answers, ends, said, stacked, cleared, moved, stride}
+use Rattle.postscript_type2.specs.Meaning.{Answer, Said, Run, UsedUp, Finished, Fault, says, answers, ends, said, stacked, cleared, moved, stride}
 use Rattle.postscript_type2.specs.Phrases.{Complete, Bad, phrase, fronted}
 use Rattle.postscript_type2.specs.Refusals.{Refusal, refusal_of, return_without_caller, trailing_data, too_deep}
 use Rattle.postscript_type2.specs.Still.{still, next_still, are_used_up}
@@ -19,61 +21,73 @@ use Rattle.postscript_type2.proofs.Strides.{still_step-at, stride-is, stop-is}
 
 -- A phrase was read off the front of these bytes into this stack and operator, and this rest is behind it.
 pub record IsRead (bytes rest : List ℕ) (st : State) (ys : List ℤ) (op : Operator) (more : ℕ) : Type 0 where
-  pub first : ℕ
-  pub others : List ℕ
-  pub some : bytes ≡ first ∷ others
+  pub some : 0 < length bytes
   pub spelled : fronted st.stack 0 (phrase bytes) ≡ Complete ys op more
   pub behind : rest ≡ drop (more + 1) bytes
+
+-- a front that is what a rest lacks
+pub front-of : (bytes rest front : List ℕ) (k : ℕ) → rest ≡ drop k bytes → front ≡ take (length bytes - length rest) bytes → front ≡ take k bytes
+front-of bytes rest front k behind is =
+    is ∙ ap (λ r. take (length bytes - length r) bytes) behind ∙ front-by bytes k
+  where
+    front-by : (xs : List ℕ) (n : ℕ) → take (length xs - length (drop n xs)) xs ≡ take n xs
+    front-by [] n = grind (arith, common_steps)
+    front-by (x ∷ xs) zero = ap (λ m. take m (x ∷ xs)) (let none : length (x ∷ xs) - length (x ∷ xs) ≡ 0 = omega arith in none)
+    front-by (x ∷ xs) (suc n) =
+        let fewer : length (drop n xs) ≡ length xs - n = length-drop n xs in
+        let one_more : length (x ∷ xs) - length (drop n xs) ≡ suc (length xs - length (drop n xs)) = omega (arith, fewer) in
+        ap (λ m. take m (x ∷ xs)) one_more ∙ ap (λ front'. x ∷ front') (front-by xs n)
 
 -- what is still answered, by the operator's move
 stepped : (lists : Lists) (left : ℕ) (cs : List (List ℕ)) (bytes rest : List ℕ) (st : State) (ys : List ℤ) (op : Operator) (more : ℕ) (move : Move) →
     IsRead bytes rest st ys op more → effect lists op rest (stacked ys st) ≡ move →
     still lists left bytes cs st ≡ next_still lists left (λ k. drop (k + 1) bytes) cs (moved op more bytes (stacked ys st) move)
 stepped lists left cs bytes rest st ys op more move read does =
-    let some : 0 < length bytes = let e : length bytes ≡ suc (length read.others) = ap length read.some in omega arith in
     let acts : effect lists op (drop (more + 1) bytes) (stacked ys st) ≡ move = ap (λ after. effect lists op after (stacked ys st)) (sym read.behind) ∙ does in
     let whole : more - 0 ≡ more = omega arith in
     let strides : stride lists bytes st ≡ moved op more bytes (stacked ys st) (effect lists op (drop (more + 1) bytes) (stacked ys st)) =
     subst (λ n. stride lists bytes st ≡ moved op n bytes (stacked ys st) (effect lists op (drop (n + 1) bytes) (stacked ys st))) whole
     (stride-is lists bytes 0 st ys op more read.spelled) in
-    still_step-at lists left bytes cs st some
+    still_step-at lists left bytes cs st read.some
     ∙ ap (next_still lists left (λ k. drop (k + 1) bytes) cs) (strides ∙ ap (moved op more bytes (stacked ys st)) acts)
 
+-- a phrase with this front
+abbrev with : Operator → List ℕ → Said
+with op front = record { operator = op; bytes = front }
+
 -- a stack is left
-pub kept : (lists : Lists) (left : ℕ) (cs : List (List ℕ)) (bytes rest : List ℕ) (st : State) (ys : List ℤ) (op : Operator) (more : ℕ) (now : State) →
-    IsRead bytes rest st ys op more → effect lists op rest (stacked ys st) ≡ Keeps now.stack → now ≡ stacked now.stack st →
-    (s : Said) × (still lists left bytes cs st ≡ says s (still lists left rest cs now))
-kept lists left cs bytes rest st ys op more now read does is = (
-  said op more bytes,
-  stepped lists left cs bytes rest st ys op more (Keeps now.stack) read does
-      ∙ ap (λ after. says (said op more bytes) (still lists left after cs (stacked now.stack st))) (sym read.behind)
-      ∙ ap (λ s. says (said op more bytes) (still lists left rest cs s)) (sym is),
-)
+pub kept : (lists : Lists) (left : ℕ) (cs : List (List ℕ)) (bytes rest front : List ℕ) (st : State) (ys : List ℤ) (op : Operator) (more : ℕ) (now : State) →
+    IsRead bytes rest st ys op more → effect lists op rest (stacked ys st) ≡ Keeps now.stack → now ≡ stacked now.stack st → front ≡ take (more + 1) bytes →
+    still lists left bytes cs st ≡ says (with op front) (still lists left rest cs now)
+kept lists left cs bytes rest front st ys op more now read does is there =
+    stepped lists left cs bytes rest st ys op more (Keeps now.stack) read does
+    ∙ ap (λ after. says (said op more bytes) (still lists left after cs (stacked now.stack st))) (sym read.behind)
+    ∙ ap (λ s. says (said op more bytes) (still lists left rest cs s)) (sym is)
+    ∙ ap (λ front'. says (with op front') (still lists left rest cs now)) (sym there)
 
 -- an operation is answered, and the bytes of its mask are passed
-pub answered : (lists : Lists) (left : ℕ) (cs : List (List ℕ)) (bytes rest behind : List ℕ) (st : State) (ys : List ℤ) (op : Operator) (more mask : ℕ) (taken : List ℤ) (now : State) (width : Option ℤ) →
+pub answered : (lists : Lists) (left : ℕ) (cs : List (List ℕ)) (bytes rest behind front : List ℕ) (st : State) (ys : List ℤ) (op : Operator) (more mask : ℕ) (taken : List ℤ) (now : State) (width : Option ℤ) →
     IsRead bytes rest st ys op more → effect lists op rest (stacked ys st) ≡ Clears taken now.stems width mask → now ≡ cleared now.stems width → behind ≡ drop mask rest →
-    (s : Said) × (still lists left bytes cs st ≡ says s (answers (record { operator = op; operands = taken; width = width }) (still lists left behind cs now)))
-answered lists left cs bytes rest behind st ys op more mask taken now width read does is past =
+    front ≡ take (length bytes - length behind) bytes →
+    still lists left bytes cs st ≡ says (with op front) (answers (record { operator = op; operands = taken; width = width }) (still lists left behind cs now))
+answered lists left cs bytes rest behind front st ys op more mask taken now width read does is past is_front =
     let step = stepped lists left cs bytes rest st ys op more (Clears taken now.stems width mask) read does in
-    let there : drop (more + mask + 1) bytes ≡ behind =
-    ap (λ n. drop n bytes) (omega arith) ∙ sym (drop-drop mask (more + 1) bytes) ∙ ap (drop mask) (sym read.behind) ∙ sym past in (
-      said op (more + mask) bytes,
-      step ∙ ap (λ after. says (said op (more + mask) bytes) (answers (record { operator = op; operands = taken; width = width }) (still lists left after cs (cleared now.stems width)))) there
-          ∙ ap (λ s. says (said op (more + mask) bytes) (answers (record { operator = op; operands = taken; width = width }) (still lists left behind cs s))) (sym is),
-    )
+    let answer : Answer = record { operator = op; operands = taken; width = width } in
+    let there : behind ≡ drop (more + mask + 1) bytes =
+    past ∙ ap (drop mask) read.behind ∙ drop-drop mask (more + 1) bytes ∙ ap (λ n. drop n bytes) (omega arith) in
+    step ∙ ap (λ after. says (said op (more + mask) bytes) (answers answer (still lists left after cs (cleared now.stems width)))) (sym there)
+    ∙ ap (λ s. says (said op (more + mask) bytes) (answers answer (still lists left behind cs s))) (sym is)
+    ∙ ap (λ front'. says (with op front') (answers answer (still lists left behind cs now))) (sym (front-of bytes behind front (more + mask + 1) there is_front))
 
 -- a subroutine is entered
-pub entered : (lists : Lists) (left left' : ℕ) (cs cs' : List (List ℕ)) (bytes rest : List ℕ) (st : State) (ys : List ℤ) (op : Operator) (more : ℕ) (code routine : List ℕ) (now : State) →
+pub entered : (lists : Lists) (left left' : ℕ) (cs cs' : List (List ℕ)) (bytes rest front : List ℕ) (st : State) (ys : List ℤ) (op : Operator) (more : ℕ) (code routine : List ℕ) (now : State) →
     IsRead bytes rest st ys op more → effect lists op rest (stacked ys st) ≡ Calls code now.stack → now ≡ stacked now.stack st → left ≡ suc left' → cs' ≡ rest ∷ cs → routine ≡ code →
-    (s : Said) × (still lists left bytes cs st ≡ says s (still lists left' routine cs' now))
-entered lists left left' cs cs' bytes rest st ys op more code routine now read does is one_less pushed entry =
-    rw (one_less, pushed, entry) (
-      said op more bytes,
-      stepped lists (suc left') cs bytes rest st ys op more (Calls code now.stack) read does
-          ∙ ap (λ after. says (said op more bytes) (still lists left' code (after ∷ cs) (stacked now.stack st))) (sym read.behind)
-          ∙ ap (λ s. says (said op more bytes) (still lists left' code (rest ∷ cs) s)) (sym is),
-    )
+    front ≡ take (more + 1) bytes → still lists left bytes cs st ≡ says (with op front) (still lists left' routine cs' now)
+entered lists left left' cs cs' bytes rest front st ys op more code routine now read does is one_less pushed entry there =
+    rw (one_less, pushed, entry, there)
+    (stepped lists (suc left') cs bytes rest st ys op more (Calls code now.stack) read does
+    ∙ ap (λ after. says (said op more bytes) (still lists left' code (after ∷ cs) (stacked now.stack st))) (sym read.behind)
+    ∙ ap (λ s. says (said op more bytes) (still lists left' code (rest ∷ cs) s)) (sym is))
 
 -- an eleventh call
 pub too-deep-call : (lists : Lists) (cs : List (List ℕ)) (bytes rest : List ℕ) (st : State) (ys : List ℤ) (op : Operator) (more : ℕ) (routine : List ℕ) (stack : List ℤ) →
@@ -84,15 +98,13 @@ too-deep-call lists cs bytes rest st ys op more routine stack read does =
     (ap (λ run. run.answers) step, ap (λ run. run.end) step)
 
 -- a subroutine returns to its caller, and the outermost code to none
-pub returned : (lists : Lists) (left left' : ℕ) (caller : List ℕ) (cs cs' : List (List ℕ)) (bytes rest : List ℕ) (st : State) (ys : List ℤ) (op : Operator) (more : ℕ) (now : State) →
-    IsRead bytes rest st ys op more → effect lists op rest (stacked ys st) ≡ Returns → now ≡ stacked ys st → left' ≡ suc left → cs ≡ caller ∷ cs' →
-    (s : Said) × (still lists left bytes cs st ≡ says s (still lists left' caller cs' now))
-returned lists left left' caller cs cs' bytes rest st ys op more now read does is one_more popped =
-    rw (one_more, popped) (
-      said op more bytes,
-      stepped lists left (caller ∷ cs') bytes rest st ys op more Returns read does
-          ∙ ap (λ s. says (said op more bytes) (still lists (suc left) caller cs' s)) (sym is),
-    )
+pub returned : (lists : Lists) (left left' : ℕ) (caller : List ℕ) (cs cs' : List (List ℕ)) (bytes rest front : List ℕ) (st : State) (ys : List ℤ) (op : Operator) (more : ℕ) (now : State) →
+    IsRead bytes rest st ys op more → effect lists op rest (stacked ys st) ≡ Returns → now ≡ stacked ys st → left' ≡ suc left → cs ≡ caller ∷ cs' → front ≡ take (more + 1) bytes →
+    still lists left bytes cs st ≡ says (with op front) (still lists left' caller cs' now)
+returned lists left left' caller cs cs' bytes rest front st ys op more now read does is one_more popped there =
+    rw (one_more, popped, there)
+    (stepped lists left (caller ∷ cs') bytes rest st ys op more Returns read does
+    ∙ ap (λ s. says (said op more bytes) (still lists (suc left) caller cs' s)) (sym is))
 
 pub no-caller : (lists : Lists) (left : ℕ) (bytes rest : List ℕ) (st : State) (ys : List ℤ) (op : Operator) (more : ℕ) →
     IsRead bytes rest st ys op more → effect lists op rest (stacked ys st) ≡ Returns →
@@ -101,18 +113,27 @@ no-caller lists left bytes rest st ys op more read does =
     let step = stepped lists left [] bytes rest st ys op more Returns read does in
     (ap (λ run. run.answers) step, ap (λ run. run.end) step)
 
--- EndChar, by whether the subroutines of the chain are used up
-abbrev pub end_by : Bool → Option ℤ → End
-end_by used_up width = if used_up then Finished width else Fault trailing_data
-
-pub finished : (lists : Lists) (left : ℕ) (cs : List (List ℕ)) (bytes rest : List ℕ) (st : State) (ys : List ℤ) (op : Operator) (more : ℕ) (width : Option ℤ) (used_up : Bool) →
+-- EndChar, where the subroutines of the chain are used up and where they are not
+ended : (lists : Lists) (left : ℕ) (cs : List (List ℕ)) (bytes rest : List ℕ) (st : State) (ys : List ℤ) (op : Operator) (more : ℕ) (width : Option ℤ) (used_up : Bool) →
     IsRead bytes rest st ys op more → effect lists op rest (stacked ys st) ≡ Ends width → used_up ≡ are_used_up rest cs →
-    ((still lists left bytes cs st).answers ≡ []) × ((still lists left bytes cs st).end ≡ end_by used_up width)
-finished lists left cs bytes rest st ys op more width used_up read does is =
-    let step = stepped lists left cs bytes rest st ys op more (Ends width) read does in
-    let here : end_by (are_used_up (drop (more + 1) bytes) cs) width ≡ end_by used_up width =
-    ap (λ after. end_by (are_used_up after cs) width) (sym read.behind) ∙ ap (λ b. end_by b width) (sym is) in
-    (ap (λ run. run.answers) step, ap (λ run. run.end) step ∙ here)
+    still lists left bytes cs st ≡ says (said op more bytes) (ends (if used_up then Finished width else Fault trailing_data))
+ended lists left cs bytes rest st ys op more width used_up read does is =
+    stepped lists left cs bytes rest st ys op more (Ends width) read does
+    ∙ ap (λ after. says (said op more bytes) (ends (if are_used_up after cs then Finished width else Fault trailing_data))) (sym read.behind)
+    ∙ ap (λ b. says (said op more bytes) (ends (if b then Finished width else Fault trailing_data))) (sym is)
+
+pub finished : (lists : Lists) (left : ℕ) (cs : List (List ℕ)) (bytes rest front : List ℕ) (st : State) (ys : List ℤ) (op : Operator) (more : ℕ) (width : Option ℤ) →
+    IsRead bytes rest st ys op more → effect lists op rest (stacked ys st) ≡ Ends width → true ≡ are_used_up rest cs → front ≡ take (more + 1) bytes →
+    still lists left bytes cs st ≡ says (with op front) (ends (Finished width))
+finished lists left cs bytes rest front st ys op more width read does is there =
+    ended lists left cs bytes rest st ys op more width true read does is ∙ ap (λ front'. says (with op front') (ends (Finished width))) (sym there)
+
+pub trailing : (lists : Lists) (left : ℕ) (cs : List (List ℕ)) (bytes rest : List ℕ) (st : State) (ys : List ℤ) (op : Operator) (more : ℕ) (width : Option ℤ) →
+    IsRead bytes rest st ys op more → effect lists op rest (stacked ys st) ≡ Ends width → false ≡ are_used_up rest cs →
+    ((still lists left bytes cs st).answers ≡ []) × ((still lists left bytes cs st).end ≡ Fault trailing_data)
+trailing lists left cs bytes rest st ys op more width read does is =
+    let step = ended lists left cs bytes rest st ys op more width false read does is in
+    (ap (λ run. run.answers) step, ap (λ run. run.end) step)
 
 -- a refusal of the operator
 pub refused : (lists : Lists) (left : ℕ) (cs : List (List ℕ)) (bytes rest : List ℕ) (st : State) (ys : List ℤ) (op : Operator) (more : ℕ) (e : Refusal) →
@@ -123,10 +144,9 @@ refused lists left cs bytes rest st ys op more e read does =
     (ap (λ run. run.answers) step, ap (λ run. run.end) step)
 
 -- a refusal of the phrase
-pub unread : (lists : Lists) (left : ℕ) (cs : List (List ℕ)) (bytes others : List ℕ) (first : ℕ) (st : State) (e : Refusal) → bytes ≡ first ∷ others → phrase bytes ≡ Bad e →
+unread : (lists : Lists) (left : ℕ) (cs : List (List ℕ)) (bytes : List ℕ) (st : State) (e : Refusal) → 0 < length bytes → phrase bytes ≡ Bad e →
     ((still lists left bytes cs st).answers ≡ []) × ((still lists left bytes cs st).end ≡ Fault e)
-unread lists left cs bytes others first st e is bad =
-    let some : 0 < length bytes = let h : length bytes ≡ suc (length others) = ap length is in omega arith in
+unread lists left cs bytes st e some bad =
     let step = still_step-at lists left bytes cs st some ∙ ap (next_still lists left (λ k. drop (k + 1) bytes) cs) (stop-is lists bytes st e bad) in
     (ap (λ run. run.answers) step, ap (λ run. run.end) step)
 
@@ -137,12 +157,20 @@ pub refused-or-memory : (lists : Lists) (left : ℕ) (cs : List (List ℕ)) (byt
 refused-or-memory lists left cs bytes rest st ys op more e read (inl memory) = inl memory
 refused-or-memory lists left cs bytes rest st ys op more e read (inr does) = inr (refused lists left cs bytes rest st ys op more (refusal_of e) read does)
 
-pub unread-or-memory : (lists : Lists) (left : ℕ) (cs : List (List ℕ)) (bytes others : List ℕ) (first : ℕ) (st : State) (e : Error) → bytes ≡ first ∷ others →
+pub unread-or-memory : (lists : Lists) (left : ℕ) (cs : List (List ℕ)) (bytes : List ℕ) (st : State) (e : Error) → 0 < length bytes →
     (e ≡ Memory) ⊎ (phrase bytes ≡ Bad (refusal_of e)) →
     (e ≡ Memory) ⊎ (((still lists left bytes cs st).answers ≡ []) × ((still lists left bytes cs st).end ≡ Fault (refusal_of e)))
-unread-or-memory lists left cs bytes others first st e is (inl memory) = inl memory
-unread-or-memory lists left cs bytes others first st e is (inr bad) = inr (unread lists left cs bytes others first st (refusal_of e) is bad)
+unread-or-memory lists left cs bytes st e some (inl memory) = inl memory
+unread-or-memory lists left cs bytes st e some (inr bad) = inr (unread lists left cs bytes st (refusal_of e) some bad)
 
 -- a routine that is used up ends the run
-pub used-up : (lists : Lists) (left : ℕ) (cs : List (List ℕ)) (bytes : List ℕ) (st : State) → bytes ≡ [] → still lists left bytes cs st ≡ ends UsedUp
-used-up lists left cs bytes st is = ap (λ rest. still lists left rest cs st) is ∙ still_end lists left cs st
+pub used-up : (lists : Lists) (left : ℕ) (cs : List (List ℕ)) (bytes : List ℕ) (st : State) → length bytes ≡ 0 → still lists left bytes cs st ≡ ends UsedUp
+used-up lists left cs [] st is = still_end lists left cs st
+used-up lists left cs (b ∷ r) st is = absurd (omega arith)
+
+-- what a slice's is_empty answers of its length
+pub some-of : (n : ℕ) → false ≡ (n == 0) → 0 < n
+some-of n h = let e : n ≢ 0 = λ z. eqb-false n 0 (sym h) z in omega arith
+
+pub none-of : (n : ℕ) → true ≡ (n == 0) → n ≡ 0
+none-of n h = eqb-true n 0 (sym h)

@@ -7,19 +7,19 @@ use Rattle.postscript_type2.specs.Number.{spelled}
 use Rattle.postscript_type2.specs.Phrases.{is_number, Phrase, Complete, Bad, passed, with_number, numbered, ending, phrase_after, phrase, fronted}
 use Rattle.postscript_type2.proofs.Places.{later, spelled-local}
 
-fronted-zero : (p : Phrase) → fronted [] 0 p ≡ p
+pub fronted-zero : (p : Phrase) → fronted [] 0 p ≡ p
 fronted-zero (Complete numbers op more) = ap (Complete numbers op) (zero-add more)
 fronted-zero (Bad e) = refl
 
-passed-fronted : (k : ℕ) (p : Phrase) → passed (fronted [] k p) ≡ fronted [] (suc k) p
-passed-fronted k (Complete numbers op more) = let e : suc (k + more) ≡ suc k + more = omega arith in ap (Complete numbers op) e
-passed-fronted k (Bad e) = refl
+pub passed-fronted : (stack : List ℤ) (k : ℕ) (p : Phrase) → passed (fronted stack k p) ≡ fronted stack (suc k) p
+passed-fronted stack k (Complete numbers op more) = let e : suc (k + more) ≡ suc k + more = omega arith in ap (Complete (stack ++ numbers) op) e
+passed-fronted stack k (Bad e) = refl
 
 -- a phrase past k bytes is the one that stands there
 pub phrase-from : (k : ℕ) (r : List ℕ) → phrase_after k r ≡ fronted [] k (phrase (drop k r))
 phrase-from zero r = sym (fronted-zero (phrase r))
 phrase-from (suc k) [] = refl
-phrase-from (suc k) (b ∷ r) = ap passed (phrase-from k r) ∙ passed-fronted k (phrase (drop k r))
+phrase-from (suc k) (b ∷ r) = ap passed (phrase-from k r) ∙ passed-fronted [] k (phrase (drop k r))
 
 fronted-number : (stack : List ℤ) (at more : ℕ) (x : ℤ) (p : Phrase) →
     fronted (stack ++ x ∷ []) (at + (more + 1)) p ≡ fronted stack at (with_number x (fronted [] more p))
@@ -34,6 +34,10 @@ at-place : (at : ℕ) (bytes : List ℕ) → at < length bytes →
     phrase (drop at bytes) ≡ phrase (get_or bytes at 0 ∷ drop (at + 1) bytes)
 at-place at bytes h = ap phrase (drop-cons bytes at 0 h) ∙ ap (λ i. phrase (get_or bytes at 0 ∷ drop i bytes)) (sym (add-one at))
 
+-- a number before other bytes
+pub number-first : (b : ℕ) (r : List ℕ) (x : ℤ) (more : ℕ) → is_number b ≡ true → spelled b r 0 ≡ Got x more → phrase (b ∷ r) ≡ with_number x (phrase_after more r)
+number-first b r x more t e = ap (λ v. cond v (numbered (spelled b r 0) (λ k. phrase_after k r)) (ending b r)) t ∙ ap (λ v. numbered v (λ k. phrase_after k r)) e
+
 -- a number at a place is one more of the phrase
 pub front-number : (stack : List ℤ) (at : ℕ) (bytes : List ℕ) (x : ℤ) (more : ℕ) → at < length bytes →
     is_number (get_or bytes at 0) ≡ true → spelled (get_or bytes at 0) (drop (at + 1) bytes) 0 ≡ Got x more →
@@ -42,11 +46,8 @@ front-number stack at bytes x more h t e =
     let r = drop (at + 1) bytes in
     let b = get_or bytes at 0 in
     let there : drop more r ≡ drop (at + (more + 1)) bytes = drop-drop more (at + 1) bytes ∙ ap (λ k. drop k bytes) (omega arith) in
-    let first : phrase (b ∷ r) ≡ with_number x (phrase_after more r) =
-    ap (λ v. cond v (numbered (spelled b r 0) (λ k. phrase_after k r)) (ending b r)) t
-    ∙ ap (λ v. numbered v (λ k. phrase_after k r)) e in
     fronted-number stack at more x _
-    ∙ sym (ap (fronted stack at) (at-place at bytes h ∙ first ∙ ap (with_number x) (phrase-from more r ∙ ap (λ l. fronted [] more (phrase l)) there)))
+    ∙ sym (ap (fronted stack at) (at-place at bytes h ∙ number-first b r x more t e ∙ ap (with_number x) (phrase-from more r ∙ ap (λ l. fronted [] more (phrase l)) there)))
 
 -- the same by places of the whole list
 pub front-number_at : (stack : List ℤ) (at : ℕ) (bytes : List ℕ) (x : ℤ) (next : ℕ) → at < length bytes →

@@ -15,3 +15,7 @@ pub mod Taken
 pub mod Rows
 pub mod SubroutineRows
 pub mod EffectRows
+pub mod Locals
+pub mod InFlat
+pub mod Inlining
+pub mod InliningRows

@@ -11,6 +11,7 @@ pub mod Effects
 pub mod Meaning
 pub mod Still
 pub mod Flat
+pub mod Inlining
 pub mod Tokens
 pub mod Working
 pub mod Routines

@@ -1,6 +1,10 @@
 //! The programs.
-ghost use Rattle.std.specs.Prelude.{◌≡◌, MatchResult};
-ghost use Rattle.postscript_type2.specs.Meaning.{run_of};
+ghost use Rattle.std.specs.Prelude.{◌≡◌, ◌⊎◌, MatchResult, OnOk, IfOk, IfErr};
+ghost use Rattle.postscript_type2.specs.Effects.{Lists};
+ghost use Rattle.postscript_type2.specs.Flat.{flat_text};
+ghost use Rattle.postscript_type2.specs.Inlining.{KeepsMeaning, FlatTextIsFlat};
+ghost use Rattle.postscript_type2.specs.Refusals.{refusal_of};
+ghost use Rattle.postscript_type2.specs.Meaning.{run_of, fault_of};
 ghost use Rattle.postscript_type2.specs.Programs.{begun, Next, ended, failed};
 ghost use Rattle.postscript_type2.specs.Routines.{texts};
 ghost use Rattle.postscript_type2.specs.Whole.{Tells};
@@ -8,6 +12,7 @@ ghost use Rattle.postscript_type2.specs.Whole.{Tells};
 mod arithmetic;
 mod callers;
 mod calls;
+mod flat;
 mod hints;
 mod machine;
 mod routine;
@@ -15,17 +20,11 @@ mod stack;
 mod state;
 
 use crate::operation::{Operand, Operation, Operations};
-use callers::Callers;
-use calls::Subroutines;
+use flat::flat_code;
 use machine::{Event, Machine};
 use postscript_base::{Error, Result};
-use routine::Routine;
-use state::State;
 use std::alloc::Global;
 use std::marker::Model;
-
-/// How many calls may nest (Technical Note 5177, Appendix B, "Subr nesting, stack limit").
-const NESTED_CALLS: usize = 10;
 
 /// How far a program has come.
 #[derive(Clone, Copy)]
@@ -63,20 +62,8 @@ impl<'l> Program<'l> {
     pub fn new(alloc: Global, code: &'l [u8], global: &'l [Vec<u8>], local: &'l [Vec<u8>]) -> Self
         ensures { result ≡ begun (run_of (record { global = texts global.now; local = texts local.now }) code.now) }
     {
-        let state = State {
-            stack: Vec::new(alloc),
-            stems: 0,
-            width: None,
-        };
         Program {
-            machine: Machine {
-                alloc,
-                lists: Subroutines { global, local },
-                routine: Routine::new(code),
-                callers: Callers::Outermost,
-                left: NESTED_CALLS,
-                state,
-            },
+            machine: Machine::new(alloc, code, global, local),
             phase: Phase::Running,
         }
     }
@@ -97,9 +84,9 @@ impl<'l> Program<'l> {
         }
         loop {
             match self.machine.advance() {
-                Ok(Event::Went) => {}
-                Ok(Event::Answered(operator, operands)) => return Ok(Some((operator, operands))),
-                Ok(Event::Ended) => {
+                Ok(Event::Went(_)) => {}
+                Ok(Event::Answered(said, operands)) => return Ok(Some((said.operator, operands))),
+                Ok(Event::UsedUp | Event::Over(_)) => {
                     self.phase = Phase::Ended;
                     return Ok(None);
                 }
@@ -120,6 +107,30 @@ impl<'l> Program<'l> {
             Some(width) => width,
             None => None,
         }
+    }
+
+    /// The same glyph as code without calls: the phrases of the run in their order, byte for byte with the bytes of their
+    /// masks. A call keeps its number and drops it again (`0c 12` stands for its operator), and a return drops a zero
+    /// (`8b 0c 12`). It ends where the run ends.
+    ///
+    /// Refused: what the run is refused with, `Memory`.
+    pub fn flatten(
+        alloc: Global,
+        code: &'l [u8],
+        global: &'l [Vec<u8>],
+        local: &'l [Vec<u8>],
+    ) -> Result<Vec<u8>>
+        ensures faultless { let run = run_of (record { global = texts global.now; local = texts local.now }) code.now in
+            OnOk result (fault_of run.end ≡ None) }
+        ensures text { let run = run_of (record { global = texts global.now; local = texts local.now }) code.now in
+            IfOk result (λ flat. flat.items ≡ flat_text run.trace) }
+        ensures keeps { let run = run_of (record { global = texts global.now; local = texts local.now }) code.now in
+            IfOk result (λ flat. (lists : Lists) → KeepsMeaning lists flat.items run) }
+        ensures refused { let run = run_of (record { global = texts global.now; local = texts local.now }) code.now in
+            IfErr result (λ e. (e ≡ Error.Memory) ⊎ (fault_of run.end ≡ Some (refusal_of e))) }
+        ensures law { FlatTextIsFlat }
+    {
+        flat_code(alloc, Machine::new(alloc, code, global, local))
     }
 }
 

@@ -1,5 +1,7 @@
 //! The machine of a program: one phrase at a time.
-ghost use Rattle.std.specs.Prelude.{IfOk};
+ghost use Rattle.std.specs.Prelude.{◌≡◌, IfOk};
+ghost use Rattle.postscript_type2.specs.Meaning.{run_of};
+ghost use Rattle.postscript_type2.specs.Routines.{texts};
 ghost use Rattle.postscript_type2.specs.Machines.{IsNested, still_of, Advances};
 
 use super::callers::{Callers, are_used_up};
@@ -11,16 +13,28 @@ use postscript_base::{Error, Result};
 use std::alloc::Global;
 use std::mem;
 
+/// A phrase of the run: its operator, and its bytes with those of its mask.
+#[derive(Clone, Copy)]
+pub(crate) struct Said<'l> {
+    pub(crate) operator: Operator,
+    pub(crate) bytes: &'l [u8],
+}
+
 /// What a phrase comes to.
 #[derive(Drop)]
-pub(crate) enum Event {
+pub(crate) enum Event<'l> {
+    /// The routine is used up: the end, without fault.
+    UsedUp,
     /// The run goes on.
-    Went,
+    Went(Said<'l>),
     /// An operation.
-    Answered(Operator, Vec<Operand>),
-    /// The end, without fault.
-    Ended,
+    Answered(Said<'l>, Vec<Operand>),
+    /// EndChar: the end, without fault.
+    Over(Said<'l>),
 }
+
+/// How many calls may nest (Technical Note 5177, Appendix B, "Type 2 Charstring Implementation Limits").
+const NESTED_CALLS: usize = 10;
 
 /// The subroutines, the routine that is run, its callers, how many more calls may nest, and the state reached.
 #[derive(Drop)]
@@ -34,22 +48,52 @@ pub(crate) struct Machine<'l> {
 }
 
 impl<'l> Machine<'l> {
+    /// A machine before the first phrase of a code.
+    pub(crate) fn new(
+        alloc: Global,
+        code: &'l [u8],
+        global: &'l [Vec<u8>],
+        local: &'l [Vec<u8>],
+    ) -> Self
+        ensures run { still_of result ≡ run_of (record { global = texts global.now; local = texts local.now }) code.now }
+        ensures width { result.state.width ≡ None }
+        ensures nested { IsNested result }
+    {
+        let state = State {
+            stack: Vec::new(alloc),
+            stems: 0,
+            width: None,
+        };
+        Machine {
+            alloc,
+            lists: Subroutines { global, local },
+            routine: Routine::new(code),
+            callers: Callers::Outermost,
+            left: NESTED_CALLS,
+            state,
+        }
+    }
+
     /// Runs one phrase, if one is left.
-    pub(crate) fn advance(&mut self) -> Result<Event>
+    pub(crate) fn advance(&mut self) -> Result<Event<'l>>
         requires nested { IsNested self.old }
         ensures advances { Advances (still_of self.old) self.old.state.width result self.new }
         ensures nested { IfOk result (λ event. IsNested self.new) }
     {
-        let Some(_) = self.routine.first() else {
-            return Ok(Event::Ended);
-        };
+        let rest = self.routine.rest();
+        if rest.is_empty() {
+            return Ok(Event::UsedUp);
+        }
         let operator = self.routine.phrase(&mut self.state.stack)?;
+        let bytes = self.routine.passed(rest);
+        let said = Said { operator, bytes };
         let after = self.routine.len();
         match self.state.act(self.alloc, self.lists, operator, after)? {
-            Effect::Keeps => Ok(Event::Went),
+            Effect::Keeps => Ok(Event::Went(said)),
             Effect::Clears(operands, mask) => {
                 self.routine.skip(mask);
-                Ok(Event::Answered(operator, operands))
+                let bytes = self.routine.passed(rest);
+                Ok(Event::Answered(Said { operator, bytes }, operands))
             }
             Effect::Calls(code) => {
                 if self.left == 0 {
@@ -58,7 +102,7 @@ impl<'l> Machine<'l> {
                 let caller = mem::replace(&mut self.routine, Routine::new(code));
                 self.callers.enter(self.alloc, caller)?;
                 self.left -= 1;
-                Ok(Event::Went)
+                Ok(Event::Went(said))
             }
             Effect::Returns => {
                 let Some(caller) = self.callers.leave() else {
@@ -66,14 +110,14 @@ impl<'l> Machine<'l> {
                 };
                 self.routine = caller;
                 self.left += 1;
-                Ok(Event::Went)
+                Ok(Event::Went(said))
             }
             Effect::Ends(width) => {
                 if !are_used_up(&self.routine, &self.callers) {
                     return Err(Error::TrailingData);
                 }
                 self.state.width = Some(width);
-                Ok(Event::Ended)
+                Ok(Event::Over(said))
             }
         }
     }

@@ -1,5 +1,5 @@
 //! A routine: code, and the place that is reached in it.
-ghost use Rattle.std.specs.Prelude.{◌≡◌, ◌≤◌, length, drop};
+ghost use Rattle.std.specs.Prelude.{◌≡◌, ◌-◌, ◌≤◌, length, take, drop};
 ghost use Rattle.postscript_type2.specs.Meaning.{is_empty};
 ghost use Rattle.postscript_type2.specs.Phrases.{is_number};
 ghost use Rattle.postscript_type2.specs.Tokens.{LooksAt, ReadsByte, ReadsNumber, ReadsOperator, ReadsPhrase};
@@ -52,6 +52,23 @@ impl<'l> Routine<'l> {
         } else {
             None
         }
+    }
+
+    /// The bytes that are not read yet.
+    pub(crate) fn rest(&self) -> &'l [u8]
+        ensures { result.now ≡ self.now }
+    {
+        let code: &'l [u8] = *self.tape.get_ref();
+        let place = (self.tape.position() as usize).min(code.len());
+        &code[place..]
+    }
+
+    /// The front of a rest that was passed since.
+    pub(crate) fn passed(&self, rest: &'l [u8]) -> &'l [u8]
+        requires { length self.now ≤ length rest.now }
+        ensures { result.now ≡ take (length rest.now - length self.now) rest.now }
+    {
+        &rest[..rest.len() - self.len()]
     }
 
     /// How many bytes are not read yet.

@@ -1,22 +1,22 @@
-use Rattle.std.proofs.Common.{◌≡◌, ◌∙◌, ◌+◌, ◌-◌, suc, ap, sym, refl, subst, ℕ, ℤ, List, [], ◌∷◌, inr, add-one, arith}
+use Rattle.std.proofs.Common.{◌≡◌, ◌∙◌, ◌+◌, ◌-◌, ◌<◌, suc, ap, sym, refl, ℕ, ℤ, List, [], ◌∷◌, take, length, inr, add-one, arith}
 use Rattle.std.proofs.lemmas.Result.{err_from_is_err_and}
 use Rattle.postscript_type2.specs.Callers.{rests}
 use Rattle.postscript_type2.specs.Effects.{Lists, State, Keeps, Clears, Calls, Returns, Ends, effect}
-use Rattle.postscript_type2.specs.Meaning.{says, cleared, stacked}
-use Rattle.postscript_type2.specs.Still.{still}
+use Rattle.postscript_type2.specs.Meaning.{cleared, stacked}
 use Rattle.postscript_type2.specs.Working.{lists_of, state_of, settled_width, move_of, after_move}
-use Rattle.postscript_type2.proofs.Arms.{IsRead, used-up, kept, answered, entered, too-deep-call, returned, no-caller, finished, refused-or-memory, unread-or-memory}
+use Rattle.postscript_type2.proofs.Arms.{IsRead, some-of, none-of, front-of, used-up, kept, answered, entered, too-deep-call, returned, no-caller, finished, trailing, refused-or-memory, unread-or-memory}
 use Rattle.postscript_type2.proofs.program.machine.Machine.advance.Goals as goal
 
-pub returns-in_default-clause-advances : goal.returns-in_default-clause-advances
-returns-in_default-clause-advances c =
-    let over = used-up (lists_of c.args.self.now.lists) c.args.self.now.left (rests c.args.self.now.callers) c.args.self.now.routine (state_of c.args.self.now.state) c.in_default.ensures in
-    rw over (refl, refl)
+pub returns-then-is_empty-clause-advances : goal.returns-then-is_empty-clause-advances
+returns-then-is_empty-clause-advances c =
+    let none : length c.args.self.now.routine ≡ 0 = rw (← c.rest-rest.ensures) (none-of (length c.rest-rest.result.now) c.if-is_empty.ensures) in
+    (used-up (lists_of c.args.self.now.lists) c.args.self.now.left (rests c.args.self.now.callers) c.args.self.now.routine (state_of c.args.self.now.state) none, refl)
 
 pub returns-in_err-operator-clause-advances : goal.returns-in_err-operator-clause-advances
 returns-in_err-operator-clause-advances c =
+    let some : 0 < length c.args.self.now.routine = rw (← c.rest-rest.ensures) (some-of (length c.rest-rest.result.now) c.if-is_empty.ensures) in
     let error = err_from_is_err_and c.from_residual.result c.from_residual.ensures.1 in
-    rw (error.1, error.2) (unread-or-memory (lists_of c.args.self.now.lists) c.args.self.now.left (rests c.args.self.now.callers) c.args.self.now.routine c.in-Some.ensures.0 c.in-Some.field-0 (state_of c.args.self.now.state) c.in_err-operator.field-0.0 c.in-Some.ensures.1 c.in_err-operator.ensures, refl)
+    rw (error.1, error.2) (unread-or-memory (lists_of c.args.self.now.lists) c.args.self.now.left (rests c.args.self.now.callers) c.args.self.now.routine (state_of c.args.self.now.state) c.in_err-operator.field-0.0 some c.in_err-operator.ensures, refl)
 
 pub returns-in_err-act-clause-advances : goal.returns-in_err-act-clause-advances
 returns-in_err-act-clause-advances c =
@@ -29,7 +29,8 @@ returns-in_err-act-clause-advances c =
     let ys : List ℤ = c.phrase.new.stack.items in
     let op = c.in_ok-operator.operator in
     let more = c.in_ok-operator.ensures.0 in
-    let read : IsRead bytes rest st ys op more = record { first = c.in-Some.field-0; others = c.in-Some.ensures.0; some = c.in-Some.ensures.1; spelled = c.in_ok-operator.ensures.1; behind = c.in_ok-operator.ensures.2 } in
+    let some : 0 < length bytes = rw (← c.rest-rest.ensures) (some-of (length c.rest-rest.result.now) c.if-is_empty.ensures) in
+    let read : IsRead bytes rest st ys op more = record { some = some; spelled = c.in_ok-operator.ensures.1; behind = c.in_ok-operator.ensures.2 } in
     let does = c.in_err-act.ensures.value rest (sym c.len-after.ensures) in
     let error = err_from_is_err_and c.from_residual-in_err-act.result c.from_residual-in_err-act.ensures.1 in
     rw (error.1, error.2) (refused-or-memory lists left callers bytes rest st ys op more c.in_err-act.field-0.0 read does.0, does.1)
@@ -45,13 +46,15 @@ returns-in-Keeps-clause-advances c =
     let ys : List ℤ = c.phrase.new.stack.items in
     let op = c.in_ok-operator.operator in
     let more = c.in_ok-operator.ensures.0 in
-    let read : IsRead bytes rest st ys op more = record { first = c.in-Some.field-0; others = c.in-Some.ensures.0; some = c.in-Some.ensures.1; spelled = c.in_ok-operator.ensures.1; behind = c.in_ok-operator.ensures.2 } in
+    let some : 0 < length bytes = rw (← c.rest-rest.ensures) (some-of (length c.rest-rest.result.now) c.if-is_empty.ensures) in
+    let read : IsRead bytes rest st ys op more = record { some = some; spelled = c.in_ok-operator.ensures.1; behind = c.in_ok-operator.ensures.2 } in
+    let is_front : c.passed-bytes.result.now ≡ take (length bytes - length rest) bytes = rw (← c.rest-rest.ensures) c.passed-bytes.ensures in
+    let front : c.passed-bytes.result.now ≡ take (more + 1) bytes = front-of bytes rest c.passed-bytes.result.now (more + 1) c.in_ok-operator.ensures.2 is_front in
     let does = c.in_ok-act.ensures.value rest (sym c.len-after.ensures) in
     let now : State = state_of c.act.new.self in
     let moves : effect lists op rest (stacked ys st) ≡ Keeps now.stack = does.0 ∙ ap (λ done. move_of done now) c.in-Keeps.is in
     let becomes : now ≡ stacked now.stack st = does.1 ∙ ap (λ move. after_move move (stacked ys st)) moves in
-    let goes_on = kept lists left callers bytes rest st ys op more now read moves becomes in
-    (goes_on.0, goes_on.1, ap (λ (s : State). s.width) becomes)
+    (kept lists left callers bytes rest c.passed-bytes.result.now st ys op more now read moves becomes front, ap (λ (s : State). s.width) becomes)
 
 pub returns-in-Clears-clause-advances : goal.returns-in-Clears-clause-advances
 returns-in-Clears-clause-advances c =
@@ -64,12 +67,16 @@ returns-in-Clears-clause-advances c =
     let ys : List ℤ = c.phrase.new.stack.items in
     let op = c.in_ok-operator.operator in
     let more = c.in_ok-operator.ensures.0 in
-    let read : IsRead bytes rest st ys op more = record { first = c.in-Some.field-0; others = c.in-Some.ensures.0; some = c.in-Some.ensures.1; spelled = c.in_ok-operator.ensures.1; behind = c.in_ok-operator.ensures.2 } in
+    let some : 0 < length bytes = rw (← c.rest-rest.ensures) (some-of (length c.rest-rest.result.now) c.if-is_empty.ensures) in
+    let read : IsRead bytes rest st ys op more = record { some = some; spelled = c.in_ok-operator.ensures.1; behind = c.in_ok-operator.ensures.2 } in
     let does = c.in_ok-act.ensures.value rest (sym c.len-after.ensures) in
     let now : State = state_of c.act.new.self in
     let moves : effect lists op rest (stacked ys st) ≡ Clears c.in-Clears.operands.items now.stems (settled_width now.width) c.in-Clears.mask = does.0 ∙ ap (λ done. move_of done now) c.in-Clears.is in
     let becomes : now ≡ cleared now.stems (settled_width now.width) = does.1 ∙ ap (λ move. after_move move (stacked ys st)) moves in
-    answered lists left callers bytes rest c.skip.new.self st ys op more c.in-Clears.mask c.in-Clears.operands.items now (settled_width now.width) read moves becomes c.skip.ensures
+    let behind : List ℕ = c.skip.new.self in
+    let front : List ℕ = c.passed-bytes-in-Clears.result.now in
+    let is_front : front ≡ take (length bytes - length behind) bytes = rw (← c.rest-rest.ensures) c.passed-bytes-in-Clears.ensures in
+    answered lists left callers bytes rest behind front st ys op more c.in-Clears.mask c.in-Clears.operands.items now (settled_width now.width) read moves becomes c.skip.ensures is_front
 
 pub returns-then-self-eq0-clause-advances : goal.returns-then-self-eq0-clause-advances
 returns-then-self-eq0-clause-advances c =
@@ -82,7 +89,8 @@ returns-then-self-eq0-clause-advances c =
     let ys : List ℤ = c.phrase.new.stack.items in
     let op = c.in_ok-operator.operator in
     let more = c.in_ok-operator.ensures.0 in
-    let read : IsRead bytes rest st ys op more = record { first = c.in-Some.field-0; others = c.in-Some.ensures.0; some = c.in-Some.ensures.1; spelled = c.in_ok-operator.ensures.1; behind = c.in_ok-operator.ensures.2 } in
+    let some : 0 < length bytes = rw (← c.rest-rest.ensures) (some-of (length c.rest-rest.result.now) c.if-is_empty.ensures) in
+    let read : IsRead bytes rest st ys op more = record { some = some; spelled = c.in_ok-operator.ensures.1; behind = c.in_ok-operator.ensures.2 } in
     let does = c.in_ok-act.ensures.value rest (sym c.len-after.ensures) in
     let now : State = state_of c.act.new.self in
     let moves : effect lists op rest (stacked ys st) ≡ Calls c.in-Calls.code.now now.stack = does.0 ∙ ap (λ done. move_of done now) c.in-Calls.is in
@@ -101,7 +109,10 @@ returns-in_ok-enter-in-Calls-clause-advances c =
     let ys : List ℤ = c.phrase.new.stack.items in
     let op = c.in_ok-operator.operator in
     let more = c.in_ok-operator.ensures.0 in
-    let read : IsRead bytes rest st ys op more = record { first = c.in-Some.field-0; others = c.in-Some.ensures.0; some = c.in-Some.ensures.1; spelled = c.in_ok-operator.ensures.1; behind = c.in_ok-operator.ensures.2 } in
+    let some : 0 < length bytes = rw (← c.rest-rest.ensures) (some-of (length c.rest-rest.result.now) c.if-is_empty.ensures) in
+    let read : IsRead bytes rest st ys op more = record { some = some; spelled = c.in_ok-operator.ensures.1; behind = c.in_ok-operator.ensures.2 } in
+    let is_front : c.passed-bytes.result.now ≡ take (length bytes - length rest) bytes = rw (← c.rest-rest.ensures) c.passed-bytes.ensures in
+    let front : c.passed-bytes.result.now ≡ take (more + 1) bytes = front-of bytes rest c.passed-bytes.result.now (more + 1) c.in_ok-operator.ensures.2 is_front in
     let does = c.in_ok-act.ensures.value rest (sym c.len-after.ensures) in
     let now : State = state_of c.act.new.self in
     let moves : effect lists op rest (stacked ys st) ≡ Calls c.in-Calls.code.now now.stack = does.0 ∙ ap (λ done. move_of done now) c.in-Calls.is in
@@ -109,11 +120,10 @@ returns-in_ok-enter-in-Calls-clause-advances c =
     let one_less : left ≡ suc (left - 1) = omega arith in
     let pushed : rests c.enter.new.self ≡ rest ∷ callers = c.in_ok-enter-in-Calls.ensures.ok ∙ ap (λ caller. caller ∷ callers) c.replace-caller.ensures.value in
     let entry : c.replace-caller.new.dest ≡ c.in-Calls.code.now = c.replace-caller.ensures.after ∙ c.new.ensures in
-    let goes_on = entered lists left (left - 1) callers (rests c.enter.new.self) bytes rest st ys op more c.in-Calls.code.now c.replace-caller.new.dest now read moves becomes one_less pushed entry in
-    (goes_on.0, goes_on.1, ap (λ (s : State). s.width) becomes)
+    (entered lists left (left - 1) callers (rests c.enter.new.self) bytes rest c.passed-bytes.result.now st ys op more c.in-Calls.code.now c.replace-caller.new.dest now read moves becomes one_less pushed entry front, ap (λ (s : State). s.width) becomes)
 
-pub returns-in_default-leave-clause-advances : goal.returns-in_default-leave-clause-advances
-returns-in_default-leave-clause-advances c =
+pub returns-in_default-clause-advances : goal.returns-in_default-clause-advances
+returns-in_default-clause-advances c =
     let lists : Lists = lists_of c.args.self.now.lists in
     let left : ℕ = c.args.self.now.left in
     let callers : List (List ℕ) = rests c.args.self.now.callers in
@@ -123,16 +133,17 @@ returns-in_default-leave-clause-advances c =
     let ys : List ℤ = c.phrase.new.stack.items in
     let op = c.in_ok-operator.operator in
     let more = c.in_ok-operator.ensures.0 in
-    let read : IsRead bytes rest st ys op more = record { first = c.in-Some.field-0; others = c.in-Some.ensures.0; some = c.in-Some.ensures.1; spelled = c.in_ok-operator.ensures.1; behind = c.in_ok-operator.ensures.2 } in
+    let some : 0 < length bytes = rw (← c.rest-rest.ensures) (some-of (length c.rest-rest.result.now) c.if-is_empty.ensures) in
+    let read : IsRead bytes rest st ys op more = record { some = some; spelled = c.in_ok-operator.ensures.1; behind = c.in_ok-operator.ensures.2 } in
     let does = c.in_ok-act.ensures.value rest (sym c.len-after.ensures) in
     let now : State = state_of c.act.new.self in
     let moves : effect lists op rest (stacked ys st) ≡ Returns = does.0 ∙ ap (λ done. move_of done now) c.in-Returns.is in
     let becomes : now ≡ stacked ys st = does.1 ∙ ap (λ move. after_move move (stacked ys st)) moves in
     let refusal = no-caller lists left bytes rest st ys op more read moves in
-    (inr (rw c.in_default-leave.ensures refusal), ap (λ (s : State). s.width) becomes)
+    (inr (rw c.in_default.ensures refusal), ap (λ (s : State). s.width) becomes)
 
-pub returns-in-Some-leave-clause-advances : goal.returns-in-Some-leave-clause-advances
-returns-in-Some-leave-clause-advances c =
+pub returns-in-Some-clause-advances : goal.returns-in-Some-clause-advances
+returns-in-Some-clause-advances c =
     let lists : Lists = lists_of c.args.self.now.lists in
     let left : ℕ = c.args.self.now.left in
     let callers : List (List ℕ) = rests c.args.self.now.callers in
@@ -142,13 +153,15 @@ returns-in-Some-leave-clause-advances c =
     let ys : List ℤ = c.phrase.new.stack.items in
     let op = c.in_ok-operator.operator in
     let more = c.in_ok-operator.ensures.0 in
-    let read : IsRead bytes rest st ys op more = record { first = c.in-Some.field-0; others = c.in-Some.ensures.0; some = c.in-Some.ensures.1; spelled = c.in_ok-operator.ensures.1; behind = c.in_ok-operator.ensures.2 } in
+    let some : 0 < length bytes = rw (← c.rest-rest.ensures) (some-of (length c.rest-rest.result.now) c.if-is_empty.ensures) in
+    let read : IsRead bytes rest st ys op more = record { some = some; spelled = c.in_ok-operator.ensures.1; behind = c.in_ok-operator.ensures.2 } in
+    let is_front : c.passed-bytes.result.now ≡ take (length bytes - length rest) bytes = rw (← c.rest-rest.ensures) c.passed-bytes.ensures in
+    let front : c.passed-bytes.result.now ≡ take (more + 1) bytes = front-of bytes rest c.passed-bytes.result.now (more + 1) c.in_ok-operator.ensures.2 is_front in
     let does = c.in_ok-act.ensures.value rest (sym c.len-after.ensures) in
     let now : State = state_of c.act.new.self in
     let moves : effect lists op rest (stacked ys st) ≡ Returns = does.0 ∙ ap (λ done. move_of done now) c.in-Returns.is in
     let becomes : now ≡ stacked ys st = does.1 ∙ ap (λ move. after_move move (stacked ys st)) moves in
-    let goes_on = returned lists left (left + 1) c.in-Some-leave.caller callers (rests c.leave.new.self) bytes rest st ys op more now read moves becomes (add-one left) c.in-Some-leave.ensures in
-    (goes_on.0, goes_on.1, ap (λ (s : State). s.width) becomes)
+    (returned lists left (left + 1) c.in-Some.caller callers (rests c.leave.new.self) bytes rest c.passed-bytes.result.now st ys op more now read moves becomes (add-one left) c.in-Some.ensures front, ap (λ (s : State). s.width) becomes)
 
 pub returns-then-not-are_used_up-clause-advances : goal.returns-then-not-are_used_up-clause-advances
 returns-then-not-are_used_up-clause-advances c =
@@ -161,12 +174,13 @@ returns-then-not-are_used_up-clause-advances c =
     let ys : List ℤ = c.phrase.new.stack.items in
     let op = c.in_ok-operator.operator in
     let more = c.in_ok-operator.ensures.0 in
-    let read : IsRead bytes rest st ys op more = record { first = c.in-Some.field-0; others = c.in-Some.ensures.0; some = c.in-Some.ensures.1; spelled = c.in_ok-operator.ensures.1; behind = c.in_ok-operator.ensures.2 } in
+    let some : 0 < length bytes = rw (← c.rest-rest.ensures) (some-of (length c.rest-rest.result.now) c.if-is_empty.ensures) in
+    let read : IsRead bytes rest st ys op more = record { some = some; spelled = c.in_ok-operator.ensures.1; behind = c.in_ok-operator.ensures.2 } in
     let does = c.in_ok-act.ensures.value rest (sym c.len-after.ensures) in
     let now : State = state_of c.act.new.self in
     let moves : effect lists op rest (stacked ys st) ≡ Ends c.in-Ends.width = does.0 ∙ ap (λ done. move_of done now) c.in-Ends.is in
     let becomes : now ≡ stacked ys st = does.1 ∙ ap (λ move. after_move move (stacked ys st)) moves in
-    (inr (finished lists left callers bytes rest st ys op more c.in-Ends.width _ read moves c.if-not-are_used_up.ensures), ap (λ (s : State). s.width) becomes)
+    (inr (trailing lists left callers bytes rest st ys op more c.in-Ends.width read moves c.if-not-are_used_up.ensures), ap (λ (s : State). s.width) becomes)
 
 pub returns-else-not-are_used_up-clause-advances : goal.returns-else-not-are_used_up-clause-advances
 returns-else-not-are_used_up-clause-advances c =
@@ -179,9 +193,11 @@ returns-else-not-are_used_up-clause-advances c =
     let ys : List ℤ = c.phrase.new.stack.items in
     let op = c.in_ok-operator.operator in
     let more = c.in_ok-operator.ensures.0 in
-    let read : IsRead bytes rest st ys op more = record { first = c.in-Some.field-0; others = c.in-Some.ensures.0; some = c.in-Some.ensures.1; spelled = c.in_ok-operator.ensures.1; behind = c.in_ok-operator.ensures.2 } in
+    let some : 0 < length bytes = rw (← c.rest-rest.ensures) (some-of (length c.rest-rest.result.now) c.if-is_empty.ensures) in
+    let read : IsRead bytes rest st ys op more = record { some = some; spelled = c.in_ok-operator.ensures.1; behind = c.in_ok-operator.ensures.2 } in
+    let is_front : c.passed-bytes.result.now ≡ take (length bytes - length rest) bytes = rw (← c.rest-rest.ensures) c.passed-bytes.ensures in
+    let front : c.passed-bytes.result.now ≡ take (more + 1) bytes = front-of bytes rest c.passed-bytes.result.now (more + 1) c.in_ok-operator.ensures.2 is_front in
     let does = c.in_ok-act.ensures.value rest (sym c.len-after.ensures) in
     let now : State = state_of c.act.new.self in
     let moves : effect lists op rest (stacked ys st) ≡ Ends c.in-Ends.width = does.0 ∙ ap (λ done. move_of done now) c.in-Ends.is in
-    let over = finished lists left callers bytes rest st ys op more c.in-Ends.width _ read moves c.if-not-are_used_up.ensures in
-    (over.0, rw over.1 refl)
+    (c.in-Ends.width, finished lists left callers bytes rest c.passed-bytes.result.now st ys op more c.in-Ends.width read moves c.if-not-are_used_up.ensures front, refl)

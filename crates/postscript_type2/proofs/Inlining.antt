@@ -1,0 +1,193 @@
+-- Flat code means what the run meant.
+use Rattle.std.proofs.lemmas.List.{map-append, append-nil}
+use Rattle.std.proofs.lemmas.List.Concat.{flat_map-append}
+use Rattle.std.proofs.lemmas.List.Elements.{All-nil, All-cons}
+use Rattle.std.proofs.Common.{◌≡◌, refl, ap, sym, subst, ◌∙◌, ℕ, zero, suc, Bool, true, false, ◌&&◌, not, List, [], ◌∷◌, ◌++◌, map, drop, append_assoc, Some, None, Result, Ok, Err, IfOk, OnOk, if◌then◌else◌}
+use Rattle.std.specs.List.{AllPass}
+use Rattle.postscript_type2.specs.declared.operation.Operator.{Operator}
+use Rattle.postscript_type2.specs.declared.operation.Operator.TheVariants.{CallSubr, CallGSubr, Return}
+use Rattle.postscript_type2.specs.Effects.{Lists, State, start}
+use Rattle.postscript_type2.specs.Meaning.{Answer, Said, End, UsedUp, Returned, Finished, Fault, Run, ends, says, answers, followed, is_empty, after_call, Stride, On, Into, Back, Over, Stop, stride, Callee, paced, routine, callee, mean, run_of, fault_of, width_by, width_of}
+use Rattle.postscript_type2.specs.Flat.{flat_by, flat_said, flat_bytes, flat_text}
+use Rattle.postscript_type2.specs.Inlining.{is_flat, KeepsMeaning, FlatTextIsFlat}
+use Rattle.postscript_type2.specs.Refusals.{trailing_data}
+use Rattle.postscript_type2.proofs.InFlat.{InFlat, in-flat}
+
+-- no fault, and where the run was used up nothing follows
+abbrev MayFollow : End → List ℕ → Type 0
+MayFollow UsedUp x = x ≡ []
+MayFollow (Returned st) x = Unit {0}
+MayFollow (Finished width) x = Unit {0}
+MayFollow (Fault e) x = ⊥
+
+-- how flat code goes on with bytes that follow it
+abbrev onward : Lists → (left : ℕ) → End → List ℕ → Run
+onward other left UsedUp x = ends UsedUp
+onward other left (Returned st) x = mean other left false x st
+onward other left (Finished width) x = ends (Finished width)
+onward other left (Fault e) x = ends (Fault e)
+
+-- a run's answers and its flat trace, and then another run
+abbrev flattened : Run → Run → Run
+flattened run next = record { answers = run.answers ++ next.answers; trace = map flat_said run.trace ++ next.trace; end = next.end }
+
+-- flat code of a run from a state, whatever follows it, means the run's answers, and then what follows
+abbrev Inlines : (other : Lists) (left : ℕ) → State → Run → Type 0
+Inlines other left st run = (x : List ℕ) → MayFollow run.end x → mean other left false (flat_text run.trace ++ x) st ≡ flattened run (onward other left run.end x)
+
+-- the same of a subroutine
+abbrev AllInline : (other : Lists) (left : ℕ) → Callee → Type 0
+AllInline other left None = Unit {0}
+AllInline other left (Some means) = (sub : List ℕ) (st : State) → Inlines other left st (means sub st)
+
+flattened-two : (run go next : Run) → flattened run (flattened go next) ≡ flattened (followed run (λ end. go)) next
+flattened-two run go next =
+    let e : run.answers ++ (go.answers ++ next.answers) ≡ (run.answers ++ go.answers) ++ next.answers = sym (append_assoc run.answers go.answers next.answers) in
+    let f : map flat_said run.trace ++ (map flat_said go.trace ++ next.trace) ≡ map flat_said (run.trace ++ go.trace) ++ next.trace =
+    sym (append_assoc (map flat_said run.trace) (map flat_said go.trace) next.trace) ∙ ap (λ t. t ++ next.trace) (sym (map-append flat_said run.trace go.trace)) in
+    let told-run : List Answer → List Said → Run = λ a t. record { answers = a; trace = t; end = next.end } in
+    ap (λ a. told-run a (map flat_said run.trace ++ (map flat_said go.trace ++ next.trace))) e ∙ ap (told-run ((run.answers ++ go.answers) ++ next.answers)) f
+
+-- nothing follows
+followed-ends : (a : List Answer) (t : List Said) (before end : End) →
+    followed (record { answers = a; trace = t; end = before }) (λ e. ends end) ≡ record { answers = a; trace = t; end = end }
+followed-ends a t before end =
+    let told-run : List Answer → List Said → Run = λ a t. record { answers = a; trace = t; end = end } in
+    ap (λ a. told-run a (t ++ [])) (append-nil a) ∙ ap (told-run a) (append-nil t)
+
+-- a call's run, and what comes of its end
+inline-followed : (other : Lists) (left : ℕ) (inner : Bool) (after : List ℕ) (st : State) (go : State → Run) → ((st' : State) → Inlines other left st' (go st')) →
+    (a : List Answer) (t : List Said) (e : End) → Inlines other left st (record { answers = a; trace = t; end = e }) →
+    Inlines other left st (followed (record { answers = a; trace = t; end = e }) (after_call inner after go))
+inline-followed other left inner after st go next a t UsedUp ih = subst (Inlines other left st) (sym (followed-ends a t UsedUp UsedUp)) ih
+inline-followed other left inner after st go next a t (Fault e) ih = λ x m. absurd m
+inline-followed other left inner after st go next a t (Finished width) ih = by_finish (inner && not (is_empty after))
+  where
+    by_finish : (bad : Bool) → Inlines other left st (followed (record { answers = a; trace = t; end = Finished width }) (λ e. ends (if bad then Fault trailing_data else Finished width)))
+    by_finish true = λ x m. absurd m
+    by_finish false = subst (Inlines other left st) (sym (followed-ends a t (Finished width) (Finished width))) ih
+inline-followed other left inner after st go next a t (Returned st') ih = λ x m.
+    let run : Run = record { answers = a; trace = t; end = Returned st' } in
+    let texts : flat_text (t ++ (go st').trace) ++ x ≡ flat_text t ++ (flat_text (go st').trace ++ x) =
+    ap (λ bytes. bytes ++ x) (flat_map-append flat_bytes t (go st').trace) ∙ append_assoc (flat_text t) (flat_text (go st').trace) x in
+    ap (λ bytes. mean other left false bytes st) texts
+    ∙ ih (flat_text (go st').trace ++ x) tt
+    ∙ ap (flattened run) (next st' x m)
+    ∙ flattened-two run (go st') (onward other left (go st').end x)
+
+-- a phrase, and a run behind it
+inline-told : (other : Lists) (left : ℕ) (st : State) (said : Said) (run : Run) (go : List ℕ → Run) →
+    ((x : List ℕ) → mean other left false (flat_bytes said ++ x) st ≡ says (flat_said said) (go x)) →
+    ((x : List ℕ) → MayFollow run.end x → go (flat_text run.trace ++ x) ≡ flattened run (onward other left run.end x)) → Inlines other left st (says said run)
+inline-told other left st said run go tells ih x m =
+    ap (λ bytes. mean other left false bytes st) (append_assoc (flat_bytes said) (flat_text run.trace) x) ∙ tells (flat_text run.trace ++ x) ∙ ap (says (flat_said said)) (ih x m)
+
+inline-by : (other : Lists) (left : ℕ) (callee : Callee) → AllInline other left callee → (inner : Bool) (r : List ℕ) (st : State)
+    (go : ℕ → State → Run) → ((more : ℕ) (st' : State) → Inlines other left st' (go more st')) → (s : Stride) → InFlat other left st s →
+    Inlines other left st (paced callee inner r go s)
+inline-by other left callee subs inner r st go next (On said None st' more) flat = inline-told other left st said (go more st') _ flat (next more st')
+inline-by other left callee subs inner r st go next (On said (Some answer) st' more) flat =
+    inline-told other left st said (answers answer (go more st')) _ flat (λ x m. ap (answers answer) (next more st' x m))
+inline-by other left None subs inner r st go next (Into said sub st' more) flat = λ x m. absurd m
+inline-by other left (Some means) subs inner r st go next (Into said sub st' more) flat =
+    inline-told other left st said (followed (means sub st') (after_call inner (drop more r) (go more))) _ flat
+    (inline-followed other left inner (drop more r) st' (go more) (next more) (means sub st').answers (means sub st').trace (means sub st').end (subs sub st'))
+inline-by other left callee subs true r st go next (Back said st') flat = inline-told other left st said (ends (Returned st')) _ flat (λ x m. refl)
+inline-by other left callee subs false r st go next (Back said st') flat = λ x m. absurd m
+inline-by other left callee subs inner r st go next (Over said width more) flat = over-by (inner && not (is_empty (drop more r)))
+  where
+    over-by : (bad : Bool) → Inlines other left st (says said (ends (if bad then Fault trailing_data else Finished width)))
+    over-by true = λ x m. absurd m
+    over-by false = inline-told other left st said (ends (Finished width)) _ flat (λ x m. refl)
+inline-by other left callee subs inner r st go next (Stop e) flat = λ x m. absurd m
+
+inline-routine : (lists other : Lists) (left : ℕ) (callee : Callee) → AllInline other left callee → (inner : Bool) (k : ℕ) (r : List ℕ) (st : State) →
+    Inlines other left st (routine lists callee inner k r st)
+inline-routine lists other left callee subs inner zero [] st = λ x m. ap (λ bytes. mean other left false bytes st) m
+inline-routine lists other left callee subs inner (suc k) [] st = λ x m. ap (λ bytes. mean other left false bytes st) m
+inline-routine lists other left callee subs inner (suc k) (b ∷ r) st = inline-routine lists other left callee subs inner k r st
+inline-routine lists other left callee subs inner zero (b ∷ r) st =
+    inline-by other left callee subs inner r st (λ more st'. routine lists callee inner more r st') (λ more st'. inline-routine lists other left callee subs inner more r st')
+    (stride lists (b ∷ r) st) (in-flat lists other left b r st)
+
+inline-callee : (lists other : Lists) (left nested : ℕ) → AllInline other left (callee lists nested)
+inline-callee lists other left zero = tt
+inline-callee lists other left (suc nested) = λ sub st. inline-routine lists other left (callee lists nested) (inline-callee lists other left nested) true 0 sub st
+
+-- flat code stays as it is
+flat-flat : (op : Operator) (bytes : List ℕ) → flat_said (flat_by op bytes) ≡ flat_by op bytes
+flat-flat CallSubr bytes = refl
+flat-flat CallGSubr bytes = refl
+flat-flat Return bytes = refl
+flat-flat op bytes = refl
+
+flat-text : (trace : List Said) → flat_text (map flat_said trace) ≡ flat_text trace
+flat-text [] = refl
+flat-text (said ∷ trace) = ap (λ s. s.bytes ++ flat_text (map flat_said trace)) (flat-flat said.operator said.bytes) ∙ ap (λ bytes. flat_bytes said ++ bytes) (flat-text trace)
+
+is-flat : (op : Operator) (bytes : List ℕ) → is_flat (flat_by op bytes).operator ≡ true
+is-flat CallSubr bytes = refl
+is-flat CallGSubr bytes = refl
+is-flat Return bytes = refl
+is-flat op bytes = refl
+
+all-flat : (trace : List Said) → AllPass (λ said. is_flat said.operator) (map flat_said trace)
+all-flat [] = All-nil _
+all-flat (said ∷ trace) = All-cons (λ x. is_flat x.operator ≡ true) (flat_said said) (map flat_said trace) (is-flat said.operator said.bytes) (all-flat trace)
+
+-- the end of flat code
+abbrev flat_end : End → End
+flat_end (Returned st) = UsedUp
+flat_end end = end
+
+flat-fault : (end : End) → fault_of (flat_end end) ≡ fault_of end
+flat-fault UsedUp = refl
+flat-fault (Returned st) = refl
+flat-fault (Finished width) = refl
+flat-fault (Fault e) = refl
+
+flat-width : (a : List Answer) (end : End) → width_by a (flat_end end) ≡ width_by a end
+flat-width a UsedUp = refl
+flat-width a (Returned st) = refl
+flat-width a (Finished width) = refl
+flat-width a (Fault e) = refl
+
+-- with nothing behind it
+flat-alone : (other : Lists) (left : ℕ) (st : State) (a : List Answer) (t : List Said) (end : End) → Inlines other left st (record { answers = a; trace = t; end = end }) →
+    fault_of end ≡ None → mean other left false (flat_text t) st ≡ record { answers = a; trace = map flat_said t; end = flat_end end }
+flat-alone other left st a t end flat none = ap (λ bytes. mean other left false bytes st) (sym (append-nil (flat_text t))) ∙ by_end end flat none
+  where
+    by_end : (end : End) → Inlines other left st (record { answers = a; trace = t; end = end }) → fault_of end ≡ None →
+        mean other left false (flat_text t ++ []) st ≡ record { answers = a; trace = map flat_said t; end = flat_end end }
+    by_end UsedUp flat none = flat [] refl ∙ followed-ends a (map flat_said t) UsedUp UsedUp
+    by_end (Returned st') flat none = flat [] tt ∙ followed-ends a (map flat_said t) UsedUp UsedUp
+    by_end (Finished width) flat none = flat [] tt ∙ followed-ends a (map flat_said t) UsedUp (Finished width)
+    by_end (Fault e) flat none = absurd (cc)
+
+-- The flat text of a faultless run keeps its meaning over any lists.
+pub keeps_meaning : (lists : Lists) (code : List ℕ) → fault_of (run_of lists code).end ≡ None →
+    (other : Lists) → KeepsMeaning other (flat_text (run_of lists code).trace) (run_of lists code)
+keeps_meaning lists code none other =
+    of_run (run_of lists code) (inline-routine lists other 10 (callee lists 10) (inline-callee lists other 10 10) false 0 code start) none
+  where
+    of_run : (run : Run) → Inlines other 10 start run → fault_of run.end ≡ None → KeepsMeaning other (flat_text run.trace) run
+    of_run run flat none =
+        let same : run_of other (flat_text run.trace) ≡ record { answers = run.answers; trace = map flat_said run.trace; end = flat_end run.end } =
+        flat-alone other 10 start run.answers run.trace run.end flat none in
+        record {
+          answers = ap (λ r. r.answers) same;
+          width = ap width_of same ∙ flat-width run.answers run.end;
+          faultless = ap (λ r. fault_of r.end) same ∙ flat-fault run.end ∙ none;
+          no_calls = subst (λ r. AllPass (λ said. is_flat said.operator) r.trace) (sym same) (all-flat run.trace);
+          own_text = ap (λ r. flat_text r.trace) same ∙ flat-text run.trace;
+        }
+
+pub law : FlatTextIsFlat
+law lists other code none = let kept = keeps_meaning lists code none other in (kept.faultless, kept.own_text)
+
+-- the same of a result that is the flat text
+pub keeps-result : {V E : Type 0} (items : V → List ℕ) (lists : Lists) (code : List ℕ) (r : Result V E) →
+    OnOk r (fault_of (run_of lists code).end ≡ None) → IfOk r (λ flat. items flat ≡ flat_text (run_of lists code).trace) →
+    IfOk r (λ flat. (other : Lists) → KeepsMeaning other (items flat) (run_of lists code))
+keeps-result items lists code (Ok flat) none text = λ other. subst (λ bytes. KeepsMeaning other bytes (run_of lists code)) (sym text) (keeps_meaning lists code none other)
+keeps-result items lists code (Err e) none text = tt

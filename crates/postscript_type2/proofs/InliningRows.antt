@@ -1,0 +1,48 @@
+-- Flat code of small programs with calls, computed from the definitions.
+use Rattle.std.proofs.Common.{◌≡◌, refl, ℕ, List, [], ◌∷◌, ◌++◌, Option, Some, None, ℤ, pos, map}
+use Rattle.postscript_type2.specs.declared.operation.Operator.{Operator}
+use Rattle.postscript_type2.specs.declared.operation.Operator.TheVariants.{HStem, HintMask, HMoveTo, RLineTo}
+use Rattle.postscript_type2.specs.Effects.{Lists}
+use Rattle.postscript_type2.specs.Number.{whole}
+use Rattle.postscript_type2.specs.Meaning.{Run, run_of, operation, fault_of, width_of}
+use Rattle.postscript_type2.specs.Flat.{flat_text}
+use Rattle.postscript_type2.specs.Refusals.{Refusal, missing_subroutine}
+
+-- The local subroutine has a mask, moves by a number of its own, leaves an operand and returns; the global one ends the glyph.
+abbrev with_calls : Lists
+with_calls = record { global = (0x0e ∷ []) ∷ []; local = (0x13 ∷ 0x80 ∷ 0x8c ∷ 0x16 ∷ 0x8d ∷ 0x0b ∷ []) ∷ [] }
+
+abbrev no_lists : Lists
+no_lists = record { global = []; local = [] }
+
+abbrev tells : Lists → List ℕ → List (Operator × List ℤ) × Option Refusal × Option ℤ
+tells lists code = (map operation (run_of lists code).answers, fault_of (run_of lists code).end, width_of (run_of lists code))
+
+abbrev n : ℕ → ℤ
+n k = whole (pos k)
+
+-- A stem with a width, a call of the local subroutine, a line by the operand that it left and one more, a call of the global
+-- subroutine, and a byte behind it. The number of either is -107.
+abbrev code : List ℕ
+code = 0x8e ∷ 0x8c ∷ 0x8d ∷ 0x01 ∷ 0x20 ∷ 0x0a ∷ 0x8f ∷ 0x05 ∷ 0x20 ∷ 0x1d ∷ 0x00 ∷ []
+
+abbrev flat : List ℕ
+flat =
+    0x8e ∷ 0x8c ∷ 0x8d ∷ 0x01 ∷ 0x20 ∷ 0x0c ∷ 0x12 ∷ 0x13 ∷ 0x80 ∷ 0x8c ∷ 0x16 ∷ 0x8d ∷ 0x8b ∷ 0x0c ∷ 0x12 ∷ 0x8f ∷ 0x05 ∷
+    0x20 ∷ 0x0c ∷ 0x12 ∷ 0x0e ∷ []
+
+flat_of_code : flat_text (run_of with_calls code).trace ≡ flat
+flat_of_code = refl
+
+code_tells : tells with_calls code ≡ ((HStem, n 1 ∷ n 2 ∷ []) ∷ (HintMask, []) ∷ (HMoveTo, n 1 ∷ []) ∷ (RLineTo, n 2 ∷ n 4 ∷ []) ∷ [], None, Some (n 3))
+code_tells = refl
+
+flat_tells : tells no_lists flat ≡ ((HStem, n 1 ∷ n 2 ∷ []) ∷ (HintMask, []) ∷ (HMoveTo, n 1 ∷ []) ∷ (RLineTo, n 2 ∷ n 4 ∷ []) ∷ [], None, Some (n 3))
+flat_tells = refl
+
+flat_of_flat : flat_text (run_of no_lists flat).trace ≡ flat
+flat_of_flat = refl
+
+-- the code itself is refused without its lists
+code_without_lists : tells no_lists code ≡ ((HStem, n 1 ∷ n 2 ∷ []) ∷ [], Some missing_subroutine, Some (n 3))
+code_without_lists = refl

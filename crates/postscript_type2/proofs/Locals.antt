@@ -1,0 +1,179 @@
+-- A phrase depends on its own bytes alone.
+use Rattle.std.proofs.lemmas.Bool.Decides.{nat_tests}
+use Rattle.std.proofs.lemmas.List.{take-append-le, take-take}
+use Rattle.std.proofs.Common.{◌≡◌, refl, ap, sym, ◌∙◌, ℕ, zero, suc, ◌+◌, ◌-◌, ◌<◌, ◌≤◌, ◌==◌, Bool, true, false, ◌&&◌, ◌||◌, cond, List, [], ◌∷◌, ◌++◌, take, length, length-take, length-append, nat_lt, Option, Some, None, ℤ, pos, ◌-ℤ◌, if◌then◌else◌, arith}
+use Rattle.postscript_base.specs.Outcome.{Outcome, Got, Fault, Past, end, after, Reading, ◌>>=◌, pure, fault}
+use Rattle.postscript_base.specs.Numbers.{slice, number, big_endian}
+use Rattle.postscript_type2.specs.declared.operation.Operator.{Operator}
+use Rattle.postscript_type2.specs.Number.{spelled, whole, signed, above, below}
+use Rattle.postscript_type2.specs.Operators.{operators, lookup, operator_of}
+use Rattle.postscript_type2.specs.Phrases.{is_number, Phrase, Complete, Bad, passed, with_number, with_operator, numbered, escaped, ending, phrase_after, phrase, fronted}
+use Rattle.postscript_type2.specs.Effects.{Kind, CallsFrom, GoesBack, kind}
+use Rattle.postscript_type2.proofs.Fronts.{fronted-zero, passed-fronted, number-first}
+
+-- a reading that looks at no byte past its next place
+abbrev IsPrompt : {A : Type 0} → Reading A → Type 0
+IsPrompt {A} reading = (r y : List ℕ) (m : ℕ) (x : A) (next : ℕ) → reading r 0 ≡ Got x next → next ≤ m → reading (take m r ++ y) 0 ≡ Got x next
+
+if-prompt : {A : Type 0} (b : Bool) (first second : Reading A) → IsPrompt first → IsPrompt second → IsPrompt (if b then first else second)
+if-prompt true first second one two = one
+if-prompt false first second one two = two
+
+mapped-prompt : {A B : Type 0} (reading : Reading A) (f : A → B) → IsPrompt reading → IsPrompt (reading >>= λ x. pure (f x))
+mapped-prompt {A} {B} reading f prompt r y m v next is within = by_outcome (reading r 0) refl is
+  where
+    by_outcome : (o : Outcome A) → reading r 0 ≡ o → after o (λ x n. Got (f x) n) ≡ Got v next → after (reading (take m r ++ y) 0) (λ x n. Got (f x) n) ≡ Got v next
+    by_outcome (Got x n) e h = let same : n ≡ next = cc in ap (λ o. after o (λ x n. Got (f x) n)) (prompt r y m x n e (omega arith)) ∙ h
+    by_outcome (Fault k) e h = absurd (cc)
+    by_outcome Past e h = absurd (cc)
+
+slice-prompt : (count : ℕ) → IsPrompt (slice count)
+unfolding slice
+slice-prompt count r y m x next is within = by_room (nat_lt (length r - 0) count) refl is
+  where
+    by_room : (short : Bool) → nat_lt (length r - 0) count ≡ short → (if short then end else Got (take count r) (0 + count)) ≡ Got x next →
+        (if nat_lt (length (take m r ++ y) - 0) count then end else Got (take count (take m r ++ y)) (0 + count)) ≡ Got x next
+    by_room true e h = absurd (cc)
+    by_room false e h =
+        let enough : count ≤ length r = grind (arith, nat_tests) in
+        let same : 0 + count ≡ next = cc in
+        let long : count ≤ length (take m r) = omega (arith, length-take m r) in
+        let room : nat_lt (length (take m r ++ y) - 0) count ≡ false = let l = length-append (take m r) y in grind (arith, nat_tests) in
+        let bytes : take count (take m r ++ y) ≡ take count r = take-append-le count (take m r) y long ∙ take-take count m r (omega arith) in
+        ap (λ b. if b then end else Got (take count (take m r ++ y)) (0 + count)) room ∙ ap (λ xs. Got xs (0 + count)) bytes ∙ h
+
+number-prompt : (size : ℕ) → IsPrompt (number size)
+unfolding number
+number-prompt size = mapped-prompt (slice size) big_endian (slice-prompt size)
+
+-- what a first byte begins
+spelled-prompt : (first : ℕ) → IsPrompt (spelled first)
+spelled-prompt first =
+    if-prompt (first == 0x1c) _ _ (mapped-prompt (number 2) (λ n. whole (signed 0x8000 n)) (number-prompt 2))
+    (if-prompt (nat_lt first 0x20) (fault 7) _ (λ r y m x next is within. is)
+    (if-prompt (nat_lt first 0xf7) (pure (whole (pos first -ℤ pos 139))) _ (λ r y m x next is within. is)
+    (if-prompt (nat_lt first 0xfb) _ _ (mapped-prompt (number 1) (λ second. whole (above first second)) (number-prompt 1))
+    (if-prompt (nat_lt first 0xff) _ _ (mapped-prompt (number 1) (λ second. whole (below first second)) (number-prompt 1))
+    (mapped-prompt (number 4) (signed 0x80000000) (number-prompt 4))))))
+
+-- whether operators of a kind stand in flat code as they are
+abbrev pub stands_flat : Kind → Bool
+stands_flat (CallsFrom routines) = false
+stands_flat GoesBack = false
+stands_flat k = true
+
+-- the others have codes of one byte
+all_short : List (ℕ × Operator) → Bool
+all_short [] = true
+all_short (entry ∷ entries) = (stands_flat (kind entry.1) || nat_lt entry.0 0x0c00) && all_short entries
+
+long-entry : (flat short more : Bool) → (flat || short) && more ≡ true → short ≡ false → flat ≡ true
+long-entry true short more h is = refl
+long-entry false true more h is = absurd (cc)
+long-entry false false more h is = absurd (cc)
+
+long-later : (flat short more : Bool) → (flat || short) && more ≡ true → more ≡ true
+long-later true short more h = h
+long-later false true more h = h
+long-later false false more h = absurd (cc)
+
+long-in : (entries : List (ℕ × Operator)) (code : ℕ) (op : Operator) → all_short entries ≡ true → 0x0c00 ≤ code → lookup entries code ≡ Some op → stands_flat (kind op) ≡ true
+unfolding all_short
+long-in [] code op t h e = absurd (cc)
+long-in (entry ∷ entries) code op t h e =
+    by_match (long-in entries code op (long-later (stands_flat (kind entry.1)) (nat_lt entry.0 0x0c00) (all_short entries) t) h) (entry.0 == code) refl e
+  where
+    by_match : (lookup entries code ≡ Some op → stands_flat (kind op) ≡ true) → (here : Bool) → (entry.0 == code) ≡ here →
+        (if here then Some entry.1 else lookup entries code) ≡ Some op → stands_flat (kind op) ≡ true
+    by_match later true is e =
+        let long : nat_lt entry.0 0x0c00 ≡ false = grind (arith, nat_tests) in
+        let same : entry.1 ≡ op = cc in
+        sym (ap (λ o. stands_flat (kind o)) same) ∙ long-entry (stands_flat (kind entry.1)) (nat_lt entry.0 0x0c00) (all_short entries) t long
+    by_match later false is e = later e
+
+long-flat : (second : ℕ) (op : Operator) → operator_of (0x0c00 + second) ≡ Some op → stands_flat (kind op) ≡ true
+unfolding all_short
+long-flat second op e = long-in operators (0x0c00 + second) op refl (omega arith) e
+
+with-fronted : (x : ℤ) (numbers : List ℤ) (m : ℕ) (p : Phrase) → with_number x (fronted numbers m p) ≡ fronted (x ∷ numbers) (suc m) p
+with-fronted x numbers m (Complete ns op n) = let e : suc (m + n) ≡ suc m + n = omega arith in ap (Complete (x ∷ (numbers ++ ns)) op) e
+with-fronted x numbers m (Bad e) = refl
+
+-- A phrase past the first k of these bytes: it has passed them; its last byte is one of the bytes; and, whatever follows,
+-- its bytes are the phrase, and those before an operator of one byte are the phrase's numbers.
+pub record IsLocal (k : ℕ) (r : List ℕ) (numbers : List ℤ) (op : Operator) (more : ℕ) : Type 0 where
+  pub passes : k ≤ more
+  pub room : more < length r
+  pub stands : (y : List ℕ) → phrase_after k (take (suc more) r ++ y) ≡ Complete numbers op more
+  pub fronts : stands_flat (kind op) ≡ false → (y : List ℕ) → phrase_after k (take more r ++ y) ≡ fronted numbers more (phrase y)
+
+abbrev pub Local : (k : ℕ) → List ℕ → Phrase → Type 0
+Local k r (Complete numbers op more) = IsLocal k r numbers op more
+Local k r (Bad e) = Unit {0}
+
+skip : (k b : ℕ) (r : List ℕ) (p : Phrase) → Local k r p → Local (suc k) (b ∷ r) (passed p)
+skip k b r (Bad e) l = tt
+skip k b r (Complete numbers op more) l = record {
+  passes = let h : k ≤ more = l.passes in omega arith;
+  room = let h : more < length r = l.room in omega arith;
+  stands = λ y. ap passed (l.stands y);
+  fronts = λ short y. ap passed (l.fronts short y) ∙ passed-fronted numbers more (phrase y);
+}
+
+more-number : (b : ℕ) (r : List ℕ) (x : ℤ) (j : ℕ) → is_number b ≡ true → spelled b r 0 ≡ Got x j → (p : Phrase) → Local j r p → Local 0 (b ∷ r) (with_number x p)
+more-number b r x j t e (Bad f) l = tt
+more-number b r x j t e (Complete numbers op more) l = record {
+  passes = omega arith;
+  room = let h : more < length r = l.room in omega arith;
+  stands = λ y.
+      number-first b (take (suc more) r ++ y) x j t (spelled-prompt b r y (suc more) x j e (let h : j ≤ more = l.passes in omega arith))
+      ∙ ap (with_number x) (l.stands y);
+  fronts = λ short y.
+      number-first b (take more r ++ y) x j t (spelled-prompt b r y more x j e l.passes)
+      ∙ ap (with_number x) (l.fronts short y) ∙ with-fronted x numbers more (phrase y);
+}
+
+number-by : (b : ℕ) (r : List ℕ) → is_number b ≡ true → ((j : ℕ) → Local j r (phrase_after j r)) → (o : Outcome ℤ) → spelled b r 0 ≡ o →
+    Local 0 (b ∷ r) (numbered o (λ j. phrase_after j r))
+number-by b r t ih (Got x j) e = more-number b r x j t e (phrase_after j r) (ih j)
+number-by b r t ih (Fault k) e = tt
+number-by b r t ih Past e = tt
+
+-- an operator before other bytes
+operator-before : (b : ℕ) (z : List ℕ) (long : Bool) → is_number b ≡ false → (b == 0x0c) ≡ long →
+    phrase_after 0 (b ∷ z) ≡ (if long then escaped z else with_operator 0 (operator_of b))
+operator-before b z long t u =
+    ap (λ v. cond v (numbered (spelled b z 0) (λ k. phrase_after k z)) (ending b z)) t ∙ ap (λ v. if v then escaped z else with_operator 0 (operator_of b)) u
+
+long-by : (b c : ℕ) (r : List ℕ) → is_number b ≡ false → (b == 0x0c) ≡ true → (o : Option Operator) → operator_of (0x0c00 + c) ≡ o → Local 0 (b ∷ c ∷ r) (with_operator 1 o)
+long-by b c r t u None h = tt
+long-by b c r t u (Some op) h = record {
+  passes = omega arith;
+  room = omega arith;
+  stands = λ y. operator-before b (c ∷ y) true t u ∙ ap (with_operator 1) h;
+  fronts = λ short y. let flat : stands_flat (kind op) ≡ true = long-flat c op h in absurd (cc);
+}
+
+short-by : (b : ℕ) (r : List ℕ) → is_number b ≡ false → (b == 0x0c) ≡ false → (o : Option Operator) → operator_of b ≡ o → Local 0 (b ∷ r) (with_operator 0 o)
+short-by b r t u None h = tt
+short-by b r t u (Some op) h = record {
+  passes = omega arith;
+  room = omega arith;
+  stands = λ y. operator-before b y false t u ∙ ap (with_operator 0) h;
+  fronts = λ short y. sym (fronted-zero (phrase y));
+}
+
+ending-by : (b : ℕ) (r : List ℕ) → is_number b ≡ false → (long : Bool) → (b == 0x0c) ≡ long → Local 0 (b ∷ r) (if long then escaped r else with_operator 0 (operator_of b))
+ending-by b [] t true u = tt
+ending-by b (c ∷ r) t true u = long-by b c r t u (operator_of (0x0c00 + c)) refl
+ending-by b r t false u = short-by b r t u (operator_of b) refl
+
+head-by : (b : ℕ) (r : List ℕ) → ((j : ℕ) → Local j r (phrase_after j r)) → (t : Bool) → is_number b ≡ t →
+    Local 0 (b ∷ r) (if t then numbered (spelled b r 0) (λ j. phrase_after j r) else ending b r)
+head-by b r ih true e = number-by b r e ih (spelled b r 0) refl
+head-by b r ih false e = ending-by b r e (b == 0x0c) refl
+
+pub local : (k : ℕ) (r : List ℕ) → Local k r (phrase_after k r)
+local k [] = tt
+local (suc k) (b ∷ r) = skip k b r (phrase_after k r) (local k r)
+local zero (b ∷ r) = head-by b r (λ j. local j r) (is_number b) refl

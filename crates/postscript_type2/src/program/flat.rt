@@ -1,0 +1,55 @@
+//! Flat code: the phrases of a run without its calls and returns.
+ghost use Rattle.std.specs.Prelude.{◌≡◌, ◌⊎◌, ◌++◌, OnOk, IfOk, IfErr};
+ghost use Rattle.postscript_base.specs.declared.error.Error.TheVariants as errors;
+ghost use Rattle.postscript_type2.specs.Flat.{flat_bytes, flat_text};
+ghost use Rattle.postscript_type2.specs.Machines.{IsNested, said_of, still_of};
+ghost use Rattle.postscript_type2.specs.Meaning.{fault_of};
+ghost use Rattle.postscript_type2.specs.Refusals.{refusal_of};
+
+use super::machine::{Event, Machine, Said};
+use crate::operation::Operator;
+use postscript_base::Result;
+use std::alloc::Global;
+
+/// Appends a phrase as it stands in flat code.
+fn append(flat: &mut Vec<u8>, said: Said<'_>) -> Result<()>
+    ensures ok { OnOk result (flat.new.items ≡ flat.old.items ++ flat_bytes (said_of said.entry)) }
+    ensures err { IfErr result (λ e. e ≡ errors.Memory) }
+{
+    let numbers = &said.bytes[..said.bytes.len().saturating_sub(1)];
+    match said.operator {
+        Operator::CallSubr | Operator::CallGSubr => {
+            flat.extend_from_slice(numbers)?;
+            flat.extend_from_slice(&[0x0c, 0x12])?;
+        }
+        Operator::Return => {
+            flat.extend_from_slice(numbers)?;
+            flat.extend_from_slice(&[0x8b, 0x0c, 0x12])?;
+        }
+        _ => flat.extend_from_slice(said.bytes)?,
+    }
+    Ok(())
+}
+
+/// The flat code of what a machine still answers.
+pub(crate) fn flat_code(alloc: Global, machine: Machine<'_>) -> Result<Vec<u8>>
+    requires { IsNested machine }
+    ensures faultless { OnOk result (fault_of (still_of machine.entry).end ≡ None) }
+    ensures text { IfOk result (λ flat. flat.items ≡ flat_text (still_of machine.entry).trace) }
+    ensures refused { IfErr result (λ e. (e ≡ errors.Memory) ⊎ (fault_of (still_of machine.entry).end ≡ Some (refusal_of e))) }
+{
+    let mut machine = machine;
+    let mut flat = Vec::new(alloc);
+    loop {
+        let event = machine.advance()?;
+        match event {
+            Event::UsedUp => return Ok(flat),
+            Event::Went(said) => append(&mut flat, said)?,
+            Event::Answered(said, _operands) => append(&mut flat, said)?,
+            Event::Over(said) => {
+                append(&mut flat, said)?;
+                return Ok(flat);
+            }
+        }
+    }
+}
