@@ -23,7 +23,41 @@ fn numbers_and_messages(rt: HostRuntime) -> Result<(), Fail> {
             16,
             "found an unsupported part",
         ),
+        (
+            Error::Unsupported(Part::Put),
+            16,
+            "found an unsupported part",
+        ),
+        (
+            Error::Unsupported(Part::Get),
+            16,
+            "found an unsupported part",
+        ),
+        (Error::ExpectedOperand, 17, "expected an operand"),
+        (
+            Error::ExpectedInteger,
+            18,
+            "expected an operand of a different type",
+        ),
+        (Error::ExpectedMoreOperands, 19, "expected more operands"),
         (Error::MalformedOperands, 20, "found malformed operands"),
+        (Error::InvalidOperand, 21, "found an invalid operand"),
+        (Error::MissingSubroutine, 22, "failed to find a subroutine"),
+        (
+            Error::ReturnWithoutCaller,
+            23,
+            "found a return operator without a caller",
+        ),
+        (
+            Error::TrailingData,
+            24,
+            "found trailing data after the end operator",
+        ),
+        (Error::TooDeep, 25, "found calls nested too deep"),
+        (Error::Overflow, 26, "found an overflow"),
+        (Error::ZeroDivisor, 27, "found a zero divisor"),
+        (Error::NegativeRoot, 28, "found a root of a negative number"),
+        (Error::TooManyStems, 29, "found too many stems"),
         (Error::AlreadyFailed, 30, "the program has failed before"),
     ];
     for (error, code, message) in refusals {

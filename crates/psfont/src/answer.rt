@@ -33,6 +33,7 @@ pub fn answer_line<W: Write>(
     match Command::named(word) {
         Some(Command::Load(place)) => load(alloc, place, argument, routines, writer)?,
         Some(Command::Run) if argument.is_empty() => run(alloc, routines, writer)?,
+        Some(Command::Flat) if argument.is_empty() => flatten(alloc, routines, writer)?,
         _ => writeln!(writer, "bad command")?,
     }
     writer.flush()?;
@@ -83,6 +84,21 @@ fn run<W: Write>(alloc: Global, routines: &Routines, writer: &mut W) -> Result<(
         Ok(answers) => write_answers(&answers, writer),
         Err(fault) => write_fault(&fault, writer),
     }
+}
+
+/// Writes the code without calls, as lower-case hex.
+fn flatten<W: Write>(alloc: Global, routines: &Routines, writer: &mut W) -> Result<()>
+    ensures listed { IsListed (1 ∷ 2 ∷ 3 ∷ []) result }
+{
+    match routines.flatten(alloc) {
+        Ok(flat) if flat.is_empty() => writeln!(writer, "flat")?,
+        Ok(flat) => {
+            let digits = hex::encode(alloc, flat.as_slice())?;
+            writeln!(writer, "flat {digits}")?;
+        }
+        Err(fault) => write_fault(&fault, writer)?,
+    }
+    Ok(())
 }
 
 /// A line for each operation, for the end and for the width.

@@ -11,6 +11,8 @@ pub enum Command {
     Load(Place),
     /// Run the code.
     Run,
+    /// Write the code without calls.
+    Flat,
 }
 
 /// Where bytes go.
@@ -38,6 +40,7 @@ impl Command {
             b"global" => Some(Command::Load(Place::Global)),
             b"local" => Some(Command::Load(Place::Local)),
             b"run" => Some(Command::Run),
+            b"flat" => Some(Command::Flat),
             _ => None,
         }
     }

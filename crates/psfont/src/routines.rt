@@ -5,7 +5,7 @@ ghost use Rattle.psfont.specs.Loaded.{Loaded, put};
 
 use crate::command::Place;
 use postscript::Result;
-use postscript::type2::{self, Answers};
+use postscript::type2::{self, Answers, Program};
 use std::alloc::Global;
 use std::marker::Model;
 
@@ -60,6 +60,16 @@ impl Routines {
     /// Runs the code. Refused: `Memory`.
     pub fn run(&self, alloc: Global) -> Result<Answers> {
         type2::run(
+            alloc,
+            self.code.as_slice(),
+            self.global.as_slice(),
+            self.local.as_slice(),
+        )
+    }
+
+    /// The code without calls. Refused: what the run is refused with, `Memory`.
+    pub fn flatten(&self, alloc: Global) -> Result<Vec<u8>> {
+        Program::flatten(
             alloc,
             self.code.as_slice(),
             self.global.as_slice(),

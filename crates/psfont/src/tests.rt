@@ -1,3 +1,5 @@
+mod glyphs;
+
 use super::{session, start};
 use postscript::Result as Outcome;
 use std::alloc::{Allocator, Global};
@@ -151,8 +153,12 @@ fn answers_lines(rt: HostRuntime) -> Result<(), Fail> {
             "end\nwidth none\nbad command\nbad command\nbad command\nbad command\nbad command\n",
         ),
         (
-            "flat\nfont 00\nfont 0\nlenient 00\ncode8c\ncodes 8c",
+            "flat x\nfont 00\nfont 0\nlenient 00\ncode8c\ncodes 8c",
             "bad command\nbad command\nbad command\nbad command\nbad command\nbad command\n",
+        ),
+        (
+            "flat\ncode 200a0e\nlocal 8c8d150b\nrun\nflat\nflat \ncode 8C8D\nflat",
+            "flat\nok\nok\nRMoveTo 1 2\nend\nwidth none\nflat 200c128c8d158b0c120e\nflat 200c128c8d158b0c120e\nok\nfault 1\n",
         ),
         (
             "code 8c06\ncode 8\ncode 8g\ncode  8c\ncode 8c \nrun",
@@ -161,7 +167,7 @@ fn answers_lines(rt: HostRuntime) -> Result<(), Fail> {
         ("code 06\nrun", "ok\nfault 20\nwidth none\n"),
         (
             "code ff00008000ff00010000068b0a\nrun",
-            "ok\nHLineTo 32768/65536 1\nfault 16\nwidth none\n",
+            "ok\nHLineTo 32768/65536 1\nfault 22\nwidth none\n",
         ),
     ];
     for (input, output) in table {
@@ -268,7 +274,7 @@ fn starts_by_its_words(rt: HostRuntime) -> Result<(), Fail> {
         }
         let memory = Memory {
             alloc: rt.alloc(),
-            input: b"code\nflat",
+            input: b"code\nfont",
             output: RefCell::new(Vec::new(rt.alloc())),
             errors: RefCell::new(Vec::new(rt.alloc())),
         };

@@ -1,0 +1,95 @@
+//! Flat code.
+use crate::programs::{Outcome, bytes_of, routines_of, text_of};
+use postscript::type2::{self, Program};
+use std::alloc::Global;
+use std::process::Abort;
+use std::test::Fail;
+
+/// A code in hex, its local subroutines in hex, each after a space, and its flat code in hex.
+type Row = (&'static str, &'static str, &'static str);
+
+const FLAT: &[Row] = &[
+    ("", "", ""),
+    ("8c8d8b0c12150e", "", "8c8d8b0c12150e"),
+    ("200a0e", "8c8d150b", "200c128c8d158b0c120e"),
+    // Used up in a subroutine, and after a return.
+    ("200a", "8c0b", "200c128c8b0c12"),
+    ("200a8c8d150e", "8c16", "200c128c16"),
+    ("200a0e", "210a 0e", "200c12210c120e"),
+    // The end in a subroutine leaves the outer bytes out.
+    ("200aff", "0e", "200c120e"),
+    ("0eff", "", "0e"),
+    // A mask keeps its bytes.
+    ("8c8d8c8d200a0e", "13800b", "8c8d8c8d200c1213808b0c120e"),
+    ("8e8c8d13800e", "", "8e8c8d13800e"),
+    // Operands in front of a call and of a return.
+    ("8e8c200a150e", "8d0b", "8e8c200c128d8b0c12150e"),
+];
+
+/// A code in hex, its local subroutines in hex, and the number of the fault.
+const FAULTY: &[(&str, &str, u8)] = &[
+    ("8c8d", "", 1),
+    ("200aff", "0e0b", 24),
+    ("200a0e", "210a0b 0e", 24),
+    ("0b", "", 23),
+    ("200a", "200a", 25),
+    ("06", "", 20),
+];
+
+/// The answers of a code without subroutines, as text.
+fn told_alone(alloc: Global, code: &[u8]) -> Outcome<String> {
+    let answers = type2::run(alloc, code, &[], &[])?;
+    Ok(text_of(alloc, &answers)?)
+}
+
+/// Flattens a code, and its flat code again.
+fn check<R: AllocGlobal + Abort>(rt: &R, row: &Row) -> Outcome<()> {
+    let (code, local, wanted) = *row;
+    let bytes = bytes_of(rt.alloc(), code)?;
+    let local = routines_of(rt.alloc(), local)?;
+    let wanted = bytes_of(rt.alloc(), wanted)?;
+    let flat = Program::flatten(rt.alloc(), bytes.as_slice(), &[], local.as_slice())?;
+    assert_eq!(rt; flat.as_slice(), wanted.as_slice(), "at {code}");
+    let again = Program::flatten(rt.alloc(), flat.as_slice(), &[], &[])?;
+    assert_eq!(rt; again.as_slice(), flat.as_slice(), "at {code}");
+    let answers = type2::run(rt.alloc(), bytes.as_slice(), &[], local.as_slice())?;
+    let before = text_of(rt.alloc(), &answers)?;
+    let after = told_alone(rt.alloc(), flat.as_slice())?;
+    assert_eq!(rt; after.as_str(), before.as_str(), "at {code}");
+    Ok(())
+}
+
+#[test]
+fn flat_codes(rt: HostRuntime) -> Outcome<()> {
+    for row in FLAT {
+        check(&rt, row)?;
+    }
+    Ok(())
+}
+
+#[test]
+fn faulty_codes(rt: HostRuntime) -> Outcome<()> {
+    for (code, local, number) in FAULTY {
+        let bytes = bytes_of(rt.alloc(), code)?;
+        let local = routines_of(rt.alloc(), local)?;
+        match Program::flatten(rt.alloc(), bytes.as_slice(), &[], local.as_slice()) {
+            Ok(_) => assert!(rt; false, "at {code}"),
+            Err(fault) => assert_eq!(rt; fault.code(), *number, "at {code}"),
+        }
+    }
+    Ok(())
+}
+
+#[test]
+fn a_code_that_doubles(rt: HostRuntime) -> Outcome<()> {
+    // Each of nine subroutines calls the next one twice, and the last one moves: 512 moves, a thousand calls.
+    let words =
+        "210a210a0b 220a220a0b 230a230a0b 240a240a0b 250a250a0b 260a260a0b 270a270a0b 280a280a0b 290a290a0b 8c160b";
+    let code = bytes_of(rt.alloc(), "200a0e")?;
+    let local = routines_of(rt.alloc(), words)?;
+    let flat = Program::flatten(rt.alloc(), code.as_slice(), &[], local.as_slice())?;
+    assert_eq!(rt; flat.len(), 7163);
+    let again = Program::flatten(rt.alloc(), flat.as_slice(), &[], &[])?;
+    assert!(rt; again.as_slice() == flat.as_slice());
+    Ok(())
+}

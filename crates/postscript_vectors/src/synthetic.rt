@@ -1,0 +1,68 @@
+//! Charstrings that are made, for measuring.
+use std::alloc::{AllocError, Global};
+
+/// The operators that draw and move, each with a number of operands that it takes.
+const SHAPES: [(u8, u8); 16] = [
+    (0x15, 2),
+    (0x16, 1),
+    (0x04, 1),
+    (0x05, 2),
+    (0x05, 12),
+    (0x06, 1),
+    (0x06, 4),
+    (0x07, 3),
+    (0x08, 6),
+    (0x08, 12),
+    (0x1b, 5),
+    (0x1a, 4),
+    (0x1f, 8),
+    (0x1e, 9),
+    (0x18, 8),
+    (0x19, 10),
+];
+
+/// So many operations in one charstring without calls, always the same ones.
+///
+/// The first two declare two horizontal and two vertical stems. From then on each 32nd is a hint mask, and the others
+/// are paths of 1 to 12 operands, drawn by a linear congruence. Its numbers have one, two, three or five bytes, the
+/// short forms more often. The charstring ends with `endchar`.
+pub fn charstring(alloc: Global, operations: usize) -> Result<Vec<u8>, AllocError> {
+    let mut code = Vec::new(alloc);
+    let mut seed = 1u32;
+    for i in 0..operations {
+        if i < 2 {
+            push_numbers(&mut code, &mut seed, 4)?;
+            code.push(if i == 0 { 0x12 } else { 0x17 })?;
+        } else if i % 32 == 0 {
+            code.push(0x13)?;
+            code.push(drawn(&mut seed))?;
+        } else {
+            let (operator, operands) = SHAPES[usize::from(drawn(&mut seed) % 16)];
+            push_numbers(&mut code, &mut seed, operands)?;
+            code.push(operator)?;
+        }
+    }
+    code.push(0x0e)?;
+    Ok(code)
+}
+
+/// The next byte of the linear congruence.
+fn drawn(seed: &mut u32) -> u8 {
+    *seed = seed.wrapping_mul(1_664_525).wrapping_add(1_013_904_223);
+    (*seed >> 24) as u8
+}
+
+/// Adds so many numbers.
+fn push_numbers(code: &mut Vec<u8>, seed: &mut u32, count: u8) -> Result<(), AllocError> {
+    for _ in 0..count {
+        let form = drawn(seed) % 16;
+        let byte = drawn(seed);
+        match form {
+            0 => code.extend_from_slice(&[0xff, 0x00, byte, byte, drawn(seed)])?,
+            1 => code.extend_from_slice(&[0x1c, byte % 4, drawn(seed)])?,
+            2..=5 => code.extend_from_slice(&[0xf7 + byte % 8, drawn(seed)])?,
+            _ => code.push(0x20 + byte % 215)?,
+        }
+    }
+    Ok(())
+}
