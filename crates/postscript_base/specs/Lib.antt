@@ -4,3 +4,6 @@ pub mod Tape
 pub mod Numbers
 pub mod Many
 pub mod Cursor
+pub mod Offset
+pub mod Header
+pub mod Decimal

@@ -22,6 +22,9 @@ pub enum Error {
     /// A growth was refused.
     #[error("failed to find memory")]
     Memory,
+    /// An offset has no such size.
+    #[error("found a malformed offset")]
+    MalformedOffset,
     /// The bytes spell no number.
     #[error("found a malformed number")]
     MalformedNumber,
@@ -95,6 +98,7 @@ impl Error {
             Error::UnexpectedEof => 1,
             Error::Io(_) => 2,
             Error::Memory => 3,
+            Error::MalformedOffset => 5,
             Error::MalformedNumber => 7,
             Error::UnknownOperator => 9,
             Error::Unsupported(_) => 16,

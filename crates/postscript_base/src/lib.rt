@@ -1,6 +1,7 @@
 //! The ground of a reader of fonts in the Compact Font Format: errors, tapes, and what is read from a tape.
 #![tactic(auto)]
 
+pub mod compact1;
 pub mod error;
 pub mod tape;
 

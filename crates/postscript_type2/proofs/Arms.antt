@@ -1,21 +1,16 @@
 -- What one phrase comes to, by the move of its operator.
 use Rattle.std.proofs.lemmas.List.{drop-drop}
 use Rattle.std.proofs.lemmas.Bool.{eqb-false}
-use Rattle.std.proofs.Common.{eqb-true, ◌≢◌, ◌==◌, ◌≡◌, refl, ap, sym, subst, ◌∙◌, ◌⊎◌, inl, inr, ℕ, zero, suc, ◌+◌, ◌-◌, ◌<◌, Bool, true, false, List, [], ◌∷◌, take, drop, length, ℤ, Option, Some, None, if◌then◌else◌, length-drop, arith}
+use Rattle.std.proofs.Common.{eqb-true, ◌≢◌, ◌==◌, ◌≡◌, ap, sym, subst, ◌∙◌, ◌⊎◌, inl, inr, ℕ, zero, suc, ◌+◌, ◌-◌, ◌<◌, Bool, true, false, List, [], ◌∷◌, take, drop, length, ℤ, Option, if◌then◌else◌, length-drop, arith}
 use Rattle.std.proofs.lemmas.Grind.{common_steps}
 use Rattle.postscript_base.specs.declared.error.Error.{Error}
 use Rattle.postscript_base.specs.declared.error.Error.TheVariants.{Memory}
 use Rattle.postscript_type2.specs.declared.operation.Operator.{Operator}
-use Rattle.postscript_type2.specs.declared.program.state.Effect.{Effect}
-use Rattle.postscript_type2.specs.declared.program.state.Effect.TheVariants as effects
-use Rattle.postscript_type2.specs.declared.program.state.State as code
-use Rattle.std.specs.Prelude.{Result, Ok, Err}
 use Rattle.postscript_type2.specs.Effects.{Lists, State, Move, Keeps, Clears, Calls, Returns, Ends, Refuses, effect}
-use Rattle.postscript_type2.specs.Meaning.{Answer, Said, Run, UsedUp, Finished, Fault, says, answers, ends, said, stacked, cleared, moved, stride}
+use Rattle.postscript_type2.specs.Meaning.{Answer, Said, UsedUp, Finished, Fault, says, answers, ends, said, stacked, cleared, moved, stride}
 use Rattle.postscript_type2.specs.Phrases.{Complete, Bad, phrase, fronted}
 use Rattle.postscript_type2.specs.Refusals.{Refusal, refusal_of, return_without_caller, trailing_data, too_deep}
 use Rattle.postscript_type2.specs.Still.{still, next_still, are_used_up}
-use Rattle.postscript_type2.specs.Working.{state_of, settled_width, move_of, after_move, Does}
 use Rattle.postscript_type2.proofs.Still.{still_end}
 use Rattle.postscript_type2.proofs.Strides.{still_step-at, stride-is, stop-is}
 

@@ -1,14 +1,12 @@
 -- What is read at a place, as what stands at the front of the rest.
-use Rattle.std.proofs.Math.Seq.{drop-cons}
 use Rattle.std.proofs.lemmas.List.{drop-drop}
-use Rattle.std.proofs.Common.{◌≡◌, ◌≢◌, refl, ap, sym, subst, ◌∙◌, ℕ, zero, suc, ◌+◌, ◌-◌, ◌<◌, ◌≤◌, ◌⊎◌, inl, inr, Bool, true, false, List, [], ◌∷◌, length, take, drop, nat_lt, ℤ, pos, ◌-ℤ◌, ◌==◌, Option, Some, None, Result, Ok, Err, zero-add, length-drop, arith, if◌then◌else◌}
+use Rattle.std.proofs.Common.{◌≡◌, ◌≢◌, refl, ap, sym, subst, ◌∙◌, ℕ, ◌+◌, ◌-◌, ◌≤◌, ◌⊎◌, inl, inr, Bool, true, false, List, [], ◌∷◌, length, take, drop, nat_lt, ℤ, pos, ◌-ℤ◌, ◌==◌, Result, Ok, Err, arith, if◌then◌else◌}
 use Rattle.std.proofs.lemmas.Grind.{common_steps}
-use Rattle.std.proofs.lemmas.Bool.Decides.{nat_tests}
 use Rattle.postscript_base.specs.Error.{code, IsOneOf, IsListed}
-use Rattle.postscript_base.specs.Outcome.{Outcome, Got, Fault, Past, Reading, after, ◌>>=◌, pure, fault, Answers, RefusedAs}
+use Rattle.postscript_base.specs.Outcome.{Outcome, Got, Fault, Past, Reading, after, ◌>>=◌, pure, fault, Answers}
 use Rattle.postscript_base.specs.Numbers.{slice, number as unsigned, big_endian}
 use Rattle.postscript_base.specs.declared.error.Error.{Error}
-use Rattle.postscript_base.specs.declared.error.Error.TheVariants.{UnexpectedEof, Io, Memory, MalformedNumber, UnknownOperator, Unsupported, ExpectedOperand, ExpectedInteger, ExpectedMoreOperands, MalformedOperands, InvalidOperand, MissingSubroutine, ReturnWithoutCaller, TrailingData, TooDeep, Overflow, ZeroDivisor, NegativeRoot, TooManyStems, AlreadyFailed}
+use Rattle.postscript_base.specs.declared.error.Error.TheVariants.{UnexpectedEof, Io, Memory, MalformedOffset, MalformedNumber, UnknownOperator, Unsupported, ExpectedOperand, ExpectedInteger, ExpectedMoreOperands, MalformedOperands, InvalidOperand, MissingSubroutine, ReturnWithoutCaller, TrailingData, TooDeep, Overflow, ZeroDivisor, NegativeRoot, TooManyStems, AlreadyFailed}
 use Rattle.postscript_type2.specs.Number.{number, spelled, whole, signed, above, below}
 use Rattle.postscript_type2.specs.Refusals.{Numbered, refusal_of}
 use Rattle.postscript_type2.specs.Tokens.{ReadsByte, ReadsNumber}
@@ -79,6 +77,7 @@ numbered-listed : (e : Error) → IsOneOf (1 ∷ 2 ∷ 7 ∷ []) (code e) → re
 numbered-listed UnexpectedEof h = refl
 numbered-listed (Io x) h = refl
 numbered-listed Memory h = refl
+numbered-listed MalformedOffset h = refl
 numbered-listed MalformedNumber h = refl
 numbered-listed UnknownOperator h = refl
 numbered-listed (Unsupported x) (inl h) = absurd (omega arith)
@@ -104,6 +103,7 @@ is-eof : (e : Error) → code e ≡ 1 → e ≡ UnexpectedEof
 is-eof UnexpectedEof h = refl
 is-eof (Io x) h = absurd (omega arith)
 is-eof Memory h = absurd (omega arith)
+is-eof MalformedOffset h = absurd (omega arith)
 is-eof MalformedNumber h = absurd (omega arith)
 is-eof UnknownOperator h = absurd (omega arith)
 is-eof (Unsupported x) h = absurd (omega arith)

@@ -1,10 +1,10 @@
 -- Flat code of small programs with calls, computed from the definitions.
-use Rattle.std.proofs.Common.{◌≡◌, refl, ℕ, List, [], ◌∷◌, ◌++◌, Option, Some, None, ℤ, pos, map}
+use Rattle.std.proofs.Common.{◌≡◌, refl, ℕ, List, [], ◌∷◌, Option, Some, None, ℤ, pos, map}
 use Rattle.postscript_type2.specs.declared.operation.Operator.{Operator}
 use Rattle.postscript_type2.specs.declared.operation.Operator.TheVariants.{HStem, HintMask, HMoveTo, RLineTo}
 use Rattle.postscript_type2.specs.Effects.{Lists}
 use Rattle.postscript_type2.specs.Number.{whole}
-use Rattle.postscript_type2.specs.Meaning.{Run, run_of, operation, fault_of, width_of}
+use Rattle.postscript_type2.specs.Meaning.{run_of, operation, fault_of, width_of}
 use Rattle.postscript_type2.specs.Flat.{flat_text}
 use Rattle.postscript_type2.specs.Refusals.{Refusal, missing_subroutine}
 

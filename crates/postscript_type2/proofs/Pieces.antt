@@ -1,20 +1,20 @@
 -- A phrase from its pieces.
-use Rattle.std.proofs.Common.{◌≡◌, ◌≢◌, refl, ap, sym, subst, ◌∙◌, ℕ, zero, suc, ◌+◌, ◌-◌, ◌<◌, ◌≤◌, ◌==◌, ◌⊎◌, inl, inr, Bool, true, false, cond, List, [], ◌∷◌, ◌++◌, length, drop, ℤ, Option, Some, None, Result, Ok, Err, length-drop, arith}
+use Rattle.std.proofs.Common.{◌≡◌, ◌≢◌, refl, ap, sym, subst, ◌∙◌, ℕ, suc, ◌+◌, ◌-◌, ◌<◌, ◌==◌, inr, true, false, cond, List, [], ◌∷◌, ◌++◌, length, drop, ℤ, Option, Some, None, Result, Ok, Err, length-drop, arith}
 use Rattle.std.proofs.lemmas.Bool.Decides.{nat_tests}
 use Rattle.std.proofs.lemmas.List.{append-nil, drop-drop}
 use Rattle.std.specs.Option.{ok_or}
-use Rattle.postscript_base.specs.Outcome.{Outcome, Got, Fault, Past, after}
+use Rattle.postscript_base.specs.Outcome.{Outcome, Got, Fault, Past}
 use Rattle.postscript_base.specs.declared.error.Error.{Error}
-use Rattle.postscript_base.specs.declared.error.Error.TheVariants.{Memory, UnexpectedEof, UnknownOperator}
+use Rattle.postscript_base.specs.declared.error.Error.TheVariants.{UnknownOperator}
 use Rattle.postscript_type2.specs.declared.operation.Operator.{Operator}
 use Rattle.postscript_type2.specs.Number.{number, spelled}
 use Rattle.postscript_type2.specs.Operators.{operator_of}
 use Rattle.postscript_type2.specs.Phrases.{Phrase, Complete, Bad, is_number, numbered, phrase_after, phrase, ending, escaped, with_operator, fronted}
 use Rattle.postscript_type2.specs.Refusals.{Refusal, Numbered, refusal_of}
-use Rattle.postscript_type2.specs.Tokens.{ReadsNumber, ReadsOperator, ReadsPhrase, ending_of}
+use Rattle.postscript_type2.specs.Tokens.{ReadsOperator, ReadsPhrase, ending_of}
 use Rattle.postscript_type2.proofs.Bytes.{number-front, got-later}
 use Rattle.postscript_type2.proofs.Places.{later, spelled-local}
-use Rattle.postscript_type2.proofs.Fronts.{front-number_at, front-operator}
+use Rattle.postscript_type2.proofs.Fronts.{front-number_at}
 
 with-operator : (old new : List ℕ) (more : ℕ) (o : Option Operator) (r : Result Operator Error) → ending_of old ≡ with_operator more o → new ≡ drop (more + 1) old →
     r ≡ ok_or o UnknownOperator → ReadsOperator old r new

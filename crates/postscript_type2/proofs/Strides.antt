@@ -1,7 +1,7 @@
 -- The step at bytes that are not empty, and the stride of a phrase that was read.
 use Rattle.std.proofs.Math.Path.{fun_ext}
 use Rattle.std.proofs.lemmas.List.{drop-drop}
-use Rattle.std.proofs.Common.{◌≡◌, ap, sym, ◌∙◌, ℕ, ◌+◌, ◌-◌, ◌<◌, List, [], ◌∷◌, ◌++◌, drop, length, ℤ, true, false, if◌then◌else◌, arith}
+use Rattle.std.proofs.Common.{◌≡◌, ap, sym, ◌∙◌, ℕ, ◌+◌, ◌-◌, ◌<◌, List, [], ◌∷◌, ◌++◌, drop, length, ℤ, arith}
 use Rattle.postscript_type2.specs.declared.operation.Operator.{Operator}
 use Rattle.postscript_type2.specs.Phrases.{Phrase, Complete, Bad, phrase, fronted}
 use Rattle.postscript_type2.specs.Effects.{Lists, State, effect}

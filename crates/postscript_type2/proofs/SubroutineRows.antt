@@ -1,5 +1,5 @@
 -- Runs of programs with subroutines, masks and arithmetic, computed from the definitions.
-use Rattle.std.proofs.Common.{◌≡◌, refl, ap, arith, ◌*◌, ℕ, List, [], ◌∷◌, Option, Some, None, ℤ, pos, neg_ℤ, map}
+use Rattle.std.proofs.Common.{◌≡◌, refl, ap, arith, ◌*◌, ℕ, List, [], ◌∷◌, Option, Some, None, ℤ, pos, map}
 use Rattle.postscript_base.specs.Numbers.{slice, number}
 use Rattle.postscript_type2.specs.declared.operation.Operator.{Operator}
 use Rattle.postscript_type2.specs.declared.operation.Operator.TheVariants.{HStem, HintMask, RMoveTo, HMoveTo, HLineTo, HVCurveTo}

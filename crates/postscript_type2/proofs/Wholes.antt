@@ -1,5 +1,5 @@
 -- The whole number of the bits of a whole number.
-use Rattle.std.proofs.Common.{◌≡◌, ap, ◌∙◌, ℕ, suc, ◌+◌, ◌-◌, ◌*◌, ◌/◌, ◌%◌, ℤ, pos, negsuc, neg_ℤ, Some, None, if◌then◌else◌, arith}
+use Rattle.std.proofs.Common.{◌≡◌, ap, ◌∙◌, ℕ, suc, ◌+◌, ◌*◌, ◌/◌, ◌%◌, ℤ, pos, negsuc, neg_ℤ, Some, None, if◌then◌else◌, arith}
 use Rattle.std.specs.Ordering.{int_eq}
 use Rattle.postscript_type2.specs.Number.{whole, to_int}
 

@@ -1,5 +1,5 @@
 -- What a program still answers, by its fields.
-use Rattle.std.specs.Prelude.{Bool, true, false}
+use Rattle.std.specs.Prelude.{false}
 use Rattle.postscript_type2.specs.declared.program.Phase.{Phase}
 use Rattle.postscript_type2.specs.declared.program.Phase.TheVariants as phases
 use Rattle.postscript_type2.specs.declared.program.machine.Machine.{Machine}

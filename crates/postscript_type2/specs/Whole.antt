@@ -1,5 +1,5 @@
 -- What a whole run tells.
-use Rattle.std.specs.Prelude.{◌≡◌, ℤ, List, map, Option, Some, None, Vec}
+use Rattle.std.specs.Prelude.{◌≡◌, ℤ, List, map, Vec}
 use Rattle.std.specs.Option.{option_map}
 use Rattle.std.specs.declared.alloc.Global.{Global}
 use Rattle.postscript_type2.specs.declared.operation.Operator.{Operator}

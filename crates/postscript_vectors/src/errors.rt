@@ -16,6 +16,7 @@ fn numbers_and_messages(rt: HostRuntime) -> Result<(), Fail> {
             "found a fault of the tape",
         ),
         (Error::Memory, 3, "failed to find memory"),
+        (Error::MalformedOffset, 5, "found a malformed offset"),
         (Error::MalformedNumber, 7, "found a malformed number"),
         (Error::UnknownOperator, 9, "found an unknown operator"),
         (

@@ -7,6 +7,8 @@ mod errors;
 #[cfg(test)]
 mod flat;
 #[cfg(test)]
+mod parts;
+#[cfg(test)]
 mod programs;
 #[cfg(test)]
 mod readings;

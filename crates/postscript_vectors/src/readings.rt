@@ -10,7 +10,7 @@ use std::io::{BufReader, Cursor};
 use std::test::Fail;
 
 /// The number of a refusal, 0 where there is none.
-fn code_of<T: Drop>(outcome: Result<T>) -> u8 {
+pub fn code_of<T: Drop>(outcome: Result<T>) -> u8 {
     match outcome {
         Ok(_) => 0,
         Err(e) => e.code(),

@@ -1,4 +1,4 @@
-use Rattle.std.proofs.Common.{◌≡◌, ◌∙◌, ◌+◌, ◌-◌, ◌<◌, suc, ap, sym, refl, ℕ, ℤ, List, [], ◌∷◌, take, length, inr, add-one, arith}
+use Rattle.std.proofs.Common.{◌≡◌, ◌∙◌, ◌+◌, ◌-◌, ◌<◌, suc, ap, sym, refl, ℕ, ℤ, List, ◌∷◌, take, length, inr, add-one, arith}
 use Rattle.std.proofs.lemmas.Result.{err_from_is_err_and}
 use Rattle.postscript_type2.specs.Callers.{rests}
 use Rattle.postscript_type2.specs.Effects.{Lists, State, Keeps, Clears, Calls, Returns, Ends, effect}

@@ -1,4 +1,4 @@
-use Rattle.std.proofs.Common.{◌≡◌, ◌+◌, ap}
+use Rattle.std.proofs.Common.{◌≡◌, ◌+◌}
 use Rattle.std.specs.Option.{ok_or}
 use Rattle.postscript_base.specs.declared.error.Error.TheVariants.{UnknownOperator}
 use Rattle.postscript_type2.specs.Operators.{operator_of}

@@ -1,0 +1,196 @@
+-- Decimals of one value.
+use Rattle.std.proofs.Common.{◌≡◌, ℕ, zero, suc, ◌+◌, ◌-◌, ◌*◌, ◌/◌, ◌%◌, ◌^◌, ◌<◌, ◌≤◌, Bool, true, false, refl, sym, ap, ◌∙◌, ◌≢◌, Option, Some, None, arith, inl, inr, ℤ, pos, negsuc, ◌+ℤ◌, ◌-ℤ◌, ◌*ℤ◌, neg_ℤ}
+use Rattle.std.specs.Prelude.{IfSome, IfNone}
+use Rattle.std.specs.Int.{int_min}
+use lib.Signed.{lt_z}
+use Rattle.std.specs.Int.RustNames.{unsigned_abs}
+use Rattle.std.proofs.Math.Nat.{pow-suc, one-le-pow, pow-le-pow_right, mul_assoc, mul_comm, mul-pos, mul-le-mul_right, mul-div_cancel, mul-mod_left}
+use Rattle.std.proofs.lemmas.Nat.{pow-add}
+use Rattle.std.proofs.lemmas.Bool.{cases_lt, cases_order, le-ltb}
+use Rattle.std.proofs.lemmas.Int.{ints, clamps}
+use Rattle.postscript_base.specs.Decimal.{Decimal, HasOperand, scaled, IsSameValue, IsCanonical, IsOperand, signed}
+
+pub tens_pos : (n : ℕ) → 0 < 10 ^ n
+tens_pos n = omega (arith, one-le-pow n 10 (omega arith))
+
+pub tens_few : (n r k : ℕ) → n ≡ r * 10 ^ k → 0 < r → n < 2 ^ 128 → k < 39
+tens_few n r k e p lt =
+    elim (cases_lt k 39) [
+      | inl h ↦ h
+      | inr h ↦
+          let a : 10 ^ 39 ≤ 10 ^ k = pow-le-pow_right (omega arith) h in
+          let b : 1 * 10 ^ k ≤ r * 10 ^ k = mul-le-mul_right (10 ^ k) p in
+          absurd (omega arith)
+    ]
+
+neg_times : (n b : ℕ) → neg_ℤ (pos n) *ℤ pos b ≡ neg_ℤ (pos (n * b))
+neg_times zero b = grind (arith, ints)
+neg_times (suc n) b = refl
+
+times_assoc : (m : ℤ) (a b : ℕ) → (m *ℤ pos a) *ℤ pos b ≡ m *ℤ pos (a * b)
+times_assoc (pos m) a b = ap pos (mul_assoc m a b)
+times_assoc (negsuc m) a b = neg_times (suc m * a) b ∙ ap (λ n. neg_ℤ (pos n)) (mul_assoc (suc m) a b)
+
+cancel : (a b k : ℕ) → 0 < k → a * k ≡ b * k → a ≡ b
+cancel a b k p e = sym (mul-div_cancel a p) ∙ ap (λ n. n / k) e ∙ mul-div_cancel b p
+
+opposite : (a b : ℕ) → pos a ≡ neg_ℤ (pos b) → (a ≡ 0) × (b ≡ 0)
+opposite a b e = (omega (arith, ints), omega (arith, ints))
+
+neg_is : (a b : ℕ) → neg_ℤ (pos a) ≡ neg_ℤ (pos b) → a ≡ b
+neg_is a b e = omega (arith, ints)
+
+pos_is : (a b : ℕ) → pos a ≡ pos b → a ≡ b
+pos_is a b e = cc
+
+pub times_cancel : (m n : ℤ) (k : ℕ) → 0 < k → m *ℤ pos k ≡ n *ℤ pos k → m ≡ n
+times_cancel (pos a) (pos b) k p e = ap pos (cancel a b k p (pos_is (a * k) (b * k) e))
+times_cancel (pos a) (negsuc b) k p e = let q : 0 < suc b * k = mul-pos (omega arith) p in absurd (omega (arith, opposite _ _ e))
+times_cancel (negsuc a) (pos b) k p e = let q : 0 < suc a * k = mul-pos (omega arith) p in absurd (omega (arith, opposite _ _ (sym e)))
+times_cancel (negsuc a) (negsuc b) k p e = let h = cancel (suc a) (suc b) k p (neg_is _ _ e) in ap negsuc (omega arith)
+
+pub scaled-scaled : (m : ℤ) (a b : ℕ) → scaled (scaled m a) b ≡ scaled m (a + b)
+scaled-scaled m a b = times_assoc m (10 ^ a) (10 ^ b) ∙ ap (λ n. m *ℤ pos n) (sym (pow-add 10 a b))
+
+pub scaled_cancel : (m n : ℤ) (k : ℕ) → scaled m k ≡ scaled n k → m ≡ n
+scaled_cancel m n k e = times_cancel m n (10 ^ k) (tens_pos k) e
+
+-- the same number at one lower exponent
+pub record Meets (m e m' e' : ℤ) (i j : ℕ) : Type 0 where
+  pub place : e +ℤ pos j ≡ e' +ℤ pos i
+  pub value : scaled m i ≡ scaled m' j
+
+pub IsSameValue-meets : (m e m' e' : ℤ) → IsSameValue m e m' e' → Meets m e m' e' (unsigned_abs (e -ℤ int_min e e')) (unsigned_abs (e' -ℤ int_min e e'))
+IsSameValue-meets m e m' e' h = record { place = omega (arith, ints, clamps); value = h }
+
+above : (m e m' e' : ℤ) (i j t : ℕ) → Meets m e m' e' (i + t) (j + t) → Meets m e m' e' i j
+above m e m' e' i j t h = record {
+  place = let p = h.place in omega (arith, ints);
+  value = scaled_cancel (scaled m i) (scaled m' j) t (scaled-scaled m i t ∙ h.value ∙ sym (scaled-scaled m' j t));
+}
+
+pub meets-IsSameValue : (m e m' e' : ℤ) (i j : ℕ) → Meets m e m' e' i j → IsSameValue m e m' e'
+meets-IsSameValue m e m' e' i j h =
+    let a = unsigned_abs (e -ℤ int_min e e') in
+    let b = unsigned_abs (e' -ℤ int_min e e') in
+    let place = h.place in
+    let i_is : i ≡ a + (i - a) = omega (arith, ints, clamps) in
+    let j_is : j ≡ b + (i - a) = omega (arith, ints, clamps) in
+    let shifted : Meets m e m' e' (a + (i - a)) (b + (i - a)) = rw (← i_is, ← j_is) h in
+    (above m e m' e' a b (i - a) shifted).value
+
+pub IsSameValue-sym : (m e m' e' : ℤ) → IsSameValue m e m' e' → IsSameValue m' e' m e
+IsSameValue-sym m e m' e' h =
+    let p = IsSameValue-meets m e m' e' h in
+    meets-IsSameValue m' e' m e _ _ (record { place = sym p.place; value = sym p.value })
+
+pub IsSameValue-trans : (m e m' e' n f : ℤ) → IsSameValue m e m' e' → IsSameValue m' e' n f → IsSameValue m e n f
+IsSameValue-trans m e m' e' n f g h =
+    let p = IsSameValue-meets m e m' e' g in
+    let q = IsSameValue-meets m' e' n f h in
+    let i = unsigned_abs (e -ℤ int_min e e') in
+    let j = unsigned_abs (e' -ℤ int_min e e') in
+    let i' = unsigned_abs (e' -ℤ int_min e' f) in
+    let j' = unsigned_abs (f -ℤ int_min e' f) in
+    meets-IsSameValue m e n f (i + i') (j' + j) (record {
+      place = let a = p.place in let b = q.place in omega (arith, ints);
+      value = sym (scaled-scaled m i i') ∙ ap (λ x. scaled x i') p.value ∙ scaled-scaled m' j i' ∙ ap (scaled m') (omega arith)
+          ∙ sym (scaled-scaled m' i' j) ∙ ap (λ x. scaled x j) q.value ∙ scaled-scaled n j' j;
+    })
+
+pub zero_abs : (m : ℤ) → unsigned_abs m ≡ 0 → m ≡ pos 0
+zero_abs (pos a) e = ap pos e
+zero_abs (negsuc a) e = absurd (omega arith)
+
+abs-neg : (n : ℕ) → unsigned_abs (neg_ℤ (pos n)) ≡ n
+abs-neg zero = refl
+abs-neg (suc n) = refl
+
+pub abs-scaled : (m : ℤ) (k : ℕ) → unsigned_abs (scaled m k) ≡ unsigned_abs m * 10 ^ k
+abs-scaled (pos a) k = refl
+abs-scaled (negsuc a) k = abs-neg (suc a * 10 ^ k)
+
+pub last_zero : (n k : ℕ) → (n * 10 ^ suc k) % 10 ≡ 0
+last_zero n k = rw (pow-suc 10 k, ← mul_assoc n (10 ^ k) 10) (mul-mod_left (n * 10 ^ k) 10)
+
+-- a canonical pair that is another one at a lower exponent is 0
+both_zero : (m e m' e' : ℤ) (i k : ℕ) → IsCanonical m e → IsCanonical m' e' → m ≡ scaled m' (suc k) → (m ≡ m') × (e ≡ e')
+both_zero m e m' e' i k c d h =
+    let size : unsigned_abs m ≡ unsigned_abs m' * 10 ^ suc k = ap unsigned_abs h ∙ abs-scaled m' (suc k) in
+    let m0 : m ≡ pos 0 = c.no_last_zero (rw size (last_zero (unsigned_abs m') k)) in
+    let n0 : unsigned_abs m' * 10 ^ suc k ≡ 0 * 10 ^ suc k = sym size ∙ ap unsigned_abs m0 ∙ omega arith in
+    let m'0 : m' ≡ pos 0 = zero_abs m' (cancel (unsigned_abs m') 0 (10 ^ suc k) (tens_pos (suc k)) n0) in
+    (m0 ∙ sym m'0, c.zero_alone m0 ∙ sym (d.zero_alone m'0))
+
+-- a value has one canonical pair
+pub one_form : (m e m' e' : ℤ) → IsCanonical m e → IsCanonical m' e' → IsSameValue m e m' e' → (m ≡ m') × (e ≡ e')
+one_form m e m' e' c d h = go (unsigned_abs (e -ℤ int_min e e')) (unsigned_abs (e' -ℤ int_min e e')) (IsSameValue-meets m e m' e' h)
+  where
+    go : (i j : ℕ) → Meets m e m' e' i j → (m ≡ m') × (e ≡ e')
+    go i j p = elim (cases_order i j) [
+      | inl eq ↦
+          let v : scaled m i ≡ scaled m' i = p.value ∙ ap (scaled m') (sym eq) in
+          let place = p.place in
+          (scaled_cancel m m' i v, omega (arith, ints))
+      | inr (inl lt) ↦
+          let v : scaled m i ≡ scaled (scaled m' (suc (j - i - 1))) i = p.value ∙ ap (scaled m') (omega arith) ∙ sym (scaled-scaled m' (suc (j - i - 1)) i) in
+          both_zero m e m' e' i (j - i - 1) c d (scaled_cancel m _ i v)
+      | inr (inr lt) ↦
+          let v : scaled m' j ≡ scaled (scaled m (suc (i - j - 1))) j = sym p.value ∙ ap (scaled m) (omega arith) ∙ sym (scaled-scaled m (suc (i - j - 1)) j) in
+          let r = both_zero m' e' m e j (i - j - 1) d c (scaled_cancel m' _ j v) in
+          (sym r.0, sym r.1)
+    ]
+
+pub ten_more : (r z : ℕ) → r % 10 ≡ 0 → r * 10 ^ z ≡ r / 10 * 10 ^ (z + 1)
+ten_more r z h =
+    let whole : r ≡ r / 10 * 10 = omega arith in
+    ap (λ n. n * 10 ^ z) whole ∙ mul_assoc (r / 10) 10 (10 ^ z) ∙ ap (λ n. r / 10 * n) (mul_comm 10 (10 ^ z) ∙ sym (pow-suc 10 z) ∙ ap (λ n. 10 ^ n) (omega arith))
+
+-- a number, and the digits that are left of it at a higher exponent
+scaled_sign : (m : ℤ) (d z : ℕ) → unsigned_abs m ≡ d * 10 ^ z → scaled (signed (lt_z m (pos 0)) d) z ≡ scaled m 0
+scaled_sign (pos a) d z e = let test : lt_z (pos a) (pos 0) ≡ false = le-ltb a 0 (omega arith) in let one : a * 10 ^ 0 ≡ a = omega arith in rw (test, one) (ap pos (sym e))
+scaled_sign (negsuc a) d z e = neg_times d (10 ^ z) ∙ ap (λ k. neg_ℤ (pos k)) (sym e ∙ one)
+  where
+    one : suc a ≡ suc a * 10 ^ 0
+    one = omega arith
+
+pub stripped_same : (m e : ℤ) (b : Bool) (n d z : ℕ) (x : ℤ) → b ≡ lt_z m (pos 0) → n ≡ unsigned_abs m → n ≡ d * 10 ^ z → x ≡ e +ℤ pos z → IsSameValue (signed b d) x m e
+stripped_same m e b n d z x sign size whole place = rw (sign, place) (meets-IsSameValue _ _ m e z 0 (record { place = omega (arith, ints); value = scaled_sign m d z (sym size ∙ whole) }))
+
+pub stripped_canonical : (m : ℤ) (b : Bool) (n d z : ℕ) (x : ℤ) → n ≡ d * 10 ^ z → d % 10 ≢ 0 → IsCanonical (signed b d) x
+stripped_canonical m b n d z x whole last =
+    let not_zero : d ≢ 0 = λ h. last (rw h refl) in
+    record {
+      zero_alone = λ h. absurd (not_zero (sym (abs-signed b d) ∙ ap unsigned_abs h));
+      no_last_zero = λ h. absurd (last (ap (λ k. k % 10) (sym (abs-signed b d)) ∙ h));
+    }
+  where
+    abs-signed : (b : Bool) (d : ℕ) → unsigned_abs (signed b d) ≡ d
+    abs-signed true d = abs-neg d
+    abs-signed false d = refl
+
+pub some_same : (r : Option Decimal) (s x m e : ℤ) → IfSome r (λ o. (o.mantissa ≡ s) × (o.exponent ≡ x)) → IfSome r HasOperand → IsSameValue s x m e → IfSome r (λ o. HasOperand o × IsSameValue o.mantissa o.exponent m e)
+some_same None s x m e p operand h = tt
+some_same (Some o) s x m e p operand h = (operand, rw (p.0, p.1) h)
+
+pub none_same : (r : Option Decimal) (s x m e : ℤ) → IfNone r (IsOperand s x → ⊥) → IsCanonical s x → IsSameValue s x m e → IfNone r ((n f : ℤ) → IsOperand n f → IsSameValue n f m e → ⊥)
+none_same None s x m e p c h = λ n f operand same.
+    let one = one_form n f s x operand.canonical c (IsSameValue-trans n f m e s x same (IsSameValue-sym s x m e h)) in
+    p (rw (← one.0, ← one.1) operand)
+none_same (Some o) s x m e p c h = tt
+
+pub IsSameValue-refl : (m e : ℤ) → IsSameValue m e m e
+IsSameValue-refl m e = refl
+
+pub same_decimal : (a b : Decimal) → a.mantissa ≡ b.mantissa → a.exponent ≡ b.exponent → a ≡ b
+same_decimal a b p q =
+    let at : ℤ → ℤ → Decimal = λ m e. record { mantissa = m; exponent = e } in
+    ap (λ m. at m a.exponent) p ∙ ap (λ e. at b.mantissa e) q
+
+pub abs-signed : (b : Bool) (d : ℕ) → unsigned_abs (signed b d) ≡ d
+abs-signed true d = abs-neg d
+abs-signed false d = refl
+
+pub scaled-signed : (b : Bool) (d k : ℕ) → scaled (signed b d) k ≡ signed b (d * 10 ^ k)
+scaled-signed true d k = neg_times d (10 ^ k)
+scaled-signed false d k = refl

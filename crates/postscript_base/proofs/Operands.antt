@@ -1,0 +1,247 @@
+-- The operand of a value, and the whole number, as functions.
+use Rattle.std.proofs.Common.{◌≡◌, ◌≢◌, ◌⊎◌, inl, inr, refl, sym, ap, ◌∙◌, ⊎_elim, ℕ, zero, suc, ◌-◌, ◌*◌, ◌/◌, ◌%◌, ◌^◌, ◌<◌, ◌≤◌, ◌==◌, Bool, true, false, ◌&&◌, Option, Some, None, ℤ, pos, negsuc, ◌-ℤ◌, ◌≤ℤ◌, ◌<ℤ◌, arith, nat_lt, if◌then◌else◌}
+use Rattle.std.specs.Prelude.{IfSome, IfNone, int_lt, int_le}
+use Rattle.std.specs.Int.{int_min}
+use Rattle.std.specs.Int.RustNames.{unsigned_abs}
+use Rattle.std.proofs.Math.Nat.{pow-suc, pow-le-pow_right, mul_assoc, mul-le-mul}
+use Rattle.std.proofs.lemmas.Bool.{eqb-true, eqb-false, ltb-true, ltb-false}
+use Rattle.std.proofs.lemmas.Bool.Decides.{eqb_tells}
+use Rattle.std.proofs.lemmas.Int.{ints, clamps, by_lt_z}
+use Rattle.postscript_base.specs.Decimal.{Decimal, HasOperand, IsOperand, IsCanonical, IsOf32Bits, IsSameValue, canonical, is_in_range, operand_of, scaled, to_i32, one_zero_more, without_zeros}
+use Rattle.postscript_base.proofs.Decimals.{abs-scaled, abs-signed, last_zero, IsSameValue-sym, IsSameValue-trans, meets-IsSameValue, one_form, same_decimal, stripped_canonical, stripped_same, tens_few, tens_pos, zero_abs}
+
+record Strips (n : ℕ) (found : ℕ × ℕ) : Type 0 where
+  whole : n ≡ found.0 * 10 ^ found.1
+  last : found.0 % 10 ≢ 0
+
+strips : (digits n : ℕ) → 0 < n → n ≤ digits → Strips n (without_zeros digits n)
+unfolding without_zeros
+strips zero n p h = absurd (omega arith)
+strips (suc digits) n p h = strips_by (n % 10 == 0) refl (λ last. strips digits (n / 10) (omega arith) (omega arith))
+  where
+    strips_by : (t : Bool) → (n % 10 == 0) ≡ t → (n % 10 ≡ 0 → Strips (n / 10) (without_zeros digits (n / 10))) → Strips n (if t then one_zero_more (without_zeros digits (n / 10)) else (n, 0))
+    strips_by true t more =
+        let zero_last : n % 10 ≡ 0 = eqb-true _ _ t in
+        let r = more zero_last in
+        let found = without_zeros digits (n / 10) in
+        let tens : n ≡ n / 10 * 10 = omega arith in
+        record {
+          whole = tens ∙ ap (λ k. k * 10) r.whole ∙ mul_assoc found.0 (10 ^ found.1) 10 ∙ ap (λ k. found.0 * k) (sym (pow-suc 10 found.1));
+          last = r.last;
+        }
+    strips_by false t more = record { whole = omega arith; last = eqb-false _ _ t }
+
+-- what is left to find: an operand of the value, or that there is none
+pub record Finds (found : Option Decimal) (m e : ℤ) : Type 0 where
+  pub some : IfSome found (λ o. HasOperand o × IsSameValue o.mantissa o.exponent m e)
+  pub none : IfNone found ((n f : ℤ) → IsOperand n f → IsSameValue n f m e → ⊥)
+
+pub found_once : (r s : Option Decimal) (m e : ℤ) → Finds r m e → Finds s m e → r ≡ s
+found_once (Some a) (Some b) m e p q =
+    let f = p.some in
+    let g = q.some in
+    let one = one_form a.mantissa a.exponent b.mantissa b.exponent f.0.canonical g.0.canonical (IsSameValue-trans a.mantissa a.exponent m e b.mantissa b.exponent f.1 (IsSameValue-sym b.mantissa b.exponent m e g.1)) in
+    ap Some (same_decimal a b one.0 one.1)
+found_once (Some a) None m e p q = let f = p.some in absurd (q.none a.mantissa a.exponent f.0 f.1)
+found_once None (Some b) m e p q = let g = q.some in absurd (p.none b.mantissa b.exponent g.0 g.1)
+found_once None None m e p q = refl
+
+record IsFormOf (m e : ℤ) (d : Decimal) : Type 0 where
+  form : IsCanonical d.mantissa d.exponent
+  value : IsSameValue d.mantissa d.exponent m e
+
+zero_form : (m e : ℤ) → m ≡ pos 0 → IsFormOf m e (record { mantissa = pos 0; exponent = pos 0 })
+zero_form m e h = record {
+  form = record { zero_alone = λ k. refl; no_last_zero = λ k. refl };
+  value = rw h (ap pos (omega arith));
+}
+
+canonical_form : (m e : ℤ) → IsFormOf m e (canonical m e)
+canonical_form m e = elim (eqb_tells (unsigned_abs m) 0) [
+  | inl t ↦ rw t.0 (zero_form m e (zero_abs m t.1))
+  | inr t ↦
+      let n = unsigned_abs m in
+      let not_zero = t.1 in
+      let found = without_zeros n n in
+      let r = strips n n (⊎_elim (λ l. l) (λ l. absurd (not_zero l)) (above n)) (omega arith) in
+      rw t.0 (record {
+        form = stripped_canonical m (int_lt m (pos 0)) n found.0 found.1 _ r.whole r.last;
+        value = stripped_same m e (int_lt m (pos 0)) n found.0 found.1 _ refl refl r.whole refl;
+      })
+]
+  where
+    above : (n : ℕ) → (0 < n) ⊎ (n ≡ 0)
+    above zero = inr refl
+    above (suc n) = inl (omega arith)
+
+range_tells : (d : Decimal) → ((is_in_range d ≡ true) × (unsigned_abs d.mantissa < 10 ^ 18) × (negsuc 999 ≤ℤ d.exponent) × (d.exponent ≤ℤ pos 1000)) ⊎ ((is_in_range d ≡ false) × (HasOperand d → ⊥))
+range_tells d = by (nat_lt (unsigned_abs d.mantissa) (10 ^ 18)) (int_le (negsuc 999) d.exponent) (int_le d.exponent (pos 1000)) refl refl refl
+  where
+    by : (a b c : Bool) → nat_lt (unsigned_abs d.mantissa) (10 ^ 18) ≡ a → int_le (negsuc 999) d.exponent ≡ b → int_le d.exponent (pos 1000) ≡ c → (((a && (b && c)) ≡ true) × (unsigned_abs d.mantissa < 10 ^ 18) × (negsuc 999 ≤ℤ d.exponent) × (d.exponent ≤ℤ pos 1000)) ⊎ (((a && (b && c)) ≡ false) × (HasOperand d → ⊥))
+    by true true true p q r = inl (refl, ltb-true (unsigned_abs d.mantissa) (10 ^ 18) p, omega (arith, ints), omega (arith, ints))
+    by true true false p q r = inr (refl, λ h. let high = h.high in omega (arith, ints))
+    by true false c p q r = inr (refl, λ h. let low = h.low in omega (arith, ints))
+    by false b c p q r = inr (refl, λ h. let few = h.few_digits in let many = ltb-false (unsigned_abs d.mantissa) (10 ^ 18) p in omega arith)
+
+pub operand_found : (m e : ℤ) → Finds (operand_of m e) m e
+unfolding operand_of
+operand_found m e =
+    let d = canonical m e in
+    let is = canonical_form m e in
+    elim (range_tells d) [
+      | inl t ↦ rw t.0 (record {
+        some = (record { canonical = is.form; few_digits = t.1; low = t.2; high = t.3 }, is.value);
+        none = tt;
+      })
+      | inr t ↦ rw t.0 (record {
+        some = tt;
+        none = λ n f operand same.
+            let one = one_form n f d.mantissa d.exponent operand.canonical is.form (IsSameValue-trans n f m e d.mantissa d.exponent same (IsSameValue-sym d.mantissa d.exponent m e is.value)) in
+            t.1 (rw (← one.0, ← one.1) operand);
+      })
+    ]
+
+pub finds_operand : (r : Option Decimal) (m e : ℤ) → IfSome r (λ o. HasOperand o × IsSameValue o.mantissa o.exponent m e) → IfNone r ((n f : ℤ) → IsOperand n f → IsSameValue n f m e → ⊥) → r ≡ operand_of m e
+finds_operand r m e p q = found_once r (operand_of m e) m e (record { some = p; none = q }) (operand_found m e)
+
+pub zero_operand : (o : Decimal) (m e : ℤ) → o.mantissa ≡ pos 0 → o.exponent ≡ pos 0 → m ≡ pos 0 → Some o ≡ operand_of m e
+zero_operand o m e p q h =
+    let zero_pair : Decimal = record { mantissa = pos 0; exponent = pos 0 } in
+    let form = zero_form m e h in
+    ap Some (same_decimal o zero_pair p q) ∙ found_once (Some zero_pair) (operand_of m e) m e
+    (record { some = (record { canonical = form.form; few_digits = omega arith; low = omega (arith, ints); high = omega (arith, ints) }, form.value); none = tt }) (operand_found m e)
+
+abbrev raised : Decimal → ℤ
+raised d = scaled d.mantissa (unsigned_abs d.exponent)
+
+i32_tells : (d : Decimal) → ((to_i32 d ≡ Some (raised d)) × (pos 0 ≤ℤ d.exponent) × IsOf32Bits (raised d)) ⊎ ((to_i32 d ≡ None) × (pos 0 ≤ℤ d.exponent → IsOf32Bits (raised d) → ⊥))
+unfolding to_i32
+i32_tells d = by (int_le (pos 0) d.exponent) (int_le (negsuc (2 ^ 31 - 1)) (raised d)) (int_le (raised d) (pos (2 ^ 31 - 1))) refl refl refl
+  where
+    by : (a b c : Bool) → int_le (pos 0) d.exponent ≡ a → int_le (negsuc (2 ^ 31 - 1)) (raised d) ≡ b → int_le (raised d) (pos (2 ^ 31 - 1)) ≡ c →
+        (((if a && (b && c) then Some (raised d) else None) ≡ Some (raised d)) × (pos 0 ≤ℤ d.exponent) × IsOf32Bits (raised d)) ⊎ (((if a && (b && c) then Some (raised d) else None) ≡ None) × (pos 0 ≤ℤ d.exponent → IsOf32Bits (raised d) → ⊥))
+    by true true true p q r = inl (refl, omega (arith, ints), record { low = omega (arith, ints); high = omega (arith, ints) })
+    by true true false p q r = inr (refl, λ k h. let high = h.high in omega (arith, ints))
+    by true false c p q r = inr (refl, λ k h. let low = h.low in omega (arith, ints))
+    by false b c p q r = inr (refl, λ k h. omega (arith, ints))
+
+-- a whole number that has an operand: a positive exponent above 9 lifts it out of 32 bits
+far_out : (m : ℤ) (k : ℕ) → unsigned_abs m ≢ 0 → 9 < k → IsOf32Bits (scaled m k) → ⊥
+far_out m k some far h =
+    let size = abs-scaled m k in
+    let power : 10 ^ 10 ≤ 10 ^ k = pow-le-pow_right (omega arith) far in
+    let big : 1 * 10 ^ 10 ≤ unsigned_abs m * 10 ^ k = mul-le-mul (positive (unsigned_abs m) some) power in
+    let low = h.low in
+    let high = h.high in
+    omega (arith, ints)
+  where
+    positive : (n : ℕ) → n ≢ 0 → 1 ≤ n
+    positive zero p = absurd (p refl)
+    positive (suc n) p = omega arith
+
+not_zero : (d : Decimal) → HasOperand d → d.exponent ≢ pos 0 → unsigned_abs d.mantissa ≢ 0
+not_zero d operand p = λ h. p (operand.canonical.zero_alone (zero_abs d.mantissa h))
+
+pub i32_below : (d : Decimal) → d.exponent <ℤ pos 0 → to_i32 d ≡ None
+i32_below d low = elim (i32_tells d) [ inl t ↦ let k = t.1 in absurd (omega (arith, ints)) | inr t ↦ t.0 ]
+
+pub i32_above : (d : Decimal) → HasOperand d → pos 9 <ℤ d.exponent → to_i32 d ≡ None
+i32_above d operand high = elim (i32_tells d) [
+  | inl t ↦ absurd (far_out d.mantissa (unsigned_abs d.exponent) (not_zero d operand (λ h. omega (arith, ints))) (omega (arith, ints)) t.2)
+  | inr t ↦ t.0
+]
+
+pub i32_none : (d : Decimal) → (IsOf32Bits (raised d) → ⊥) → to_i32 d ≡ None
+i32_none d out = elim (i32_tells d) [ inl t ↦ absurd (out t.2) | inr t ↦ t.0 ]
+
+pub i32_some : (d : Decimal) → pos 0 ≤ℤ d.exponent → IsOf32Bits (raised d) → to_i32 d ≡ Some (raised d)
+i32_some d low h = elim (i32_tells d) [ inl t ↦ t.0 | inr t ↦ absurd (t.1 low h) ]
+
+scaled_none : (v : ℤ) → scaled v 0 ≡ v
+scaled_none (pos n) = ap pos (omega arith)
+scaled_none (negsuc n) = let one : suc n * 10 ^ 0 ≡ suc n = omega arith in rw one refl
+
+pub whole_same : (d : Decimal) → pos 0 ≤ℤ d.exponent → IsSameValue d.mantissa d.exponent (raised d) (pos 0)
+whole_same d low = meets-IsSameValue d.mantissa d.exponent (raised d) (pos 0) (unsigned_abs d.exponent) 0 (record { place = omega (arith, ints); value = sym (scaled_none (raised d)) })
+
+same_whole : (d : Decimal) (v : ℤ) → pos 0 ≤ℤ d.exponent → IsSameValue d.mantissa d.exponent v (pos 0) → raised d ≡ v
+same_whole d v low h =
+    let i_is : unsigned_abs (d.exponent -ℤ int_min d.exponent (pos 0)) ≡ unsigned_abs d.exponent = omega (arith, ints, clamps) in
+    let j_is : unsigned_abs (pos 0 -ℤ int_min d.exponent (pos 0)) ≡ 0 = omega (arith, ints, clamps) in
+    ap (scaled d.mantissa) (sym i_is) ∙ h ∙ ap (scaled v) j_is ∙ scaled_none v
+
+-- a value below the units is no whole number
+no_whole : (d : Decimal) (v : ℤ) → HasOperand d → d.exponent <ℤ pos 0 → IsSameValue d.mantissa d.exponent v (pos 0) → ⊥
+no_whole d v operand low h =
+    let i_is : unsigned_abs (d.exponent -ℤ int_min d.exponent (pos 0)) ≡ 0 = omega (arith, ints, clamps) in
+    let j_is : unsigned_abs (pos 0 -ℤ int_min d.exponent (pos 0)) ≡ suc (unsigned_abs d.exponent - 1) = omega (arith, ints, clamps) in
+    let whole : d.mantissa ≡ scaled v (suc (unsigned_abs d.exponent - 1)) = sym (scaled_none d.mantissa) ∙ ap (scaled d.mantissa) (sym i_is) ∙ h ∙ ap (scaled v) j_is in
+    let size = ap unsigned_abs whole ∙ abs-scaled v (suc (unsigned_abs d.exponent - 1)) in
+    let zero_mantissa = operand.canonical.no_last_zero (rw size (last_zero (unsigned_abs v) (unsigned_abs d.exponent - 1))) in
+    let zero_exponent = operand.canonical.zero_alone zero_mantissa in
+    omega (arith, ints)
+
+pub none_whole : (d : Decimal) (v : ℤ) → HasOperand d → to_i32 d ≡ None → IsOf32Bits v → IsSameValue d.mantissa d.exponent v (pos 0) → ⊥
+none_whole d v operand e h same = by_lt_z d.exponent (pos 0) (λ low. no_whole d v operand low same) (λ low.
+    let is : to_i32 d ≡ Some (raised d) = i32_some d low (rw (same_whole d v low same) h) in
+    let both : None ≡ Some (raised d) = sym e ∙ is in
+    cc)
+
+pub scaled_at : (m n : ℤ) (a b : ℕ) → m ≡ n → a ≡ b → scaled m a ≡ scaled n b
+scaled_at m n a b p q = rw (p, q) refl
+
+-- a number of 32 bits has an operand
+few_in_32 : (n front zeros : ℕ) → n ≤ 2 ^ 31 → 0 < n → n ≡ front * 10 ^ zeros → front % 10 ≢ 0 → (front < 10 ^ 18) × (zeros < 39)
+few_in_32 n front zeros small some whole last =
+    let positive = first_positive front last in
+    let power = tens_pos zeros in
+    let size : front * 1 ≤ front * 10 ^ zeros = mul-le-mul {n₁ = front} {m₁ = 1} {n₂ = front} {m₂ = 10 ^ zeros} (omega arith) power in
+    (omega arith, tens_few n front zeros whole positive (omega arith))
+  where
+    first_positive : (front : ℕ) → front % 10 ≢ 0 → 0 < front
+    first_positive zero p = absurd (p refl)
+    first_positive (suc n) p = omega arith
+
+operand_in_32 : (n : ℤ) → IsOf32Bits n → HasOperand (canonical n (pos 0))
+operand_in_32 n small = elim (eqb_tells (unsigned_abs n) 0) [
+  | inl t ↦
+      let form = zero_form n (pos 0) (zero_abs n t.1) in
+      rw t.0 (record { canonical = form.form; few_digits = omega arith; low = omega (arith, ints); high = omega (arith, ints) })
+  | inr t ↦
+      let size = unsigned_abs n in
+      let not_zero = t.1 in
+      let low = small.low in
+      let high = small.high in
+      let found = without_zeros size size in
+      let r = strips size size (omega arith) (omega arith) in
+      let few = few_in_32 size found.0 found.1 (omega (arith, ints)) (omega arith) r.whole r.last in
+      let few_zeros = few.1 in
+      rw t.0 (record {
+        canonical = stripped_canonical n (int_lt n (pos 0)) size found.0 found.1 _ r.whole r.last;
+        few_digits = rw (abs-signed (int_lt n (pos 0)) found.0) few.0;
+        low = omega (arith, ints);
+        high = omega (arith, ints);
+      })
+]
+
+-- the operand of a whole number of 32 bits
+pub whole_operand : (n : ℤ) → IsOf32Bits n → operand_of n (pos 0) ≡ Some (canonical n (pos 0))
+whole_operand n small =
+    let form = canonical_form n (pos 0) in
+    sym (finds_operand (Some (canonical n (pos 0))) n (pos 0) (operand_in_32 n small, form.value) tt)
+
+-- what a test of the exponent and of the value finds
+pub finds_whole : (r : Option ℤ) (d : Decimal) → HasOperand d → pos 0 ≤ℤ d.exponent → IfSome r (λ v. (v ≡ raised d) × IsOf32Bits v) → IfNone r (IsOf32Bits (raised d) → ⊥) → r ≡ to_i32 d
+finds_whole (Some v) d operand low p q = let e = p.0 in ap Some p.0 ∙ sym (i32_some d low (rw (← p.0) p.1))
+finds_whole None d operand low p q = sym (i32_none d q)
+
+pub whole_if_some : (r : Option ℤ) (d : Decimal) → r ≡ to_i32 d → IfSome r (λ v. IsSameValue d.mantissa d.exponent v (pos 0))
+whole_if_some None d e = tt
+whole_if_some (Some v) d e = elim (i32_tells d) [
+  | inl t ↦ let is : Some v ≡ Some (raised d) = e ∙ t.0 in let v_is : v ≡ raised d = cc in rw v_is (whole_same d t.1)
+  | inr t ↦ let is : Some v ≡ None = e ∙ t.0 in absurd cc
+]
+
+pub none_if_none : (r : Option ℤ) (d : Decimal) → HasOperand d → r ≡ to_i32 d → IfNone r ((v : ℤ) → negsuc (2 ^ 31 - 1) ≤ℤ v → v ≤ℤ pos (2 ^ 31 - 1) → IsSameValue d.mantissa d.exponent v (pos 0) → ⊥)
+none_if_none (Some w) d operand e = tt
+none_if_none None d operand e = λ v low high same. none_whole d v operand (sym e) (record { low = low; high = high }) same

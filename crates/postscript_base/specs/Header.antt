@@ -1,0 +1,13 @@
+-- The header (Technical Note 5176, "Header"): four numbers of one byte, which are not tested.
+use Rattle.std.specs.Prelude.{ℕ}
+use Rattle.postscript_base.specs.Outcome.{Reading, ◌>>=◌, pure}
+use Rattle.postscript_base.specs.Numbers.{number}
+use Rattle.postscript_base.specs.declared.compact1.header.Header.{Header}
+
+unfoldable pub header : Reading Header
+header = do
+  major ← number 1
+  minor ← number 1
+  header_size ← number 1
+  offset_size ← number 1
+  pure (record { major = major; minor = minor; header_size = header_size; offset_size = offset_size })

@@ -1,0 +1,16 @@
+//! The Compact Font Format (Adobe Technical Note 5176): its smallest parts.
+mod header;
+mod laws;
+mod offset;
+mod operand;
+
+pub use header::Header;
+pub use laws::{are_equal, hash_alike};
+pub use offset::{Offset, OffsetSize};
+pub use operand::Operand;
+
+/// A glyph's place in a font.
+pub type GlyphID = u16;
+
+/// A string identifier.
+pub type StringID = u16;

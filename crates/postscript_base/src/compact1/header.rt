@@ -1,0 +1,45 @@
+//! The header.
+ghost use Rattle.std.specs.Prelude.{[], ◌∷◌};
+ghost use Rattle.postscript_base.specs.Outcome.{same};
+
+use super::OffsetSize;
+use crate::error::Result;
+use crate::tape::{Tape, Value};
+use std::alloc::Global;
+
+/// A header (Technical Note 5176, "Header"). Neither the version nor the sizes are tested.
+#[derive(Clone, Copy, Debug, PartialEq, Eq)]
+pub struct Header {
+    /// The major version.
+    pub major: u8,
+    /// The minor version.
+    pub minor: u8,
+    /// The size of the header, in bytes.
+    pub header_size: u8,
+    /// The size of offsets from the beginning of the font, in bytes.
+    pub offset_size: OffsetSize,
+}
+
+/// Refused: `UnexpectedEof`, `Io`.
+#[tactic(auto, unfolding(crate::specs::Header::header))]
+impl Value for Header {
+    ghost use Rattle.postscript_base.specs.Header.{header};
+    ghost use Rattle.postscript_base.specs.declared.compact1.header.Header.{Header};
+
+    ghost Shown = { Header };
+
+    ghost view = { same };
+
+    ghost reading = { header };
+
+    ghost refusals = { 1 ∷ 2 ∷ [] };
+
+    fn read<T: Tape>(alloc: Global, tape: &mut T) -> Result<Header> {
+        Ok(Header {
+            major: u8::read(alloc, tape)?,
+            minor: u8::read(alloc, tape)?,
+            header_size: u8::read(alloc, tape)?,
+            offset_size: u8::read(alloc, tape)?,
+        })
+    }
+}

@@ -1,0 +1,20 @@
+//! What equality and hash of operands say.
+ghost use Rattle.std.specs.Prelude.{◌≡◌, ◌↔◌, IsTrue};
+ghost use Rattle.postscript_base.specs.Decimal.{AreEqual, Decimal, HasOperand};
+
+use super::operand::Operand;
+use std::hash::Hash;
+
+/// Operands are equal exactly if their values are.
+pub fn are_equal(a: &Operand, b: &Operand) -> bool
+    ensures equal { IsTrue result ↔ AreEqual a.now b.now }
+    ensures one_operand { AreEqual a.now b.now → a.now ≡ b.now }
+{
+    let _ = (a.mantissa(), b.mantissa());
+    a == b
+}
+
+/// Operands of one value hash alike.
+pub fn hash_alike()
+    ensures { (a b : Decimal) → HasOperand a → HasOperand b → AreEqual a b → ⟦<Operand as Hash>⟧.hash_input a ≡ ⟦<Operand as Hash>⟧.hash_input b }
+{}

@@ -1,0 +1,158 @@
+//! The operands of dictionaries.
+ghost use Rattle.std.specs.Prelude.{◌≡◌, ◌≢◌, ℤ, pos, negsuc, ℕ, ◌-◌, ◌*◌, ◌^◌, ◌%◌, ◌<◌, ◌≤◌, ◌≤ℤ◌, IfSome, IfNone, Some};
+ghost use Rattle.std.specs.Int.RustNames.{unsigned_abs};
+ghost use Rattle.postscript_base.specs.Decimal.{canonical, Decimal, HasOperand, IsOf32Bits, IsOperand, IsSameValue, operand_of, scaled, signed, text, to_i32 as the_i32};
+
+use std::fmt;
+use std::marker::Model;
+
+/// A decimal number, `mantissa * 10^exponent`, in its one form: the mantissa has at most eighteen digits and does not
+/// end in 0, the exponent is from -1000 to 1000, and zero is `(0, 0)`.
+#[derive(Clone, Copy, Debug, PartialEq, Eq, Hash)]
+pub struct Operand {
+    mantissa: i64,
+    exponent: i32,
+}
+
+impl Model for Operand {
+    ghost use Rattle.postscript_base.specs.Decimal.{Decimal, IsOperand};
+
+    ghost Value = { Decimal };
+
+    ghost view = { λ o. record { mantissa = o.mantissa; exponent = o.exponent } };
+
+    ghost invariant = { λ o. IsOperand o.mantissa o.exponent };
+
+    ghost inverse = { λ d. record { mantissa = d.mantissa; exponent = d.exponent } };
+}
+
+impl Operand {
+    /// The operand of `mantissa * 10^exponent`, where this value has one.
+    pub fn new(mantissa: i128, exponent: i32) -> Option<Operand>
+        ensures exact { result ≡ operand_of mantissa exponent }
+        ensures some { IfSome result (λ o. HasOperand o × IsSameValue o.mantissa o.exponent mantissa exponent) }
+        ensures none { IfNone result ((m e : ℤ) → IsOperand m e → IsSameValue m e mantissa exponent → ⊥) }
+    {
+        if mantissa == 0 {
+            return Some(Operand::zero());
+        }
+        let (digits, zeros) = stripped(mantissa.unsigned_abs());
+        of_digits(
+            mantissa < 0,
+            digits,
+            i128::from(exponent) + i128::from(zeros),
+        )
+    }
+
+    /// The operand 0.
+    pub(crate) fn zero() -> Operand
+        ensures value { (result.mantissa ≡ pos 0) × (result.exponent ≡ pos 0) }
+    {
+        Operand {
+            mantissa: 0,
+            exponent: 0,
+        }
+    }
+
+    /// The operand of a whole number.
+    pub(crate) fn from_i32(number: i32) -> Operand
+        ensures { result ≡ canonical number (pos 0) }
+    {
+        Operand::new(i128::from(number), 0).unwrap()
+    }
+
+    /// The mantissa: 0, or a number that does not end in 0.
+    pub fn mantissa(&self) -> i64
+        ensures value { result ≡ self.now.mantissa }
+        ensures operand { HasOperand self.now }
+    {
+        self.mantissa
+    }
+
+    /// The exponent, a power of ten.
+    pub fn exponent(&self) -> i32
+        ensures { result ≡ self.now.exponent }
+    {
+        self.exponent
+    }
+
+    /// The value, where it is a whole number in the range of `i32`.
+    pub fn to_i32(&self) -> Option<i32>
+        ensures exact { result ≡ the_i32 self.now }
+        ensures some { IfSome result (λ v. IsSameValue self.now.mantissa self.now.exponent v (pos 0)) }
+        ensures none { IfNone result ((v : ℤ) → negsuc (2 ^ 31 - 1) ≤ℤ v → v ≤ℤ pos (2 ^ 31 - 1) → IsSameValue self.now.mantissa self.now.exponent v (pos 0) → ⊥) }
+    {
+        let (mantissa, exponent) = (self.mantissa(), self.exponent());
+        if exponent < 0 || exponent > 9 {
+            return None;
+        }
+        in_32_bits(raised(mantissa, exponent))
+    }
+}
+
+/// A mantissa times a power of ten.
+fn raised(mantissa: i64, exponent: i32) -> i128
+    requires low { pos 0 ≤ℤ exponent }
+    requires high { exponent ≤ℤ pos 9 }
+    ensures { result ≡ scaled mantissa (unsigned_abs exponent) }
+{
+    i128::from(mantissa) * i128::from(10u64.pow(exponent as u32))
+}
+
+/// A number, where it is in the range of `i32`.
+fn in_32_bits(value: i128) -> Option<i32>
+    ensures some { IfSome result (λ v. (v ≡ value) × IsOf32Bits v) }
+    ensures none { IfNone result (IsOf32Bits value → ⊥) }
+{
+    if value < -2_147_483_648 || value > 2_147_483_647 {
+        return None;
+    }
+    Some(value as i32)
+}
+
+/// The mantissa where the exponent is 0, else mantissa, `e`, exponent.
+impl fmt::Display for Operand {
+    ghost output = { λ operand. Some (text operand) };
+
+    fn fmt<W: fmt::Write>(&self, f: &mut fmt::Formatter<W>) -> fmt::Result {
+        let (mantissa, exponent) = (self.mantissa, self.exponent);
+        if exponent == 0 {
+            write!(f, "{mantissa}")
+        } else {
+            write!(f, "{mantissa}e{exponent}")
+        }
+    }
+}
+
+/// A number without the zeros at its end, and how many these were.
+fn stripped(number: u128) -> (u128, u32)
+    requires { 0 < number }
+    ensures whole { number ≡ result.0 * 10 ^ result.1 }
+    ensures no_last_zero { result.0 % 10 ≢ 0 }
+    ensures few { result.1 < 39 }
+{
+    let mut rest = number;
+    let mut zeros = 0u32;
+    while rest % 10 == 0 {
+        rest /= 10;
+        zeros += 1;
+    }
+    (rest, zeros)
+}
+
+/// The operand of digits that do not end in 0, at an exponent.
+pub(crate) fn of_digits(negative: bool, digits: u128, exponent: i128) -> Option<Operand>
+    requires { digits % 10 ≢ 0 }
+    ensures some { IfSome result (λ o. (o.mantissa ≡ signed negative digits) × (o.exponent ≡ exponent)) }
+    ensures operand { IfSome result HasOperand }
+    ensures none { IfNone result (IsOperand (signed negative digits) exponent → ⊥) }
+{
+    if digits >= 1_000_000_000_000_000_000 || exponent < -1000 || exponent > 1000 {
+        return None;
+    }
+    let size = digits as i64;
+    Some(Operand {
+        mantissa: if negative { -size } else { size },
+        exponent: exponent as i32,
+    })
+}
