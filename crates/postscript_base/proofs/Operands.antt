@@ -57,6 +57,7 @@ zero_form m e h = record {
 }
 
 canonical_form : (m e : ℤ) → IsFormOf m e (canonical m e)
+unfolding canonical
 canonical_form m e = elim (eqb_tells (unsigned_abs m) 0) [
   | inl t ↦ rw t.0 (zero_form m e (zero_abs m t.1))
   | inr t ↦
@@ -203,6 +204,7 @@ few_in_32 n front zeros small some whole last =
     first_positive (suc n) p = omega arith
 
 operand_in_32 : (n : ℤ) → IsOf32Bits n → HasOperand (canonical n (pos 0))
+unfolding canonical
 operand_in_32 n small = elim (eqb_tells (unsigned_abs n) 0) [
   | inl t ↦
       let form = zero_form n (pos 0) (zero_abs n t.1) in

@@ -4,7 +4,7 @@ use Rattle.std.specs.IoError.{error_kind}
 use Rattle.std.specs.declared.io.Error.{Error as IoError}
 use Rattle.std.specs.declared.io.ErrorKind.TheVariants as kinds
 use Rattle.postscript_base.specs.declared.error.Error.{Error}
-use Rattle.postscript_base.specs.declared.error.Error.TheVariants.{UnexpectedEof, Io, Memory, MalformedOffset, MalformedNumber, UnknownOperator, Unsupported, ExpectedOperand, ExpectedInteger, ExpectedMoreOperands, MalformedOperands, InvalidOperand, MissingSubroutine, ReturnWithoutCaller, TrailingData, TooDeep, Overflow, ZeroDivisor, NegativeRoot, TooManyStems, AlreadyFailed}
+use Rattle.postscript_base.specs.declared.error.Error.TheVariants.{UnexpectedEof, Io, Memory, MalformedOffset, MalformedNumber, OutOfRangeNumber, UnknownOperator, Unsupported, ExpectedOperand, ExpectedInteger, ExpectedMoreOperands, MalformedOperands, InvalidOperand, MissingSubroutine, ReturnWithoutCaller, TrailingData, TooDeep, Overflow, ZeroDivisor, NegativeRoot, TooManyStems, AlreadyFailed}
 
 -- the number of a refusal
 abbrev pub code : Error → ℕ
@@ -13,6 +13,7 @@ code (Io fault) = 2
 code Memory = 3
 code MalformedOffset = 5
 code MalformedNumber = 7
+code OutOfRangeNumber = 8
 code UnknownOperator = 9
 code (Unsupported part) = 16
 code ExpectedOperand = 17

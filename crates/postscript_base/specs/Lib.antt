@@ -7,3 +7,5 @@ pub mod Cursor
 pub mod Offset
 pub mod Header
 pub mod Decimal
+pub mod Reals
+pub mod DictNumber

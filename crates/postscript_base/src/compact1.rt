@@ -1,8 +1,12 @@
 //! The Compact Font Format (Adobe Technical Note 5176): its smallest parts.
+mod digits;
 mod header;
 mod laws;
+pub mod number;
 mod offset;
 mod operand;
+mod significant;
+mod text;
 
 pub use header::Header;
 pub use laws::{are_equal, hash_alike};

@@ -28,6 +28,9 @@ pub enum Error {
     /// The bytes spell no number.
     #[error("found a malformed number")]
     MalformedNumber,
+    /// The number has no operand.
+    #[error("found a number out of range")]
+    OutOfRangeNumber,
     /// The code names no operator.
     #[error("found an unknown operator")]
     UnknownOperator,
@@ -100,6 +103,7 @@ impl Error {
             Error::Memory => 3,
             Error::MalformedOffset => 5,
             Error::MalformedNumber => 7,
+            Error::OutOfRangeNumber => 8,
             Error::UnknownOperator => 9,
             Error::Unsupported(_) => 16,
             Error::ExpectedOperand => 17,

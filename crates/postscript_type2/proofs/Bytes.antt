@@ -6,7 +6,7 @@ use Rattle.postscript_base.specs.Error.{code, IsOneOf, IsListed}
 use Rattle.postscript_base.specs.Outcome.{Outcome, Got, Fault, Past, Reading, after, ◌>>=◌, pure, fault, Answers}
 use Rattle.postscript_base.specs.Numbers.{slice, number as unsigned, big_endian}
 use Rattle.postscript_base.specs.declared.error.Error.{Error}
-use Rattle.postscript_base.specs.declared.error.Error.TheVariants.{UnexpectedEof, Io, Memory, MalformedOffset, MalformedNumber, UnknownOperator, Unsupported, ExpectedOperand, ExpectedInteger, ExpectedMoreOperands, MalformedOperands, InvalidOperand, MissingSubroutine, ReturnWithoutCaller, TrailingData, TooDeep, Overflow, ZeroDivisor, NegativeRoot, TooManyStems, AlreadyFailed}
+use Rattle.postscript_base.specs.declared.error.Error.TheVariants.{UnexpectedEof, Io, Memory, MalformedOffset, MalformedNumber, OutOfRangeNumber, UnknownOperator, Unsupported, ExpectedOperand, ExpectedInteger, ExpectedMoreOperands, MalformedOperands, InvalidOperand, MissingSubroutine, ReturnWithoutCaller, TrailingData, TooDeep, Overflow, ZeroDivisor, NegativeRoot, TooManyStems, AlreadyFailed}
 use Rattle.postscript_type2.specs.Number.{number, spelled, whole, signed, above, below}
 use Rattle.postscript_type2.specs.Refusals.{Numbered, refusal_of}
 use Rattle.postscript_type2.specs.Tokens.{ReadsByte, ReadsNumber}
@@ -79,6 +79,7 @@ numbered-listed (Io x) h = refl
 numbered-listed Memory h = refl
 numbered-listed MalformedOffset h = refl
 numbered-listed MalformedNumber h = refl
+numbered-listed OutOfRangeNumber h = refl
 numbered-listed UnknownOperator h = refl
 numbered-listed (Unsupported x) (inl h) = absurd (omega arith)
 numbered-listed (Unsupported x) (inr (inl h)) = absurd (omega arith)
@@ -105,6 +106,7 @@ is-eof (Io x) h = absurd (omega arith)
 is-eof Memory h = absurd (omega arith)
 is-eof MalformedOffset h = absurd (omega arith)
 is-eof MalformedNumber h = absurd (omega arith)
+is-eof OutOfRangeNumber h = absurd (omega arith)
 is-eof UnknownOperator h = absurd (omega arith)
 is-eof (Unsupported x) h = absurd (omega arith)
 is-eof ExpectedOperand h = absurd (omega arith)

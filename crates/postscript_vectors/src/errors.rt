@@ -18,6 +18,7 @@ fn numbers_and_messages(rt: HostRuntime) -> Result<(), Fail> {
         (Error::Memory, 3, "failed to find memory"),
         (Error::MalformedOffset, 5, "found a malformed offset"),
         (Error::MalformedNumber, 7, "found a malformed number"),
+        (Error::OutOfRangeNumber, 8, "found a number out of range"),
         (Error::UnknownOperator, 9, "found an unknown operator"),
         (
             Error::Unsupported(Part::Random),

@@ -3,6 +3,8 @@
 
 pub mod callers;
 #[cfg(test)]
+mod decimals;
+#[cfg(test)]
 mod errors;
 #[cfg(test)]
 mod flat;

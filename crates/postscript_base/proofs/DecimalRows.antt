@@ -1,0 +1,78 @@
+-- Operands of values, and numbers read from bytes, computed from the definitions.
+use Rattle.std.proofs.Common.{◌≡◌, refl, ◌^◌, [], ◌∷◌, Option, Some, None, ℤ, pos, neg_ℤ}
+use Rattle.postscript_base.specs.Outcome.{Got, Fault}
+use Rattle.postscript_base.specs.Numbers.{slice, number as unsigned}
+use Rattle.postscript_base.specs.Decimal.{Decimal, canonical, operand_of, to_i32, without_zeros}
+use Rattle.postscript_base.specs.Reals.{real, real_of, step, text_behind, text_of_real}
+use Rattle.postscript_base.specs.DictNumber.{number}
+
+abbrev at : ℤ → ℤ → Decimal
+at m e = record { mantissa = m; exponent = e }
+
+pub thousand_thousandths : operand_of (pos 1000) (neg_ℤ (pos 3)) ≡ Some (at (pos 1) (pos 0))
+unfolding operand_of canonical without_zeros
+thousand_thousandths = refl
+
+pub zero_far_up : operand_of (pos 0) (pos 5000) ≡ Some (at (pos 0) (pos 0))
+unfolding operand_of canonical
+zero_far_up = refl
+
+pub greatest_exponent : operand_of (pos 10) (pos 999) ≡ Some (at (pos 1) (pos 1000))
+unfolding operand_of canonical without_zeros
+greatest_exponent = refl
+
+pub past_greatest : operand_of (pos 10) (pos 1000) ≡ None
+unfolding operand_of canonical without_zeros
+past_greatest = refl
+
+pub least_exponent : operand_of (pos 10) (neg_ℤ (pos 1001)) ≡ Some (at (pos 1) (neg_ℤ (pos 1000)))
+unfolding operand_of canonical without_zeros
+least_exponent = refl
+
+pub past_least : operand_of (pos 1) (neg_ℤ (pos 1001)) ≡ None
+unfolding operand_of canonical without_zeros
+past_least = refl
+
+pub billion : to_i32 (at (pos 1) (pos 9)) ≡ Some (pos 1000000000)
+unfolding to_i32
+billion = refl
+
+pub ten_billion : to_i32 (at (pos 1) (pos 10)) ≡ None
+unfolding to_i32
+ten_billion = refl
+
+pub fraction : to_i32 (at (pos 225) (neg_ℤ (pos 2))) ≡ None
+unfolding to_i32
+fraction = refl
+
+pub least_of_32_bits : to_i32 (at (neg_ℤ (pos (2 ^ 31))) (pos 0)) ≡ Some (neg_ℤ (pos (2 ^ 31)))
+unfolding to_i32
+least_of_32_bits = refl
+
+pub one_hundred : number (0xef ∷ []) 0 ≡ Got (at (pos 1) (pos 2)) 1
+unfolding number unsigned slice canonical without_zeros
+one_hundred = refl
+
+pub minus_ten_thousand : number (0x1c ∷ 0xd8 ∷ 0xf0 ∷ []) 0 ≡ Got (at (neg_ℤ (pos 1)) (pos 4)) 3
+unfolding number unsigned slice canonical without_zeros
+minus_ten_thousand = refl
+
+pub minus_two_and_a_quarter : number (0x1e ∷ 0xe2 ∷ 0xa2 ∷ 0x5f ∷ []) 0 ≡ Got (at (neg_ℤ (pos 225)) (neg_ℤ (pos 2))) 4
+unfolding number unsigned slice real text_of_real text_behind real_of operand_of canonical without_zeros
+minus_two_and_a_quarter = refl
+
+pub no_digits : number (0x1e ∷ 0xff ∷ []) 0 ≡ Fault 7
+unfolding number unsigned slice real text_of_real text_behind real_of
+no_digits = refl
+
+pub reserved_nibble : number (0x1e ∷ 0xd0 ∷ []) 0 ≡ Fault 7
+unfolding number unsigned slice real text_of_real text_behind
+reserved_nibble = refl
+
+pub no_end : number (0x1e ∷ 0x12 ∷ []) 0 ≡ Fault 1
+unfolding number unsigned slice real text_of_real text_behind
+no_end = refl
+
+pub out_of_range : number (0x1e ∷ 0x1b ∷ 0x10 ∷ 0x01 ∷ 0xff ∷ []) 0 ≡ Fault 8
+unfolding number unsigned slice real text_of_real text_behind real_of operand_of canonical without_zeros
+out_of_range = refl

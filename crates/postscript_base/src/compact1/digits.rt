@@ -1,0 +1,70 @@
+//! The operand of a real's digits.
+ghost use Rattle.std.specs.Prelude.{◌≡◌, ℕ, pos, ◌+◌, ◌*◌, ◌^◌, ◌<◌, ◌≤◌, length, min, IfSome, IfNone, ◌++◌};
+ghost use Rattle.std.specs.Int.RustNames.{unsigned_abs};
+ghost use Rattle.postscript_base.specs.Decimal.{AreEqual, Decimal, HasOperand, IsDigits, digits_number, operand_of, real_value, signed};
+
+use super::operand::{Operand, of_digits};
+use super::significant::{Significant, push_all};
+
+/// No exponent of an operand is reached from here by as many places as a text can have.
+const FAR: u128 = 1_180_591_620_717_411_303_424;
+
+/// The number that digits spell, up to `FAR`.
+fn up_to_far(digits: &[u8]) -> u128
+    requires { IsDigits digits.now }
+    ensures near { result < 2 ^ 80 }
+    ensures value { min result (2 ^ 70) ≡ min (digits_number digits.now) (2 ^ 70) }
+{
+    let mut size = 0u128;
+    for digit in digits {
+        if size < FAR {
+            size = 10 * size + u128::from(*digit);
+        }
+    }
+    size
+}
+
+/// A number with a sign.
+fn with_sign(negative: bool, size: u128) -> i128
+    requires { size < 2 ^ 80 }
+    ensures value { result ≡ signed negative size }
+    ensures size { unsigned_abs result ≡ size }
+{
+    if negative {
+        -(size as i128)
+    } else {
+        size as i128
+    }
+}
+
+/// The operand of a real's digits: before and behind the point, and those of its exponent.
+pub(crate) fn of_real(
+    negative: bool,
+    whole: &[u8],
+    part: &[u8],
+    down: bool,
+    power: &[u8],
+) -> Option<Operand>
+    requires whole { IsDigits whole.now }
+    requires part { IsDigits part.now }
+    requires power { IsDigits power.now }
+    requires room { length whole.now + length part.now < 2 ^ 64 }
+    ensures exact { let v = real_value negative whole.now part.now down power.now in result ≡ operand_of v.mantissa v.exponent }
+    ensures some { IfSome result (λ o. AreEqual o (real_value negative whole.now part.now down power.now)) }
+    ensures operand { IfSome result HasOperand }
+    ensures none { IfNone result ((d : Decimal) → HasOperand d → AreEqual d (real_value negative whole.now part.now down power.now) → ⊥) }
+{
+    let front = push_all(Significant::new(), whole);
+    let kept = push_all(front, part);
+    if kept.is_long {
+        return None;
+    }
+    if kept.mantissa == 0 {
+        return Some(Operand::zero());
+    }
+    let places = i128::from(kept.zeros) - part.len() as i128;
+    let far = up_to_far(power);
+    let shift = with_sign(down, far);
+    let exponent = places + shift;
+    of_digits(negative, u128::from(kept.mantissa), exponent)
+}
