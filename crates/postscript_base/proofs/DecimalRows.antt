@@ -1,10 +1,14 @@
 -- Operands of values, and numbers read from bytes, computed from the definitions.
-use Rattle.std.proofs.Common.{◌≡◌, refl, ◌^◌, [], ◌∷◌, Option, Some, None, ℤ, pos, neg_ℤ}
+use Rattle.std.proofs.Common.{◌≡◌, refl, sym, ap, ◌+◌, ◌^◌, arith, [], ◌∷◌, Some, None, ℤ, pos, neg_ℤ}
 use Rattle.postscript_base.specs.Outcome.{Got, Fault}
 use Rattle.postscript_base.specs.Numbers.{slice, number as unsigned}
-use Rattle.postscript_base.specs.Decimal.{Decimal, canonical, operand_of, to_i32, without_zeros}
-use Rattle.postscript_base.specs.Reals.{real, real_of, step, text_behind, text_of_real}
+use Rattle.postscript_base.specs.Decimal.{Decimal, IsCanonical, IsOperand, canonical, operand_of, to_i32, without_zeros}
+use Rattle.postscript_base.specs.Reals.{real, real_of, text_of_real}
 use Rattle.postscript_base.specs.DictNumber.{number}
+use Rattle.std.specs.Int.RustNames.{unsigned_abs}
+use Rattle.std.proofs.lemmas.Int.{ints}
+use Rattle.postscript_base.proofs.Decimals.{one_form}
+use Rattle.postscript_base.proofs.Operands.{finds_operand}
 
 abbrev at : ℤ → ℤ → Decimal
 at m e = record { mantissa = m; exponent = e }
@@ -16,6 +20,21 @@ thousand_thousandths = refl
 pub zero_far_up : operand_of (pos 0) (pos 5000) ≡ Some (at (pos 0) (pos 0))
 unfolding operand_of canonical
 zero_far_up = refl
+
+pub quintillion : operand_of (pos (10 ^ 18)) (pos 0) ≡ Some (at (pos 1) (pos 18))
+quintillion =
+    let canonical : IsCanonical (pos 1) (pos 18) = record { zero_alone = λ no. absurd cc; no_last_zero = λ no. absurd (omega arith) } in
+    let operand : IsOperand (pos 1) (pos 18) = record { canonical = canonical; few_digits = omega arith; low = omega (arith, ints); high = omega (arith, ints) } in
+    sym (finds_operand (Some (at (pos 1) (pos 18))) (pos (10 ^ 18)) (pos 0) (operand, refl) tt)
+
+pub past_quintillion : operand_of (pos (10 ^ 18 + 1)) (pos 0) ≡ None
+past_quintillion =
+    let canonical : IsCanonical (pos (10 ^ 18 + 1)) (pos 0) = record { zero_alone = λ no. refl; no_last_zero = λ no. absurd (omega arith) } in
+    sym (finds_operand None (pos (10 ^ 18 + 1)) (pos 0) tt (λ n f operand same.
+    let is = one_form n f (pos (10 ^ 18 + 1)) (pos 0) operand.canonical canonical same in
+    let few = operand.few_digits in
+    let many = ap unsigned_abs is.0 in
+    absurd (omega arith)))
 
 pub greatest_exponent : operand_of (pos 10) (pos 999) ≡ Some (at (pos 1) (pos 1000))
 unfolding operand_of canonical without_zeros
@@ -58,21 +77,21 @@ unfolding number unsigned slice canonical without_zeros
 minus_ten_thousand = refl
 
 pub minus_two_and_a_quarter : number (0x1e ∷ 0xe2 ∷ 0xa2 ∷ 0x5f ∷ []) 0 ≡ Got (at (neg_ℤ (pos 225)) (neg_ℤ (pos 2))) 4
-unfolding number unsigned slice real text_of_real text_behind real_of operand_of canonical without_zeros
+unfolding number unsigned slice real text_of_real real_of operand_of canonical without_zeros
 minus_two_and_a_quarter = refl
 
 pub no_digits : number (0x1e ∷ 0xff ∷ []) 0 ≡ Fault 7
-unfolding number unsigned slice real text_of_real text_behind real_of
+unfolding number unsigned slice real text_of_real real_of
 no_digits = refl
 
 pub reserved_nibble : number (0x1e ∷ 0xd0 ∷ []) 0 ≡ Fault 7
-unfolding number unsigned slice real text_of_real text_behind
+unfolding number unsigned slice real text_of_real
 reserved_nibble = refl
 
 pub no_end : number (0x1e ∷ 0x12 ∷ []) 0 ≡ Fault 1
-unfolding number unsigned slice real text_of_real text_behind
+unfolding number unsigned slice real text_of_real
 no_end = refl
 
 pub out_of_range : number (0x1e ∷ 0x1b ∷ 0x10 ∷ 0x01 ∷ 0xff ∷ []) 0 ≡ Fault 8
-unfolding number unsigned slice real text_of_real text_behind real_of operand_of canonical without_zeros
+unfolding number unsigned slice real text_of_real real_of operand_of canonical without_zeros
 out_of_range = refl

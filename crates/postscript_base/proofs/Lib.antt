@@ -3,5 +3,7 @@ pub mod Decimals
 pub mod Operands
 pub mod Zeros
 pub mod RealValues
+pub mod Nibbles
 pub mod Texts
+pub mod Spellings
 pub mod DecimalRows

@@ -4,7 +4,8 @@ use Rattle.std.specs.Prelude.{IfSome, IfNone}
 use Rattle.std.specs.Int.RustNames.{unsigned_abs}
 use Rattle.std.proofs.lemmas.Bool.{cases_lt}
 use Rattle.std.proofs.lemmas.Int.{ints}
-use Rattle.postscript_base.specs.Decimal.{Decimal, AreEqual, HasOperand, IsOperand, IsSameValue, Keeps, IsLong, IsShort, operand_of, signed}
+use Rattle.postscript_base.specs.Decimal.{Decimal, AreEqual, HasOperand, IsOperand, IsSameValue, operand_of, signed}
+use Rattle.postscript_base.specs.Significant.{Keeps, IsLong, IsShort}
 use Rattle.postscript_base.proofs.Operands.{finds_operand}
 use Rattle.postscript_base.proofs.Decimals.{one_form, meets-IsSameValue, IsSameValue-sym, IsSameValue-trans, stripped_canonical, abs-signed, scaled-signed}
 

@@ -1,7 +1,7 @@
 -- One digit more.
 use Rattle.std.proofs.Common.{◌≡◌, ◌≢◌, ℕ, zero, suc, ◌+◌, ◌*◌, ◌%◌, ◌^◌, ◌<◌, ◌≤◌, refl, sym, ap, ◌∙◌, ⊎_elim, arith, inl, inr}
 use Rattle.std.proofs.Math.Nat.{pow-suc, pow-le-pow_right, mul_assoc, mul_comm, mul-le-mul}
-use Rattle.postscript_base.specs.Decimal.{IsLong, IsShort}
+use Rattle.postscript_base.specs.Significant.{IsLong, IsShort}
 
 ten_times : (m z n : ℕ) → n ≡ m * 10 ^ z → 10 * n ≡ m * 10 ^ (z + 1)
 ten_times m z n e = ap (λ k. 10 * k) e ∙ mul_comm 10 (m * 10 ^ z) ∙ mul_assoc m (10 ^ z) 10 ∙ ap (λ k. m * k) (sym (pow-suc 10 z) ∙ ap (λ k. 10 ^ k) (omega arith))

@@ -1,5 +1,5 @@
 -- Decimals: their values, their one form, and the operands among them (Technical Note 5176, "DICT Data").
-use Rattle.std.specs.Prelude.{◌≤◌, ◌≡◌, Bool, true, false, ◌&&◌, ℕ, zero, suc, ◌-◌, ◌/◌, ◌^◌, ◌%◌, ◌<◌, ◌==◌, nat_lt, ℤ, pos, negsuc, ◌+ℤ◌, ◌-ℤ◌, ◌*ℤ◌, ◌≤ℤ◌, neg_ℤ, int_lt, int_le, List, ◌++◌, Option, Some, None, codes, if◌then◌else◌, fold, length, slice_index, ◌*◌, ◌≢◌, ◌⊎◌, ◌+◌}
+use Rattle.std.specs.Prelude.{◌≡◌, Bool, true, false, ◌&&◌, ℕ, zero, suc, ◌-◌, ◌/◌, ◌^◌, ◌%◌, ◌<◌, ◌==◌, nat_lt, ℤ, pos, negsuc, ◌+ℤ◌, ◌-ℤ◌, ◌*ℤ◌, ◌≤ℤ◌, neg_ℤ, int_lt, int_le, List, ◌++◌, Option, Some, None, codes, if◌then◌else◌, fold, length, slice_index, ◌*◌, ◌+◌}
 use Rattle.std.specs.Fmt.{signed_decimal}
 use Rattle.std.specs.Int.{int_min}
 use Rattle.std.specs.Int.RustNames.{unsigned_abs}
@@ -86,25 +86,6 @@ digits_number digits = fold (λ n d. 10 * n + d) 0 digits
 
 abbrev pub IsDigits : List ℕ → Type 0
 IsDigits digits = (k : ℕ) → k < length digits → slice_index digits k < 10
-
--- more than eighteen digits are left of n without the zeros at its end.
-pub record IsLong (n : ℕ) : Type 0 where
-  pub front : ℕ
-  pub zeros : ℕ
-  pub whole : n ≡ front * 10 ^ zeros
-  pub long : 10 ^ 18 ≤ front
-  pub no_last_zero : front % 10 ≢ 0
-
--- at most eighteen digits are left of n without the zeros at its end, or n is 0
-pub record IsShort (mantissa ends n : ℕ) : Type 0 where
-  pub whole : n ≡ mantissa * 10 ^ ends
-  pub short : mantissa < 10 ^ 18
-  pub one_form : (mantissa % 10 ≢ 0) ⊎ ((mantissa ≡ 0) × (ends ≡ 0))
-
--- what is kept of the number n
-abbrev pub Keeps : Bool → ℕ → ℕ → ℕ → Type 0
-Keeps true mantissa ends n = IsLong n
-Keeps false mantissa ends n = IsShort mantissa ends n
 
 -- m * 10 ^ e, where the mantissa is a whole number's digits and its sign
 abbrev pub real_value : Bool → List ℕ → List ℕ → Bool → List ℕ → Decimal

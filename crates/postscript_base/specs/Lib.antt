@@ -7,5 +7,7 @@ pub mod Cursor
 pub mod Offset
 pub mod Header
 pub mod Decimal
+pub mod Significant
 pub mod Reals
+pub mod Nibbles
 pub mod DictNumber

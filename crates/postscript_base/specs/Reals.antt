@@ -1,63 +1,32 @@
 -- Reals of dictionaries: their text, and its value (Technical Note 5176, "DICT Data", Table 5).
-use Rattle.std.specs.Prelude.{ℕ, ◌+◌, ◌/◌, ◌%◌, Bool, true, false, ◌&&◌, List, [], ◌∷◌, ◌++◌, length, drop, take_while, Option, Some, None, ◌==◌, nat_lt, if◌then◌else◌}
+use Rattle.std.specs.Prelude.{◌≡◌, ℕ, ◌<◌, ◌+◌, ◌/◌, ◌%◌, Bool, true, false, not, ◌&&◌, ◌||◌, List, [], ◌∷◌, ◌++◌, length, take, drop, take_while, flat_map, Option, Some, None, IfSome, ◌==◌, nat_lt, if◌then◌else◌}
 use Rattle.std.specs.List.{prefix_len}
-use Rattle.postscript_base.specs.Numbers.{number}
 use Rattle.postscript_base.specs.Outcome.{Outcome, Got, Fault, Reading, end, ◌>>=◌, pure, fault}
-use Rattle.postscript_base.specs.Decimal.{Decimal, operand_of, real_value}
+use Rattle.postscript_base.specs.Decimal.{Decimal, IsDigits, operand_of, real_value}
 
--- The symbols of a text are the digits, 10 for a point, 11 for an E and 14 for a minus. The nibble 12 spells E and
--- minus at once, and any other its own symbol.
-abbrev pub symbols : ℕ → List ℕ
-symbols nibble = if nibble == 12 then 11 ∷ 14 ∷ [] else nibble ∷ []
-
--- A text and one nibble more, and whether the text is at its end, which the nibble 15 says. The nibble 13 is refused.
-abbrev pub one_nibble : List ℕ → ℕ → Option (Bool × List ℕ)
-one_nibble text nibble = if nibble == 15 then Some (true, text) else if nibble == 13 then None else Some (false, text ++ symbols nibble)
-
--- the high nibble, and then the low one
-abbrev pub then_low : Option (Bool × List ℕ) → ℕ → Option (Bool × List ℕ)
-then_low None low = None
-then_low (Some r) low = if r.0 then Some (true, r.1) else one_nibble r.1 low
-
-abbrev pub one_byte : List ℕ → ℕ → Option (Bool × List ℕ)
-one_byte text byte = then_low (one_nibble text (byte / 16)) (byte % 16)
-
-abbrev pub step_of : Option (Bool × List ℕ) → Reading (Bool × List ℕ)
-step_of None = fault 7
-step_of (Some step) = pure step
-
--- one byte of a text
-unfoldable pub step : List ℕ → Reading (Bool × List ℕ)
-step text = number 1 >>= λ byte. step_of (one_byte text byte)
-
-abbrev pub stepped : Option (Bool × List ℕ) → ℕ → (List ℕ → Outcome (List ℕ)) → Outcome (List ℕ)
-stepped None next more = Fault 7
-stepped (Some step) next more = if step.0 then Got step.1 next else more step.1
-
--- the text that bytes spell behind a text
-unfoldable pub text_behind : List ℕ → List ℕ → ℕ → Outcome (List ℕ)
-text_behind text [] place = end
-text_behind text (byte ∷ bytes) place = stepped (one_byte text byte) (place + 1) (λ more. text_behind more bytes (place + 1))
-
--- the text of a real
-unfoldable pub text_of_real : Reading (List ℕ)
-text_of_real bytes place = text_behind [] (drop place bytes) place
-
-abbrev pub is_digit : ℕ → Bool
-is_digit n = nat_lt n 10
-
-abbrev pub digits_of : List ℕ → List ℕ
-digits_of text = take_while is_digit text
-
-abbrev pub after_digits : List ℕ → List ℕ
-after_digits text = drop (prefix_len is_digit text) text
-
--- a number with a sign, a point and an exponent as written
+-- A number with a sign, a point and an exponent as written. The symbols are the digits, 10 for a point, 11 for an E
+-- and 14 for a minus.
 pub record Real : Type 0 where
   pub negative : Bool
   pub whole : List ℕ
   pub part : Option (List ℕ)
   pub power : Option (Bool × List ℕ)
+
+abbrev pub minus : Bool → List ℕ
+minus true = 14 ∷ []
+minus false = []
+
+abbrev pub point : Option (List ℕ) → List ℕ
+point None = []
+point (Some part) = 10 ∷ part
+
+abbrev pub times_ten : Option (Bool × List ℕ) → List ℕ
+times_ten None = []
+times_ten (Some power) = 11 ∷ minus power.0 ++ power.1
+
+-- the text of a real
+abbrev pub spelling : Real → List ℕ
+spelling r = minus r.negative ++ (r.whole ++ (point r.part ++ times_ten r.power))
 
 abbrev pub part_of : Option (List ℕ) → List ℕ
 part_of None = []
@@ -71,13 +40,29 @@ abbrev pub power_of : Option (Bool × List ℕ) → List ℕ
 power_of None = []
 power_of (Some power) = power.1
 
+-- digits before the point or behind it, and in the exponent, where there is one
+pub record IsReal (r : Real) : Type 0 where
+  pub whole : IsDigits r.whole
+  pub part : IsDigits (part_of r.part)
+  pub some : 0 < length (r.whole ++ part_of r.part)
+  pub power : IfSome r.power (λ power. IsDigits power.1 × (0 < length power.1))
+
 abbrev pub value_of : Real → Decimal
 value_of r = real_value r.negative r.whole (part_of r.part) (down_of r.power) (power_of r.power)
 
--- a minus, if there is one, and what follows
+-- Reading a text from the left. First a minus, if there is one, and what follows.
 abbrev pub signed_part : List ℕ → Bool × List ℕ
 signed_part [] = (false, [])
 signed_part (n ∷ ns) = if n == 14 then (true, ns) else (false, n ∷ ns)
+
+abbrev pub is_digit : ℕ → Bool
+is_digit n = nat_lt n 10
+
+abbrev pub digits_of : List ℕ → List ℕ
+digits_of text = take_while is_digit text
+
+abbrev pub after_digits : List ℕ → List ℕ
+after_digits text = drop (prefix_len is_digit text) text
 
 -- the digits behind a point, if there is one, and what follows
 abbrev pub part_at : List ℕ → Option (List ℕ) × List ℕ
@@ -105,6 +90,35 @@ real_of text =
     let whole = digits_of s.1 in
     let part = part_at (after_digits s.1) in
     joined s.0 whole part.0 (power_at part.1)
+
+-- A text is read as the real that it spells, and only the texts of reals are read.
+pub record ReadsSpellings : Type 0 where
+  pub spelled : (r : Real) → IsReal r → real_of (spelling r) ≡ Some r
+  pub alone : (text : List ℕ) (r : Real) → real_of text ≡ Some r → IsReal r × (spelling r ≡ text)
+
+-- the nibbles of bytes, the high one of each byte first
+abbrev pub nibbles : List ℕ → List ℕ
+nibbles bytes = flat_map (λ byte. byte / 16 ∷ byte % 16 ∷ []) bytes
+
+-- A text goes on up to the nibble 15, which ends it. The nibble 13 is reserved.
+abbrev pub is_in_text : ℕ → Bool
+is_in_text nibble = not (nibble == 13 || nibble == 15)
+
+-- The nibble 12 spells E and minus at once, and any other its own symbol.
+abbrev pub symbols : ℕ → List ℕ
+symbols nibble = if nibble == 12 then 11 ∷ 14 ∷ [] else nibble ∷ []
+
+-- a text and the next place, by the nibbles that stand behind the text
+abbrev pub ended_by : List ℕ → List ℕ → ℕ → Outcome (List ℕ)
+ended_by [] text next = end
+ended_by (nibble ∷ _) text next = if nibble == 15 then Got text next else Fault 7
+
+-- the text of a real, and the place behind the byte in which it ends
+unfoldable pub text_of_real : Reading (List ℕ)
+text_of_real bytes place =
+    let all = nibbles (drop place bytes) in
+    let count = prefix_len is_in_text all in
+    ended_by (drop count all) (flat_map symbols (take count all)) (place + (count / 2 + 1))
 
 -- the operand of a real that is spelled, and the refusals where there is none
 abbrev pub operand_if : Option Decimal → Reading Decimal

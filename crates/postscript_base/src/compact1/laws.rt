@@ -10,6 +10,7 @@ pub fn are_equal(a: &Operand, b: &Operand) -> bool
     ensures equal { IsTrue result ↔ AreEqual a.now b.now }
     ensures one_operand { AreEqual a.now b.now → a.now ≡ b.now }
 {
+    // The proof learns here that both are operands.
     let _ = (a.mantissa(), b.mantissa());
     a == b
 }

@@ -4,7 +4,7 @@ ghost use Rattle.postscript_base.specs.Error.{IsListed};
 ghost use Rattle.postscript_base.specs.Outcome.{same};
 ghost use Rattle.postscript_base.specs.Tape.{Reads};
 ghost use Rattle.postscript_base.specs.Numbers.{number as unsigned};
-ghost use Rattle.postscript_base.specs.Reals.{real as the_real};
+ghost use Rattle.postscript_base.specs.Reals.{ReadsSpellings, real as the_real};
 ghost use Rattle.postscript_base.specs.DictNumber.{number as the_number, above as the_above, below as the_below, BeginsNoReal, begun, two_sided, whole};
 
 use super::operand::Operand;
@@ -17,11 +17,12 @@ use std::alloc::Global;
 ///
 /// Refused: `MalformedNumber` where the bytes spell no number, `OutOfRangeNumber` where a real has no operand,
 /// `UnexpectedEof`, `Io`, `Memory`.
-#[tactic(auto, unfolding(crate::specs::DictNumber::number))]
+#[tactic(auto, unfolding(crate::specs::DictNumber::number), using(crate::proofs::Spellings::reads_spellings))]
 pub fn read<T: Tape>(alloc: Global, tape: &mut T) -> Result<Operand>
     ensures exact { Reads same (T.state tape.old) result (T.state tape.new) the_number }
     ensures listed { IsListed (1 ∷ 2 ∷ 3 ∷ 7 ∷ 8 ∷ []) result }
     ensures no_memory { BeginsNoReal (T.state tape.old) → IsListed (1 ∷ 2 ∷ 7 ∷ []) result }
+    ensures grammar { ReadsSpellings }
 {
     match byte(tape)? {
         0x1e => real(alloc, tape),

@@ -6,7 +6,8 @@ ghost use Rattle.postscript_base.specs.Error.{IsListed};
 ghost use Rattle.postscript_base.specs.Outcome.{Answers, same};
 ghost use Rattle.postscript_base.specs.Tape.{Reads};
 ghost use Rattle.postscript_base.specs.declared.error.Error.TheVariants as errors;
-ghost use Rattle.postscript_base.specs.Reals.{after_digits, digits_of, down_of, is_digit, one_nibble, part_at, part_of, power_at, power_of, real_of, signed_part, step as the_step, text_of_real, valued};
+ghost use Rattle.postscript_base.specs.Nibbles.{one_nibble, step as the_step};
+ghost use Rattle.postscript_base.specs.Reals.{after_digits, digits_of, down_of, is_digit, part_at, part_of, power_at, power_of, real_of, signed_part, text_of_real, valued};
 
 use super::digits::of_real;
 use super::number::byte;
@@ -21,7 +22,6 @@ const E: u8 = 11;
 const MINUS: u8 = 14;
 
 /// Reads the text of a real.
-#[tactic(auto, unfolding(crate::specs::Reals::text_of_real))]
 pub(crate) fn read_text<T: Tape>(alloc: Global, tape: &mut T) -> Result<Vec<u8>>
     ensures exact { Reads (λ text. text.items) (T.state tape.old) result (T.state tape.new) text_of_real }
     ensures listed { IsListed (1 ∷ 2 ∷ 3 ∷ 7 ∷ []) result }
@@ -32,7 +32,7 @@ pub(crate) fn read_text<T: Tape>(alloc: Global, tape: &mut T) -> Result<Vec<u8>>
 }
 
 /// Reads one byte of a text, and says whether this was the last.
-#[tactic(auto, unfolding(crate::specs::Reals::step))]
+#[tactic(auto, unfolding(crate::specs::Nibbles::step))]
 fn step<T: Tape>(tape: &mut T, text: &mut Vec<u8>) -> Result<bool>
     ensures exact { Reads (λ ended. (ended, text.new.items)) (T.state tape.old) result (T.state tape.new) (the_step text.old.items) }
     ensures listed { IsListed (1 ∷ 2 ∷ 3 ∷ 7 ∷ []) result }

@@ -1,5 +1,5 @@
 use Rattle.std.proofs.Common.{ap, ◌∙◌, [], ◌∷◌}
-use Rattle.postscript_base.proofs.Texts.{byte_front}
+use Rattle.postscript_base.proofs.Nibbles.{byte_front}
 use Rattle.postscript_base.proofs.compact1.number.read.Goals as goal
 
 pub returns-in-30-clause-no_memory : goal.returns-in-30-clause-no_memory

@@ -1,6 +1,6 @@
-use Rattle.std.proofs.Common.{◌∙◌}
+use Rattle.std.proofs.Common.{refl, ◌∙◌}
 use Rattle.std.proofs.lemmas.Result.{err_from_is_err_and}
-use Rattle.postscript_base.proofs.Texts.{ends, goes_on, refused}
+use Rattle.postscript_base.proofs.Nibbles.{ends, goes_on, refused, text_is}
 use Rattle.postscript_base.proofs.compact1.text.read_text.Goals as goal
 
 pub returns-in_err-step-clause-exact : goal.returns-in_err-step-clause-exact
@@ -9,6 +9,9 @@ returns-in_err-step-clause-exact g c = λ honest.
     let step = c.in_err-step.ensures.exact so_far.0.0 in
     let error = err_from_is_err_and c.from_residual.result c.from_residual.ensures.1 in
     ((step.0.0, step.0.1 ∙ so_far.0.1), rw (error.1, error.2) (refused _ c.loop-text.text.items (g.T.ReadSeek.state c.loop-text.tape).bytes (g.T.ReadSeek.state c.args.tape.now).bytes (g.T.ReadSeek.state c.loop-text.tape).place _ so_far.1 so_far.0.1 step.1))
+
+pub loop-text-init : goal.loop-text-init
+loop-text-init g c = λ honest. ((honest, refl), text_is _ _ _ c.new-text.ensures.items)
 
 pub loop-text-preserved : goal.loop-text-preserved
 loop-text-preserved g c = λ honest.

@@ -1,0 +1,140 @@
+-- Texts of reals, nibble by nibble.
+use Rattle.std.proofs.lemmas.List.{append-nil, drop-drop}
+use Rattle.std.proofs.Common.{◌≡◌, ◌⊎◌, inl, inr, refl, sym, ap, subst, ◌∙◌, ℕ, suc, ◌+◌, ◌-◌, ◌/◌, ◌%◌, ◌≤◌, Bool, true, false, List, [], ◌∷◌, ◌++◌, length, take, drop, ◌==◌, Option, Some, None, append_assoc, length-drop, arith, if◌then◌else◌}
+use Rattle.std.specs.Prelude.{flat_map}
+use Rattle.std.specs.List.{prefix_len}
+use Rattle.std.proofs.lemmas.Grind.{common_steps}
+use Rattle.std.proofs.lemmas.Bool.Decides.{nat_tests}
+use Rattle.postscript_base.specs.Outcome.{Outcome, Got, Fault, Past, after, end, RefusedAs}
+use Rattle.postscript_base.specs.Numbers.{slice, number}
+use Rattle.postscript_base.specs.Nibbles.{one_byte, one_nibble, step, step_of, then_low}
+use Rattle.postscript_base.specs.Reals.{ended_by, is_in_text, nibbles, symbols, text_of_real}
+
+abbrev stepped : Option (Bool × List ℕ) → ℕ → (List ℕ → Outcome (List ℕ)) → Outcome (List ℕ)
+stepped None next more = Fault 7
+stepped (Some step) next more = if step.0 then Got step.1 next else more step.1
+
+-- the text that bytes spell behind a text
+unfoldable pub text_behind : List ℕ → List ℕ → ℕ → Outcome (List ℕ)
+text_behind text [] place = end
+text_behind text (byte ∷ bytes) place = stepped (one_byte text byte) (place + 1) (λ more. text_behind more bytes (place + 1))
+
+-- the text that nibbles spell behind a text
+abbrev finished : List ℕ → List ℕ → ℕ → Outcome (List ℕ)
+finished text all place =
+    let count = prefix_len is_in_text all in
+    ended_by (drop count all) (text ++ flat_map symbols (take count all)) (place + (count / 2 + 1))
+
+pub byte_at : (bytes xs : List ℕ) (place b : ℕ) → b ∷ xs ≡ drop place bytes → number 1 bytes place ≡ Got b (place + 1)
+unfolding number slice
+byte_at bytes xs place b e = let long : length bytes - place ≡ suc (length xs) = sym (length-drop place bytes) ∙ ap length (sym e) in rw (← e, long) (grind (arith, common_steps, nat_tests))
+
+pub byte_none : (bytes : List ℕ) (place : ℕ) → [] ≡ drop place bytes → number 1 bytes place ≡ Fault 1
+unfolding number slice
+byte_none bytes place e = let long : length bytes - place ≡ 0 = sym (length-drop place bytes) ∙ ap length (sym e) in rw (long) refl
+
+abbrev go_on : List ℕ → Bool × List ℕ → ℕ → Outcome (List ℕ)
+go_on bytes r next = if r.0 then Got r.1 next else text_behind r.1 (drop next bytes) next
+
+step_behind : (o : Option (Bool × List ℕ)) (bytes xs : List ℕ) (next : ℕ) → xs ≡ drop next bytes →
+    stepped o next (λ more. text_behind more xs next) ≡ after (step_of o bytes next) (go_on bytes)
+step_behind None bytes xs next e = refl
+step_behind (Some r) bytes xs next e = ap (λ ys. if r.0 then Got r.1 next else text_behind r.1 ys next) e
+
+steps_by : (text bytes xs : List ℕ) (place : ℕ) → xs ≡ drop place bytes → text_behind text xs place ≡ after (step text bytes place) (go_on bytes)
+unfolding step text_behind
+steps_by text bytes [] place e = rw (byte_none bytes place e) refl
+steps_by text bytes (b ∷ xs) place e =
+    let there : xs ≡ drop (place + 1) bytes = ap (drop 1) e ∙ drop-drop 1 place bytes in
+    rw (byte_at bytes xs place b e) (step_behind (one_byte text b) bytes xs (place + 1) there)
+
+text_steps : (text bytes : List ℕ) (place : ℕ) → text_behind text (drop place bytes) place ≡ after (step text bytes place) (go_on bytes)
+text_steps text bytes place = steps_by text bytes (drop place bytes) place refl
+
+text_more : (text bytes : List ℕ) (place : ℕ) (more : List ℕ) (next : ℕ) → step text bytes place ≡ Got (false, more) next →
+    text_behind text (drop place bytes) place ≡ text_behind more (drop next bytes) next
+text_more text bytes place more next e = text_steps text bytes place ∙ ap (λ o. after o (go_on bytes)) e
+
+text_ends : (text bytes : List ℕ) (place : ℕ) (whole : List ℕ) (next : ℕ) → step text bytes place ≡ Got (true, whole) next →
+    text_behind text (drop place bytes) place ≡ Got whole next
+text_ends text bytes place whole next e = text_steps text bytes place ∙ ap (λ o. after o (go_on bytes)) e
+
+text_refused : (text bytes : List ℕ) (place k : ℕ) → RefusedAs k (step text bytes place) → RefusedAs k (text_behind text (drop place bytes) place)
+text_refused text bytes place k h = λ other. by (h other)
+  where
+    by : (step text bytes place ≡ Fault k) ⊎ ((step text bytes place ≡ Past) × (k ≤ 2)) →
+        (text_behind text (drop place bytes) place ≡ Fault k) ⊎ ((text_behind text (drop place bytes) place ≡ Past) × (k ≤ 2))
+    by (inl e) = inl (text_steps text bytes place ∙ ap (λ o. after o (go_on bytes)) e)
+    by (inr e) = inr (text_steps text bytes place ∙ ap (λ o. after o (go_on bytes)) e.0, e.1)
+
+at_once : (text : List ℕ) (high low : ℕ) (rest : List ℕ) (place : ℕ) (more : List ℕ → Outcome (List ℕ)) → is_in_text high ≡ false →
+    stepped (then_low (one_nibble text high) low) (place + 1) more ≡ finished text (high ∷ low ∷ rest) place
+at_once text high low rest place more stops = by (high == 15) refl (high == 13) refl
+  where
+    by : (e : Bool) → (high == 15) ≡ e → (d : Bool) → (high == 13) ≡ d → stepped (then_low (one_nibble text high) low) (place + 1) more ≡ finished text (high ∷ low ∷ rest) place
+    by true e d f = rw (stops, e) (ap (λ whole. Got whole (place + 1)) (sym (append-nil text)))
+    by false e true f = rw (stops, e, f) refl
+    by false e false f = absurd (grind (arith, nat_tests))
+
+within : (high : ℕ) → is_in_text high ≡ true → ((high == 15) ≡ false) × ((high == 13) ≡ false)
+within high stays = (grind (arith, nat_tests), grind (arith, nat_tests))
+
+in_low : (text : List ℕ) (high low : ℕ) (rest : List ℕ) (place : ℕ) (more : List ℕ → Outcome (List ℕ)) → is_in_text high ≡ true → is_in_text low ≡ false →
+    stepped (then_low (one_nibble text high) low) (place + 1) more ≡ finished text (high ∷ low ∷ rest) place
+in_low text high low rest place more stays stops = by (low == 15) refl (low == 13) refl
+  where
+    by : (e : Bool) → (low == 15) ≡ e → (d : Bool) → (low == 13) ≡ d → stepped (then_low (one_nibble text high) low) (place + 1) more ≡ finished text (high ∷ low ∷ rest) place
+    by true e d f = let w = within high stays in rw (stays, stops, w.0, w.1, e) (ap (λ all. Got (text ++ all) (place + 1)) (sym (append-nil (symbols high))))
+    by false e true f = let w = within high stays in rw (stays, stops, w.0, w.1, e, f) refl
+    by false e false f = absurd (grind (arith, nat_tests))
+
+later : (text : List ℕ) (high low : ℕ) (rest : List ℕ) (place : ℕ) → is_in_text high ≡ true → is_in_text low ≡ true →
+    finished ((text ++ symbols high) ++ symbols low) rest (place + 1) ≡ finished text (high ∷ low ∷ rest) place
+later text high low rest place stays stays_low =
+    let count = prefix_len is_in_text rest in
+    let spelled = flat_map symbols (take count rest) in
+    let two : 1 + (1 + count) ≡ suc (suc count) = omega arith in
+    let next : place + 1 + (count / 2 + 1) ≡ place + (suc (suc count) / 2 + 1) = omega arith in
+    let all : ((text ++ symbols high) ++ symbols low) ++ spelled ≡ text ++ (symbols high ++ (symbols low ++ spelled)) = simp append_assoc in
+    rw (stays, stays_low, two, all, next) refl
+
+-- the text that bytes spell, nibble by nibble
+text_by : (text xs : List ℕ) (place : ℕ) → text_behind text xs place ≡ finished text (nibbles xs) place
+unfolding text_behind
+text_by text [] place = refl
+text_by text (b ∷ xs) place = by (is_in_text (b / 16)) refl (is_in_text (b % 16)) refl (λ more. text_by more xs (place + 1))
+  where
+    by : (h : Bool) → is_in_text (b / 16) ≡ h → (l : Bool) → is_in_text (b % 16) ≡ l → ((more : List ℕ) → text_behind more xs (place + 1) ≡ finished more (nibbles xs) (place + 1)) →
+        stepped (one_byte text b) (place + 1) (λ more. text_behind more xs (place + 1)) ≡ finished text (b / 16 ∷ b % 16 ∷ nibbles xs) place
+    by false stops l e rest = at_once text (b / 16) (b % 16) (nibbles xs) place (λ more. text_behind more xs (place + 1)) stops
+    by true stays false stops rest = in_low text (b / 16) (b % 16) (nibbles xs) place (λ more. text_behind more xs (place + 1)) stays stops
+    by true stays true stays_low rest =
+        let high = within (b / 16) stays in
+        let low = within (b % 16) stays_low in
+        rw (high.0, high.1, low.0, low.1) (rest ((text ++ symbols (b / 16)) ++ symbols (b % 16))) ∙ later text (b / 16) (b % 16) (nibbles xs) place stays stays_low
+
+pub text_is : (text bytes : List ℕ) (place : ℕ) → text ≡ [] → text_of_real bytes place ≡ text_behind text (drop place bytes) place
+unfolding text_of_real
+text_is text bytes place none = sym (text_by [] (drop place bytes) place) ∙ ap (λ empty. text_behind empty (drop place bytes) place) (sym none)
+
+-- what a loop over the bytes of a text has read so far, by the outcome of the whole text
+pub goes_on : (whole : Outcome (List ℕ)) (text here bytes : List ℕ) (place : ℕ) (ended : Bool) (more : List ℕ) (next : ℕ) → whole ≡ text_behind text (drop place bytes) place → here ≡ bytes →
+    ended ≡ false → step text here place ≡ Got (ended, more) next → whole ≡ text_behind more (drop next bytes) next
+goes_on whole text here bytes place ended more next so_far same test e =
+    so_far ∙ text_more text bytes place more next (subst (λ b. step text bytes place ≡ Got (b, more) next) test (subst (λ bs. step text bs place ≡ Got (ended, more) next) same e))
+
+pub ends : (whole : Outcome (List ℕ)) (text here bytes : List ℕ) (place : ℕ) (ended : Bool) (more : List ℕ) (next : ℕ) → whole ≡ text_behind text (drop place bytes) place → here ≡ bytes →
+    ended ≡ true → step text here place ≡ Got (ended, more) next → whole ≡ Got more next
+ends whole text here bytes place ended more next so_far same test e =
+    so_far ∙ text_ends text bytes place more next (subst (λ b. step text bytes place ≡ Got (b, more) next) test (subst (λ bs. step text bs place ≡ Got (ended, more) next) same e))
+
+pub refused : (whole : Outcome (List ℕ)) (text here bytes : List ℕ) (place k : ℕ) → whole ≡ text_behind text (drop place bytes) place → here ≡ bytes →
+    RefusedAs k (step text here place) → RefusedAs k whole
+refused whole text here bytes place k so_far same h = subst (RefusedAs k) (sym so_far) (text_refused text bytes place k (subst (λ bs. RefusedAs k (step text bs place)) same h))
+
+pub byte_front : (bytes : List ℕ) (place b next : ℕ) → number 1 bytes place ≡ Got b next → take 1 (drop place bytes) ≡ b ∷ []
+byte_front bytes place b next e = by (drop place bytes) refl
+  where
+    by : (xs : List ℕ) → xs ≡ drop place bytes → take 1 xs ≡ b ∷ []
+    by [] h = let is : Fault 1 ≡ Got b next = sym (byte_none bytes place h) ∙ e in absurd (cc)
+    by (x ∷ xs) h = let is : Got x (place + 1) ≡ Got b next = sym (byte_at bytes xs place x h) ∙ e in let same : x ≡ b = cc in ap (λ y. y ∷ []) same

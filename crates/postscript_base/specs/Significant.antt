@@ -1,0 +1,21 @@
+-- What is kept of a number whose digits are read one by one.
+use Rattle.std.specs.Prelude.{◌≡◌, ◌≢◌, ◌⊎◌, ℕ, ◌*◌, ◌^◌, ◌%◌, ◌<◌, ◌≤◌, Bool, true, false}
+
+-- more than eighteen digits are left of n without the zeros at its end.
+pub record IsLong (n : ℕ) : Type 0 where
+  pub front : ℕ
+  pub zeros : ℕ
+  pub whole : n ≡ front * 10 ^ zeros
+  pub long : 10 ^ 18 ≤ front
+  pub no_last_zero : front % 10 ≢ 0
+
+-- at most eighteen digits are left of n without the zeros at its end, or n is 0
+pub record IsShort (mantissa ends n : ℕ) : Type 0 where
+  pub whole : n ≡ mantissa * 10 ^ ends
+  pub short : mantissa < 10 ^ 18
+  pub one_form : (mantissa % 10 ≢ 0) ⊎ ((mantissa ≡ 0) × (ends ≡ 0))
+
+-- what is kept of the number n
+abbrev pub Keeps : Bool → ℕ → ℕ → ℕ → Type 0
+Keeps true mantissa ends n = IsLong n
+Keeps false mantissa ends n = IsShort mantissa ends n
