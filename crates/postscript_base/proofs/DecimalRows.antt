@@ -1,10 +1,12 @@
--- Operands of values, and numbers read from bytes, computed from the definitions.
-use Rattle.std.proofs.Common.{◌≡◌, refl, sym, ap, ◌+◌, ◌^◌, arith, [], ◌∷◌, Some, None, ℤ, pos, neg_ℤ}
+-- Operands of values, and numbers, offsets and headers read from bytes, computed from the definitions.
+use Rattle.std.proofs.Common.{◌≡◌, refl, sym, ap, ◌+◌, ◌^◌, arith, [], ◌∷◌, Some, None, true, ℤ, pos, neg_ℤ}
 use Rattle.postscript_base.specs.Outcome.{Got, Fault}
 use Rattle.postscript_base.specs.Numbers.{slice, number as unsigned}
 use Rattle.postscript_base.specs.Decimal.{Decimal, IsCanonical, IsOperand, canonical, operand_of, to_i32, without_zeros}
-use Rattle.postscript_base.specs.Reals.{real, real_of, text_of_real}
+use Rattle.postscript_base.specs.Reals.{Real, real, real_of, spelling, text_of_real, value_of}
 use Rattle.postscript_base.specs.DictNumber.{number}
+use Rattle.postscript_base.specs.Header.{header}
+use Rattle.postscript_base.specs.Offset.{offset}
 use Rattle.std.specs.Int.RustNames.{unsigned_abs}
 use Rattle.std.proofs.lemmas.Int.{ints}
 use Rattle.postscript_base.proofs.Decimals.{one_form}
@@ -95,3 +97,37 @@ no_end = refl
 pub out_of_range : number (0x1e ∷ 0x1b ∷ 0x10 ∷ 0x01 ∷ 0xff ∷ []) 0 ≡ Fault 8
 unfolding number unsigned slice real text_of_real real_of operand_of canonical without_zeros
 out_of_range = refl
+
+-- -2.25e-3, as it is written
+abbrev written : Real
+written = record { negative = true; whole = 2 ∷ []; part = Some (2 ∷ 5 ∷ []); power = Some (true, 3 ∷ []) }
+
+pub spelled : spelling written ≡ 14 ∷ 2 ∷ 10 ∷ 2 ∷ 5 ∷ 11 ∷ 14 ∷ 3 ∷ []
+spelled = refl
+
+pub worth : value_of written ≡ at (neg_ℤ (pos 225)) (neg_ℤ (pos 5))
+worth = refl
+
+pub with_its_exponent : number (0x1e ∷ 0xe2 ∷ 0xa2 ∷ 0x5c ∷ 0x3f ∷ []) 0 ≡ Got (at (neg_ℤ (pos 225)) (neg_ℤ (pos 5))) 5
+unfolding number unsigned slice real text_of_real real_of operand_of canonical without_zeros
+with_its_exponent = refl
+
+pub offset_of_three_bytes : offset 3 (4 ∷ 5 ∷ 6 ∷ []) 0 ≡ Got 0x040506 3
+unfolding offset unsigned slice
+offset_of_three_bytes = refl
+
+pub offset_of_no_bytes : offset 0 (4 ∷ []) 0 ≡ Fault 5
+unfolding offset
+offset_of_no_bytes = refl
+
+pub offset_of_five_bytes : offset 5 [] 0 ≡ Fault 5
+unfolding offset
+offset_of_five_bytes = refl
+
+pub four_bytes : header (1 ∷ 0 ∷ 4 ∷ 2 ∷ []) 0 ≡ Got (record { major = 1; minor = 0; header_size = 4; offset_size = 2 }) 4
+unfolding header unsigned slice
+four_bytes = refl
+
+pub short_header : header (1 ∷ 0 ∷ 4 ∷ []) 0 ≡ Fault 1
+unfolding header unsigned slice
+short_header = refl

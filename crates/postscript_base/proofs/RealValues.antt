@@ -5,7 +5,7 @@ use Rattle.std.specs.Int.RustNames.{unsigned_abs}
 use Rattle.std.proofs.lemmas.Bool.{cases_lt}
 use Rattle.std.proofs.lemmas.Int.{ints}
 use Rattle.postscript_base.specs.Decimal.{Decimal, AreEqual, HasOperand, IsOperand, IsSameValue, operand_of, signed}
-use Rattle.postscript_base.specs.Significant.{Keeps, IsLong, IsShort}
+use Rattle.postscript_base.specs.Significant.{IsLong, IsShort}
 use Rattle.postscript_base.proofs.Operands.{finds_operand}
 use Rattle.postscript_base.proofs.Decimals.{one_form, meets-IsSameValue, IsSameValue-sym, IsSameValue-trans, stripped_canonical, abs-signed, scaled-signed}
 
@@ -69,14 +69,6 @@ real_none None b down n front zeros places power far x p whole last h = λ d ope
     (λ (e : far ≡ power). p (rw (exact down zeros places power far x h e, ← one.0, ← one.1) operand))
     (λ (e : (2 ^ 70 ≤ far) × (2 ^ 70 ≤ power)). apart down zeros places power d.exponent h.few h.few_places e.1 (one.1 ∙ omega (arith, ints)) operand.low operand.high)
     (limited far power h.near)
-
-pub as_long : (b : Bool) (m z n : ℕ) → b ≡ true → Keeps b m z n → IsLong n
-as_long true m z n e h = h
-as_long false m z n e h = absurd cc
-
-pub as_short : (b : Bool) (m z n : ℕ) → b ≡ false → Keeps b m z n → IsShort m z n
-as_short true m z n e h = absurd cc
-as_short false m z n e h = h
 
 -- one digit more of a limited number
 pub limited_more : (far size far' size' d : ℕ) → min far (2 ^ 70) ≡ min size (2 ^ 70) → size' ≡ 10 * size + d → ((far < 2 ^ 70) × (far' ≡ 10 * far + d)) ⊎ ((2 ^ 70 ≤ far) × (far' ≡ far)) → min far' (2 ^ 70) ≡ min size' (2 ^ 70)

@@ -1,7 +1,15 @@
 -- One digit more.
-use Rattle.std.proofs.Common.{◌≡◌, ◌≢◌, ℕ, zero, suc, ◌+◌, ◌*◌, ◌%◌, ◌^◌, ◌<◌, ◌≤◌, refl, sym, ap, ◌∙◌, ⊎_elim, arith, inl, inr}
+use Rattle.std.proofs.Common.{◌≡◌, ◌≢◌, Bool, true, false, ℕ, zero, suc, ◌+◌, ◌*◌, ◌%◌, ◌^◌, ◌<◌, ◌≤◌, refl, sym, ap, ◌∙◌, ⊎_elim, arith, inl, inr}
 use Rattle.std.proofs.Math.Nat.{pow-suc, pow-le-pow_right, mul_assoc, mul_comm, mul-le-mul}
-use Rattle.postscript_base.specs.Significant.{IsLong, IsShort}
+use Rattle.postscript_base.specs.Significant.{IsLong, IsShort, Keeps}
+
+pub as_long : (b : Bool) (m z n : ℕ) → b ≡ true → Keeps b m z n → IsLong n
+as_long true m z n e h = h
+as_long false m z n e h = absurd cc
+
+pub as_short : (b : Bool) (m z n : ℕ) → b ≡ false → Keeps b m z n → IsShort m z n
+as_short true m z n e h = absurd cc
+as_short false m z n e h = h
 
 ten_times : (m z n : ℕ) → n ≡ m * 10 ^ z → 10 * n ≡ m * 10 ^ (z + 1)
 ten_times m z n e = ap (λ k. 10 * k) e ∙ mul_comm 10 (m * 10 ^ z) ∙ mul_assoc m (10 ^ z) 10 ∙ ap (λ k. m * k) (sym (pow-suc 10 z) ∙ ap (λ k. 10 ^ k) (omega arith))

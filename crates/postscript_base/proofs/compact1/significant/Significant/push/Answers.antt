@@ -1,15 +1,11 @@
 use Rattle.std.proofs.Common.{◌≡◌, ℕ, ◌+◌, ◌*◌, Bool, true, false}
 use Rattle.postscript_base.specs.Significant.{Keeps, IsShort, IsLong}
-use Rattle.postscript_base.proofs.Zeros.{long_more, short_zero, short_none, short_more, short_long, short_far}
+use Rattle.postscript_base.proofs.Zeros.{as_short, long_more, short_zero, short_none, short_more, short_long, short_far}
 use Rattle.postscript_base.proofs.compact1.significant.Significant.push.Goals as goal
 
 kept_long : (b : Bool) (m z n k : ℕ) → b ≡ true → (IsLong n → IsLong k) → Keeps b m z n → Keeps b m z k
 kept_long true m z n k e f h = f h
 kept_long false m z n k e f h = absurd cc
-
-kept_short : (b : Bool) (m z n : ℕ) → b ≡ false → Keeps b m z n → IsShort m z n
-kept_short true m z n e h = absurd cc
-kept_short false m z n e h = h
 
 to_short : (b : Bool) (m z n : ℕ) → b ≡ false → IsShort m z n → Keeps b m z n
 to_short true m z n e h = absurd cc
@@ -21,24 +17,24 @@ returns-then-self-clause-keeps c = λ n h. let s = c.args.self in kept_long s.is
 pub returns-else-self-eq0-clause-keeps : goal.returns-else-self-eq0-clause-keeps
 returns-else-self-eq0-clause-keeps c = λ n h.
     let s = c.args.self in
-    to_short s.is_long s.mantissa _ _ c.if-self.false (short_zero s.mantissa s.zeros n c.args.digit c.if-self-eq0.false c.if-digit-eq0.true (kept_short s.is_long s.mantissa s.zeros n c.if-self.false h))
+    to_short s.is_long s.mantissa _ _ c.if-self.false (short_zero s.mantissa s.zeros n c.args.digit c.if-self-eq0.false c.if-digit-eq0.true (as_short s.is_long s.mantissa s.zeros n c.if-self.false h))
 
 pub returns-then-self-eq0-clause-keeps : goal.returns-then-self-eq0-clause-keeps
 returns-then-self-eq0-clause-keeps c = λ n h.
     let s = c.args.self in
-    to_short s.is_long s.mantissa _ _ c.if-self.false (short_none s.mantissa s.zeros n c.args.digit c.if-self-eq0.true c.if-digit-eq0.true (kept_short s.is_long s.mantissa s.zeros n c.if-self.false h))
+    to_short s.is_long s.mantissa _ _ c.if-self.false (short_none s.mantissa s.zeros n c.args.digit c.if-self-eq0.true c.if-digit-eq0.true (as_short s.is_long s.mantissa s.zeros n c.if-self.false h))
 
 pub returns-then-mantissa-lt-LONG-clause-keeps : goal.returns-then-mantissa-lt-LONG-clause-keeps
 returns-then-mantissa-lt-LONG-clause-keeps c = λ n h.
     let s = c.args.self in
-    short_more s.mantissa s.zeros n c.args.digit _ c.if-digit-eq0.false c.requires.digit (cc) c.if-mantissa-lt-LONG.true (kept_short s.is_long s.mantissa s.zeros n c.if-self.false h)
+    short_more s.mantissa s.zeros n c.args.digit _ c.if-digit-eq0.false c.requires.digit (cc) c.if-mantissa-lt-LONG.true (as_short s.is_long s.mantissa s.zeros n c.if-self.false h)
 
 pub returns-else-mantissa-lt-LONG-clause-keeps : goal.returns-else-mantissa-lt-LONG-clause-keeps
 returns-else-mantissa-lt-LONG-clause-keeps c = λ n h.
     let s = c.args.self in
-    short_long s.mantissa s.zeros n c.args.digit (c.from.result * c.pow.result + c.from-then-self-lt18.result) c.if-digit-eq0.false c.requires.digit (cc) c.if-mantissa-lt-LONG.false (kept_short s.is_long s.mantissa s.zeros n c.if-self.false h)
+    short_long s.mantissa s.zeros n c.args.digit (c.from.result * c.pow.result + c.from-then-self-lt18.result) c.if-digit-eq0.false c.requires.digit (cc) c.if-mantissa-lt-LONG.false (as_short s.is_long s.mantissa s.zeros n c.if-self.false h)
 
 pub returns-else-self-lt18-clause-keeps : goal.returns-else-self-lt18-clause-keeps
 returns-else-self-lt18-clause-keeps c = λ n h.
     let s = c.args.self in
-    short_far s.mantissa s.zeros n c.args.digit c.if-digit-eq0.false c.requires.digit c.if-self-lt18.false (kept_short s.is_long s.mantissa s.zeros n c.if-self.false h)
+    short_far s.mantissa s.zeros n c.args.digit c.if-digit-eq0.false c.requires.digit c.if-self-lt18.false (as_short s.is_long s.mantissa s.zeros n c.if-self.false h)
