@@ -1,5 +1,6 @@
 -- Operands of values, and numbers, offsets and headers read from bytes, computed from the definitions.
 use Rattle.std.proofs.Common.{◌≡◌, refl, sym, ap, ◌+◌, ◌^◌, arith, [], ◌∷◌, Some, None, true, ℤ, pos, neg_ℤ}
+use Rattle.postscript_base.specs.Refusal.{unexpected_eof, malformed_offset, malformed_number, out_of_range_number}
 use Rattle.postscript_base.specs.Outcome.{Got, Fault}
 use Rattle.postscript_base.specs.Numbers.{slice, number as unsigned}
 use Rattle.postscript_base.specs.Decimal.{Decimal, IsCanonical, IsOperand, canonical, operand_of, to_i32, without_zeros}
@@ -82,19 +83,19 @@ pub minus_two_and_a_quarter : number (0x1e ∷ 0xe2 ∷ 0xa2 ∷ 0x5f ∷ []) 0 
 unfolding number unsigned slice real text_of_real real_of operand_of canonical without_zeros
 minus_two_and_a_quarter = refl
 
-pub no_digits : number (0x1e ∷ 0xff ∷ []) 0 ≡ Fault 7
+pub no_digits : number (0x1e ∷ 0xff ∷ []) 0 ≡ Fault malformed_number
 unfolding number unsigned slice real text_of_real real_of
 no_digits = refl
 
-pub reserved_nibble : number (0x1e ∷ 0xd0 ∷ []) 0 ≡ Fault 7
+pub reserved_nibble : number (0x1e ∷ 0xd0 ∷ []) 0 ≡ Fault malformed_number
 unfolding number unsigned slice real text_of_real
 reserved_nibble = refl
 
-pub no_end : number (0x1e ∷ 0x12 ∷ []) 0 ≡ Fault 1
+pub no_end : number (0x1e ∷ 0x12 ∷ []) 0 ≡ Fault unexpected_eof
 unfolding number unsigned slice real text_of_real
 no_end = refl
 
-pub out_of_range : number (0x1e ∷ 0x1b ∷ 0x10 ∷ 0x01 ∷ 0xff ∷ []) 0 ≡ Fault 8
+pub out_of_range : number (0x1e ∷ 0x1b ∷ 0x10 ∷ 0x01 ∷ 0xff ∷ []) 0 ≡ Fault out_of_range_number
 unfolding number unsigned slice real text_of_real real_of operand_of canonical without_zeros
 out_of_range = refl
 
@@ -116,11 +117,11 @@ pub offset_of_three_bytes : offset 3 (4 ∷ 5 ∷ 6 ∷ []) 0 ≡ Got 0x040506 3
 unfolding offset unsigned slice
 offset_of_three_bytes = refl
 
-pub offset_of_no_bytes : offset 0 (4 ∷ []) 0 ≡ Fault 5
+pub offset_of_no_bytes : offset 0 (4 ∷ []) 0 ≡ Fault malformed_offset
 unfolding offset
 offset_of_no_bytes = refl
 
-pub offset_of_five_bytes : offset 5 [] 0 ≡ Fault 5
+pub offset_of_five_bytes : offset 5 [] 0 ≡ Fault malformed_offset
 unfolding offset
 offset_of_five_bytes = refl
 
@@ -128,6 +129,6 @@ pub four_bytes : header (1 ∷ 0 ∷ 4 ∷ 2 ∷ []) 0 ≡ Got (record { major =
 unfolding header unsigned slice
 four_bytes = refl
 
-pub short_header : header (1 ∷ 0 ∷ 4 ∷ []) 0 ≡ Fault 1
+pub short_header : header (1 ∷ 0 ∷ 4 ∷ []) 0 ≡ Fault unexpected_eof
 unfolding header unsigned slice
 short_header = refl

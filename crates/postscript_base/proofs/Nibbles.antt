@@ -1,17 +1,21 @@
 -- Texts of reals, nibble by nibble.
 use Rattle.std.proofs.lemmas.List.{append-nil, drop-drop}
-use Rattle.std.proofs.Common.{◌≡◌, ◌⊎◌, inl, inr, refl, sym, ap, subst, ◌∙◌, ℕ, suc, ◌+◌, ◌-◌, ◌/◌, ◌%◌, ◌≤◌, Bool, true, false, List, [], ◌∷◌, ◌++◌, length, take, drop, ◌==◌, Option, Some, None, append_assoc, length-drop, arith, if◌then◌else◌}
+use Rattle.std.proofs.Common.{◌≡◌, ◌≢◌, refl, sym, ap, subst, ◌∙◌, ℕ, suc, ◌+◌, ◌-◌, ◌/◌, ◌%◌, ◌≤◌, Bool, true, false, List, [], ◌∷◌, ◌++◌, length, take, drop, ◌==◌, Option, Some, None, append_assoc, length-drop, arith, if◌then◌else◌}
 use Rattle.std.specs.Prelude.{flat_map}
 use Rattle.std.specs.List.{prefix_len}
 use Rattle.std.proofs.lemmas.Grind.{common_steps}
 use Rattle.std.proofs.lemmas.Bool.Decides.{nat_tests}
+use Rattle.postscript_base.specs.Refusal.{unexpected_eof, malformed_number}
+use Rattle.postscript_base.specs.declared.error.Error.{Error}
+use Rattle.postscript_base.specs.declared.error.Error.TheVariants.{Memory}
+use Rattle.postscript_base.proofs.Outcomes.{refused_after}
 use Rattle.postscript_base.specs.Outcome.{Outcome, Got, Fault, Past, after, end, RefusedAs}
 use Rattle.postscript_base.specs.Numbers.{slice, number}
 use Rattle.postscript_base.specs.Nibbles.{one_byte, one_nibble, step, step_of, then_low}
 use Rattle.postscript_base.specs.Reals.{ended_by, is_in_text, nibbles, symbols, text_of_real}
 
 abbrev stepped : Option (Bool × List ℕ) → ℕ → (List ℕ → Outcome (List ℕ)) → Outcome (List ℕ)
-stepped None next more = Fault 7
+stepped None next more = Fault malformed_number
 stepped (Some step) next more = if step.0 then Got step.1 next else more step.1
 
 -- the text that bytes spell behind a text
@@ -29,7 +33,7 @@ pub byte_at : (bytes xs : List ℕ) (place b : ℕ) → b ∷ xs ≡ drop place 
 unfolding number slice
 byte_at bytes xs place b e = let long : length bytes - place ≡ suc (length xs) = sym (length-drop place bytes) ∙ ap length (sym e) in rw (← e, long) (grind (arith, common_steps, nat_tests))
 
-pub byte_none : (bytes : List ℕ) (place : ℕ) → [] ≡ drop place bytes → number 1 bytes place ≡ Fault 1
+pub byte_none : (bytes : List ℕ) (place : ℕ) → [] ≡ drop place bytes → number 1 bytes place ≡ Fault unexpected_eof
 unfolding number slice
 byte_none bytes place e = let long : length bytes - place ≡ 0 = sym (length-drop place bytes) ∙ ap length (sym e) in rw (long) refl
 
@@ -59,13 +63,8 @@ text_ends : (text bytes : List ℕ) (place : ℕ) (whole : List ℕ) (next : ℕ
     text_behind text (drop place bytes) place ≡ Got whole next
 text_ends text bytes place whole next e = text_steps text bytes place ∙ ap (λ o. after o (go_on bytes)) e
 
-text_refused : (text bytes : List ℕ) (place k : ℕ) → RefusedAs k (step text bytes place) → RefusedAs k (text_behind text (drop place bytes) place)
-text_refused text bytes place k h = λ other. by (h other)
-  where
-    by : (step text bytes place ≡ Fault k) ⊎ ((step text bytes place ≡ Past) × (k ≤ 2)) →
-        (text_behind text (drop place bytes) place ≡ Fault k) ⊎ ((text_behind text (drop place bytes) place ≡ Past) × (k ≤ 2))
-    by (inl e) = inl (text_steps text bytes place ∙ ap (λ o. after o (go_on bytes)) e)
-    by (inr e) = inr (text_steps text bytes place ∙ ap (λ o. after o (go_on bytes)) e.0, e.1)
+text_refused : (text bytes : List ℕ) (place : ℕ) (e : Error) → RefusedAs e (step text bytes place) → RefusedAs e (text_behind text (drop place bytes) place)
+text_refused text bytes place e h = subst (RefusedAs e) (sym (text_steps text bytes place)) (refused_after _ _ e h)
 
 at_once : (text : List ℕ) (high low : ℕ) (rest : List ℕ) (place : ℕ) (more : List ℕ → Outcome (List ℕ)) → is_in_text high ≡ false →
     stepped (then_low (one_nibble text high) low) (place + 1) more ≡ finished text (high ∷ low ∷ rest) place
@@ -128,13 +127,13 @@ pub ends : (whole : Outcome (List ℕ)) (text here bytes : List ℕ) (place : �
 ends whole text here bytes place ended more next so_far same test e =
     so_far ∙ text_ends text bytes place more next (subst (λ b. step text bytes place ≡ Got (b, more) next) test (subst (λ bs. step text bs place ≡ Got (ended, more) next) same e))
 
-pub refused : (whole : Outcome (List ℕ)) (text here bytes : List ℕ) (place k : ℕ) → whole ≡ text_behind text (drop place bytes) place → here ≡ bytes →
-    RefusedAs k (step text here place) → RefusedAs k whole
-refused whole text here bytes place k so_far same h = subst (RefusedAs k) (sym so_far) (text_refused text bytes place k (subst (λ bs. RefusedAs k (step text bs place)) same h))
+pub refused : (whole : Outcome (List ℕ)) (text here bytes : List ℕ) (place : ℕ) (e : Error) → whole ≡ text_behind text (drop place bytes) place → here ≡ bytes →
+    (e ≢ Memory → RefusedAs e (step text here place)) → e ≢ Memory → RefusedAs e whole
+refused whole text here bytes place e so_far same h other = subst (RefusedAs e) (sym so_far) (text_refused text bytes place e (subst (λ bs. RefusedAs e (step text bs place)) same (h other)))
 
 pub byte_front : (bytes : List ℕ) (place b next : ℕ) → number 1 bytes place ≡ Got b next → take 1 (drop place bytes) ≡ b ∷ []
 byte_front bytes place b next e = by (drop place bytes) refl
   where
     by : (xs : List ℕ) → xs ≡ drop place bytes → take 1 xs ≡ b ∷ []
-    by [] h = let is : Fault 1 ≡ Got b next = sym (byte_none bytes place h) ∙ e in absurd (cc)
+    by [] h = let is : Fault unexpected_eof ≡ Got b next = sym (byte_none bytes place h) ∙ e in absurd (cc)
     by (x ∷ xs) h = let is : Got x (place + 1) ≡ Got b next = sym (byte_at bytes xs place x h) ∙ e in let same : x ≡ b = cc in ap (λ y. y ∷ []) same

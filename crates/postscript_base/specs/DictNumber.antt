@@ -1,5 +1,6 @@
 -- Numbers of dictionaries: integers and reals (Technical Note 5176, "DICT Data", Table 3).
 use Rattle.std.specs.Prelude.{◌≢◌, ℕ, ◌*◌, ℤ, pos, ◌+ℤ◌, ◌-ℤ◌, ◌*ℤ◌, [], ◌∷◌, take, drop, ◌==◌, nat_lt, if◌then◌else◌}
+use Rattle.postscript_base.specs.Refusal.{malformed_number}
 use Rattle.postscript_base.specs.Outcome.{Reading, ◌>>=◌, pure, fault}
 use Rattle.postscript_base.specs.Numbers.{number as unsigned}
 use Rattle.postscript_base.specs.Decimal.{Decimal, canonical}
@@ -27,11 +28,11 @@ begun first =
     if first == 0x1c then (unsigned 2 >>= λ n. pure (whole (two_sided 0x8000 n)))
     else if first == 0x1d then (unsigned 4 >>= λ n. pure (whole (two_sided 0x80000000 n)))
     else if first == 0x1e then real
-    else if nat_lt first 0x20 then fault 7
+    else if nat_lt first 0x20 then fault malformed_number
     else if nat_lt first 0xf7 then pure (whole (pos first -ℤ pos 139))
     else if nat_lt first 0xfb then (unsigned 1 >>= λ second. pure (whole (above first second)))
     else if nat_lt first 0xff then (unsigned 1 >>= λ second. pure (whole (below first second)))
-    else fault 7
+    else fault malformed_number
 
 unfoldable pub number : Reading Decimal
 number = unsigned 1 >>= begun

@@ -1,11 +1,14 @@
+pub mod Refusal
 pub mod Error
 pub mod Outcome
 pub mod Tape
 pub mod Numbers
 pub mod Many
+pub mod At
 pub mod Cursor
 pub mod Offset
 pub mod Header
+pub mod Operators
 pub mod Decimal
 pub mod Significant
 pub mod Reals

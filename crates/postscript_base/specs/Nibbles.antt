@@ -1,6 +1,7 @@
 -- How the text of a real grows, nibble by nibble.
 use Rattle.std.specs.Prelude.{ℕ, ◌/◌, ◌%◌, Bool, true, false, List, ◌++◌, Option, Some, None, ◌==◌, if◌then◌else◌}
 use Rattle.postscript_base.specs.Numbers.{number}
+use Rattle.postscript_base.specs.Refusal.{malformed_number}
 use Rattle.postscript_base.specs.Outcome.{Reading, ◌>>=◌, pure, fault}
 use Rattle.postscript_base.specs.Reals.{symbols}
 
@@ -17,7 +18,7 @@ abbrev pub one_byte : List ℕ → ℕ → Option (Bool × List ℕ)
 one_byte text byte = then_low (one_nibble text (byte / 16)) (byte % 16)
 
 abbrev pub step_of : Option (Bool × List ℕ) → Reading (Bool × List ℕ)
-step_of None = fault 7
+step_of None = fault malformed_number
 step_of (Some step) = pure step
 
 -- one byte of a text

@@ -1,6 +1,7 @@
 -- Reals of dictionaries: their text, and its value (Technical Note 5176, "DICT Data", Table 5).
 use Rattle.std.specs.Prelude.{◌≡◌, ℕ, ◌<◌, ◌+◌, ◌/◌, ◌%◌, Bool, true, false, not, ◌&&◌, ◌||◌, List, [], ◌∷◌, ◌++◌, length, take, drop, take_while, flat_map, Option, Some, None, IfSome, ◌==◌, nat_lt, if◌then◌else◌}
 use Rattle.std.specs.List.{prefix_len}
+use Rattle.postscript_base.specs.Refusal.{malformed_number, out_of_range_number}
 use Rattle.postscript_base.specs.Outcome.{Outcome, Got, Fault, Reading, end, ◌>>=◌, pure, fault}
 use Rattle.postscript_base.specs.Decimal.{Decimal, IsDigits, operand_of, real_value}
 
@@ -111,7 +112,7 @@ symbols nibble = if nibble == 12 then 11 ∷ 14 ∷ [] else nibble ∷ []
 -- a text and the next place, by the nibbles that stand behind the text
 abbrev pub ended_by : List ℕ → List ℕ → ℕ → Outcome (List ℕ)
 ended_by [] text next = end
-ended_by (nibble ∷ _) text next = if nibble == 15 then Got text next else Fault 7
+ended_by (nibble ∷ _) text next = if nibble == 15 then Got text next else Fault malformed_number
 
 -- the text of a real, and the place behind the byte in which it ends
 unfoldable pub text_of_real : Reading (List ℕ)
@@ -123,10 +124,10 @@ text_of_real bytes place =
 -- the operand of a real that is spelled, and the refusals where there is none
 abbrev pub operand_if : Option Decimal → Reading Decimal
 operand_if (Some operand) = pure operand
-operand_if None = fault 8
+operand_if None = fault out_of_range_number
 
 abbrev pub valued : Option Real → Reading Decimal
-valued None = fault 7
+valued None = fault malformed_number
 valued (Some r) = operand_if (operand_of (value_of r).mantissa (value_of r).exponent)
 
 unfoldable pub real : Reading Decimal

@@ -5,6 +5,7 @@ mod laws;
 pub mod number;
 mod offset;
 mod operand;
+mod operator;
 mod significant;
 mod text;
 
@@ -12,6 +13,7 @@ pub use header::Header;
 pub use laws::{are_equal, hash_alike};
 pub use offset::{Offset, OffsetSize};
 pub use operand::Operand;
+pub use operator::Operator;
 
 /// A glyph's place in a font.
 pub type GlyphID = u16;

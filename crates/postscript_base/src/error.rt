@@ -3,6 +3,7 @@ ghost use Rattle.std.specs.Prelude.{◌≡◌};
 ghost use Rattle.postscript_base.specs.Error.{code, FromIo};
 ghost use Rattle.postscript_base.specs.declared.error.Error.TheVariants as errors;
 
+use crate::compact1::Operator;
 use std::alloc::{AllocError, AllocFailed};
 use std::io;
 use thiserror::Error;
@@ -22,6 +23,9 @@ pub enum Error {
     /// A growth was refused.
     #[error("failed to find memory")]
     Memory,
+    /// The tape goes on, and its place does not rise.
+    #[error("found a tape that stands still")]
+    TapeStuck,
     /// An offset has no such size.
     #[error("found a malformed offset")]
     MalformedOffset,
@@ -34,6 +38,12 @@ pub enum Error {
     /// The code names no operator.
     #[error("found an unknown operator")]
     UnknownOperator,
+    /// An operand of this operator is no whole number in the range of `i32`.
+    #[error("found a malformed operation with operator {}", .0.name())]
+    MalformedOperation(Operator),
+    /// This operator is missing, or has too few operands.
+    #[error("failed to find an operation with operator {}", .0.name())]
+    MissingOperation(Operator),
     /// A part of the format that this library does not follow.
     #[error("found an unsupported part")]
     Unsupported(Part),
@@ -101,10 +111,13 @@ impl Error {
             Error::UnexpectedEof => 1,
             Error::Io(_) => 2,
             Error::Memory => 3,
+            Error::TapeStuck => 4,
             Error::MalformedOffset => 5,
             Error::MalformedNumber => 7,
             Error::OutOfRangeNumber => 8,
             Error::UnknownOperator => 9,
+            Error::MalformedOperation(_) => 13,
+            Error::MissingOperation(_) => 14,
             Error::Unsupported(_) => 16,
             Error::ExpectedOperand => 17,
             Error::ExpectedInteger => 18,

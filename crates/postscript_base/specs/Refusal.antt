@@ -1,0 +1,137 @@
+-- What refuses a reading, ends a run or refuses an operator, with what it names.
+use Rattle.std.specs.Prelude.{ℕ}
+use Rattle.postscript_base.specs.declared.compact1.operator.Operator.{Operator}
+use Rattle.postscript_base.specs.declared.error.Error.{Error}
+use Rattle.postscript_base.specs.declared.error.Error.TheVariants as errors
+use Rattle.postscript_base.specs.declared.error.Part.{Part}
+
+-- A refusal: its number alone; or the part of the formats that is not followed, or the operator of a dictionary whose
+-- operands are malformed or that is missing.
+pub data Refusal : Type 0 where
+  Numbered : ℕ → Refusal
+  OfPart : Part → Refusal
+  OfMalformed : Operator → Refusal
+  OfMissing : Operator → Refusal
+
+-- bytes were wanting, or the tape answered a fault of this kind
+abbrev pub unexpected_eof : Refusal
+unexpected_eof = Numbered 1
+
+-- the tape answered a fault of another kind
+abbrev pub io : Refusal
+io = Numbered 2
+
+-- a growth was refused
+abbrev pub memory : Refusal
+memory = Numbered 3
+
+-- the place does not rise
+abbrev pub tape_stuck : Refusal
+tape_stuck = Numbered 4
+
+-- an offset has no such size
+abbrev pub malformed_offset : Refusal
+malformed_offset = Numbered 5
+
+-- the bytes spell no number
+abbrev pub malformed_number : Refusal
+malformed_number = Numbered 7
+
+-- the number has no operand
+abbrev pub out_of_range_number : Refusal
+out_of_range_number = Numbered 8
+
+-- the code names no operator
+abbrev pub unknown_operator : Refusal
+unknown_operator = Numbered 9
+
+-- a pop of an empty stack
+abbrev pub expected_operand : Refusal
+expected_operand = Numbered 17
+
+-- a pop of an empty stack, or of a number that is not whole
+abbrev pub expected_integer : Refusal
+expected_integer = Numbered 18
+
+-- fewer operands are on the stack than an operator names
+abbrev pub expected_more_operands : Refusal
+expected_more_operands = Numbered 19
+
+-- no length that the operator takes fits on the stack
+abbrev pub malformed_operands : Refusal
+malformed_operands = Numbered 20
+
+-- an operand that the operator cannot follow
+abbrev pub invalid_operand : Refusal
+invalid_operand = Numbered 21
+
+-- no subroutine has the number
+abbrev pub missing_subroutine : Refusal
+missing_subroutine = Numbered 22
+
+-- a return in the outermost code
+abbrev pub return_without_caller : Refusal
+return_without_caller = Numbered 23
+
+-- bytes follow in a routine that EndChar ends
+abbrev pub trailing_data : Refusal
+trailing_data = Numbered 24
+
+-- one nested call more than may be
+abbrev pub too_deep : Refusal
+too_deep = Numbered 25
+
+-- a number beyond the range of operands
+abbrev pub overflow : Refusal
+overflow = Numbered 26
+
+-- a division by zero
+abbrev pub zero_divisor : Refusal
+zero_divisor = Numbered 27
+
+-- the root of a negative number
+abbrev pub negative_root : Refusal
+negative_root = Numbered 28
+
+-- more stems than 32 bits count
+abbrev pub too_many_stems : Refusal
+too_many_stems = Numbered 29
+
+-- an earlier call of the program was refused
+abbrev pub already_failed : Refusal
+already_failed = Numbered 30
+
+-- the refusal that an error tells
+abbrev pub refusal_of : Error → Refusal
+refusal_of errors.UnexpectedEof = unexpected_eof
+refusal_of (errors.Io fault) = io
+refusal_of errors.Memory = memory
+refusal_of errors.TapeStuck = tape_stuck
+refusal_of errors.MalformedOffset = malformed_offset
+refusal_of errors.MalformedNumber = malformed_number
+refusal_of errors.OutOfRangeNumber = out_of_range_number
+refusal_of errors.UnknownOperator = unknown_operator
+refusal_of (errors.MalformedOperation operator) = OfMalformed operator
+refusal_of (errors.MissingOperation operator) = OfMissing operator
+refusal_of (errors.Unsupported part) = OfPart part
+refusal_of errors.ExpectedOperand = expected_operand
+refusal_of errors.ExpectedInteger = expected_integer
+refusal_of errors.ExpectedMoreOperands = expected_more_operands
+refusal_of errors.MalformedOperands = malformed_operands
+refusal_of errors.InvalidOperand = invalid_operand
+refusal_of errors.MissingSubroutine = missing_subroutine
+refusal_of errors.ReturnWithoutCaller = return_without_caller
+refusal_of errors.TrailingData = trailing_data
+refusal_of errors.TooDeep = too_deep
+refusal_of errors.Overflow = overflow
+refusal_of errors.ZeroDivisor = zero_divisor
+refusal_of errors.NegativeRoot = negative_root
+refusal_of errors.TooManyStems = too_many_stems
+refusal_of errors.AlreadyFailed = already_failed
+
+-- the number of a refusal
+abbrev pub number_of : Refusal → ℕ
+number_of (Numbered number) = number
+number_of (OfMalformed operator) = 13
+number_of (OfMissing operator) = 14
+number_of (OfPart part) = 16
