@@ -1,10 +1,12 @@
 pub mod Refusal
 pub mod Error
 pub mod Outcome
+pub mod Seen
 pub mod Tape
 pub mod Numbers
-pub mod Many
+pub mod Loops
 pub mod At
+pub mod Onward
 pub mod Cursor
 pub mod Offset
 pub mod Header

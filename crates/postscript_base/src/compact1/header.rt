@@ -1,6 +1,7 @@
 //! The header.
 ghost use Rattle.std.specs.Prelude.{[], ◌∷◌};
 ghost use Rattle.postscript_base.specs.Outcome.{same};
+ghost use Rattle.postscript_base.specs.Seen.{each_as_it_is};
 
 use super::OffsetSize;
 use crate::error::Result;
@@ -29,6 +30,10 @@ impl Value for Header {
     ghost Shown = { Header };
 
     ghost view = { same };
+
+    ghost views = { same };
+
+    ghost views_each = { each_as_it_is };
 
     ghost reading = { header };
 

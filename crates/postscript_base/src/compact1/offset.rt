@@ -1,5 +1,5 @@
 //! Offsets.
-ghost use Rattle.std.specs.Prelude.{ℕ, List, [], ◌∷◌};
+ghost use Rattle.std.specs.Prelude.{ℕ, List, [], ◌∷◌, map, refl};
 ghost use Rattle.postscript_base.specs.Error.{IsListed};
 ghost use Rattle.postscript_base.specs.Numbers.{number};
 ghost use Rattle.postscript_base.specs.Offset.{offset};
@@ -26,6 +26,10 @@ impl Walue for Offset {
     ghost Shown = { ℕ };
 
     ghost view = { λ offset. offset.0 };
+
+    ghost views = { map (λ offset. offset.0) };
+
+    ghost views_each = { λ _. refl };
 
     ghost reading = { offset };
 

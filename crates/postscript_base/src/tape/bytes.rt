@@ -1,5 +1,5 @@
 //! So many bytes, as a list.
-ghost use Rattle.std.specs.Prelude.{◌≡◌, ℕ, ◌+◌, ◌<◌, ◌^◌, List, [], ◌∷◌, OnOk, vec_len};
+ghost use Rattle.std.specs.Prelude.{◌≡◌, ℕ, ◌+◌, ◌<◌, ◌^◌, List, [], ◌∷◌, OnOk, vec_len, map, refl};
 ghost use Rattle.postscript_base.specs.Error.{IsListed};
 ghost use Rattle.postscript_base.specs.Tape.{Reads};
 ghost use Rattle.postscript_base.specs.Numbers.{slice, slice_behind};
@@ -19,6 +19,10 @@ impl Walue for Vec<u8> {
     ghost Shown = { List ℕ };
 
     ghost view = { λ bytes. bytes.items };
+
+    ghost views = { map (λ bytes. bytes.items) };
+
+    ghost views_each = { λ _. refl };
 
     ghost reading = { slice };
 

@@ -1,6 +1,7 @@
 //! Values of a fixed number of bytes.
 ghost use Rattle.std.specs.Prelude.{ℕ, List, [], ◌∷◌};
 ghost use Rattle.postscript_base.specs.Outcome.{same};
+ghost use Rattle.postscript_base.specs.Seen.{each_as_it_is};
 ghost use Rattle.postscript_base.specs.Numbers.{slice, number};
 
 use super::{Tape, Value, fixed};
@@ -12,6 +13,10 @@ impl Value for u8 {
     ghost Shown = { ℕ };
 
     ghost view = { same };
+
+    ghost views = { same };
+
+    ghost views_each = { each_as_it_is };
 
     ghost reading = { number 1 };
 
@@ -29,6 +34,10 @@ impl Value for u16 {
 
     ghost view = { same };
 
+    ghost views = { same };
+
+    ghost views_each = { each_as_it_is };
+
     ghost reading = { number 2 };
 
     ghost refusals = { 1 ∷ 2 ∷ [] };
@@ -44,6 +53,10 @@ impl Value for u32 {
 
     ghost view = { same };
 
+    ghost views = { same };
+
+    ghost views_each = { each_as_it_is };
+
     ghost reading = { number 4 };
 
     ghost refusals = { 1 ∷ 2 ∷ [] };
@@ -57,6 +70,10 @@ impl Value for [u8; 3] {
     ghost Shown = { List ℕ };
 
     ghost view = { same };
+
+    ghost views = { same };
+
+    ghost views_each = { each_as_it_is };
 
     ghost reading = { slice 3 };
 

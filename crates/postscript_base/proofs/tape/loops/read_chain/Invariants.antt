@@ -1,0 +1,13 @@
+use Rattle.std.proofs.Common.{◌≡◌, ◌-◌}
+use Rattle.postscript_base.specs.Tape.{IsHonest, Kept}
+use Rattle.postscript_base.specs.Loops.{chain}
+use Rattle.postscript_base.proofs.Repeats.{with_front}
+use Rattle.postscript_base.proofs.tape.loops.read_chain.Given as goal
+
+-- what is read and what is still read make the whole
+abbrev pub invariant-loop : goal.invariant-loop
+invariant-loop g l =
+    let old = g.T.ReadSeek.state l.fn.tape in
+    let new = g.T.ReadSeek.state l.tape in
+    IsHonest old → Kept old new
+    × (with_front (g.W.Linked.views l.values.items) (chain g.W.Linked.reading g.W.Linked.left l.given (l.count - l.counter) old.bytes new.place) ≡ chain g.W.Linked.reading g.W.Linked.left l.fn.first l.fn.count old.bytes old.place)

@@ -1,0 +1,51 @@
+use Rattle.std.proofs.Common.{◌≡◌, ◌<◌, ap, sym, subst, ◌∙◌, length, arith}
+use Rattle.std.proofs.lemmas.Result.{err_from_is_err_and}
+use Rattle.postscript_base.specs.Outcome.{Got}
+use Rattle.postscript_base.specs.Onward.{MovesOn}
+use Rattle.postscript_base.proofs.Repeats.{asked, views_push, views_none, end_starts, end_goes_on, end_refused, end_done}
+use Rattle.postscript_base.proofs.tape.loops.read_to_end.Goals as goal
+
+pub values-init : goal.values-init
+values-init g c = λ honest.
+    let place = c.in_ok-place.ensures.exact honest in
+    let at = asked _ _ _ place.1 in
+    (place.0, at.1 ∙ sym at.0, rw at.1 (end_starts _ _ _ _ (views_none g.V.Value.view g.V.Value.views g.met.V.Value.views_each _ c.new-values.ensures.items)))
+
+pub returns-in_err-value-clause-exact : goal.returns-in_err-value-clause-exact
+returns-in_err-value-clause-exact g c = λ honest.
+    let so_far = c.values.invariant honest in
+    let next = c.in_err-value.ensures.exact so_far.0.0 in
+    let here = rw (so_far.0.1) at next.1 in
+    let error = err_from_is_err_and c.from_residual-in_err-value.result c.from_residual-in_err-value.ensures.1 in
+    ((next.0.0, next.0.1 ∙ so_far.0.1), rw (error.1, error.2) (λ other. end_refused _ _ _ _ _ _ c.requires (here other).0 (here other).1 so_far.2))
+
+-- the place of an honest tape rises
+pub returns-then-reached-place-clause-exact : goal.returns-then-reached-place-clause-exact
+returns-then-reached-place-clause-exact g c = λ honest.
+    let so_far = c.values.invariant honest in
+    let next = c.in_ok-value.ensures.exact so_far.0.0 in
+    let here = rw (so_far.0.1, c.in-Some.is) at next.1 in
+    let place = c.in_ok-reached.ensures.exact next.0.0 in
+    let at = asked _ _ _ place.1 in
+    let moved = subst (MovesOn _ _) here (c.requires _ _) in
+    absurd (omega (arith, at.0, so_far.1, moved.0))
+
+pub values-preserved : goal.values-preserved
+values-preserved g c = λ honest.
+    let so_far = c.values.invariant honest in
+    let next = c.in_ok-value.ensures.exact so_far.0.0 in
+    let here = rw (so_far.0.1, c.in-Some.is) at next.1 in
+    let place = c.in_ok-reached.ensures.exact next.0.0 in
+    let at = asked _ _ _ place.1 in
+    let longer = views_push g.V.Value.view g.V.Value.views g.met.V.Value.views_each c.values.values.items c.in-Some.value _ c.in_ok-push.ensures.items in
+    ((place.0.0, place.0.1 ∙ next.0.1 ∙ so_far.0.1), at.1 ∙ sym at.0, rw (longer, at.1) (end_goes_on _ _ _ _ _ _ _ c.requires here so_far.2))
+
+pub returns-clause-exact : goal.returns-clause-exact
+returns-clause-exact g c = λ honest.
+    let so_far = c.values.invariant honest in
+    let next = c.in_ok-value.ensures.exact so_far.0.0 in
+    let here = rw (so_far.0.1, c.in_default.is) at next.1 in
+    let ended = c.in_ok-go_to_end.ensures.exact next.0.0 in
+    let at = asked _ _ _ ended.1 in
+    let same = next.0.1 ∙ so_far.0.1 in
+    ((ended.0.0, ended.0.1 ∙ same), end_done _ _ _ _ _ here so_far.2 ∙ ap (Got (g.V.Value.views c.values.values.items)) (sym (at.1 ∙ ap length same)))

@@ -1,0 +1,214 @@
+//! Values one after the other.
+ghost use Rattle.std.specs.Prelude.{◌≡◌, ℕ, Bool, List, [], ◌∷◌, length, map};
+ghost use Rattle.postscript_base.specs.Error.{IsListed};
+ghost use Rattle.postscript_base.specs.Outcome.{Reading, Got, same};
+ghost use Rattle.postscript_base.specs.Onward.{TakesBytes};
+ghost use Rattle.postscript_base.specs.Tape.{Reads, IsHonest, Kept};
+ghost use Rattle.postscript_base.specs.Loops.{many, chain, until, to_end, each, IsNext};
+
+use super::{Tape, Value};
+use crate::error::{Error, Result};
+use std::alloc::Global;
+use std::io::SeekFrom;
+
+/// Reads so many values, one after the other. The list grows as they come.
+pub fn read_many<V: Value + Drop, T: Tape>(
+    alloc: Global,
+    tape: &mut T,
+    count: usize,
+) -> Result<Vec<V>>
+    ensures exact { Reads (λ values. V.views values.items) (T.state tape.old) result (T.state tape.new)
+        (many V.reading count) }
+    ensures listed { IsListed (3 ∷ V.refusals) result }
+{
+    let mut values = Vec::new(alloc);
+    for _ in 0..count {
+        let value = V::read(alloc, tape)?;
+        values.push(value)?;
+    }
+    Ok(values)
+}
+
+/// A value that is read given what the ones before it leave.
+pub trait Linked: Sized {
+    /// What a reading is given.
+    type Given: Copy;
+
+    /// What a contract sees of a value.
+    ghost Shown: { Type 0 };
+
+    ghost view: { Self → Shown };
+
+    /// What a contract sees of a list of values: each as it is seen.
+    ghost views: { List Self → List Shown };
+
+    /// What a reading gives, by what it is given, the bytes and the place.
+    ghost reading: { Self.Given → Reading Shown };
+
+    /// The numbers of the refusals that a reading may answer. Without 3 it takes no memory.
+    ghost refusals: { List ℕ };
+
+    /// What a value leaves of what it was given.
+    ghost left: { Self.Given → Shown → Self.Given };
+
+    /// Reads a value.
+    fn read<T: Tape>(alloc: Global, tape: &mut T, given: Self::Given) -> Result<Self>
+        ensures exact { Reads view (T.state tape.old) result (T.state tape.new) (reading given) }
+        ensures listed { IsListed refusals result };
+
+    /// What this value leaves of what it was given.
+    fn left(&self, given: Self::Given) -> Self::Given
+        ensures { result ≡ left given (view self.now) };
+
+    ghost views_each: { (xs : List Self) → views xs ≡ map view xs };
+}
+
+/// Reads so many values, each given what the ones before it leave.
+pub fn read_chain<W: Linked + Drop, T: Tape>(
+    alloc: Global,
+    tape: &mut T,
+    first: W::Given,
+    count: usize,
+) -> Result<Vec<W>>
+    ensures exact { Reads (λ values. W.views values.items) (T.state tape.old) result (T.state tape.new)
+        (chain W.reading W.left first count) }
+    ensures listed { IsListed (3 ∷ W.refusals) result }
+{
+    let mut values = Vec::new(alloc);
+    let mut given = first;
+    for _ in 0..count {
+        let value = W::read(alloc, tape, given)?;
+        given = value.left(given);
+        values.push(value)?;
+    }
+    Ok(values)
+}
+
+/// A value that is read until a test holds of what the ones before it leave.
+pub trait Until: Linked {
+    ghost is_last: { Self.Given → Bool };
+
+    /// Whether no value is read any more.
+    fn is_last(given: Self::Given) -> bool
+        ensures { result ≡ is_last given };
+}
+
+/// Reads values, each given what the ones before it leave, until none is read any more.
+pub fn read_until<W: Until + Drop, T: Tape>(
+    alloc: Global,
+    tape: &mut T,
+    first: W::Given,
+) -> Result<Vec<W>>
+    requires { (given : W.Given) → TakesBytes (W.reading given) }
+    ensures exact { Reads (λ values. W.views values.items) (T.state tape.old) result (T.state tape.new)
+        (until W.is_last W.reading W.left first) }
+    ensures listed { IsListed (3 ∷ W.refusals) result }
+{
+    let mut values = Vec::new(alloc);
+    let mut given = first;
+    'values: while !W::is_last(given) {
+        let value = W::read(alloc, tape, given)?;
+        given = value.left(given);
+        values.push(value)?;
+    }
+    Ok(values)
+}
+
+/// Reads values up to the end of the tape, where one that is cut by the end is none. The tape then stands at the end.
+///
+/// Refused: `TapeStuck` where the place of the tape does not rise, what the reading of a value is refused with, `Io`,
+/// `Memory`, and `UnexpectedEof` from a seek.
+pub fn read_to_end<V: Value + Drop, T: Tape>(alloc: Global, tape: &mut T) -> Result<Vec<V>>
+    requires { TakesBytes V.reading }
+    ensures exact { Reads (λ values. V.views values.items) (T.state tape.old) result (T.state tape.new)
+        (to_end V.reading) }
+    ensures listed { IsListed (1 ∷ 2 ∷ 3 ∷ 4 ∷ V.refusals) result }
+{
+    let mut values = Vec::new(alloc);
+    let mut place = tape.position()?;
+    'values: while let Some(value) = next::<V, T>(alloc, tape)? {
+        values.push(value)?;
+        let reached = tape.position()?;
+        if reached <= place {
+            return Err(Error::TapeStuck);
+        }
+        place = reached;
+    }
+    go_to_end(tape)?;
+    Ok(values)
+}
+
+/// Reads a value, or nothing where it is cut by the end.
+fn next<V: Value, T: Tape>(alloc: Global, tape: &mut T) -> Result<Option<V>>
+    requires { TakesBytes V.reading }
+    ensures exact { IsHonest (T.state tape.old) → Kept (T.state tape.old) (T.state tape.new)
+        × IsNext V.view result (T.state tape.new).place (V.reading (T.state tape.old).bytes (T.state tape.old).place) }
+    ensures listed { IsListed V.refusals result }
+{
+    match V::read(alloc, tape) {
+        Ok(value) => Ok(Some(value)),
+        Err(Error::UnexpectedEof) => Ok(None),
+        Err(error) => Err(error),
+    }
+}
+
+/// Goes to the end, and answers its place.
+fn go_to_end<T: Tape>(tape: &mut T) -> Result<u64>
+    ensures exact { Reads same (T.state tape.old) result (T.state tape.new) (λ bytes _. Got (length bytes) (length bytes)) }
+    ensures listed { IsListed (1 ∷ 2 ∷ []) result }
+{
+    Ok(tape.seek_to(SeekFrom::End(0))?)
+}
+
+/// What a value is read for.
+pub trait Source {
+    /// What all of a list are read with.
+    type Given: Copy;
+
+    type Value: Drop;
+
+    /// What a contract sees of a source.
+    ghost Seen: { Type 0 };
+
+    ghost seen: { Self → Seen };
+
+    /// What a contract sees of a value.
+    ghost Shown: { Type 0 };
+
+    ghost view: { Self.Value → Shown };
+
+    /// What a contract sees of a list of values: each as it is seen.
+    ghost views: { List Self.Value → List Shown };
+
+    /// What a reading gives, by what it is given, the source, the bytes and the place.
+    ghost reading: { Self.Given → Seen → Reading Shown };
+
+    /// The numbers of the refusals that a reading may answer. Without 3 it takes no memory.
+    ghost refusals: { List ℕ };
+
+    /// Reads the value for this source.
+    fn read<T: Tape>(&self, alloc: Global, tape: &mut T, given: Self::Given) -> Result<Self::Value>
+        ensures exact { Reads view (T.state tape.old) result (T.state tape.new) (reading given (seen self.now)) }
+        ensures listed { IsListed refusals result };
+
+    ghost views_each: { (xs : List Self.Value) → views xs ≡ map view xs };
+}
+
+/// Reads a value for each of a list, one after the other.
+pub fn read_each<S: Source, T: Tape>(
+    alloc: Global,
+    tape: &mut T,
+    sources: &[S],
+    given: S::Given,
+) -> Result<Vec<S::Value>>
+    ensures exact { Reads (λ values. S.views values.items) (T.state tape.old) result (T.state tape.new)
+        (each (S.reading given) (map S.seen sources.now)) }
+    ensures listed { IsListed (3 ∷ S.refusals) result }
+{
+    let mut values = Vec::new(alloc);
+    for source in sources {
+        let value = source.read(alloc, tape, given)?;
+        values.push(value)?;
+    }
+    Ok(values)
+}
