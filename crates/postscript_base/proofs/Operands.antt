@@ -1,5 +1,5 @@
 -- The operand of a value, and the whole number, as functions.
-use Rattle.std.proofs.Common.{◌≡◌, ◌≢◌, ◌⊎◌, inl, inr, refl, sym, ap, ◌∙◌, ⊎_elim, ℕ, zero, suc, ◌-◌, ◌*◌, ◌/◌, ◌%◌, ◌^◌, ◌<◌, ◌≤◌, ◌==◌, Bool, true, false, ◌&&◌, Option, Some, None, ℤ, pos, negsuc, ◌-ℤ◌, ◌≤ℤ◌, ◌<ℤ◌, arith, nat_lt, if◌then◌else◌}
+use Rattle.std.proofs.Common.{◌≡◌, ◌≢◌, ◌⊎◌, inl, inr, refl, sym, ap, subst, ◌∙◌, ⊎_elim, ℕ, zero, suc, ◌-◌, ◌*◌, ◌/◌, ◌%◌, ◌^◌, ◌<◌, ◌≤◌, ◌==◌, Bool, true, false, ◌&&◌, Option, Some, None, ℤ, pos, negsuc, ◌-ℤ◌, ◌≤ℤ◌, ◌<ℤ◌, arith, nat_lt, if◌then◌else◌}
 use Rattle.std.specs.Prelude.{IfSome, IfNone, int_lt, int_le}
 use Rattle.std.specs.Int.{int_min}
 use Rattle.std.specs.Int.RustNames.{unsigned_abs}
@@ -7,7 +7,7 @@ use Rattle.std.proofs.Math.Nat.{pow-suc, pow-le-pow_right, mul_assoc, mul-le-mul
 use Rattle.std.proofs.lemmas.Bool.{eqb-true, eqb-false, ltb-true, ltb-false}
 use Rattle.std.proofs.lemmas.Bool.Decides.{eqb_tells}
 use Rattle.std.proofs.lemmas.Int.{ints, clamps, by_lt_z}
-use Rattle.postscript_base.specs.Decimal.{Decimal, HasOperand, IsOperand, IsCanonical, IsOf32Bits, IsSameValue, canonical, is_in_range, operand_of, scaled, to_i32, one_zero_more, without_zeros}
+use Rattle.postscript_base.specs.Decimal.{Decimal, HasOperand, IsOperand, IsCanonical, IsOf32Bits, IsSameValue, canonical, is_in_range, operand_of, scaled, to_i32, one_zero_more, without_zeros, FindsOperands, IsOperandOf}
 use Rattle.postscript_base.proofs.Decimals.{abs-scaled, abs-signed, last_zero, IsSameValue-sym, IsSameValue-trans, meets-IsSameValue, one_form, same_decimal, stripped_canonical, stripped_same, tens_few, tens_pos, zero_abs}
 
 record Strips (n : ℕ) (found : ℕ × ℕ) : Type 0 where
@@ -247,3 +247,12 @@ whole_if_some (Some v) d e = elim (i32_tells d) [
 pub none_if_none : (r : Option ℤ) (d : Decimal) → HasOperand d → r ≡ to_i32 d → IfNone r ((v : ℤ) → negsuc (2 ^ 31 - 1) ≤ℤ v → v ≤ℤ pos (2 ^ 31 - 1) → IsSameValue d.mantissa d.exponent v (pos 0) → ⊥)
 none_if_none (Some w) d operand e = tt
 none_if_none None d operand e = λ v low high same. none_whole d v operand (sym e) (record { low = low; high = high }) same
+
+-- the operand of a value is found exactly where there is one
+pub finds_operands : FindsOperands
+finds_operands = record { found = λ value operand. (there value operand, back value operand) }
+  where
+    there : (value operand : Decimal) → operand_of value.mantissa value.exponent ≡ Some operand → IsOperandOf operand value
+    there value operand e = let found = subst (λ r. Finds r value.mantissa value.exponent) e (operand_found value.mantissa value.exponent) in record { in_form = found.some.0; equal = found.some.1 }
+    back : (value operand : Decimal) → IsOperandOf operand value → operand_of value.mantissa value.exponent ≡ Some operand
+    back value operand h = found_once (operand_of value.mantissa value.exponent) (Some operand) value.mantissa value.exponent (operand_found value.mantissa value.exponent) (record { some = (h.in_form, h.equal); none = tt })

@@ -1,5 +1,5 @@
 -- Decimals: their values, their one form, and the operands among them (Technical Note 5176, "DICT Data").
-use Rattle.std.specs.Prelude.{◌≡◌, Bool, true, false, ◌&&◌, ℕ, zero, suc, ◌-◌, ◌/◌, ◌^◌, ◌%◌, ◌<◌, ◌==◌, nat_lt, ℤ, pos, negsuc, ◌+ℤ◌, ◌-ℤ◌, ◌*ℤ◌, ◌≤ℤ◌, neg_ℤ, int_lt, int_le, List, ◌++◌, Option, Some, None, codes, if◌then◌else◌, fold, length, slice_index, ◌*◌, ◌+◌}
+use Rattle.std.specs.Prelude.{◌≡◌, ◌↔◌, Bool, true, false, ◌&&◌, ℕ, zero, suc, ◌-◌, ◌/◌, ◌^◌, ◌%◌, ◌<◌, ◌==◌, nat_lt, ℤ, pos, negsuc, ◌+ℤ◌, ◌-ℤ◌, ◌*ℤ◌, ◌≤ℤ◌, neg_ℤ, int_lt, int_le, List, ◌++◌, Option, Some, None, codes, if◌then◌else◌, fold, length, slice_index, ◌*◌, ◌+◌}
 use Rattle.std.specs.Fmt.{signed_decimal}
 use Rattle.std.specs.Int.{int_min}
 use Rattle.std.specs.Int.RustNames.{unsigned_abs}
@@ -64,6 +64,15 @@ is_in_range d = nat_lt (unsigned_abs d.mantissa) (10 ^ 18) && (int_le (negsuc 99
 -- the operand of a value, where it has one
 unfoldable pub operand_of : ℤ → ℤ → Option Decimal
 operand_of m e = if is_in_range (canonical m e) then Some (canonical m e) else None
+
+-- an operand that stands for a value
+pub record IsOperandOf (operand value : Decimal) : Type 0 where
+  pub in_form : HasOperand operand
+  pub equal : AreEqual operand value
+
+-- The operand of a value is found exactly where there is one, and is the only one.
+pub record FindsOperands : Type 0 where
+  pub found : (value operand : Decimal) → (operand_of value.mantissa value.exponent ≡ Some operand) ↔ IsOperandOf operand value
 
 -- the whole numbers of 32 bits
 pub record IsOf32Bits (v : ℤ) : Type 0 where

@@ -2,7 +2,7 @@
 use Rattle.std.specs.Prelude.{◌≢◌, ℕ, ◌*◌, ℤ, pos, ◌+ℤ◌, ◌-ℤ◌, ◌*ℤ◌, [], ◌∷◌, take, drop, ◌==◌, nat_lt, if◌then◌else◌}
 use Rattle.postscript_base.specs.Refusal.{malformed_number}
 use Rattle.postscript_base.specs.Outcome.{Reading, ◌>>=◌, pure, fault}
-use Rattle.postscript_base.specs.Numbers.{number as unsigned}
+use Rattle.postscript_base.specs.Numbers.{number as unsigned, two_sided, small, above, below}
 use Rattle.postscript_base.specs.Decimal.{Decimal, canonical}
 use Rattle.postscript_base.specs.Reals.{real}
 use Rattle.postscript_base.specs.Tape.{TapeState, IsHonest}
@@ -11,17 +11,6 @@ use Rattle.postscript_base.specs.Tape.{TapeState, IsHonest}
 abbrev pub whole : ℤ → Decimal
 whole n = canonical n (pos 0)
 
--- a number of twice so many values as a signed one: the upper half is negative
-abbrev pub two_sided : ℕ → ℕ → ℤ
-two_sided half n = if nat_lt n half then pos n else pos n -ℤ pos (2 * half)
-
--- the whole numbers of two bytes, from 108 on and from -108 down
-abbrev pub above : ℕ → ℕ → ℤ
-above first second = (pos first -ℤ pos 247) *ℤ pos 256 +ℤ pos second +ℤ pos 108
-
-abbrev pub below : ℕ → ℕ → ℤ
-below first second = (pos 251 -ℤ pos first) *ℤ pos 256 -ℤ pos second -ℤ pos 108
-
 -- what a first byte begins
 abbrev pub begun : ℕ → Reading Decimal
 begun first =
@@ -29,7 +18,7 @@ begun first =
     else if first == 0x1d then (unsigned 4 >>= λ n. pure (whole (two_sided 0x80000000 n)))
     else if first == 0x1e then real
     else if nat_lt first 0x20 then fault malformed_number
-    else if nat_lt first 0xf7 then pure (whole (pos first -ℤ pos 139))
+    else if nat_lt first 0xf7 then pure (whole (small first))
     else if nat_lt first 0xfb then (unsigned 1 >>= λ second. pure (whole (above first second)))
     else if nat_lt first 0xff then (unsigned 1 >>= λ second. pure (whole (below first second)))
     else fault malformed_number

@@ -10,8 +10,8 @@ ghost use Rattle.postscript_base.specs.Nibbles.{one_nibble, step as the_step};
 ghost use Rattle.postscript_base.specs.Reals.{after_digits, digits_of, down_of, is_digit, part_at, part_of, power_at, power_of, real_of, signed_part, text_of_real, valued};
 
 use super::digits::of_real;
-use super::number::byte;
 use super::operand::Operand;
+use crate::number::byte;
 use crate::{Error, Result, Tape};
 use std::alloc::Global;
 

@@ -6,9 +6,9 @@ ghost use Rattle.postscript_base.specs.Numbers.{slice, number};
 
 use super::{Tape, Value, fixed};
 use crate::error::Result;
+use crate::number::{byte, long_word, word};
 use std::alloc::Global;
 
-#[tactic(auto, unfolding(crate::specs::Numbers::number))]
 impl Value for u8 {
     ghost Shown = { ℕ };
 
@@ -23,12 +23,10 @@ impl Value for u8 {
     ghost refusals = { 1 ∷ 2 ∷ [] };
 
     fn read<T: Tape>(_alloc: Global, tape: &mut T) -> Result<u8> {
-        let [byte] = fixed::<1, T>(tape)?;
-        Ok(byte)
+        byte(tape)
     }
 }
 
-#[tactic(auto, unfolding(crate::specs::Numbers::number))]
 impl Value for u16 {
     ghost Shown = { ℕ };
 
@@ -43,11 +41,10 @@ impl Value for u16 {
     ghost refusals = { 1 ∷ 2 ∷ [] };
 
     fn read<T: Tape>(_alloc: Global, tape: &mut T) -> Result<u16> {
-        Ok(u16::from_be_bytes(fixed(tape)?))
+        word(tape)
     }
 }
 
-#[tactic(auto, unfolding(crate::specs::Numbers::number))]
 impl Value for u32 {
     ghost Shown = { ℕ };
 
@@ -62,7 +59,7 @@ impl Value for u32 {
     ghost refusals = { 1 ∷ 2 ∷ [] };
 
     fn read<T: Tape>(_alloc: Global, tape: &mut T) -> Result<u32> {
-        Ok(u32::from_be_bytes(fixed(tape)?))
+        long_word(tape)
     }
 }
 
