@@ -101,7 +101,7 @@ out_of_range = refl
 
 -- -2.25e-3, as it is written
 abbrev written : Real
-written = record { negative = true; whole = 2 ∷ []; part = Some (2 ∷ 5 ∷ []); power = Some (true, 3 ∷ []) }
+written = record { negative = true; whole = 2 ∷ []; fraction = Some (2 ∷ 5 ∷ []); exponent = Some (true, 3 ∷ []) }
 
 pub spelled : spelling written ≡ 14 ∷ 2 ∷ 10 ∷ 2 ∷ 5 ∷ 11 ∷ 14 ∷ 3 ∷ []
 spelled = refl

@@ -5,7 +5,7 @@ use Rattle.std.specs.List.{prefix_len}
 use Rattle.std.proofs.lemmas.Bool.{lt-ltb, ltb-true, eq-eqb}
 use Rattle.std.proofs.lemmas.List.Sums.{prefix_len-le-length}
 use Rattle.postscript_base.specs.Decimal.{IsDigits}
-use Rattle.postscript_base.specs.Reals.{digits_of, down_of, is_digit, power_at, power_of, signed_part}
+use Rattle.postscript_base.specs.Reals.{digits_of, is_exponent_negative, is_digit, exponent_at, exponent_digits, after_sign}
 
 pub digits_are : (text : List ℕ) → IsDigits (digits_of text)
 digits_are [] = λ k lt. absurd (omega arith)
@@ -30,23 +30,23 @@ all_digits text h = subst IsDigits (take_all text (prefix_len is_digit text) h) 
 
 -- an exponent that is found
 pub record FoundPower (text : List ℕ) (down : Bool) (digits : List ℕ) : Type 0 where
-  pub power : Option (Bool × List ℕ)
-  pub found : power_at text ≡ Some power
-  pub down_is : down ≡ down_of power
-  pub digits_is : digits ≡ power_of power
+  pub exponent : Option (Bool × List ℕ)
+  pub found : exponent_at text ≡ Some exponent
+  pub down_is : down ≡ is_exponent_negative exponent
+  pub digits_is : digits ≡ exponent_digits exponent
 
-power_front : (n : ℕ) (ns : List ℕ) → n ≡ 11 → 0 < length (signed_part ns).1 → length (signed_part ns).1 ≤ prefix_len is_digit (signed_part ns).1 →
-    power_at (n ∷ ns) ≡ Some (Some (signed_part ns))
+power_front : (n : ℕ) (ns : List ℕ) → n ≡ 11 → 0 < length (after_sign ns).1 → length (after_sign ns).1 ≤ prefix_len is_digit (after_sign ns).1 →
+    exponent_at (n ∷ ns) ≡ Some (Some (after_sign ns))
 power_front n ns mark some digits =
-    let power = (signed_part ns).1 in
-    let all : prefix_len is_digit power ≡ length power = omega (arith, prefix_len-le-length is_digit power) in
-    rw (eq-eqb n 11 mark, eq-eqb (prefix_len is_digit power) (length power) all, lt-ltb 0 (length power) some) refl
+    let exponent = (after_sign ns).1 in
+    let all : prefix_len is_digit exponent ≡ length exponent = omega (arith, prefix_len-le-length is_digit exponent) in
+    rw (eq-eqb n 11 mark, eq-eqb (prefix_len is_digit exponent) (length exponent) all, lt-ltb 0 (length exponent) some) refl
 
-pub power_found : (text : List ℕ) (n : ℕ) (ns : List ℕ) (down : Bool) (digits : List ℕ) → text ≡ n ∷ ns → n ≡ 11 → down ≡ (signed_part ns).0 → digits ≡ (signed_part ns).1 →
+pub exponent_found : (text : List ℕ) (n : ℕ) (ns : List ℕ) (down : Bool) (digits : List ℕ) → text ≡ n ∷ ns → n ≡ 11 → down ≡ (after_sign ns).0 → digits ≡ (after_sign ns).1 →
     0 < length digits → length digits ≤ prefix_len is_digit digits → FoundPower text down digits
-power_found text n ns down digits text_is mark down_is digits_is some all = record {
-  power = Some (signed_part ns);
-  found = ap power_at text_is ∙ power_front n ns mark (rw (← digits_is) some) (rw (← digits_is) all);
+exponent_found text n ns down digits text_is mark down_is digits_is some all = record {
+  exponent = Some (after_sign ns);
+  found = ap exponent_at text_is ∙ power_front n ns mark (rw (← digits_is) some) (rw (← digits_is) all);
   down_is = down_is;
   digits_is = digits_is;
 }

@@ -86,8 +86,8 @@ to_i32 d =
     if int_le (pos 0) d.exponent && (int_le (negsuc (2 ^ 31 - 1)) value && int_le value (pos (2 ^ 31 - 1))) then Some value else None
 
 -- the mantissa where the exponent is 0, else mantissa, e, exponent
-abbrev pub text : Decimal → List ℕ
-text d = if int_eq d.exponent (pos 0) then signed_decimal d.mantissa else signed_decimal d.mantissa ++ (codes "e" ++ signed_decimal d.exponent)
+abbrev pub printed : Decimal → List ℕ
+printed d = if int_eq d.exponent (pos 0) then signed_decimal d.mantissa else signed_decimal d.mantissa ++ (codes "e" ++ signed_decimal d.exponent)
 
 -- the number that digits spell
 abbrev pub digits_number : List ℕ → ℕ
@@ -96,7 +96,8 @@ digits_number digits = fold (λ n d. 10 * n + d) 0 digits
 abbrev pub IsDigits : List ℕ → Type 0
 IsDigits digits = (k : ℕ) → k < length digits → slice_index digits k < 10
 
--- m * 10 ^ e, where the mantissa is a whole number's digits and its sign
-abbrev pub real_value : Bool → List ℕ → List ℕ → Bool → List ℕ → Decimal
-real_value negative whole part down power =
-    record { mantissa = signed negative (digits_number (whole ++ part)); exponent = signed down (digits_number power) -ℤ pos (length part) }
+-- The value of digits before and behind a point, with a sign, times ten to an exponent with a sign: all digits are the
+-- mantissa, and those behind the point lower the exponent.
+abbrev pub real_value : (negative : Bool) → (whole fraction : List ℕ) → (down : Bool) → (exponent : List ℕ) → Decimal
+real_value negative whole fraction down exponent =
+    record { mantissa = signed negative (digits_number (whole ++ fraction)); exponent = signed down (digits_number exponent) -ℤ pos (length fraction) }

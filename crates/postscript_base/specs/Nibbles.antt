@@ -3,11 +3,11 @@ use Rattle.std.specs.Prelude.{ℕ, ◌/◌, ◌%◌, Bool, true, false, List, �
 use Rattle.postscript_base.specs.Numbers.{number}
 use Rattle.postscript_base.specs.Refusal.{malformed_number}
 use Rattle.postscript_base.specs.Outcome.{Reading, ◌>>=◌, pure, fault}
-use Rattle.postscript_base.specs.Reals.{symbols}
+use Rattle.postscript_base.specs.Reals.{symbols, end_nibble, reserved_nibble}
 
 -- a text and one nibble more, and whether the text is at its end
 abbrev pub one_nibble : List ℕ → ℕ → Option (Bool × List ℕ)
-one_nibble text nibble = if nibble == 15 then Some (true, text) else if nibble == 13 then None else Some (false, text ++ symbols nibble)
+one_nibble text nibble = if nibble == end_nibble then Some (true, text) else if nibble == reserved_nibble then None else Some (false, text ++ symbols nibble)
 
 -- the high nibble, and then the low one
 abbrev pub then_low : Option (Bool × List ℕ) → ℕ → Option (Bool × List ℕ)

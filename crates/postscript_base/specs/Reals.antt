@@ -5,56 +5,65 @@ use Rattle.postscript_base.specs.Refusal.{malformed_number, out_of_range_number}
 use Rattle.postscript_base.specs.Outcome.{Outcome, Got, Fault, Reading, end, ◌>>=◌, pure, fault}
 use Rattle.postscript_base.specs.Decimal.{Decimal, IsDigits, operand_of, real_value}
 
--- A number with a sign, a point and an exponent as written. The symbols are the digits, 10 for a point, 11 for an E
--- and 14 for a minus.
+-- The symbols of a real's text: the digits 0 to 9, a point, an E and a minus.
+abbrev pub point_symbol : ℕ
+point_symbol = 10
+
+abbrev pub e_symbol : ℕ
+e_symbol = 11
+
+abbrev pub minus_symbol : ℕ
+minus_symbol = 14
+
+-- A real as it is written: a sign, the digits before the point, those behind it, and an exponent with a sign of its own.
 pub record Real : Type 0 where
   pub negative : Bool
   pub whole : List ℕ
-  pub part : Option (List ℕ)
-  pub power : Option (Bool × List ℕ)
+  pub fraction : Option (List ℕ)
+  pub exponent : Option (Bool × List ℕ)
 
 abbrev pub minus : Bool → List ℕ
-minus true = 14 ∷ []
+minus true = minus_symbol ∷ []
 minus false = []
 
-abbrev pub point : Option (List ℕ) → List ℕ
-point None = []
-point (Some part) = 10 ∷ part
+abbrev pub fraction_symbols : Option (List ℕ) → List ℕ
+fraction_symbols None = []
+fraction_symbols (Some fraction) = point_symbol ∷ fraction
 
-abbrev pub times_ten : Option (Bool × List ℕ) → List ℕ
-times_ten None = []
-times_ten (Some power) = 11 ∷ minus power.0 ++ power.1
+abbrev pub exponent_symbols : Option (Bool × List ℕ) → List ℕ
+exponent_symbols None = []
+exponent_symbols (Some exponent) = e_symbol ∷ minus exponent.0 ++ exponent.1
 
 -- the text of a real
 abbrev pub spelling : Real → List ℕ
-spelling r = minus r.negative ++ (r.whole ++ (point r.part ++ times_ten r.power))
+spelling r = minus r.negative ++ (r.whole ++ (fraction_symbols r.fraction ++ exponent_symbols r.exponent))
 
-abbrev pub part_of : Option (List ℕ) → List ℕ
-part_of None = []
-part_of (Some part) = part
+abbrev pub fraction_digits : Option (List ℕ) → List ℕ
+fraction_digits None = []
+fraction_digits (Some fraction) = fraction
 
-abbrev pub down_of : Option (Bool × List ℕ) → Bool
-down_of None = false
-down_of (Some power) = power.0
+abbrev pub is_exponent_negative : Option (Bool × List ℕ) → Bool
+is_exponent_negative None = false
+is_exponent_negative (Some exponent) = exponent.0
 
-abbrev pub power_of : Option (Bool × List ℕ) → List ℕ
-power_of None = []
-power_of (Some power) = power.1
+abbrev pub exponent_digits : Option (Bool × List ℕ) → List ℕ
+exponent_digits None = []
+exponent_digits (Some exponent) = exponent.1
 
 -- digits before the point or behind it, and in the exponent, where there is one
 pub record IsReal (r : Real) : Type 0 where
   pub whole : IsDigits r.whole
-  pub part : IsDigits (part_of r.part)
-  pub some : 0 < length (r.whole ++ part_of r.part)
-  pub power : IfSome r.power (λ power. IsDigits power.1 × (0 < length power.1))
+  pub fraction : IsDigits (fraction_digits r.fraction)
+  pub some : 0 < length (r.whole ++ fraction_digits r.fraction)
+  pub exponent : IfSome r.exponent (λ exponent. IsDigits exponent.1 × (0 < length exponent.1))
 
 abbrev pub value_of : Real → Decimal
-value_of r = real_value r.negative r.whole (part_of r.part) (down_of r.power) (power_of r.power)
+value_of r = real_value r.negative r.whole (fraction_digits r.fraction) (is_exponent_negative r.exponent) (exponent_digits r.exponent)
 
 -- Reading a text from the left. First a minus, if there is one, and what follows.
-abbrev pub signed_part : List ℕ → Bool × List ℕ
-signed_part [] = (false, [])
-signed_part (n ∷ ns) = if n == 14 then (true, ns) else (false, n ∷ ns)
+abbrev pub after_sign : List ℕ → Bool × List ℕ
+after_sign [] = (false, [])
+after_sign (n ∷ ns) = if n == minus_symbol then (true, ns) else (false, n ∷ ns)
 
 abbrev pub is_digit : ℕ → Bool
 is_digit n = nat_lt n 10
@@ -66,31 +75,31 @@ abbrev pub after_digits : List ℕ → List ℕ
 after_digits text = drop (prefix_len is_digit text) text
 
 -- the digits behind a point, if there is one, and what follows
-abbrev pub part_at : List ℕ → Option (List ℕ) × List ℕ
-part_at [] = (None, [])
-part_at (n ∷ ns) = if n == 10 then (Some (digits_of ns), after_digits ns) else (None, n ∷ ns)
+abbrev pub fraction_at : List ℕ → Option (List ℕ) × List ℕ
+fraction_at [] = (None, [])
+fraction_at (n ∷ ns) = if n == point_symbol then (Some (digits_of ns), after_digits ns) else (None, n ∷ ns)
 
 -- an exponent of digits, with a minus or without one
-abbrev pub is_power : Bool × List ℕ → Bool
-is_power power = (prefix_len is_digit power.1 == length power.1) && nat_lt 0 (length power.1)
+abbrev pub is_exponent : Bool × List ℕ → Bool
+is_exponent exponent = (prefix_len is_digit exponent.1 == length exponent.1) && nat_lt 0 (length exponent.1)
 
 -- the exponent, if there is one, where it is all of the text
-abbrev pub power_at : List ℕ → Option (Option (Bool × List ℕ))
-power_at [] = Some None
-power_at (n ∷ ns) = if (n == 11) && is_power (signed_part ns) then Some (Some (signed_part ns)) else None
+abbrev pub exponent_at : List ℕ → Option (Option (Bool × List ℕ))
+exponent_at [] = Some None
+exponent_at (n ∷ ns) = if (n == e_symbol) && is_exponent (after_sign ns) then Some (Some (after_sign ns)) else None
 
 abbrev pub joined : Bool → List ℕ → Option (List ℕ) → Option (Option (Bool × List ℕ)) → Option Real
-joined negative whole part None = None
-joined negative whole part (Some power) =
-    if nat_lt 0 (length (whole ++ part_of part)) then Some (record { negative = negative; whole = whole; part = part; power = power }) else None
+joined negative whole fraction None = None
+joined negative whole fraction (Some exponent) =
+    if nat_lt 0 (length (whole ++ fraction_digits fraction)) then Some (record { negative = negative; whole = whole; fraction = fraction; exponent = exponent }) else None
 
 -- the real that a text spells, where it spells one
 unfoldable pub real_of : List ℕ → Option Real
 real_of text =
-    let s = signed_part text in
+    let s = after_sign text in
     let whole = digits_of s.1 in
-    let part = part_at (after_digits s.1) in
-    joined s.0 whole part.0 (power_at part.1)
+    let fraction = fraction_at (after_digits s.1) in
+    joined s.0 whole fraction.0 (exponent_at fraction.1)
 
 -- A text is read as the real that it spells, and only the texts of reals are read.
 pub record ReadsSpellings : Type 0 where
@@ -101,18 +110,28 @@ pub record ReadsSpellings : Type 0 where
 abbrev pub nibbles : List ℕ → List ℕ
 nibbles bytes = flat_map (λ byte. byte / 16 ∷ byte % 16 ∷ []) bytes
 
--- A text goes on up to the nibble 15, which ends it. The nibble 13 is reserved.
-abbrev pub is_in_text : ℕ → Bool
-is_in_text nibble = not (nibble == 13 || nibble == 15)
+-- Three nibbles are no symbols: one spells E and minus at once, one ends the text, and one is reserved.
+abbrev pub e_minus_nibble : ℕ
+e_minus_nibble = 12
 
--- The nibble 12 spells E and minus at once, and any other its own symbol.
+abbrev pub reserved_nibble : ℕ
+reserved_nibble = 13
+
+abbrev pub end_nibble : ℕ
+end_nibble = 15
+
+-- a text goes on up to the nibble that ends it, or to the reserved one
+abbrev pub is_in_text : ℕ → Bool
+is_in_text nibble = not (nibble == reserved_nibble || nibble == end_nibble)
+
+-- the symbols that a nibble spells: any other spells its own
 abbrev pub symbols : ℕ → List ℕ
-symbols nibble = if nibble == 12 then 11 ∷ 14 ∷ [] else nibble ∷ []
+symbols nibble = if nibble == e_minus_nibble then e_symbol ∷ minus_symbol ∷ [] else nibble ∷ []
 
 -- a text and the next place, by the nibbles that stand behind the text
 abbrev pub ended_by : List ℕ → List ℕ → ℕ → Outcome (List ℕ)
 ended_by [] text next = end
-ended_by (nibble ∷ _) text next = if nibble == 15 then Got text next else Fault malformed_number
+ended_by (nibble ∷ _) text next = if nibble == end_nibble then Got text next else Fault malformed_number
 
 -- the text of a real, and the place behind the byte in which it ends
 unfoldable pub text_of_real : Reading (List ℕ)

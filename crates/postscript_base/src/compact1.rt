@@ -15,8 +15,8 @@ pub use offset::{Offset, OffsetSize};
 pub use operand::Operand;
 pub use operator::Operator;
 
-/// A glyph's place in a font.
+/// The place of a glyph in a font, from 0.
 pub type GlyphID = u16;
 
-/// A string identifier.
+/// The number of a string: a standard string below 391, one of the font from there on.
 pub type StringID = u16;

@@ -41,30 +41,30 @@ fn with_sign(negative: bool, size: u128) -> i128
 pub(crate) fn of_real(
     negative: bool,
     whole: &[u8],
-    part: &[u8],
+    fraction: &[u8],
     down: bool,
-    power: &[u8],
+    exponent: &[u8],
 ) -> Option<Operand>
     requires whole { IsDigits whole.now }
-    requires part { IsDigits part.now }
-    requires power { IsDigits power.now }
-    requires room { length whole.now + length part.now < 2 ^ 64 }
-    ensures exact { let v = real_value negative whole.now part.now down power.now in result ≡ operand_of v.mantissa v.exponent }
-    ensures some { IfSome result (λ o. AreEqual o (real_value negative whole.now part.now down power.now)) }
+    requires fraction { IsDigits fraction.now }
+    requires exponent { IsDigits exponent.now }
+    requires room { length whole.now + length fraction.now < 2 ^ 64 }
+    ensures exact { let v = real_value negative whole.now fraction.now down exponent.now in result ≡ operand_of v.mantissa v.exponent }
+    ensures some { IfSome result (λ o. AreEqual o (real_value negative whole.now fraction.now down exponent.now)) }
     ensures operand { IfSome result HasOperand }
-    ensures none { IfNone result ((d : Decimal) → HasOperand d → AreEqual d (real_value negative whole.now part.now down power.now) → ⊥) }
+    ensures none { IfNone result ((d : Decimal) → HasOperand d → AreEqual d (real_value negative whole.now fraction.now down exponent.now) → ⊥) }
 {
     let front = push_all(Significant::new(), whole);
-    let kept = push_all(front, part);
+    let kept = push_all(front, fraction);
     if kept.is_long {
         return None;
     }
     if kept.mantissa == 0 {
         return Some(Operand::zero());
     }
-    let places = i128::from(kept.zeros) - part.len() as i128;
-    let far = up_to_far(power);
+    let places = i128::from(kept.zeros) - fraction.len() as i128;
+    let far = up_to_far(exponent);
     let shift = with_sign(down, far);
-    let exponent = places + shift;
-    of_digits(negative, u128::from(kept.mantissa), exponent)
+    let scale = places + shift;
+    of_digits(negative, u128::from(kept.mantissa), scale)
 }

@@ -1,7 +1,7 @@
 //! The operands of dictionaries.
 ghost use Rattle.std.specs.Prelude.{◌≡◌, ◌≢◌, ℤ, pos, negsuc, ℕ, ◌-◌, ◌*◌, ◌^◌, ◌%◌, ◌<◌, ◌≤◌, ◌≤ℤ◌, IfSome, IfNone, Some};
 ghost use Rattle.std.specs.Int.RustNames.{unsigned_abs};
-ghost use Rattle.postscript_base.specs.Decimal.{canonical, Decimal, HasOperand, IsOf32Bits, IsOperand, IsSameValue, operand_of, scaled, signed, text, to_i32 as the_i32};
+ghost use Rattle.postscript_base.specs.Decimal.{canonical, Decimal, HasOperand, IsOf32Bits, IsOperand, IsSameValue, operand_of, scaled, printed, signed, to_i32 as the_i32};
 
 use std::fmt;
 use std::marker::Model;
@@ -112,7 +112,7 @@ fn in_32_bits(value: i128) -> Option<i32>
 
 /// The mantissa where the exponent is 0, else mantissa, `e`, exponent.
 impl fmt::Display for Operand {
-    ghost output = { λ operand. Some (text operand) };
+    ghost output = { λ operand. Some (printed operand) };
 
     fn fmt<W: fmt::Write>(&self, f: &mut fmt::Formatter<W>) -> fmt::Result {
         let (mantissa, exponent) = (self.mantissa, self.exponent);

@@ -7,7 +7,7 @@ ghost use Rattle.postscript_base.specs.Outcome.{Answers, same};
 ghost use Rattle.postscript_base.specs.Tape.{Reads};
 ghost use Rattle.postscript_base.specs.declared.error.Error.TheVariants as errors;
 ghost use Rattle.postscript_base.specs.Nibbles.{one_nibble, step as the_step};
-ghost use Rattle.postscript_base.specs.Reals.{after_digits, digits_of, down_of, is_digit, part_at, part_of, power_at, power_of, real_of, signed_part, text_of_real, valued};
+ghost use Rattle.postscript_base.specs.Reals.{after_digits, digits_of, is_exponent_negative, is_digit, fraction_at, fraction_digits, exponent_at, exponent_digits, real_of, after_sign, text_of_real, valued};
 
 use super::digits::of_real;
 use super::operand::Operand;
@@ -73,20 +73,20 @@ pub(crate) fn operand(text: &[u8]) -> Result<Operand>
 {
     let (negative, unsigned) = split_sign(text);
     let (whole, behind) = split_digits(unsigned);
-    let (part, behind) = split_part(behind);
-    let Some((down, power)) = split_power(behind) else {
+    let (fraction, behind) = split_fraction(behind);
+    let Some((down, exponent)) = split_exponent(behind) else {
         return Err(Error::MalformedNumber);
     };
-    if whole.is_empty() && part.is_empty() {
+    if whole.is_empty() && fraction.is_empty() {
         return Err(Error::MalformedNumber);
     }
-    of_real(negative, whole, part, down, power).ok_or(Error::OutOfRangeNumber)
+    of_real(negative, whole, fraction, down, exponent).ok_or(Error::OutOfRangeNumber)
 }
 
 /// Whether there is a minus in front, and what follows.
 fn split_sign(text: &[u8]) -> (bool, &[u8])
-    ensures sign { result.0 ≡ (signed_part text.now).0 }
-    ensures rest { result.1.now ≡ (signed_part text.now).1 }
+    ensures sign { result.0 ≡ (after_sign text.now).0 }
+    ensures rest { result.1.now ≡ (after_sign text.now).1 }
 {
     match text {
         [MINUS, rest @ ..] => (true, rest),
@@ -115,9 +115,9 @@ fn leading_digits(text: &[u8]) -> usize
 }
 
 /// The digits behind a point, none where there is no point, and what follows.
-fn split_part(text: &[u8]) -> (&[u8], &[u8])
-    ensures part { result.0.now ≡ part_of (part_at text.now).0 }
-    ensures rest { result.1.now ≡ (part_at text.now).1 }
+fn split_fraction(text: &[u8]) -> (&[u8], &[u8])
+    ensures fraction { result.0.now ≡ fraction_digits (fraction_at text.now).0 }
+    ensures rest { result.1.now ≡ (fraction_at text.now).1 }
     ensures digits { IsDigits result.0.now }
 {
     match text {
@@ -127,17 +127,17 @@ fn split_part(text: &[u8]) -> (&[u8], &[u8])
 }
 
 /// An exponent that is all of the text: whether it has a minus, and its digits, none where there is no exponent.
-fn split_power(text: &[u8]) -> Option<(bool, &[u8])>
-    ensures some { IfSome result (λ r. (p : Option (Bool × List ℕ)) × (power_at text.now ≡ Some p) × (r.0 ≡ down_of p) × (r.1.now ≡ power_of p)) }
-    ensures none { IfNone result (power_at text.now ≡ None) }
+fn split_exponent(text: &[u8]) -> Option<(bool, &[u8])>
+    ensures some { IfSome result (λ r. (p : Option (Bool × List ℕ)) × (exponent_at text.now ≡ Some p) × (r.0 ≡ is_exponent_negative p) × (r.1.now ≡ exponent_digits p)) }
+    ensures none { IfNone result (exponent_at text.now ≡ None) }
     ensures digits { IfSome result (λ r. IsDigits r.1.now) }
 {
     let [mark, rest @ ..] = text else {
         return Some((false, &[]));
     };
-    let (down, power) = split_sign(rest);
-    if *mark != E || power.is_empty() || leading_digits(power) < power.len() {
+    let (down, exponent) = split_sign(rest);
+    if *mark != E || exponent.is_empty() || leading_digits(exponent) < exponent.len() {
         return None;
     }
-    Some((down, power))
+    Some((down, exponent))
 }
