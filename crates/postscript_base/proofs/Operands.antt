@@ -254,5 +254,6 @@ finds_operands = record { found = λ value operand. (there value operand, back v
   where
     there : (value operand : Decimal) → operand_of value.mantissa value.exponent ≡ Some operand → IsOperandOf operand value
     there value operand e = let found = subst (λ r. Finds r value.mantissa value.exponent) e (operand_found value.mantissa value.exponent) in record { in_form = found.some.0; equal = found.some.1 }
+
     back : (value operand : Decimal) → IsOperandOf operand value → operand_of value.mantissa value.exponent ≡ Some operand
     back value operand h = found_once (operand_of value.mantissa value.exponent) (Some operand) value.mantissa value.exponent (operand_found value.mantissa value.exponent) (record { some = (h.in_form, h.equal); none = tt })

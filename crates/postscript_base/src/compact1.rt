@@ -1,7 +1,7 @@
 //! The Compact Font Format (Adobe Technical Note 5176): its smallest parts.
 mod digits;
 mod header;
-mod laws;
+pub mod laws;
 pub mod number;
 mod offset;
 mod operand;
@@ -10,7 +10,6 @@ mod significant;
 mod text;
 
 pub use header::Header;
-pub use laws::{are_equal, hash_alike};
 pub use offset::{Offset, OffsetSize};
 pub use operand::Operand;
 pub use operator::Operator;

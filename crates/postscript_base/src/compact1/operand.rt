@@ -104,10 +104,7 @@ fn in_32_bits(value: i128) -> Option<i32>
     ensures some { IfSome result (λ v. (v ≡ value) × IsOf32Bits v) }
     ensures none { IfNone result (IsOf32Bits value → ⊥) }
 {
-    if value < -2_147_483_648 || value > 2_147_483_647 {
-        return None;
-    }
-    Some(value as i32)
+    i32::try_from(value).ok()
 }
 
 /// The mantissa where the exponent is 0, else mantissa, `e`, exponent.

@@ -68,15 +68,15 @@ pub fn read_chain<W: Linked + Drop, T: Tape>(
     alloc: Global,
     tape: &mut T,
     first: W::Given,
-    count: usize,
+    length: usize,
 ) -> Result<Vec<W>>
     ensures exact { Reads (λ values. W.views values.items) (T.state tape.old) result (T.state tape.new)
-        (chain W.reading W.left first count) }
+        (chain W.reading W.left first length) }
     ensures listed { IsListed (3 ∷ W.refusals) result }
 {
     let mut values = Vec::new(alloc);
     let mut given = first;
-    for _ in 0..count {
+    for _ in 0..length {
         let value = W::read(alloc, tape, given)?;
         given = value.left(given);
         values.push(value)?;

@@ -10,4 +10,4 @@ invariant-loop g l =
     let old = g.T.ReadSeek.state l.fn.tape in
     let new = g.T.ReadSeek.state l.tape in
     IsHonest old → Kept old new
-    × (with_front (g.W.Linked.views l.values.items) (chain g.W.Linked.reading g.W.Linked.left l.given (l.count - l.counter) old.bytes new.place) ≡ chain g.W.Linked.reading g.W.Linked.left l.fn.first l.fn.count old.bytes old.place)
+    × (with_front (g.W.Linked.views l.values.items) (chain g.W.Linked.reading g.W.Linked.left l.given (l.length - l.counter) old.bytes new.place) ≡ chain g.W.Linked.reading g.W.Linked.left l.fn.first l.fn.length old.bytes old.place)
