@@ -1,13 +1,13 @@
 -- Operands of values, and numbers, offsets and headers read from bytes, computed from the definitions.
 use Rattle.std.proofs.Common.{◌≡◌, refl, sym, ap, ◌+◌, ◌^◌, arith, [], ◌∷◌, Some, None, true, ℤ, pos, neg_ℤ}
 use Rattle.postscript_base.specs.Refusal.{unexpected_eof, malformed_offset, malformed_number, out_of_range_number}
-use Rattle.postscript_base.specs.Outcome.{Got, Fault}
+use Rattle.postscript_base.specs.Tape.Outcome.{Got, Fault}
 use Rattle.postscript_base.specs.Numbers.{slice, number as unsigned}
-use Rattle.postscript_base.specs.Decimal.{Decimal, IsCanonical, IsOperand, canonical, operand_of, to_i32, without_zeros}
-use Rattle.postscript_base.specs.Reals.{Real, real, real_of, spelling, text_of_real, value_of}
-use Rattle.postscript_base.specs.DictNumber.{number}
-use Rattle.postscript_base.specs.Header.{header}
-use Rattle.postscript_base.specs.Offset.{offset}
+use Rattle.postscript_base.specs.Compact1.Decimal.{Decimal, IsCanonical, IsOperand, canonical, operand_of, to_i32, without_zeros}
+use Rattle.postscript_base.specs.Compact1.Reals.{Real, real, real_of, spelling, text_of_real, value_of}
+use Rattle.postscript_base.specs.Compact1.Number.{number}
+use Rattle.postscript_base.specs.Compact1.Header.{header}
+use Rattle.postscript_base.specs.Compact1.Offset.{offset}
 use Rattle.std.specs.Int.RustNames.{unsigned_abs}
 use Rattle.std.proofs.lemmas.Int.{ints}
 use Rattle.postscript_base.proofs.Decimals.{one_form}

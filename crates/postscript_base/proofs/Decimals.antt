@@ -8,7 +8,7 @@ use Rattle.std.proofs.Math.Nat.{pow-suc, one-le-pow, pow-le-pow_right, mul_assoc
 use Rattle.std.proofs.lemmas.Nat.{pow-add}
 use Rattle.std.proofs.lemmas.Bool.{cases_lt, cases_order, le-ltb}
 use Rattle.std.proofs.lemmas.Int.{ints, clamps}
-use Rattle.postscript_base.specs.Decimal.{Decimal, HasOperand, scaled, IsSameValue, IsCanonical, IsOperand, signed}
+use Rattle.postscript_base.specs.Compact1.Decimal.{Decimal, HasOperand, scaled, IsSameValue, IsCanonical, IsOperand, signed}
 
 pub tens_pos : (n : ℕ) → 0 < 10 ^ n
 tens_pos n = omega (arith, one-le-pow n 10 (omega arith))

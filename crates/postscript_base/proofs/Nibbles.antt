@@ -9,10 +9,10 @@ use Rattle.postscript_base.specs.Refusal.{unexpected_eof, malformed_number}
 use Rattle.postscript_base.specs.declared.error.Error.{Error}
 use Rattle.postscript_base.specs.declared.error.Error.TheVariants.{Memory}
 use Rattle.postscript_base.proofs.Outcomes.{refused_after}
-use Rattle.postscript_base.specs.Outcome.{Outcome, Got, Fault, Past, after, end, RefusedAs}
+use Rattle.postscript_base.specs.Tape.Outcome.{Outcome, Got, Fault, Past, after, end, RefusedAs}
 use Rattle.postscript_base.specs.Numbers.{slice, number}
-use Rattle.postscript_base.specs.Nibbles.{one_byte, one_nibble, step, step_of, then_low}
-use Rattle.postscript_base.specs.Reals.{ended_by, is_in_text, nibbles, symbols, text_of_real}
+use Rattle.postscript_base.specs.Compact1.Nibbles.{one_byte, one_nibble, step, step_of, then_low}
+use Rattle.postscript_base.specs.Compact1.Reals.{ended_by, is_in_text, nibbles, symbols, text_of_real}
 
 abbrev stepped : Option (Bool × List ℕ) → ℕ → (List ℕ → Outcome (List ℕ)) → Outcome (List ℕ)
 stepped None next more = Fault malformed_number

@@ -5,15 +5,15 @@ use Rattle.std.specs.List.{prefix_len}
 use Rattle.std.proofs.lemmas.Bool.Decides.{nat_tests}
 use Rattle.postscript_base.specs.Error.{IsOneOf}
 use Rattle.postscript_base.specs.Refusal.{number_of}
-use Rattle.postscript_base.specs.Outcome.{Outcome, Got, Fault, Past, Reading, after, end, ◌>>=◌, pure, fault}
-use Rattle.postscript_base.specs.Onward.{MovesOn, TakesBytes}
-use Rattle.postscript_base.specs.At.{NeedsBytes}
+use Rattle.postscript_base.specs.Tape.Outcome.{Outcome, Got, Fault, Past, Reading, after, end, ◌>>=◌, pure, fault}
+use Rattle.postscript_base.specs.Tape.Onward.{MovesOn, TakesBytes}
+use Rattle.postscript_base.specs.Tape.At.{NeedsBytes}
 use Rattle.postscript_base.specs.Refusal.{malformed_number, out_of_range_number}
-use Rattle.postscript_base.specs.Header.{header}
+use Rattle.postscript_base.specs.Compact1.Header.{header}
 use Rattle.postscript_base.specs.Numbers.{big_endian, slice, number, two_sided, above, below}
-use Rattle.postscript_base.specs.Decimal.{Decimal, operand_of}
-use Rattle.postscript_base.specs.DictNumber.{begun, number as dict_number, whole}
-use Rattle.postscript_base.specs.Reals.{Real, ended_by, is_in_text, nibbles, operand_if, real, real_of, symbols, text_of_real, valued, value_of}
+use Rattle.postscript_base.specs.Compact1.Decimal.{Decimal, operand_of}
+use Rattle.postscript_base.specs.Compact1.Number.{begun, number as dict_number, whole}
+use Rattle.postscript_base.specs.Compact1.Reals.{Real, ended_by, is_in_text, nibbles, operand_if, real, real_of, symbols, text_of_real, valued, value_of}
 
 -- the refusals of numbers and operations
 abbrev pub known_refusals : List ℕ

@@ -7,7 +7,7 @@ use Rattle.std.proofs.Math.Nat.{pow-suc, pow-le-pow_right, mul_assoc, mul-le-mul
 use Rattle.std.proofs.lemmas.Bool.{eqb-true, eqb-false, ltb-true, ltb-false}
 use Rattle.std.proofs.lemmas.Bool.Decides.{eqb_tells}
 use Rattle.std.proofs.lemmas.Int.{ints, clamps, by_lt_z}
-use Rattle.postscript_base.specs.Decimal.{Decimal, HasOperand, IsOperand, IsCanonical, IsOf32Bits, IsSameValue, canonical, is_in_range, operand_of, scaled, to_i32, one_zero_more, without_zeros, FindsOperands, IsOperandOf}
+use Rattle.postscript_base.specs.Compact1.Decimal.{Decimal, HasOperand, IsOperand, IsCanonical, IsOf32Bits, IsSameValue, canonical, is_in_range, operand_of, scaled, to_i32, one_zero_more, without_zeros, FindsOperands, IsOperandOf}
 use Rattle.postscript_base.proofs.Decimals.{abs-scaled, abs-signed, last_zero, IsSameValue-sym, IsSameValue-trans, meets-IsSameValue, one_form, same_decimal, stripped_canonical, stripped_same, tens_few, tens_pos, zero_abs}
 
 record Strips (n : ℕ) (found : ℕ × ℕ) : Type 0 where

@@ -4,8 +4,8 @@ use Rattle.std.proofs.Common.{◌≡◌, refl, sym, ap, subst, ◌∙◌, ℕ, z
 use Rattle.std.specs.List.{prefix_len}
 use Rattle.std.proofs.lemmas.Bool.{lt-ltb, ltb-true, eq-eqb}
 use Rattle.std.proofs.lemmas.List.Sums.{prefix_len-le-length}
-use Rattle.postscript_base.specs.Decimal.{IsDigits}
-use Rattle.postscript_base.specs.Reals.{digits_of, is_exponent_negative, is_digit, exponent_at, exponent_digits, after_sign}
+use Rattle.postscript_base.specs.Compact1.Decimal.{IsDigits}
+use Rattle.postscript_base.specs.Compact1.Reals.{digits_of, is_exponent_negative, is_digit, exponent_at, exponent_digits, after_sign}
 
 pub digits_are : (text : List ℕ) → IsDigits (digits_of text)
 digits_are [] = λ k lt. absurd (omega arith)

@@ -1,6 +1,6 @@
 -- Bytes and numbers at a place.
 use Rattle.std.specs.Prelude.{ℕ, ℤ, pos, ◌+ℤ◌, ◌-ℤ◌, ◌*ℤ◌, ◌+◌, ◌-◌, ◌*◌, ◌^◌, List, [], ◌∷◌, length, take, drop, ◌++◌, nat_lt, if◌then◌else◌}
-use Rattle.postscript_base.specs.Outcome.{Reading, Got, end, ◌>>=◌, pure}
+use Rattle.postscript_base.specs.Tape.Outcome.{Reading, Got, end, ◌>>=◌, pure}
 
 -- so many bytes, where as many remain
 unfoldable pub slice : ℕ → Reading (List ℕ)

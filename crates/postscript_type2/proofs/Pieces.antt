@@ -3,7 +3,7 @@ use Rattle.std.proofs.Common.{◌≡◌, ◌≢◌, refl, ap, sym, subst, ◌∙
 use Rattle.std.proofs.lemmas.Bool.Decides.{nat_tests}
 use Rattle.std.proofs.lemmas.List.{append-nil, drop-drop}
 use Rattle.std.specs.Option.{ok_or}
-use Rattle.postscript_base.specs.Outcome.{Outcome, Got, Fault, Past}
+use Rattle.postscript_base.specs.Tape.Outcome.{Outcome, Got, Fault, Past}
 use Rattle.postscript_base.specs.declared.error.Error.{Error}
 use Rattle.postscript_base.specs.declared.error.Error.TheVariants.{UnknownOperator}
 use Rattle.postscript_type2.specs.declared.operation.Operator.{Operator}

@@ -1,6 +1,6 @@
 -- Phrases: operands, and the operator behind them (Technical Note 5177, "Charstring Operator Encoding").
 use Rattle.std.specs.Prelude.{ℕ, zero, suc, ◌+◌, ℤ, Bool, nat_lt, ◌==◌, ◌||◌, List, [], ◌∷◌, ◌++◌, Option, Some, None, if◌then◌else◌}
-use Rattle.postscript_base.specs.Outcome.{Outcome, Got, Fault, Past}
+use Rattle.postscript_base.specs.Tape.Outcome.{Outcome, Got, Fault, Past}
 use Rattle.postscript_type2.specs.declared.operation.Operator.{Operator}
 use Rattle.postscript_type2.specs.Number.{spelled}
 use Rattle.postscript_type2.specs.Operators.{operator_of}

@@ -1,6 +1,6 @@
 -- Phrases in pieces, as they are read off the front of a routine.
 use Rattle.std.specs.Prelude.{◌≡◌, ◌⊎◌, ℕ, ◌+◌, ℤ, List, [], ◌∷◌, drop, Option, Some, None, Result, Ok, Err}
-use Rattle.postscript_base.specs.Outcome.{Got, Fault}
+use Rattle.postscript_base.specs.Tape.Outcome.{Got, Fault}
 use Rattle.postscript_base.specs.declared.error.Error.{Error}
 use Rattle.postscript_base.specs.declared.error.Error.TheVariants.{Memory, UnexpectedEof}
 use Rattle.postscript_type2.specs.declared.operation.Operator.{Operator}

@@ -1,7 +1,7 @@
 //! The numbers.
 ghost use Rattle.std.specs.Prelude.{[], ◌∷◌, ◌≡◌, ◌≤◌, ◌<◌, ◌+ℤ◌, ◌-ℤ◌, ◌*ℤ◌, pos};
 ghost use Rattle.postscript_base.specs.Error.{IsListed};
-ghost use Rattle.postscript_base.specs.Outcome.{same};
+ghost use Rattle.postscript_base.specs.Tape.Outcome.{same};
 ghost use Rattle.postscript_base.specs.Tape.{Reads};
 ghost use Rattle.postscript_base.specs.Numbers.{number as unsigned};
 ghost use Rattle.postscript_type2.specs.Number.{number as the_number, above as the_above, below as the_below, whole, signed};

@@ -1,7 +1,7 @@
 //! The operand of a real's digits.
 ghost use Rattle.std.specs.Prelude.{◌≡◌, ℕ, pos, ◌+◌, ◌*◌, ◌^◌, ◌<◌, ◌≤◌, length, min, IfSome, IfNone, ◌++◌};
 ghost use Rattle.std.specs.Int.RustNames.{unsigned_abs};
-ghost use Rattle.postscript_base.specs.Decimal.{AreEqual, Decimal, HasOperand, IsDigits, digits_number, operand_of, real_value, signed};
+ghost use Rattle.postscript_base.specs.Compact1.Decimal.{AreEqual, Decimal, HasOperand, IsDigits, digits_number, operand_of, real_value, signed};
 
 use super::operand::{Operand, of_digits};
 use super::significant::{Significant, push_all};

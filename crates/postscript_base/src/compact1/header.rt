@@ -1,7 +1,7 @@
 //! The header.
 ghost use Rattle.std.specs.Prelude.{[], ◌∷◌};
-ghost use Rattle.postscript_base.specs.Outcome.{same};
-ghost use Rattle.postscript_base.specs.Seen.{each_as_it_is};
+ghost use Rattle.postscript_base.specs.Tape.Outcome.{same};
+ghost use Rattle.postscript_base.specs.Tape.Seen.{each_as_it_is};
 
 use super::OffsetSize;
 use crate::error::Result;
@@ -22,9 +22,9 @@ pub struct Header {
 }
 
 /// Refused: `UnexpectedEof`, `Io`.
-#[tactic(auto, unfolding(crate::specs::Header::header))]
+#[tactic(auto, unfolding(crate::specs::Compact1::Header::header))]
 impl Value for Header {
-    ghost use Rattle.postscript_base.specs.Header.{header};
+    ghost use Rattle.postscript_base.specs.Compact1.Header.{header};
     ghost use Rattle.postscript_base.specs.declared.compact1.header.Header.{Header};
 
     ghost Shown = { Header };

@@ -1,6 +1,6 @@
 //! What equality and hash of operands say.
 ghost use Rattle.std.specs.Prelude.{◌≡◌, ◌↔◌, IsTrue};
-ghost use Rattle.postscript_base.specs.Decimal.{AreEqual, Decimal, HasOperand};
+ghost use Rattle.postscript_base.specs.Compact1.Decimal.{AreEqual, Decimal, HasOperand};
 
 use super::operand::Operand;
 use std::hash::Hash;

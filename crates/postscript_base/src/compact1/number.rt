@@ -1,12 +1,12 @@
 //! The numbers of dictionaries.
 ghost use Rattle.std.specs.Prelude.{[], ◌∷◌, ◌≡◌, ◌≢◌, ◌≤◌, ◌<◌, ◌+ℤ◌, ◌-ℤ◌, ◌*ℤ◌, pos};
-ghost use Rattle.postscript_base.specs.Decimal.{FindsOperands};
+ghost use Rattle.postscript_base.specs.Compact1.Decimal.{FindsOperands};
 ghost use Rattle.postscript_base.specs.Error.{IsListed};
-ghost use Rattle.postscript_base.specs.Outcome.{same};
+ghost use Rattle.postscript_base.specs.Tape.Outcome.{same};
 ghost use Rattle.postscript_base.specs.Tape.{Reads};
-ghost use Rattle.postscript_base.specs.Onward.{TakesBytes};
-ghost use Rattle.postscript_base.specs.Reals.{ReadsSpellings, real as the_real};
-ghost use Rattle.postscript_base.specs.DictNumber.{number as the_number, BeginsNoReal, begun as the_begun, whole as the_whole};
+ghost use Rattle.postscript_base.specs.Tape.Onward.{TakesBytes};
+ghost use Rattle.postscript_base.specs.Compact1.Reals.{ReadsSpellings, real as the_real};
+ghost use Rattle.postscript_base.specs.Compact1.Number.{number as the_number, BeginsNoReal, begun as the_begun, whole as the_whole};
 
 use super::operand::Operand;
 use super::text::{operand, read_text};
@@ -18,7 +18,7 @@ use std::alloc::Global;
 ///
 /// Refused: `MalformedNumber` where the bytes spell no number, `OutOfRangeNumber` where a real has no operand,
 /// `UnexpectedEof`, `Io`, `Memory`.
-#[tactic(auto, unfolding(crate::specs::DictNumber::number), using(crate::proofs::Spellings::reads_spellings, crate::proofs::Operands::finds_operands, crate::proofs::Onward::dict_number_takes, crate::proofs::Outcomes::refused_after))]
+#[tactic(auto, unfolding(crate::specs::Compact1::Number::number), using(crate::proofs::Spellings::reads_spellings, crate::proofs::Operands::finds_operands, crate::proofs::Onward::dict_number_takes, crate::proofs::Outcomes::refused_after))]
 pub fn read<T: Tape>(alloc: Global, tape: &mut T) -> Result<Operand>
     ensures exact { Reads same (T.state tape.old) result (T.state tape.new) the_number }
     ensures listed { IsListed (1 ∷ 2 ∷ 3 ∷ 7 ∷ 8 ∷ []) result }
@@ -44,7 +44,7 @@ pub(super) fn begun<T: Tape>(alloc: Global, tape: &mut T, first: u8) -> Result<O
 }
 
 /// Reads an integer behind its first byte.
-#[tactic(auto, unfolding(crate::specs::DictNumber::number))]
+#[tactic(auto, unfolding(crate::specs::Compact1::Number::number))]
 fn integer<T: Tape>(tape: &mut T, first: u8) -> Result<Operand>
     requires { first ≢ 0x1e }
     ensures exact { Reads same (T.state tape.old) result (T.state tape.new) (the_begun first) }
@@ -61,7 +61,7 @@ fn integer<T: Tape>(tape: &mut T, first: u8) -> Result<Operand>
 }
 
 /// Reads a real behind its first byte.
-#[tactic(auto, unfolding(crate::specs::Reals::real))]
+#[tactic(auto, unfolding(crate::specs::Compact1::Reals::real))]
 fn real<T: Tape>(alloc: Global, tape: &mut T) -> Result<Operand>
     ensures exact { Reads same (T.state tape.old) result (T.state tape.new) the_real }
     ensures listed { IsListed (1 ∷ 2 ∷ 3 ∷ 7 ∷ 8 ∷ []) result }

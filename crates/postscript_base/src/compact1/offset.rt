@@ -2,9 +2,9 @@
 ghost use Rattle.std.specs.Prelude.{◌≡◌, ℕ, List, [], ◌∷◌};
 ghost use Rattle.postscript_base.specs.Error.{IsListed};
 ghost use Rattle.postscript_base.specs.Numbers.{number};
-ghost use Rattle.postscript_base.specs.Offset.{offset};
-ghost use Rattle.postscript_base.specs.Outcome.{same};
-ghost use Rattle.postscript_base.specs.Seen.{each_as_it_is};
+ghost use Rattle.postscript_base.specs.Compact1.Offset.{offset};
+ghost use Rattle.postscript_base.specs.Tape.Outcome.{same};
+ghost use Rattle.postscript_base.specs.Tape.Seen.{each_as_it_is};
 ghost use Rattle.postscript_base.specs.Tape.{Reads};
 
 use crate::error::{Error, Result};
@@ -35,7 +35,7 @@ impl Model for Offset {
 /// The parameter is the number of bytes, from 1 to 4.
 ///
 /// Refused: `MalformedOffset` for another number of bytes, before any is read, `UnexpectedEof`, `Io`.
-#[tactic(auto, unfolding(crate::specs::Offset::offset))]
+#[tactic(auto, unfolding(crate::specs::Compact1::Offset::offset))]
 impl Walue for Offset {
     type Parameter = OffsetSize;
 

@@ -1,7 +1,7 @@
 //! The operands of dictionaries.
 ghost use Rattle.std.specs.Prelude.{◌≡◌, ◌≢◌, ℤ, pos, negsuc, ℕ, ◌-◌, ◌*◌, ◌^◌, ◌%◌, ◌<◌, ◌≤◌, ◌≤ℤ◌, IfSome, IfNone, Some};
 ghost use Rattle.std.specs.Int.RustNames.{unsigned_abs};
-ghost use Rattle.postscript_base.specs.Decimal.{canonical, Decimal, HasOperand, IsOf32Bits, IsOperand, IsSameValue, operand_of, scaled, printed, signed, to_i32 as the_i32};
+ghost use Rattle.postscript_base.specs.Compact1.Decimal.{canonical, Decimal, HasOperand, IsOf32Bits, IsOperand, IsSameValue, operand_of, scaled, printed, signed, to_i32 as the_i32};
 
 use std::fmt;
 use std::marker::Model;
@@ -15,7 +15,7 @@ pub struct Operand {
 }
 
 impl Model for Operand {
-    ghost use Rattle.postscript_base.specs.Decimal.{Decimal, IsOperand};
+    ghost use Rattle.postscript_base.specs.Compact1.Decimal.{Decimal, IsOperand};
 
     ghost Value = { Decimal };
 

@@ -2,7 +2,7 @@
 ghost use Rattle.std.specs.Prelude.{◌≡◌};
 ghost use Rattle.std.specs.Option.{ok_or};
 ghost use Rattle.postscript_base.specs.declared.error.Error.TheVariants as errors;
-ghost use Rattle.postscript_base.specs.Operators.{operator_of, name_of};
+ghost use Rattle.postscript_base.specs.Compact1.Operators.{operator_of, name_of};
 
 use crate::{Error, Result};
 
@@ -65,7 +65,7 @@ pub enum Operator {
 
 impl Operator {
     /// The operator of a code. A code of two bytes is 0x0c00 and the second.
-    #[tactic(auto, unfolding(crate::specs::Operators::operator_of))]
+    #[tactic(auto, unfolding(crate::specs::Compact1::Operators::operator_of))]
     pub fn from(code: u16) -> Result<Self>
         ensures { result ≡ ok_or (operator_of code) errors.UnknownOperator }
     {

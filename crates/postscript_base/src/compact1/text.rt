@@ -1,13 +1,13 @@
 //! The texts of reals: digits, a point, an exponent.
 ghost use Rattle.std.specs.Prelude.{◌≡◌, ◌⊎◌, ◌<◌, ℕ, Bool, false, List, [], ◌∷◌, Option, Some, None, IfSome, IfNone, MatchResult, vec_len};
 ghost use Rattle.std.specs.List.{prefix_len};
-ghost use Rattle.postscript_base.specs.Decimal.{IsDigits};
+ghost use Rattle.postscript_base.specs.Compact1.Decimal.{IsDigits};
 ghost use Rattle.postscript_base.specs.Error.{IsListed};
-ghost use Rattle.postscript_base.specs.Outcome.{Answers, same};
+ghost use Rattle.postscript_base.specs.Tape.Outcome.{Answers, same};
 ghost use Rattle.postscript_base.specs.Tape.{Reads};
 ghost use Rattle.postscript_base.specs.declared.error.Error.TheVariants as errors;
-ghost use Rattle.postscript_base.specs.Nibbles.{one_nibble, step as the_step};
-ghost use Rattle.postscript_base.specs.Reals.{after_digits, digits_of, is_exponent_negative, is_digit, fraction_at, fraction_digits, exponent_at, exponent_digits, real_of, after_sign, text_of_real, valued};
+ghost use Rattle.postscript_base.specs.Compact1.Nibbles.{one_nibble, step as the_step};
+ghost use Rattle.postscript_base.specs.Compact1.Reals.{after_digits, digits_of, is_exponent_negative, is_digit, fraction_at, fraction_digits, exponent_at, exponent_digits, real_of, after_sign, text_of_real, valued};
 
 use super::digits::of_real;
 use super::operand::Operand;
@@ -32,7 +32,7 @@ pub(crate) fn read_text<T: Tape>(alloc: Global, tape: &mut T) -> Result<Vec<u8>>
 }
 
 /// Reads one byte of a text, and says whether this was the last.
-#[tactic(auto, unfolding(crate::specs::Nibbles::step))]
+#[tactic(auto, unfolding(crate::specs::Compact1::Nibbles::step))]
 fn step<T: Tape>(tape: &mut T, text: &mut Vec<u8>) -> Result<bool>
     ensures exact { Reads (λ ended. (ended, text.new.items)) (T.state tape.old) result (T.state tape.new) (the_step text.old.items) }
     ensures listed { IsListed (1 ∷ 2 ∷ 3 ∷ 7 ∷ []) result }
@@ -66,7 +66,7 @@ fn push(text: &mut Vec<u8>, nibble: u8) -> Result<bool>
 }
 
 /// The operand of the real that a text spells.
-#[tactic(auto, unfolding(crate::specs::Reals::real_of))]
+#[tactic(auto, unfolding(crate::specs::Compact1::Reals::real_of))]
 pub(crate) fn operand(text: &[u8]) -> Result<Operand>
     ensures exact { (bytes : List ℕ) (place : ℕ) → Answers same result place (valued (real_of text.now) bytes place) }
     ensures listed { IsListed (7 ∷ 8 ∷ []) result }

@@ -1,8 +1,8 @@
 //! What is told of readings by themselves.
 ghost use Rattle.std.specs.Prelude.{ℕ, ◌<◌};
-ghost use Rattle.postscript_base.specs.At.{NeedsBytes};
+ghost use Rattle.postscript_base.specs.Tape.At.{NeedsBytes};
 ghost use Rattle.postscript_base.specs.Numbers.{number, slice};
-ghost use Rattle.postscript_base.specs.Onward.{TakesBytes};
+ghost use Rattle.postscript_base.specs.Tape.Onward.{TakesBytes};
 
 /// The readings of numbers and of bytes move on within the bytes, and past the end bytes are wanting.
 pub fn numbers_move_on()

@@ -1,10 +1,10 @@
 //! Values one after the other.
 ghost use Rattle.std.specs.Prelude.{◌≡◌, ℕ, Bool, List, [], ◌∷◌, length, map};
 ghost use Rattle.postscript_base.specs.Error.{IsListed};
-ghost use Rattle.postscript_base.specs.Outcome.{Reading, Got, same};
-ghost use Rattle.postscript_base.specs.Onward.{TakesBytes};
+ghost use Rattle.postscript_base.specs.Tape.Outcome.{Reading, Got, same};
+ghost use Rattle.postscript_base.specs.Tape.Onward.{TakesBytes};
 ghost use Rattle.postscript_base.specs.Tape.{Reads, IsHonest, Kept};
-ghost use Rattle.postscript_base.specs.Loops.{many, chain, until, to_end, each, IsNext};
+ghost use Rattle.postscript_base.specs.Tape.Loops.{many, chain, until, to_end, each, IsNext};
 
 use super::{Tape, Value};
 use crate::error::{Error, Result};

@@ -1,6 +1,6 @@
 use Rattle.std.proofs.Common.{None, ◌*◌, [], ◌++◌, ◌^◌, length, ap, sym, ◌∙◌, arith, rules}
 use Rattle.std.proofs.lemmas.Int.{ints}
-use Rattle.postscript_base.specs.Decimal.{digits_number, real_value}
+use Rattle.postscript_base.specs.Compact1.Decimal.{digits_number, real_value}
 use Rattle.postscript_base.proofs.Zeros.{as_long, as_short}
 use Rattle.postscript_base.proofs.RealValues.{long_none, zero_same, real_some, real_none, nothing, not_last, real_exact, signed_zero}
 use Rattle.postscript_base.proofs.Operands.{zero_operand}

@@ -1,5 +1,5 @@
 use Rattle.std.proofs.Common.{◌≡◌, ◌^◌, ◌<◌, min, take}
-use Rattle.postscript_base.specs.Decimal.{digits_number}
+use Rattle.postscript_base.specs.Compact1.Decimal.{digits_number}
 use Rattle.postscript_base.proofs.compact1.digits.up_to_far.Given as goal
 
 abbrev pub invariant-loop-digit : goal.invariant-loop-digit

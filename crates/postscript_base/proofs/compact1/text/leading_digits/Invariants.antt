@@ -1,6 +1,6 @@
 use Rattle.std.proofs.Common.{◌≡◌, ◌+◌, ◌-◌, ◌≤◌, length, drop}
 use Rattle.std.specs.List.{prefix_len}
-use Rattle.postscript_base.specs.Reals.{is_digit}
+use Rattle.postscript_base.specs.Compact1.Reals.{is_digit}
 use Rattle.postscript_base.proofs.compact1.text.leading_digits.Given as goal
 
 abbrev pub invariant-loop-count : goal.invariant-loop-count

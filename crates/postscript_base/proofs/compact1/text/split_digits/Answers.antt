@@ -1,7 +1,7 @@
 use Rattle.std.proofs.Common.{ap, sym, subst, ◌∙◌, take}
 use Rattle.std.proofs.lemmas.List.Sums.{prefix_len-le-length}
-use Rattle.postscript_base.specs.Decimal.{IsDigits}
-use Rattle.postscript_base.specs.Reals.{is_digit}
+use Rattle.postscript_base.specs.Compact1.Decimal.{IsDigits}
+use Rattle.postscript_base.specs.Compact1.Reals.{is_digit}
 use Rattle.postscript_base.proofs.Texts.{digits_are}
 use Rattle.postscript_base.proofs.compact1.text.split_digits.Goals as goal
 

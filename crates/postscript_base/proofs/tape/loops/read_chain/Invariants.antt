@@ -1,6 +1,6 @@
 use Rattle.std.proofs.Common.{◌≡◌, ◌-◌}
 use Rattle.postscript_base.specs.Tape.{IsHonest, Kept}
-use Rattle.postscript_base.specs.Loops.{chain}
+use Rattle.postscript_base.specs.Tape.Loops.{chain}
 use Rattle.postscript_base.proofs.Repeats.{with_front}
 use Rattle.postscript_base.proofs.tape.loops.read_chain.Given as goal
 

@@ -1,6 +1,6 @@
 use Rattle.std.proofs.Common.{◌≡◌, List, map, drop}
 use Rattle.postscript_base.specs.Tape.{IsHonest, Kept}
-use Rattle.postscript_base.specs.Loops.{each}
+use Rattle.postscript_base.specs.Tape.Loops.{each}
 use Rattle.postscript_base.proofs.Repeats.{with_front}
 use Rattle.postscript_base.proofs.tape.loops.read_each.Given as goal
 

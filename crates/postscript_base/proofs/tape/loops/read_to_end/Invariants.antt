@@ -1,6 +1,6 @@
 use Rattle.std.proofs.Common.{◌≡◌, ◌-◌, ◌^◌}
 use Rattle.postscript_base.specs.Tape.{IsHonest, Kept}
-use Rattle.postscript_base.specs.Loops.{to_end}
+use Rattle.postscript_base.specs.Tape.Loops.{to_end}
 use Rattle.postscript_base.proofs.Repeats.{IsBeforeEnd}
 use Rattle.postscript_base.proofs.tape.loops.read_to_end.Given as goal
 

@@ -1,6 +1,6 @@
 use Rattle.std.proofs.Common.{◌-◌, ◌^◌, vec_len}
 use Rattle.postscript_base.specs.Tape.{IsHonest, Kept}
-use Rattle.postscript_base.specs.Loops.{until}
+use Rattle.postscript_base.specs.Tape.Loops.{until}
 use Rattle.postscript_base.proofs.Repeats.{IsBehind}
 use Rattle.postscript_base.proofs.tape.loops.read_until.Given as goal
 

@@ -1,7 +1,7 @@
 use Rattle.std.proofs.Common.{◌≡◌, pos, ap, ◌∙◌, refl, Some, arith, to_z, of_z}
 use Rattle.std.specs.Int.{w128}
 use Rattle.std.proofs.lemmas.Int.{ints, to_z-of_z}
-use Rattle.postscript_base.specs.Decimal.{canonical, operand_of}
+use Rattle.postscript_base.specs.Compact1.Decimal.{canonical, operand_of}
 use Rattle.postscript_base.proofs.Operands.{whole_operand}
 use Rattle.postscript_base.proofs.compact1.operand.Operand.from_i32.Goals as goal
 

@@ -3,7 +3,7 @@ use Rattle.std.specs.Prelude.{IfSome, IfNone}
 use Rattle.std.specs.Int.{w32, w64, w128}
 use Rattle.std.specs.Int.RustNames.{unsigned_abs}
 use Rattle.std.proofs.lemmas.Int.{ints, to_z-of_z}
-use Rattle.postscript_base.specs.Decimal.{IsOf32Bits}
+use Rattle.postscript_base.specs.Compact1.Decimal.{IsOf32Bits}
 use Rattle.postscript_base.proofs.Operands.{i32_below, i32_above, none_if_none, whole_if_some, finds_whole, scaled_at}
 use Rattle.postscript_base.proofs.compact1.operand.Operand.to_i32.Goals as goal
 use Rattle.postscript_base.proofs.compact1.operand.Operand.to_i32.Goals.{then-exponent-lt0-via-then-exponent-lt0, then-exponent-lt0-via-else-exponent-lt0+then-exponent-gt9}

@@ -1,7 +1,7 @@
 -- Values that are seen as they are.
 use Rattle.std.proofs.Common.{◌≡◌, List, map, sym}
 use Rattle.std.proofs.lemmas.List.{map-id}
-use Rattle.postscript_base.specs.Outcome.{same}
+use Rattle.postscript_base.specs.Tape.Outcome.{same}
 
 -- so is a list of them
 pub each_as_it_is : {A : Type 0} (xs : List A) → same xs ≡ map same xs

@@ -1,6 +1,6 @@
 -- Readings that move on.
 use Rattle.std.specs.Prelude.{ℕ, ◌<◌, ◌≤◌, List, length}
-use Rattle.postscript_base.specs.Outcome.{Outcome, Got, Fault, Past, Reading}
+use Rattle.postscript_base.specs.Tape.Outcome.{Outcome, Got, Fault, Past, Reading}
 
 -- the next place lies behind the place and within so many bytes, and no place past the end is sought
 abbrev pub MovesOn : {A : Type 0} → ℕ → ℕ → Outcome A → Type 0

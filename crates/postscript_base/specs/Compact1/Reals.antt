@@ -2,8 +2,8 @@
 use Rattle.std.specs.Prelude.{◌≡◌, ℕ, ◌<◌, ◌+◌, ◌/◌, ◌%◌, Bool, true, false, not, ◌&&◌, ◌||◌, List, [], ◌∷◌, ◌++◌, length, take, drop, take_while, flat_map, Option, Some, None, IfSome, ◌==◌, nat_lt, if◌then◌else◌}
 use Rattle.std.specs.List.{prefix_len}
 use Rattle.postscript_base.specs.Refusal.{malformed_number, out_of_range_number}
-use Rattle.postscript_base.specs.Outcome.{Outcome, Got, Fault, Reading, end, ◌>>=◌, pure, fault}
-use Rattle.postscript_base.specs.Decimal.{Decimal, IsDigits, operand_of, real_value}
+use Rattle.postscript_base.specs.Tape.Outcome.{Outcome, Got, Fault, Reading, end, ◌>>=◌, pure, fault}
+use Rattle.postscript_base.specs.Compact1.Decimal.{Decimal, IsDigits, operand_of, real_value}
 
 -- The symbols of a real's text: the digits 0 to 9, a point, an E and a minus.
 abbrev pub point_symbol : ℕ

@@ -1,5 +1,5 @@
 -- The header (Technical Note 5176, "Header"): four numbers of one byte, which are not tested.
-use Rattle.postscript_base.specs.Outcome.{Reading, ◌>>=◌, pure}
+use Rattle.postscript_base.specs.Tape.Outcome.{Reading, ◌>>=◌, pure}
 use Rattle.postscript_base.specs.Numbers.{number}
 use Rattle.postscript_base.specs.declared.compact1.header.Header.{Header}
 

@@ -1,7 +1,7 @@
 -- An offset: a number of one to four bytes (Technical Note 5176, "Data Types").
 use Rattle.std.specs.Prelude.{ℕ, nat_lt, ◌==◌, ◌||◌, if◌then◌else◌}
 use Rattle.postscript_base.specs.Refusal.{malformed_offset}
-use Rattle.postscript_base.specs.Outcome.{Reading, fault}
+use Rattle.postscript_base.specs.Tape.Outcome.{Reading, fault}
 use Rattle.postscript_base.specs.Numbers.{number}
 
 -- another size is malformed, and nothing is read for it

@@ -1,6 +1,6 @@
 -- Readings over and over.
 use Rattle.std.specs.Prelude.{◌≡◌, ◌≢◌, Option, Some, None, Result, Ok, Err, ℕ, zero, suc, ◌==◌, Bool, false, List, [], ◌∷◌, length, if◌then◌else◌}
-use Rattle.postscript_base.specs.Outcome.{Outcome, Got, Fault, Past, Reading, ◌>>=◌, pure, RefusedAs, after, end}
+use Rattle.postscript_base.specs.Tape.Outcome.{Outcome, Got, Fault, Past, Reading, ◌>>=◌, pure, RefusedAs, after, end}
 use Rattle.postscript_base.specs.declared.error.Error.{Error}
 use Rattle.postscript_base.specs.declared.error.Error.TheVariants.{UnexpectedEof, Memory}
 use Rattle.postscript_base.specs.Refusal.{Refusal, Numbered, OfPart, OfMalformed, OfMissing}

@@ -1,0 +1,9 @@
+-- The smallest parts of the Compact Font Format (Technical Note 5176).
+pub mod Offset
+pub mod Header
+pub mod Operators
+pub mod Decimal
+pub mod Number
+pub mod Reals
+pub mod Nibbles
+pub mod Significant
