@@ -128,10 +128,5 @@ pub number_needs : (size : ℕ) → 0 < size → NeedsBytes (number size)
 unfolding number
 number_needs size some = needs_after (slice size) (λ bytes. pure (big_endian bytes)) (slice_needs size some)
 
--- what is told of numbers of bytes, and of so many bytes
-pub numbers_move_on : (size : ℕ) → 0 < size → TakesBytes (number size) × NeedsBytes (number size)
-numbers_move_on size some = (number_takes size some, number_needs size some)
-
-pub slices_move_on : (size : ℕ) → 0 < size → TakesBytes (slice size) × NeedsBytes (slice size)
-slices_move_on size some =
-    (λ bytes place. goes_moves (slice size bytes place) place (length bytes) (goes_later (slice size bytes place) (place + 1) (place + size) (length bytes) (omega arith) (slice_goes size bytes place some)), slice_needs size some)
+pub slice_takes : (size : ℕ) → 0 < size → TakesBytes (slice size)
+slice_takes size some bytes place = goes_moves (slice size bytes place) place (length bytes) (goes_later (slice size bytes place) (place + 1) (place + size) (length bytes) (omega arith) (slice_goes size bytes place some))

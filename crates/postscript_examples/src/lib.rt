@@ -1,0 +1,4 @@
+//! Examples of use. Each is proved from the library's public contracts alone.
+#![tactic(auto)]
+
+pub mod readers;
