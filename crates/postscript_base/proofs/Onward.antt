@@ -30,7 +30,7 @@ goes_moves (Got value next) place size h = (omega arith, h.1)
 goes_moves (Fault refusal) place size h = tt
 goes_moves Past place size h = h
 
-goes_later : {A : Type 0} (o : Outcome A) (least next size : ℕ) → least ≤ next → Goes next size o → Goes least size o
+pub goes_later : {A : Type 0} (o : Outcome A) (least next size : ℕ) → least ≤ next → Goes next size o → Goes least size o
 goes_later (Got value last) least next size h g = (omega arith, g.1)
 goes_later (Fault refusal) least next size h g = g
 goes_later Past least next size h g = g

@@ -7,3 +7,7 @@ pub mod Number
 pub mod Reals
 pub mod Nibbles
 pub mod Significant
+pub mod Operation
+pub mod Dictionary
+pub mod Defaults
+pub mod Operands

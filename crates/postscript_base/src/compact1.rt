@@ -5,6 +5,9 @@ pub mod laws;
 pub mod number;
 mod offset;
 mod operand;
+mod operands;
+mod operation;
+mod operations;
 mod operator;
 mod significant;
 mod text;
@@ -12,6 +15,9 @@ mod text;
 pub use header::Header;
 pub use offset::{Offset, OffsetSize};
 pub use operand::Operand;
+pub use operands::Operands;
+pub use operation::Operation;
+pub use operations::Operations;
 pub use operator::Operator;
 
 /// The place of a glyph in a font, from 0.

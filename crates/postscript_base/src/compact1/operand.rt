@@ -1,6 +1,7 @@
 //! The operands of dictionaries.
 ghost use Rattle.std.specs.Prelude.{◌≡◌, ◌≢◌, ℤ, pos, negsuc, ℕ, ◌-◌, ◌*◌, ◌^◌, ◌%◌, ◌<◌, ◌≤◌, ◌≤ℤ◌, IfSome, IfNone, Some};
 ghost use Rattle.std.specs.Int.RustNames.{unsigned_abs};
+ghost use Rattle.postscript_base.specs.Compact1.Defaults.{decimal};
 ghost use Rattle.postscript_base.specs.Compact1.Decimal.{canonical, Decimal, HasOperand, IsOf32Bits, IsOperand, IsSameValue, operand_of, scaled, printed, signed, to_i32 as the_i32};
 
 use std::fmt;
@@ -52,6 +53,14 @@ impl Operand {
             mantissa: 0,
             exponent: 0,
         }
+    }
+
+    /// The operand of this form.
+    pub(crate) fn literal(mantissa: i64, exponent: i32) -> Operand
+        requires { IsOperand mantissa exponent }
+        ensures { result ≡ decimal mantissa exponent }
+    {
+        Operand { mantissa, exponent }
     }
 
     /// The operand of a whole number.

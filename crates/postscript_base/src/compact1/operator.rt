@@ -2,8 +2,10 @@
 ghost use Rattle.std.specs.Prelude.{◌≡◌};
 ghost use Rattle.std.specs.Option.{ok_or};
 ghost use Rattle.postscript_base.specs.declared.error.Error.TheVariants as errors;
+ghost use Rattle.postscript_base.specs.Compact1.Defaults.{default_of};
 ghost use Rattle.postscript_base.specs.Compact1.Operators.{operator_of, name_of};
 
+use super::{Operand, Operands};
 use crate::{Error, Result};
 
 /// An operator (Technical Note 5176, Tables 9, 10 and 23).
@@ -123,6 +125,43 @@ impl Operator {
             0x0c25 => Operator::FDSelect,
             0x0c26 => Operator::FontName,
             _ => return Err(Error::UnknownOperator),
+        })
+    }
+
+    /// The operands that it has where none are written.
+    pub fn default(&self) -> Option<Operands<'static>>
+        ensures { result ≡ default_of self.now }
+    {
+        Some(match self {
+            Operator::FontBBox => Operands::four([Operand::zero(); 4]),
+            Operator::CharSet
+            | Operator::Encoding
+            | Operator::DefaultWidthX
+            | Operator::NominalWidthX
+            | Operator::IsFixedPitch
+            | Operator::ItalicAngle
+            | Operator::PaintType
+            | Operator::StrokeWidth
+            | Operator::ForceBold
+            | Operator::LanguageGroup
+            | Operator::InitialRandomSeed
+            | Operator::CIDFontVersion
+            | Operator::CIDFontRevision
+            | Operator::CIDFontType => Operands::one(0, 0),
+            Operator::UnderlinePosition => Operands::one(-1, 2),
+            Operator::UnderlineThickness => Operands::one(5, 1),
+            Operator::CharStringType => Operands::one(2, 0),
+            Operator::FontMatrix => {
+                let zero = Operand::zero();
+                let small = Operand::literal(1, -3);
+                Operands::six([small, zero, zero, small, zero, zero])
+            }
+            Operator::BlueScale => Operands::one(39625, -6),
+            Operator::BlueShift => Operands::one(7, 0),
+            Operator::BlueFuzz => Operands::one(1, 0),
+            Operator::ExpansionFactor => Operands::one(6, -2),
+            Operator::CIDCount => Operands::one(872, 1),
+            _ => return None,
         })
     }
 

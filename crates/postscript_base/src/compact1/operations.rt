@@ -1,0 +1,125 @@
+//! Dictionaries.
+ghost use Rattle.std.specs.Prelude.{◌≡◌, [], ◌∷◌, map, OnOk, IfOk};
+ghost use Rattle.std.specs.FinMap as map;
+ghost use Rattle.postscript_base.specs.Compact1.Defaults.{first_of, first_two_of, look};
+ghost use Rattle.postscript_base.specs.Error.{IsListed};
+ghost use Rattle.postscript_base.specs.Compact1.Dictionary.{dictionary_of, put};
+
+use super::{Operand, Operands, Operation, Operator};
+use crate::Result;
+use crate::tape::{Tape, Value, read_to_end};
+use std::alloc::Global;
+use std::collections::HashMap;
+use std::marker::Model;
+
+/// The operators of a dictionary, each with its operands.
+#[derive(Drop)]
+pub struct Operations(pub HashMap<Operator, Vec<Operand>>);
+
+impl Model for Operations {
+    ghost use Rattle.std.specs.FinMap as map;
+    ghost use Rattle.postscript_base.specs.contracts.compact1.operator.Operator as operator;
+    ghost use Rattle.postscript_base.specs.Compact1.Dictionary.{Dictionary, decimals_code, listed};
+
+    ghost Value = { Dictionary };
+
+    ghost coded = { map.code operator.the_row.coded decimals_code };
+
+    ghost view = { λ operations. map.from_entries (listed operations.0.entries) };
+}
+
+impl Operations {
+    /// No operations.
+    pub fn empty(alloc: Global) -> Self
+        ensures { result ≡ map.empty }
+    {
+        Operations(HashMap::new(alloc))
+    }
+
+    /// The operands of an operator, else its defaults.
+    pub fn get(&self, operator: Operator) -> Option<Operands<'_>>
+        ensures { result ≡ look self.now operator }
+    {
+        match self.0.get(&operator) {
+            Some(operands) => Some(Operands::lent(operands.as_slice())),
+            None => operator.default(),
+        }
+    }
+
+    /// The first operand of an operator.
+    pub fn get_single(&self, operator: Operator) -> Option<Operand>
+        ensures { result ≡ first_of (look self.now operator) }
+    {
+        self.get(operator)?.as_slice().first().copied()
+    }
+
+    /// The first two operands of an operator.
+    pub fn get_double(&self, operator: Operator) -> Option<(Operand, Operand)>
+        ensures { result ≡ first_two_of (look self.now operator) }
+    {
+        let operands = self.get(operator)?;
+        match operands.as_slice() {
+            [first, second, ..] => Some((*first, *second)),
+            _ => None,
+        }
+    }
+
+    /// An equal dictionary.
+    pub fn clone(&self) -> Result<Self>
+        ensures equal { IfOk result (λ map. map ≡ self.now) }
+        ensures listed { IsListed (3 ∷ []) result }
+    {
+        Ok(Operations(self.0.clone()?))
+    }
+
+    /// Takes an operation in, in the place of an earlier one of the same operator.
+    fn put(&mut self, operation: Operation) -> Result<()>
+        ensures ok { OnOk result (self.new ≡ put self.old (operation.0, operation.1.items)) }
+        ensures listed { IsListed (3 ∷ []) result }
+    {
+        self.0.insert(operation.0, operation.1)?;
+        Ok(())
+    }
+}
+
+/// Operations up to the end of the tape, where an operation that is cut by the end is no fault. The tape then stands at
+/// the end.
+///
+/// Refused: `TapeStuck` where the place of the tape does not rise, `MalformedNumber`, `OutOfRangeNumber`,
+/// `UnknownOperator`, `Io`, `Memory`, and `UnexpectedEof` from a seek.
+#[tactic(auto, using(crate::proofs::Outcomes::refused_after, crate::proofs::OperationSteps::operation_takes), unfolding(crate::specs::Compact1::Dictionary::dictionary))]
+impl Value for Operations {
+    ghost use Rattle.std.specs.Prelude.{[], ◌∷◌};
+    ghost use Rattle.postscript_base.specs.Tape.Outcome.{same};
+    ghost use Rattle.postscript_base.specs.Tape.Seen.{each_as_it_is};
+    ghost use Rattle.postscript_base.specs.Compact1.Dictionary.{Dictionary, dictionary};
+
+    ghost Shown = { Dictionary };
+
+    ghost view = { same };
+
+    ghost views = { same };
+
+    ghost views_each = { each_as_it_is };
+
+    ghost reading = { dictionary };
+
+    ghost refusals = { 1 ∷ 2 ∷ 3 ∷ 4 ∷ 7 ∷ 8 ∷ 9 ∷ [] };
+
+    fn read<T: Tape>(alloc: Global, tape: &mut T) -> Result<Operations> {
+        let all = read_to_end::<Operation, T>(alloc, tape)?;
+        of_all(alloc, all)
+    }
+}
+
+/// The dictionary that operations leave.
+fn of_all(alloc: Global, all: Vec<Operation>) -> Result<Operations>
+    ensures dictionary { IfOk result (λ operations. operations ≡ dictionary_of (map (λ operation. (operation.0, operation.1.items)) all.items)) }
+    ensures listed { IsListed (3 ∷ []) result }
+{
+    let mut operations = Operations::empty(alloc);
+    for operation in all {
+        operations.put(operation)?;
+    }
+    Ok(operations)
+}
