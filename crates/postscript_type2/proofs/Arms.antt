@@ -9,7 +9,7 @@ use Rattle.postscript_type2.specs.declared.operation.Operator.{Operator}
 use Rattle.postscript_type2.specs.Effects.{Lists, State, Move, Keeps, Clears, Calls, Returns, Ends, Refuses, effect}
 use Rattle.postscript_type2.specs.Meaning.{Answer, Said, UsedUp, Finished, Fault, says, answers, ends, said, stacked, cleared, moved, stride}
 use Rattle.postscript_type2.specs.Phrases.{Complete, Bad, phrase, fronted}
-use Rattle.postscript_type2.specs.Refusals.{Refusal, refusal_of, return_without_caller, trailing_data, too_deep}
+use Rattle.postscript_base.specs.Refusal.{Refusal, refusal_of, return_without_caller, trailing_data, too_deep}
 use Rattle.postscript_type2.specs.Still.{still, next_still, are_used_up}
 use Rattle.postscript_type2.proofs.Still.{still_end}
 use Rattle.postscript_type2.proofs.Strides.{still_step-at, stride-is, stop-is}

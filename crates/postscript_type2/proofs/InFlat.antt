@@ -15,7 +15,7 @@ use Rattle.postscript_type2.specs.Effects.{Lists, State, Move, Keeps, Clears, Ca
 use Rattle.postscript_type2.specs.Meaning.{Said, Finished, Run, says, answers, told, ends, Stride, On, Into, Back, Over, Stop, pushed, stacked, cleared, said, moved, stride_by, stride, mean}
 use Rattle.postscript_type2.specs.Still.{next_still}
 use Rattle.postscript_type2.specs.Flat.{without_operator, dropping, flat_by, flat_said}
-use Rattle.postscript_type2.specs.Refusals.{Refusal, unexpected_eof, expected_operand, expected_integer, missing_subroutine, too_many_stems}
+use Rattle.postscript_base.specs.Refusal.{Refusal, unexpected_eof, expected_operand, expected_integer, missing_subroutine, too_many_stems}
 use Rattle.postscript_type2.proofs.Strides.{still_step-at}
 use Rattle.postscript_type2.proofs.Locals.{stands_flat, IsLocal, Local, local}
 

@@ -10,7 +10,7 @@ use Rattle.postscript_type2.specs.Effects.{Lists, State, start}
 use Rattle.postscript_type2.specs.Meaning.{Answer, Said, End, UsedUp, Returned, Finished, Fault, Run, ends, says, answers, followed, is_empty, after_call, Stride, On, Into, Back, Over, Stop, stride, Callee, paced, routine, callee, mean, run_of, fault_of, width_by, width_of}
 use Rattle.postscript_type2.specs.Flat.{flat_by, flat_said, flat_bytes, flat_text}
 use Rattle.postscript_type2.specs.Inlining.{is_flat, KeepsMeaning, FlatTextIsFlat}
-use Rattle.postscript_type2.specs.Refusals.{trailing_data}
+use Rattle.postscript_base.specs.Refusal.{trailing_data}
 use Rattle.postscript_type2.proofs.InFlat.{InFlat, in-flat}
 
 -- no fault, and where the run was used up nothing follows

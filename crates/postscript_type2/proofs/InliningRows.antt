@@ -6,7 +6,7 @@ use Rattle.postscript_type2.specs.Effects.{Lists}
 use Rattle.postscript_type2.specs.Number.{whole}
 use Rattle.postscript_type2.specs.Meaning.{run_of, operation, fault_of, width_of}
 use Rattle.postscript_type2.specs.Flat.{flat_text}
-use Rattle.postscript_type2.specs.Refusals.{Refusal, missing_subroutine}
+use Rattle.postscript_base.specs.Refusal.{Refusal, missing_subroutine}
 
 -- The local subroutine has a mask, moves by a number of its own, leaves an operand and returns; the global one ends the glyph.
 abbrev with_calls : Lists

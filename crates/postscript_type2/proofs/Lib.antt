@@ -12,6 +12,7 @@ pub mod Still
 pub mod Strides
 pub mod Arms
 pub mod Taken
+pub mod Performed
 pub mod Rows
 pub mod SubroutineRows
 pub mod EffectRows

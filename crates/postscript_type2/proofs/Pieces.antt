@@ -10,7 +10,7 @@ use Rattle.postscript_type2.specs.declared.operation.Operator.{Operator}
 use Rattle.postscript_type2.specs.Number.{number, spelled}
 use Rattle.postscript_type2.specs.Operators.{operator_of}
 use Rattle.postscript_type2.specs.Phrases.{Phrase, Complete, Bad, is_number, numbered, phrase_after, phrase, ending, escaped, with_operator, fronted}
-use Rattle.postscript_type2.specs.Refusals.{Refusal, Numbered, refusal_of}
+use Rattle.postscript_base.specs.Refusal.{Refusal, refusal_of}
 use Rattle.postscript_type2.specs.Tokens.{ReadsOperator, ReadsPhrase, ending_of}
 use Rattle.postscript_type2.proofs.Bytes.{number-front, got-later}
 use Rattle.postscript_type2.proofs.Places.{later, spelled-local}
@@ -70,13 +70,13 @@ front-shorter self rest first next x is got =
     let shorter : length (drop next self) ≡ length self - next = length-drop next self in
     omega (arith, g.2)
 
-later-fault : {A : Type 0} (n k : ℕ) (o : Outcome A) → later n o ≡ Fault k → o ≡ Fault k
+later-fault : {A : Type 0} (n : ℕ) (k : Refusal) (o : Outcome A) → later n o ≡ Fault k → o ≡ Fault k
 later-fault n k (Got x next) h = absurd (cc)
 later-fault n k (Fault j) h = cc
 later-fault n k Past h = absurd (cc)
 
 -- a number that is cut
-pub front-cut : (self rest : List ℕ) (first k : ℕ) → self ≡ first ∷ rest → is_number first ≡ true → number self 0 ≡ Fault k → phrase self ≡ Bad (Numbered k)
+pub front-cut : (self rest : List ℕ) (first : ℕ) (k : Refusal) → self ≡ first ∷ rest → is_number first ≡ true → number self 0 ≡ Fault k → phrase self ≡ Bad k
 front-cut self rest first k is begins cut =
     let there : number (first ∷ rest) 0 ≡ Fault k = subst (λ bytes. number bytes 0 ≡ Fault k) is cut in
     let behind : spelled first rest 0 ≡ Fault k = later-fault 1 k (spelled first rest 0) (sym (spelled-local first (first ∷ rest) 1) ∙ sym (number-front first rest) ∙ there) in

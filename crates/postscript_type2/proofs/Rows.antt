@@ -6,7 +6,7 @@ use Rattle.postscript_type2.specs.declared.operation.Operator.{Operator}
 use Rattle.postscript_type2.specs.declared.operation.Operator.TheVariants.{HStem, VMoveTo, RLineTo, HLineTo, VLineTo, HintMask, CntrMask, RMoveTo, HMoveTo, HVCurveTo}
 use Rattle.postscript_type2.specs.Number.{whole}
 use Rattle.postscript_type2.specs.Meaning.{Run, run_of, operation, fault_of, width_of}
-use Rattle.postscript_type2.specs.Refusals.{Refusal, Unsupported, unexpected_eof, unknown_operator, malformed_operands}
+use Rattle.postscript_base.specs.Refusal.{Refusal, OfPart, unexpected_eof, unknown_operator, malformed_operands}
 
 abbrev run : List ℕ → Run
 run code = run_of (record { global = []; local = [] }) code
@@ -120,11 +120,11 @@ unfolding slice number
 cut_number = refl
 
 -- operators that are refused for good
-random : tells (0x0c ∷ 0x17 ∷ []) ≡ ([], Some (Unsupported parts.Random), None)
+random : tells (0x0c ∷ 0x17 ∷ []) ≡ ([], Some (OfPart parts.Random), None)
 random = refl
 
-put : tells (0x8c ∷ 0x8d ∷ 0x0c ∷ 0x14 ∷ []) ≡ ([], Some (Unsupported parts.Put), None)
+put : tells (0x8c ∷ 0x8d ∷ 0x0c ∷ 0x14 ∷ []) ≡ ([], Some (OfPart parts.Put), None)
 put = refl
 
-get : tells (0x0c ∷ 0x15 ∷ []) ≡ ([], Some (Unsupported parts.Get), None)
+get : tells (0x0c ∷ 0x15 ∷ []) ≡ ([], Some (OfPart parts.Get), None)
 get = refl

@@ -3,7 +3,7 @@ use Rattle.std.proofs.Math.Path.{fun_ext}
 use Rattle.std.proofs.Common.{◌≡◌, refl, ap, ◌∙◌, ℕ, zero, suc, ℤ, Bool, true, not, List, [], ◌∷◌, drop, Option, Some, None, if◌then◌else◌}
 use Rattle.postscript_type2.specs.Effects.{Lists, State}
 use Rattle.postscript_type2.specs.Meaning.{Answer, Said, UsedUp, Finished, Fault, Run, says, answers, told, ends, is_empty, finish, after_call, followed, Stride, On, Into, Back, Over, Stop, stride, Callee, routine, paced, callee, mean}
-use Rattle.postscript_type2.specs.Refusals.{Refusal, trailing_data, too_deep}
+use Rattle.postscript_base.specs.Refusal.{Refusal, trailing_data, too_deep}
 use Rattle.postscript_type2.specs.Still.{through, still, are_used_up, next_still}
 
 -- a routine past k bytes is the routine from there

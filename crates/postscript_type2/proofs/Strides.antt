@@ -6,7 +6,7 @@ use Rattle.postscript_type2.specs.declared.operation.Operator.{Operator}
 use Rattle.postscript_type2.specs.Phrases.{Phrase, Complete, Bad, phrase, fronted}
 use Rattle.postscript_type2.specs.Effects.{Lists, State, effect}
 use Rattle.postscript_type2.specs.Meaning.{stacked, Stop, moved, stride, stride_by}
-use Rattle.postscript_type2.specs.Refusals.{Refusal}
+use Rattle.postscript_base.specs.Refusal.{Refusal}
 use Rattle.postscript_type2.specs.Still.{still, next_still}
 use Rattle.postscript_type2.proofs.Still.{still_step}
 

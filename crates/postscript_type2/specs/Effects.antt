@@ -7,7 +7,7 @@ use Rattle.postscript_type2.specs.declared.operation.Operator.{Operator}
 use Rattle.postscript_type2.specs.declared.operation.Operator.TheVariants.{HStem, VStem, CallSubr, Return, EndChar, HStemHM, HintMask, CntrMask, VStemHM, CallGSubr, And, Or, Not, Abs, Add, Sub, Div, Neg, Eq, Drop, Put, Get, IfElse, Random, Mul, Sqrt, Dup, Exch, Index, Roll}
 use Rattle.postscript_type2.specs.FixedPoint.{absolute_value, opposite, root, sum, difference, product, quotient, both, either, denial, same_bits}
 use Rattle.postscript_type2.specs.Lengths.{taken}
-use Rattle.postscript_type2.specs.Refusals.{Refusal, Unsupported, unexpected_eof, malformed_operands, missing_subroutine, too_many_stems}
+use Rattle.postscript_base.specs.Refusal.{Refusal, OfPart, unexpected_eof, malformed_operands, missing_subroutine, too_many_stems}
 use Rattle.postscript_type2.specs.Stacks.{one_to_one, two_to_one, choice, removal, exchange, duplication, copy, roll}
 use Rattle.postscript_type2.specs.Works.{Work, ◌>>=◌, given, whole_operand}
 
@@ -163,7 +163,7 @@ effect_of (Works work) lists op after st = work_move (work st.stack)
 effect_of (CallsFrom routines) lists op after st = call_move (subroutine (routines lists) st.stack)
 effect_of GoesBack lists op after st = Returns
 effect_of EndsGlyph lists op after st = end_move st
-effect_of (IsRefused part) lists op after st = Refuses (Unsupported part)
+effect_of (IsRefused part) lists op after st = Refuses (OfPart part)
 
 -- what an operator does
 abbrev pub effect : Lists → Operator → (after : List ℕ) → State → Move

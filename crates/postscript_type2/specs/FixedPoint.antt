@@ -5,7 +5,7 @@ use Rattle.std.specs.Ordering.{int_eq}
 use Rattle.std.specs.Prelude.{ℕ, ◌*◌, ◌^◌, ℤ, pos, neg_ℤ, nat_abs, ◌+ℤ◌, ◌-ℤ◌, ◌*ℤ◌, int_div, int_lt, int_le, nat_le, Bool, not, ◌&&◌, ◌||◌, Result, Ok, Err, if◌then◌else◌}
 use Rattle.postscript_type2.specs.Lengths.{greatest}
 use Rattle.postscript_type2.specs.Number.{whole}
-use Rattle.postscript_type2.specs.Refusals.{Refusal, overflow, zero_divisor, negative_root}
+use Rattle.postscript_base.specs.Refusal.{Refusal, overflow, zero_divisor, negative_root}
 
 -- the quotient, cut towards zero
 abbrev pub cut : ℤ → ℤ → ℤ

@@ -1,7 +1,6 @@
 pub mod Number
 pub mod Operators
 pub mod Texts
-pub mod Refusals
 pub mod Phrases
 pub mod Lengths
 pub mod FixedPoint

@@ -8,7 +8,7 @@ use Rattle.postscript_type2.specs.declared.program.machine.Machine.{Machine}
 use Rattle.postscript_type2.specs.declared.program.machine.Said as code
 use Rattle.postscript_type2.specs.Callers.{rests}
 use Rattle.postscript_type2.specs.Meaning.{Said, UsedUp, Finished, Fault, Run, ends, says, answers}
-use Rattle.postscript_type2.specs.Refusals.{refusal_of}
+use Rattle.postscript_base.specs.Refusal.{refusal_of}
 use Rattle.postscript_type2.specs.Still.{still}
 use Rattle.postscript_type2.specs.Working.{lists_of, state_of, settled_width}
 

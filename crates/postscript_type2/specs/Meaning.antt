@@ -3,7 +3,7 @@ use Rattle.std.specs.Prelude.{ℕ, zero, suc, ◌+◌, ℤ, Bool, true, false, �
 use Rattle.postscript_type2.specs.declared.operation.Operator.{Operator}
 use Rattle.postscript_type2.specs.Effects.{Lists, State, start, Move, Keeps, Clears, Calls, Returns, Ends, Refuses, effect}
 use Rattle.postscript_type2.specs.Phrases.{Phrase, Complete, Bad, phrase}
-use Rattle.postscript_type2.specs.Refusals.{Refusal, return_without_caller, trailing_data, too_deep}
+use Rattle.postscript_base.specs.Refusal.{Refusal, return_without_caller, trailing_data, too_deep}
 
 -- an operation, and the width after it
 pub record Answer : Type 0 where

@@ -3,7 +3,7 @@ use Rattle.std.specs.Prelude.{◌≡◌, ◌⊎◌, ℤ, List, Result, Ok, Err}
 use Rattle.postscript_base.specs.declared.error.Error.{Error}
 use Rattle.postscript_base.specs.declared.error.Error.TheVariants.{Memory}
 use Rattle.postscript_type2.specs.Effects.{Kind, Works}
-use Rattle.postscript_type2.specs.Refusals.{Refusal, refusal_of}
+use Rattle.postscript_base.specs.Refusal.{Refusal, refusal_of}
 use Rattle.postscript_type2.specs.Works.{Work}
 
 -- From the old stack to the new one the code does a work and gives its value, or it refuses what the work refuses.

@@ -4,7 +4,7 @@ use Rattle.postscript_base.specs.Outcome.{Outcome, Got, Fault, Past}
 use Rattle.postscript_type2.specs.declared.operation.Operator.{Operator}
 use Rattle.postscript_type2.specs.Number.{spelled}
 use Rattle.postscript_type2.specs.Operators.{operator_of}
-use Rattle.postscript_type2.specs.Refusals.{Refusal, Numbered, unexpected_eof, unknown_operator}
+use Rattle.postscript_base.specs.Refusal.{Refusal, unexpected_eof, unknown_operator}
 
 -- Complete: the numbers, the operator, and how many bytes the phrase has after its first. Bad: why there is none.
 pub data Phrase : Type 0 where
@@ -28,7 +28,7 @@ with_number x (Bad e) = Bad e
 -- a number, and the phrase that stands behind its bytes
 abbrev pub numbered : Outcome ℤ → (ℕ → Phrase) → Phrase
 numbered (Got x more) behind = with_number x (behind more)
-numbered (Fault number) behind = Bad (Numbered number)
+numbered (Fault refusal) behind = Bad refusal
 numbered Past behind = Bad unexpected_eof
 
 -- an operator alone, of one byte and so many more

@@ -2,7 +2,7 @@
 use Rattle.std.specs.Prelude.{ℕ, zero, suc, Bool, true, ◌&&◌, not, List, [], ◌∷◌, if◌then◌else◌}
 use Rattle.postscript_type2.specs.Effects.{Lists, State}
 use Rattle.postscript_type2.specs.Meaning.{Finished, Fault, Run, ends, says, told, followed, is_empty, after_call, Stride, On, Into, Back, Over, Stop, mean}
-use Rattle.postscript_type2.specs.Refusals.{return_without_caller, trailing_data, too_deep}
+use Rattle.postscript_base.specs.Refusal.{return_without_caller, trailing_data, too_deep}
 
 -- a subroutine's run, gone on with through the rests of its callers, the innermost first. left: how many calls may
 -- still nest in the subroutine

@@ -6,7 +6,7 @@ use Rattle.postscript_base.specs.declared.error.Error.TheVariants.{Memory, Unexp
 use Rattle.postscript_type2.specs.declared.operation.Operator.{Operator}
 use Rattle.postscript_type2.specs.Number.{number}
 use Rattle.postscript_type2.specs.Phrases.{Phrase, Complete, Bad, phrase, ending, fronted}
-use Rattle.postscript_type2.specs.Refusals.{Numbered, refusal_of}
+use Rattle.postscript_base.specs.Refusal.{refusal_of}
 
 -- the byte at the front
 abbrev pub LooksAt : List ℕ → Option ℕ → Type 0
@@ -21,7 +21,7 @@ ReadsByte old (Err e) new = (old ≡ []) × (e ≡ UnexpectedEof)
 -- a number is read off the front
 abbrev pub ReadsNumber : List ℕ → Result ℤ Error → List ℕ → Type 0
 ReadsNumber old (Ok value) new = (next : ℕ) × (number old 0 ≡ Got value next) × (new ≡ drop next old)
-ReadsNumber old (Err e) new = (k : ℕ) × (number old 0 ≡ Fault k) × (refusal_of e ≡ Numbered k)
+ReadsNumber old (Err e) new = number old 0 ≡ Fault (refusal_of e)
 
 -- a phrase without numbers
 abbrev pub ending_of : List ℕ → Phrase

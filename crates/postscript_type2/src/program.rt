@@ -3,7 +3,7 @@ ghost use Rattle.std.specs.Prelude.{◌≡◌, ◌⊎◌, MatchResult, OnOk, IfO
 ghost use Rattle.postscript_type2.specs.Effects.{Lists};
 ghost use Rattle.postscript_type2.specs.Flat.{flat_text};
 ghost use Rattle.postscript_type2.specs.Inlining.{KeepsMeaning, FlatTextIsFlat};
-ghost use Rattle.postscript_type2.specs.Refusals.{refusal_of};
+ghost use Rattle.postscript_base.specs.Refusal.{refusal_of};
 ghost use Rattle.postscript_type2.specs.Meaning.{run_of, fault_of};
 ghost use Rattle.postscript_type2.specs.Programs.{begun, Next, ended, failed};
 ghost use Rattle.postscript_type2.specs.Routines.{texts};
