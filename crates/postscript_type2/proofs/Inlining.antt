@@ -9,7 +9,7 @@ use Rattle.postscript_type2.specs.declared.operation.Operator.TheVariants.{CallS
 use Rattle.postscript_type2.specs.Effects.{Lists, State, start}
 use Rattle.postscript_type2.specs.Meaning.{Answer, Said, End, UsedUp, Returned, Finished, Fault, Run, ends, says, answers, followed, is_empty, after_call, Stride, On, Into, Back, Over, Stop, stride, Callee, paced, routine, callee, mean, run_of, fault_of, width_by, width_of}
 use Rattle.postscript_type2.specs.Flat.{flat_by, flat_said, flat_bytes, flat_text}
-use Rattle.postscript_type2.specs.Inlining.{is_flat, KeepsMeaning, FlatTextIsFlat}
+use Rattle.postscript_type2.specs.Inlining.{is_flat, KeepsMeaning, FlatTextKeepsMeaning}
 use Rattle.postscript_base.specs.Refusal.{trailing_data}
 use Rattle.postscript_type2.proofs.InFlat.{InFlat, in-flat}
 
@@ -49,7 +49,7 @@ flattened-two run go next =
     ap (λ a. told-run a (map flat_said run.trace ++ (map flat_said go.trace ++ next.trace))) e ∙ ap (told-run ((run.answers ++ go.answers) ++ next.answers)) f
 
 -- nothing follows
-followed-ends : (a : List Answer) (t : List Said) (before end : End) →
+pub followed-ends : (a : List Answer) (t : List Said) (before end : End) →
     followed (record { answers = a; trace = t; end = before }) (λ e. ends end) ≡ record { answers = a; trace = t; end = end }
 followed-ends a t before end =
     let told-run : List Answer → List Said → Run = λ a t. record { answers = a; trace = t; end = end } in
@@ -182,8 +182,8 @@ keeps_meaning lists code none other =
           own_text = ap (λ r. flat_text r.trace) same ∙ flat-text run.trace;
         }
 
-pub law : FlatTextIsFlat
-law lists other code none = let kept = keeps_meaning lists code none other in (kept.faultless, kept.own_text)
+pub law : FlatTextKeepsMeaning
+law lists other code none = keeps_meaning lists code none other
 
 -- the same of a result that is the flat text
 pub keeps-result : {V E : Type 0} (items : V → List ℕ) (lists : Lists) (code : List ℕ) (r : Result V E) →

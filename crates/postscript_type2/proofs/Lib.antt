@@ -20,3 +20,7 @@ pub mod Locals
 pub mod InFlat
 pub mod Inlining
 pub mod InliningRows
+pub mod Spellings
+pub mod Means
+pub mod Ends
+pub mod Alike

@@ -44,7 +44,7 @@ through-finish lists left (b ∷ r) (c ∷ cs) width = through-fault lists (suc 
 through-finish lists left [] (c ∷ cs) width = through-finish lists (suc left) c cs width
 
 -- the bytes behind a call, as its caller goes on with them and as a rest of their own
-behind-call : (lists : Lists) (callee : Callee) (inner : Bool) (more : ℕ) (r : List ℕ) →
+pub behind-call : (lists : Lists) (callee : Callee) (inner : Bool) (more : ℕ) (r : List ℕ) →
     routine lists callee inner more r ≡ routine lists callee inner 0 (drop more r)
 behind-call lists callee inner more r = fun_ext (λ st. routine-from lists callee inner more r st)
 

@@ -20,3 +20,7 @@ pub mod Lefts
 pub mod Whole
 pub mod Performing
 pub mod Callers
+pub mod Spellings
+pub mod Means
+pub mod Ends
+pub mod Alike

@@ -1,10 +1,13 @@
 //! The programs.
-ghost use Rattle.std.specs.Prelude.{◌≡◌, ◌⊎◌, MatchResult, OnOk, IfOk, IfErr};
-ghost use Rattle.postscript_type2.specs.Effects.{Lists};
+ghost use Rattle.std.specs.Prelude.{◌≡◌, ◌⊎◌, MatchResult, OnOk, IfOk, IfErr, IfSome};
+ghost use Rattle.postscript_base.specs.Error.{code as number, IsOneOf, IsListed};
+ghost use Rattle.postscript_type2.specs.Effects.{Lists, start};
+ghost use Rattle.postscript_type2.specs.Ends.{run_refusals, flatten_refusals, next_refusals};
 ghost use Rattle.postscript_type2.specs.Flat.{flat_text};
-ghost use Rattle.postscript_type2.specs.Inlining.{KeepsMeaning, FlatTextIsFlat};
+ghost use Rattle.postscript_type2.specs.Inlining.{KeepsMeaning, FlatTextKeepsMeaning};
 ghost use Rattle.postscript_base.specs.Refusal.{refusal_of};
-ghost use Rattle.postscript_type2.specs.Meaning.{run_of, fault_of};
+ghost use Rattle.postscript_type2.specs.Meaning.{Run, run_of, fault_of};
+ghost use Rattle.postscript_type2.specs.Means.{MeansRun};
 ghost use Rattle.postscript_type2.specs.Programs.{begun, Next, ended, failed};
 ghost use Rattle.postscript_type2.specs.Routines.{texts};
 ghost use Rattle.postscript_type2.specs.Whole.{Tells};
@@ -60,7 +63,8 @@ impl<'l> Model for Program<'l> {
 impl<'l> Program<'l> {
     /// Creates a program of a code, and of the global and the local subroutines.
     pub fn new(alloc: Global, code: &'l [u8], global: &'l [Vec<u8>], local: &'l [Vec<u8>]) -> Self
-        ensures { result ≡ begun (run_of (record { global = texts global.now; local = texts local.now }) code.now) }
+        ensures value { result ≡ begun (run_of (record { global = texts global.now; local = texts local.now }) code.now) }
+        ensures meant { (run : Run) × MeansRun (record { global = texts global.now; local = texts local.now }) 0 code.now start run × (result ≡ begun run) }
     {
         Program {
             machine: Machine::new(alloc, code, global, local),
@@ -74,6 +78,7 @@ impl<'l> Program<'l> {
     /// `AlreadyFailed` from then on, and the width stays as it was before.
     pub fn next(&mut self) -> Result<Option<Operation>>
         ensures next { Next self.old result self.new }
+        ensures listed { IsListed next_refusals result }
         ensures ended { self.old ≡ ended self.old.width → result ≡ Ok None }
         ensures failed { self.old ≡ failed self.old.width → result ≡ Err Error.AlreadyFailed }
     {
@@ -128,7 +133,8 @@ impl<'l> Program<'l> {
             IfOk result (λ flat. (lists : Lists) → KeepsMeaning lists flat.items run) }
         ensures refused { let run = run_of (record { global = texts global.now; local = texts local.now }) code.now in
             IfErr result (λ e. (e ≡ Error.Memory) ⊎ (fault_of run.end ≡ Some (refusal_of e))) }
-        ensures law { FlatTextIsFlat }
+        ensures listed { IsListed flatten_refusals result }
+        ensures law { FlatTextKeepsMeaning }
     {
         flat_code(alloc, Machine::new(alloc, code, global, local))
     }
@@ -147,7 +153,10 @@ pub struct Answers {
 
 /// Runs a code to its end. Want of memory is the only error.
 pub fn run(alloc: Global, code: &[u8], global: &[Vec<u8>], local: &[Vec<u8>]) -> Result<Answers>
-    ensures { MatchResult result
+    ensures listed { IfOk result (λ told. IfSome told.fault (λ e. IsOneOf run_refusals (number e))) }
+    ensures meant { IfOk result (λ told. (run : Run) ×
+        MeansRun (record { global = texts global.now; local = texts local.now }) 0 code.now start run × Tells told run) }
+    ensures tells { MatchResult result
         (λ told. Tells told (run_of (record { global = texts global.now; local = texts local.now }) code.now))
         (λ e. e ≡ Error.Memory) }
 {

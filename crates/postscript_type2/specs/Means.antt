@@ -1,0 +1,104 @@
+-- What a program means, rule by rule.
+use Rattle.std.specs.Prelude.{◌≡◌, ◌≢◌, ℕ, zero, suc, ◌-◌, ◌<◌, ◌≤◌, ◌↔◌, ℤ, Bool, true, false, List, [], ◌∷◌, ◌++◌, length, Option}
+use Rattle.postscript_type2.specs.declared.operation.Operator.{Operator}
+use Rattle.postscript_type2.specs.Effects.{Lists, State, start, Keeps, Clears, Calls, Returns, Ends, Refuses, effect}
+use Rattle.postscript_type2.specs.Meaning.{Answer, Said, End, UsedUp, Returned, Finished, Fault, Run, pushed, stacked, cleared, mean, run_of}
+use Rattle.postscript_base.specs.Refusal.{Refusal, return_without_caller, trailing_data, too_deep}
+use Rattle.postscript_type2.specs.Spellings.{IsPhrase, HasNoPhrase}
+
+-- a phrase that is told: its operator and its bytes
+abbrev pub by : Operator → (bytes : List ℕ) → Said
+by op bytes = record { operator = op; bytes = bytes }
+
+-- the answer of a clearing operator
+abbrev pub answer : Operator → (taken : List ℤ) → (width : Option ℤ) → Answer
+answer op taken width = record { operator = op; operands = taken; width = width }
+
+-- The glyph is finished, so many calls open and these bytes behind: in a subroutine no byte may follow.
+pub data Closes (width : Option ℤ) : (depth : ℕ) → (behind : List ℕ) → End → Type 0 where
+  in_outermost : (behind : List ℕ) → Closes width 0 behind (Finished width)
+  at_last_byte : (depth : ℕ) → Closes width depth [] (Finished width)
+  with_bytes_behind : (depth : ℕ) (behind : List ℕ) → 0 < depth → behind ≢ [] → Closes width depth behind (Fault trailing_data)
+
+-- the ends of a subroutine that are those of its callers
+pub data Stops : End → Type 0 where
+  at_use : Stops UsedUp
+  at_fault : (e : Refusal) → Stops (Fault e)
+
+-- What a rest of a routine means, from a state: its answers, its phrases and its end. depth: how many calls are open,
+-- none in the outermost code. Each phrase is named with the bytes behind it.
+pub data Means (lists : Lists) : (depth : ℕ) → (rest : List ℕ) → State → List Answer → List Said → End → Type 0 where
+  -- the routine is used up
+  used_up : (depth : ℕ) (st : State) → Means lists depth [] st [] [] UsedUp
+  -- bytes are left, and no phrase stands there
+  unread : (depth : ℕ) (rest : List ℕ) (st : State) (e : Refusal) → rest ≢ [] → HasNoPhrase rest e → Means lists depth rest st [] [] (Fault e)
+  -- the operator is refused
+  refused : (depth : ℕ) (phrase behind : List ℕ) (numbers : List ℤ) (op : Operator) (st : State) (e : Refusal) →
+      IsPhrase phrase numbers op → effect lists op behind (pushed numbers st) ≡ Refuses e →
+      Means lists depth (phrase ++ behind) st [] [] (Fault e)
+  -- the operator leaves a stack, and what follows it goes on with that
+  keeps : (depth : ℕ) (phrase behind : List ℕ) (numbers : List ℤ) (op : Operator) (st : State) (stack : List ℤ)
+      (answers : List Answer) (trace : List Said) (end : End) →
+      IsPhrase phrase numbers op → effect lists op behind (pushed numbers st) ≡ Keeps stack →
+      Means lists depth behind (stacked stack st) answers trace end →
+      Means lists depth (phrase ++ behind) st answers (by op phrase ∷ trace) end
+  -- the operator clears the stack and is answered, the bytes of a mask are its own, and what follows them goes on
+  clears : (depth : ℕ) (phrase mask behind : List ℕ) (numbers : List ℤ) (op : Operator) (st : State)
+      (taken : List ℤ) (stems : ℕ) (width : Option ℤ) (answers : List Answer) (trace : List Said) (end : End) →
+      IsPhrase phrase numbers op → effect lists op (mask ++ behind) (pushed numbers st) ≡ Clears taken stems width (length mask) →
+      Means lists depth behind (cleared stems width) answers trace end →
+      Means lists depth (phrase ++ (mask ++ behind)) st (answer op taken width ∷ answers) (by op (phrase ++ mask) ∷ trace) end
+  -- a call where ten are open
+  calls_too_deep : (depth : ℕ) (phrase behind : List ℕ) (numbers : List ℤ) (op : Operator) (st : State)
+      (subroutine : List ℕ) (stack : List ℤ) →
+      IsPhrase phrase numbers op → effect lists op behind (pushed numbers st) ≡ Calls subroutine stack → 10 ≤ depth →
+      Means lists depth (phrase ++ behind) st [] (by op phrase ∷ []) (Fault too_deep)
+  -- a call that returns, and what follows it goes on with the state that comes back
+  calls : (depth : ℕ) (phrase behind : List ℕ) (numbers : List ℤ) (op : Operator) (st : State)
+      (subroutine : List ℕ) (stack : List ℤ) (inner : List Answer) (inner_trace : List Said) (back : State)
+      (answers : List Answer) (trace : List Said) (end : End) →
+      IsPhrase phrase numbers op → effect lists op behind (pushed numbers st) ≡ Calls subroutine stack → depth < 10 →
+      Means lists (suc depth) subroutine (stacked stack st) inner inner_trace (Returned back) →
+      Means lists depth behind back answers trace end →
+      Means lists depth (phrase ++ behind) st (inner ++ answers) (by op phrase ∷ (inner_trace ++ trace)) end
+  -- a call whose subroutine is used up or refused: so ends the run
+  calls_to_stop : (depth : ℕ) (phrase behind : List ℕ) (numbers : List ℤ) (op : Operator) (st : State)
+      (subroutine : List ℕ) (stack : List ℤ) (inner : List Answer) (inner_trace : List Said) (end : End) →
+      IsPhrase phrase numbers op → effect lists op behind (pushed numbers st) ≡ Calls subroutine stack → depth < 10 →
+      Means lists (suc depth) subroutine (stacked stack st) inner inner_trace end → Stops end →
+      Means lists depth (phrase ++ behind) st inner (by op phrase ∷ inner_trace) end
+  -- a call whose subroutine finishes the glyph
+  calls_to_finish : (depth : ℕ) (phrase behind : List ℕ) (numbers : List ℤ) (op : Operator) (st : State)
+      (subroutine : List ℕ) (stack : List ℤ) (inner : List Answer) (inner_trace : List Said) (width : Option ℤ) (end : End) →
+      IsPhrase phrase numbers op → effect lists op behind (pushed numbers st) ≡ Calls subroutine stack → depth < 10 →
+      Means lists (suc depth) subroutine (stacked stack st) inner inner_trace (Finished width) → Closes width depth behind end →
+      Means lists depth (phrase ++ behind) st inner (by op phrase ∷ inner_trace) end
+  -- a return, in a subroutine and in the outermost code
+  returns : (depth : ℕ) (phrase behind : List ℕ) (numbers : List ℤ) (op : Operator) (st : State) →
+      IsPhrase phrase numbers op → effect lists op behind (pushed numbers st) ≡ Returns → 0 < depth →
+      Means lists depth (phrase ++ behind) st [] (by op phrase ∷ []) (Returned (pushed numbers st))
+  returns_nowhere : (phrase behind : List ℕ) (numbers : List ℤ) (op : Operator) (st : State) →
+      IsPhrase phrase numbers op → effect lists op behind (pushed numbers st) ≡ Returns →
+      Means lists 0 (phrase ++ behind) st [] (by op phrase ∷ []) (Fault return_without_caller)
+  -- the end of the glyph
+  finishes : (depth : ℕ) (phrase behind : List ℕ) (numbers : List ℤ) (op : Operator) (st : State) (width : Option ℤ) (end : End) →
+      IsPhrase phrase numbers op → effect lists op behind (pushed numbers st) ≡ Ends width → Closes width depth behind end →
+      Means lists depth (phrase ++ behind) st [] (by op phrase ∷ []) end
+
+-- the same of a run
+abbrev pub MeansRun : Lists → (depth : ℕ) → (rest : List ℕ) → State → Run → Type 0
+MeansRun lists depth rest st run = Means lists depth rest st run.answers run.trace run.end
+
+-- whether a routine with so many calls open is a subroutine
+abbrev pub is_inner : (depth : ℕ) → Bool
+is_inner zero = false
+is_inner (suc depth) = true
+
+-- A law of the definitions: what a rest means by the rules is exactly what is computed.
+abbrev pub MeaningIsComputed : Type 0
+MeaningIsComputed = (lists : Lists) (depth : ℕ) → depth ≤ 10 → (rest : List ℕ) (st : State) (run : Run) →
+    MeansRun lists depth rest st run ↔ (mean lists (10 - depth) (is_inner depth) rest st ≡ run)
+
+-- so the run of a code is the one that it has by the rules
+abbrev pub RunIsMeant : Type 0
+RunIsMeant = (lists : Lists) (code : List ℕ) (run : Run) → MeansRun lists 0 code start run ↔ (run_of lists code ≡ run)

@@ -1,0 +1,41 @@
+-- How phrases are spelled (Technical Note 5177, "Charstring Number Encoding" and "Charstring Operator Encoding").
+use Rattle.std.specs.Prelude.{◌≡◌, ◌≢◌, ◌↔◌, ℕ, ◌+◌, ◌<◌, ◌≤◌, ℤ, pos, ◌-ℤ◌, List, [], ◌∷◌, ◌++◌, length, Some, None}
+use Rattle.postscript_base.specs.Numbers.{big_endian}
+use Rattle.postscript_type2.specs.declared.operation.Operator.{Operator}
+use Rattle.postscript_type2.specs.Number.{whole, signed, above, below}
+use Rattle.postscript_type2.specs.Operators.{operator_of}
+use Rattle.postscript_type2.specs.Phrases.{Complete, Bad, phrase}
+use Rattle.postscript_base.specs.Refusal.{Refusal, unexpected_eof, unknown_operator}
+
+-- the bytes of a number, over its bits
+pub data IsNumber : List ℕ → ℤ → Type 0 where
+  of_two_bytes : (a b : ℕ) → IsNumber (0x1c ∷ a ∷ b ∷ []) (whole (signed 0x8000 (big_endian (a ∷ b ∷ []))))
+  small : (first : ℕ) → 0x20 ≤ first → first < 0xf7 → IsNumber (first ∷ []) (whole (pos first -ℤ pos 139))
+  positive : (first second : ℕ) → 0xf7 ≤ first → first < 0xfb → IsNumber (first ∷ second ∷ []) (whole (above first second))
+  negative : (first second : ℕ) → 0xfb ≤ first → first < 0xff → IsNumber (first ∷ second ∷ []) (whole (below first second))
+  of_bits : (first a b c d : ℕ) → 0xff ≤ first → IsNumber (first ∷ a ∷ b ∷ c ∷ d ∷ []) (signed 0x80000000 (big_endian (a ∷ b ∷ c ∷ d ∷ [])))
+
+-- the bytes of a phrase: numbers, and then an operator
+pub data IsPhrase : List ℕ → List ℤ → Operator → Type 0 where
+  operator : (code : ℕ) (op : Operator) → code < 0x20 → operator_of code ≡ Some op → IsPhrase (code ∷ []) [] op
+  escaped_operator : (second : ℕ) (op : Operator) → operator_of (0x0c00 + second) ≡ Some op → IsPhrase (0x0c ∷ second ∷ []) [] op
+  after_number : (number more : List ℕ) (x : ℤ) (xs : List ℤ) (op : Operator) → IsNumber number x → IsPhrase more xs op → IsPhrase (number ++ more) (x ∷ xs) op
+
+-- why no phrase stands at the front of these bytes
+pub data HasNoPhrase : List ℕ → Refusal → Type 0 where
+  no_operator : HasNoPhrase [] unexpected_eof
+  lone_escape : HasNoPhrase (0x0c ∷ []) unexpected_eof
+  cut_number : (bytes missing : List ℕ) (x : ℤ) → bytes ≢ [] → missing ≢ [] → IsNumber (bytes ++ missing) x → HasNoPhrase bytes unexpected_eof
+  no_such_operator : (code : ℕ) (rest : List ℕ) → code < 0x20 → code ≢ 0x0c → code ≢ 0x1c → operator_of code ≡ None → HasNoPhrase (code ∷ rest) unknown_operator
+  no_such_escape : (second : ℕ) (rest : List ℕ) → operator_of (0x0c00 + second) ≡ None → HasNoPhrase (0x0c ∷ second ∷ rest) unknown_operator
+  behind_number : (number rest : List ℕ) (x : ℤ) (e : Refusal) → IsNumber number x → HasNoPhrase rest e → HasNoPhrase (number ++ rest) e
+
+-- A law of the definitions: a phrase is read exactly where one stands at the front, and it is that one.
+abbrev pub PhraseIsRead : Type 0
+PhraseIsRead = (bytes : List ℕ) (numbers : List ℤ) (op : Operator) (more : ℕ) →
+    (phrase bytes ≡ Complete numbers op more)
+    ↔ ((front : List ℕ) × (behind : List ℕ) × (bytes ≡ front ++ behind) × (length front ≡ more + 1) × IsPhrase front numbers op)
+
+-- and a refusal exactly where that is the reason
+abbrev pub NoPhraseIsRefused : Type 0
+NoPhraseIsRefused = (bytes : List ℕ) (e : Refusal) → (phrase bytes ≡ Bad e) ↔ HasNoPhrase bytes e
