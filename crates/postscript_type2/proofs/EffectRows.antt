@@ -5,7 +5,8 @@ use Rattle.postscript_type2.specs.declared.operation.Operator.TheVariants.{HStem
 use Rattle.postscript_type2.specs.Number.{whole}
 use Rattle.postscript_type2.specs.Lengths.{taken}
 use Rattle.postscript_type2.specs.Effects.{Lists, State, start, Move, Keeps, Clears, Calls, Refuses, bias, effect}
-use Rattle.postscript_type2.specs.Meaning.{End, UsedUp, Finished, Fault, Back, called, callee, after_call, mean, moved, said}
+use Rattle.postscript_type2.specs.Runs.{End, UsedUp, Finished, Fault}
+use Rattle.postscript_type2.specs.Evaluation.{Back, called, callee, after_call, mean, moved, said}
 use Rattle.postscript_type2.specs.Still.{still}
 use Rattle.postscript_type2.specs.Flat.{flat_text}
 use Rattle.postscript_base.specs.Refusal.{unexpected_eof, malformed_operands, expected_operand, expected_integer, expected_more_operands, invalid_operand, missing_subroutine, trailing_data, too_deep, overflow, zero_divisor, negative_root, too_many_stems}

@@ -4,7 +4,8 @@ use Rattle.postscript_type2.specs.declared.operation.Operator.{Operator}
 use Rattle.postscript_type2.specs.declared.operation.Operator.TheVariants.{HStem, HintMask, HMoveTo, RLineTo}
 use Rattle.postscript_type2.specs.Effects.{Lists}
 use Rattle.postscript_type2.specs.Number.{whole}
-use Rattle.postscript_type2.specs.Meaning.{run_of, operation, fault_of, width_of}
+use Rattle.postscript_type2.specs.Evaluation.{run_of}
+use Rattle.postscript_type2.specs.Runs.{operation, fault_of, width_of}
 use Rattle.postscript_type2.specs.Flat.{flat_text}
 use Rattle.postscript_base.specs.Refusal.{Refusal, missing_subroutine}
 

@@ -20,7 +20,7 @@ pub mod Locals
 pub mod InFlat
 pub mod Inlining
 pub mod InliningRows
-pub mod Spellings
-pub mod Means
-pub mod Ends
-pub mod Alike
+pub mod PhraseLaws
+pub mod MeaningLaws
+pub mod EndingLaws
+pub mod RollingLaws

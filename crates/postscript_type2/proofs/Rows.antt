@@ -5,7 +5,8 @@ use Rattle.postscript_base.specs.declared.error.Part.TheVariants as parts
 use Rattle.postscript_type2.specs.declared.operation.Operator.{Operator}
 use Rattle.postscript_type2.specs.declared.operation.Operator.TheVariants.{HStem, VMoveTo, RLineTo, HLineTo, VLineTo, HintMask, CntrMask, RMoveTo, HMoveTo, HVCurveTo}
 use Rattle.postscript_type2.specs.Number.{whole}
-use Rattle.postscript_type2.specs.Meaning.{Run, run_of, operation, fault_of, width_of}
+use Rattle.postscript_type2.specs.Runs.{Run, operation, fault_of, width_of}
+use Rattle.postscript_type2.specs.Evaluation.{run_of}
 use Rattle.postscript_base.specs.Refusal.{Refusal, OfPart, unexpected_eof, unknown_operator, malformed_operands}
 
 abbrev run : List ℕ → Run

@@ -4,7 +4,8 @@ use Rattle.postscript_base.specs.Numbers.{slice, number}
 use Rattle.postscript_type2.specs.declared.operation.Operator.{Operator}
 use Rattle.postscript_type2.specs.declared.operation.Operator.TheVariants.{HStem, HintMask, RMoveTo, HMoveTo, HLineTo, HVCurveTo}
 use Rattle.postscript_type2.specs.Number.{whole}
-use Rattle.postscript_type2.specs.Meaning.{Run, run_of, operation, fault_of, width_of}
+use Rattle.postscript_type2.specs.Runs.{Run, operation, fault_of, width_of}
+use Rattle.postscript_type2.specs.Evaluation.{run_of}
 use Rattle.postscript_type2.proofs.Roots.{whole_root-is}
 use Rattle.postscript_type2.specs.Flat.{flat_text}
 use Rattle.postscript_base.specs.Refusal.{Refusal, unexpected_eof, malformed_operands, expected_operand, expected_integer, expected_more_operands, invalid_operand, missing_subroutine, return_without_caller, trailing_data, too_deep, overflow, zero_divisor, negative_root}

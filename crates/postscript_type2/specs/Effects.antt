@@ -1,6 +1,6 @@
 -- What each operator does.
 use Rattle.std.specs.Option.{ok_or}
-use Rattle.std.specs.Prelude.{ℕ, ◌+◌, ◌-◌, ◌/◌, ◌%◌, ◌^◌, ℤ, pos, negsuc, ◌+ℤ◌, nat_lt, ◌==◌, List, [], drop, length, slice_get, Option, Some, None, Result, Ok, Err, if◌then◌else◌}
+use Rattle.std.specs.Prelude.{ℕ, ◌+◌, ◌-◌, ◌/◌, ◌%◌, ◌^◌, ℤ, pos, negsuc, ◌+ℤ◌, nat_lt, ◌==◌, List, [], ◌++◌, drop, length, slice_get, Option, Some, None, Result, Ok, Err, if◌then◌else◌}
 use Rattle.postscript_base.specs.declared.error.Part.{Part}
 use Rattle.postscript_base.specs.declared.error.Part.TheVariants as parts
 use Rattle.postscript_type2.specs.declared.operation.Operator.{Operator}
@@ -24,6 +24,16 @@ pub record State : Type 0 where
 
 abbrev pub start : State
 start = record { stack = []; stems = 0; width = None }
+
+-- the state with numbers on its stack, with another stack, and after a clearing operator
+abbrev pub pushed : List ℤ → State → State
+pushed numbers st = record { stack = st.stack ++ numbers; stems = st.stems; width = st.width }
+
+abbrev pub stacked : List ℤ → State → State
+stacked stack st = record { stack = stack; stems = st.stems; width = st.width }
+
+abbrev pub cleared : (stems : ℕ) → Option ℤ → State
+cleared stems width = record { stack = []; stems = stems; width = Some width }
 
 -- What an operator does: it leaves a stack; it clears the stack, is answered with the operands taken, and so many bytes of
 -- a mask are its own; it calls a routine; it returns; it ends the run; or it is refused.

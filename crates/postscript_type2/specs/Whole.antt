@@ -4,7 +4,7 @@ use Rattle.std.specs.Option.{option_map}
 use Rattle.std.specs.declared.alloc.Global.{Global}
 use Rattle.postscript_type2.specs.declared.operation.Operator.{Operator}
 use Rattle.postscript_type2.specs.declared.program.Answers.{Answers}
-use Rattle.postscript_type2.specs.Meaning.{Run, operation, fault_of, width_of}
+use Rattle.postscript_type2.specs.Runs.{Run, operation, fault_of, width_of}
 use Rattle.postscript_base.specs.Refusal.{refusal_of}
 
 abbrev pub operation_of : Operator × Vec ℤ Global → Operator × List ℤ

@@ -1,15 +1,16 @@
 //! The programs.
 ghost use Rattle.std.specs.Prelude.{◌≡◌, ◌⊎◌, MatchResult, OnOk, IfOk, IfErr, IfSome};
 ghost use Rattle.postscript_base.specs.Error.{code as number, IsOneOf, IsListed};
-ghost use Rattle.postscript_type2.specs.Effects.{Lists, start};
-ghost use Rattle.postscript_type2.specs.Ends.{run_refusals, flatten_refusals, next_refusals};
+ghost use Rattle.postscript_type2.specs.Effects.{Lists};
+ghost use Rattle.postscript_type2.specs.Endings.{run_refusals, flatten_refusals, next_refusals};
 ghost use Rattle.postscript_type2.specs.Flat.{flat_text};
 ghost use Rattle.postscript_type2.specs.Inlining.{KeepsMeaning, FlatTextKeepsMeaning};
 ghost use Rattle.postscript_base.specs.Refusal.{refusal_of};
-ghost use Rattle.postscript_type2.specs.Meaning.{Run, run_of, fault_of};
-ghost use Rattle.postscript_type2.specs.Means.{MeansRun};
+ghost use Rattle.postscript_type2.specs.Runs.{Run, fault_of};
+ghost use Rattle.postscript_type2.specs.Evaluation.{run_of};
+ghost use Rattle.postscript_type2.specs.Meaning.{IsRunOf};
 ghost use Rattle.postscript_type2.specs.Programs.{begun, Next, ended, failed};
-ghost use Rattle.postscript_type2.specs.Routines.{texts};
+ghost use Rattle.postscript_type2.specs.Routines.{subroutines};
 ghost use Rattle.postscript_type2.specs.Whole.{Tells};
 
 mod arithmetic;
@@ -45,13 +46,13 @@ pub struct Program<'l> {
 }
 
 impl<'l> Model for Program<'l> {
-    ghost use Rattle.postscript_type2.specs.Programs.{Left};
+    ghost use Rattle.postscript_type2.specs.Programs.{Pending};
 
-    ghost Value = { Left };
+    ghost Value = { Pending };
 
-    ghost use Rattle.postscript_type2.specs.Lefts.{left_of};
+    ghost use Rattle.postscript_type2.specs.Views.{pending_of};
 
-    ghost view = { λ program. left_of program.phase program.machine };
+    ghost view = { λ program. pending_of program.phase program.machine };
 
     ghost use Rattle.std.specs.Prelude.{◌≡◌};
     ghost use Rattle.postscript_type2.specs.Machines.{IsNested};
@@ -63,8 +64,8 @@ impl<'l> Model for Program<'l> {
 impl<'l> Program<'l> {
     /// Creates a program of a code, and of the global and the local subroutines.
     pub fn new(alloc: Global, code: &'l [u8], global: &'l [Vec<u8>], local: &'l [Vec<u8>]) -> Self
-        ensures value { result ≡ begun (run_of (record { global = texts global.now; local = texts local.now }) code.now) }
-        ensures meant { (run : Run) × MeansRun (record { global = texts global.now; local = texts local.now }) 0 code.now start run × (result ≡ begun run) }
+        ensures value { result ≡ begun (run_of (subroutines global.now local.now) code.now) }
+        ensures meant { (run : Run) × IsRunOf (subroutines global.now local.now) code.now run × (result ≡ begun run) }
     {
         Program {
             machine: Machine::new(alloc, code, global, local),
@@ -125,13 +126,13 @@ impl<'l> Program<'l> {
         global: &'l [Vec<u8>],
         local: &'l [Vec<u8>],
     ) -> Result<Vec<u8>>
-        ensures faultless { let run = run_of (record { global = texts global.now; local = texts local.now }) code.now in
+        ensures faultless { let run = run_of (subroutines global.now local.now) code.now in
             OnOk result (fault_of run.end ≡ None) }
-        ensures text { let run = run_of (record { global = texts global.now; local = texts local.now }) code.now in
+        ensures text { let run = run_of (subroutines global.now local.now) code.now in
             IfOk result (λ flat. flat.items ≡ flat_text run.trace) }
-        ensures keeps { let run = run_of (record { global = texts global.now; local = texts local.now }) code.now in
-            IfOk result (λ flat. (lists : Lists) → KeepsMeaning lists flat.items run) }
-        ensures refused { let run = run_of (record { global = texts global.now; local = texts local.now }) code.now in
+        ensures keeps { let run = run_of (subroutines global.now local.now) code.now in
+            IfOk result (λ flat. (other : Lists) → KeepsMeaning other flat.items run) }
+        ensures refused { let run = run_of (subroutines global.now local.now) code.now in
             IfErr result (λ e. (e ≡ Error.Memory) ⊎ (fault_of run.end ≡ Some (refusal_of e))) }
         ensures listed { IsListed flatten_refusals result }
         ensures law { FlatTextKeepsMeaning }
@@ -155,9 +156,9 @@ pub struct Answers {
 pub fn run(alloc: Global, code: &[u8], global: &[Vec<u8>], local: &[Vec<u8>]) -> Result<Answers>
     ensures listed { IfOk result (λ told. IfSome told.fault (λ e. IsOneOf run_refusals (number e))) }
     ensures meant { IfOk result (λ told. (run : Run) ×
-        MeansRun (record { global = texts global.now; local = texts local.now }) 0 code.now start run × Tells told run) }
+        IsRunOf (subroutines global.now local.now) code.now run × Tells told run) }
     ensures tells { MatchResult result
-        (λ told. Tells told (run_of (record { global = texts global.now; local = texts local.now }) code.now))
+        (λ told. Tells told (run_of (subroutines global.now local.now) code.now))
         (λ e. e ≡ Error.Memory) }
 {
     let mut program = Program::new(alloc, code, global, local);

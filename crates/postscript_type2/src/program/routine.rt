@@ -1,7 +1,7 @@
 //! A routine: code, and the place that is reached in it.
 ghost use Rattle.std.specs.Prelude.{◌≡◌, ◌-◌, ◌≤◌, length, take, drop};
-ghost use Rattle.postscript_type2.specs.Meaning.{is_empty};
-ghost use Rattle.postscript_type2.specs.Phrases.{is_number};
+ghost use Rattle.postscript_type2.specs.Evaluation.{is_empty};
+ghost use Rattle.postscript_type2.specs.Parsing.{is_number};
 ghost use Rattle.postscript_type2.specs.Tokens.{LooksAt, ReadsByte, ReadsNumber, ReadsOperator, ReadsPhrase};
 
 use crate::number;

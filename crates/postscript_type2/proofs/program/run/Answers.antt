@@ -2,11 +2,12 @@ use Rattle.std.proofs.Common.{◌≡◌, arith}
 use Rattle.std.proofs.lemmas.Grind.{common_steps}
 use Rattle.std.specs.Option.{option_map}
 use Rattle.postscript_type2.specs.Effects.{Lists, start}
-use Rattle.postscript_type2.specs.Meaning.{run_of, fault_of}
+use Rattle.postscript_type2.specs.Evaluation.{run_of}
+use Rattle.postscript_type2.specs.Runs.{fault_of}
 use Rattle.postscript_base.specs.Refusal.{refusal_of}
 use Rattle.postscript_type2.specs.Routines.{texts}
-use Rattle.postscript_type2.proofs.Ends.{law, told-listed}
-use Rattle.postscript_type2.proofs.Means.{complete}
+use Rattle.postscript_type2.proofs.EndingLaws.{law, told-listed}
+use Rattle.postscript_type2.proofs.MeaningLaws.{complete}
 use Rattle.postscript_type2.proofs.program.run.Goals.{in-Ok-None, in-Err}
 use Rattle.postscript_type2.proofs.program.run.Goals as goal
 

@@ -2,7 +2,8 @@
 use Rattle.std.specs.Prelude.{ℕ, List, [], ◌∷◌}
 use Rattle.postscript_base.specs.Error.{IsOneOf}
 use Rattle.postscript_type2.specs.Effects.{Lists}
-use Rattle.postscript_type2.specs.Meaning.{End, UsedUp, Returned, Finished, Fault, run_of}
+use Rattle.postscript_type2.specs.Runs.{End, UsedUp, Returned, Finished, Fault}
+use Rattle.postscript_type2.specs.Evaluation.{run_of}
 use Rattle.postscript_base.specs.Refusal.{number_of}
 
 -- the refusals that end a run, by their numbers: bytes are wanting, no such operator, and those of the operators

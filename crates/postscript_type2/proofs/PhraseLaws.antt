@@ -8,10 +8,11 @@ use Rattle.postscript_base.specs.Outcome.{Got, Fault, end, Reading, after, ◌>>
 use Rattle.postscript_type2.specs.declared.operation.Operator.{Operator}
 use Rattle.postscript_type2.specs.Number.{spelled, whole, signed, above, below}
 use Rattle.postscript_type2.specs.Operators.{operator_of}
-use Rattle.postscript_type2.specs.Phrases.{Phrase, Complete, Bad, is_number, with_number, numbered, with_operator, escaped, ending, phrase_after, phrase, fronted}
+use Rattle.postscript_type2.specs.Parsing.{Phrase, Complete, NoPhrase, is_number, with_number, numbered, with_operator, escaped, ending, phrase_after, phrase, fronted}
 use Rattle.postscript_base.specs.Refusal.{Refusal, unexpected_eof, malformed_number}
-use Rattle.postscript_type2.specs.Spellings as spellings
-use Rattle.postscript_type2.specs.Spellings.{IsNumber, IsPhrase, HasNoPhrase, PhraseIsRead, NoPhraseIsRefused}
+use Rattle.postscript_type2.specs.Phrases as spellings
+use Rattle.postscript_type2.specs.Phrases.{IsNumber, IsPhrase, HasNoPhrase}
+use Rattle.postscript_type2.specs.Computed.{PhraseIsRead, NoPhraseIsRefused}
 use Rattle.postscript_type2.proofs.Fronts.{number-first, phrase-from}
 
 -- which reading a first byte begins
@@ -234,7 +235,7 @@ reads-phrase p xs op (spellings.after_number number more x xs' op' is later) beh
     )
 
 -- a cut number
-cut-phrase : (bytes missing w : List ℕ) (x : ℤ) → bytes ≢ [] → missing ≢ [] → w ≡ bytes ++ missing → IsNumber w x → phrase bytes ≡ Bad unexpected_eof
+cut-phrase : (bytes missing w : List ℕ) (x : ℤ) → bytes ≢ [] → missing ≢ [] → w ≡ bytes ++ missing → IsNumber w x → phrase bytes ≡ NoPhrase unexpected_eof
 cut-phrase [] missing w x some more e is = absurd (some refl)
 cut-phrase (b ∷ r) [] w x some more e is = absurd (more refl)
 cut-phrase (b ∷ r) (m ∷ ms) w x some more e is = by_read (number-at b r (form b begins))
@@ -245,7 +246,7 @@ cut-phrase (b ∷ r) (m ∷ ms) w x some more e is = by_read (number-at b r (for
     begins : is_number b ≡ true
     begins = (spelled-front b (r ++ m ∷ ms) x whole []).0
 
-    by_read : Stands b r ⊎ IsCut b r → phrase (b ∷ r) ≡ Bad unexpected_eof
+    by_read : Stands b r ⊎ IsCut b r → phrase (b ∷ r) ≡ NoPhrase unexpected_eof
     by_read (inr cut) =
         ap (λ v. cond v (numbered (spelled b r 0) (λ more. phrase_after more r)) (ending b r)) begins ∙ ap (λ o. numbered o (λ more. phrase_after more r)) cut.2
     by_read (inl there) =
@@ -261,7 +262,7 @@ cut-phrase (b ∷ r) (m ∷ ms) w x some more e is = by_read (number-at b r (for
         let room : more ≤ length r = there.4 in
         absurd (omega (arith, ends, front, all, room))
 
-pub reads-no_phrase : (bytes : List ℕ) (e : Refusal) → HasNoPhrase bytes e → phrase bytes ≡ Bad e
+pub reads-no_phrase : (bytes : List ℕ) (e : Refusal) → HasNoPhrase bytes e → phrase bytes ≡ NoPhrase e
 reads-no_phrase bytes e spellings.no_operator = refl
 reads-no_phrase bytes e spellings.lone_escape = refl
 reads-no_phrase bytes e (spellings.cut_number bytes' missing x some more is) = cut-phrase bytes' missing (bytes' ++ missing) x some more refl is
@@ -277,11 +278,11 @@ reads-no_phrase bytes e (spellings.behind_number number rest x e' is none) =
 -- what a phrase that was read says of the bytes
 abbrev Spells : List ℕ → Phrase → Type 0
 Spells bytes (Complete xs op more) = IsPhrase (take (more + 1) bytes) xs op × (length (take (more + 1) bytes) ≡ more + 1)
-Spells bytes (Bad e) = HasNoPhrase bytes e
+Spells bytes (NoPhrase e) = HasNoPhrase bytes e
 
 number-spells : (b : ℕ) (r : List ℕ) (more : ℕ) (x : ℤ) → IsNumber (b ∷ take more r) x → more ≤ length r → (q : Phrase) → Spells (drop more r) q →
     Spells (b ∷ r) (with_number x (fronted [] more q))
-number-spells b r more x is room (Bad e) none = subst (λ bytes. HasNoPhrase (b ∷ bytes) e) (take-append-drop more r) (spellings.behind_number (b ∷ take more r) (drop more r) x e is none)
+number-spells b r more x is room (NoPhrase e) none = subst (λ bytes. HasNoPhrase (b ∷ bytes) e) (take-append-drop more r) (spellings.behind_number (b ∷ take more r) (drop more r) x e is none)
 number-spells b r more x is room (Complete xs op n) spelled =
     let number = b ∷ take more r in
     let rest = drop more r in
@@ -340,7 +341,7 @@ pub phrase-spelled : (bytes : List ℕ) (xs : List ℤ) (op : Operator) (more : 
     IsPhrase (take (more + 1) bytes) xs op × (length (take (more + 1) bytes) ≡ more + 1)
 phrase-spelled bytes xs op more is = subst (Spells bytes) is (phrase-spells (length bytes) bytes (omega arith))
 
-pub no_phrase-spelled : (bytes : List ℕ) (e : Refusal) → phrase bytes ≡ Bad e → HasNoPhrase bytes e
+pub no_phrase-spelled : (bytes : List ℕ) (e : Refusal) → phrase bytes ≡ NoPhrase e → HasNoPhrase bytes e
 no_phrase-spelled bytes e is = subst (Spells bytes) is (phrase-spells (length bytes) bytes (omega arith))
 
 pub phrase-law : PhraseIsRead

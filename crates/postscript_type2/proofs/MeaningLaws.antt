@@ -5,25 +5,27 @@ use Rattle.std.proofs.Common.{◌≡◌, ◌≢◌, refl, ap, sym, subst, ◌∙
 use Rattle.std.proofs.lemmas.Bool.Decides.{nat_tests}
 use Rattle.postscript_type2.specs.declared.operation.Operator.{Operator}
 use Rattle.postscript_type2.specs.Lengths.{taken}
-use Rattle.postscript_type2.specs.Phrases.{Phrase, Complete, Bad, phrase}
-use Rattle.postscript_type2.specs.Effects.{Lists, State, start, Move, Keeps, Clears, Calls, Returns, Ends, Refuses, clearing, stems_after, mask_len, mask_clearing, work_move, subroutine, call_move, Kind, Draws, DeclaresStems, Masks, Works, CallsFrom, GoesBack, EndsGlyph, IsRefused, kind, effect_of, effect}
-use Rattle.postscript_type2.specs.Meaning.{Answer, Said, End, UsedUp, Returned, Finished, Fault, Run, ends, says, answers, told, followed, finish, after_call, Stride, On, Into, Back, Over, Stop, pushed, stacked, cleared, moved, stride_by, stride, called, paced, routine, callee, mean}
+use Rattle.postscript_type2.specs.Parsing.{Phrase, Complete, NoPhrase, phrase}
+use Rattle.postscript_type2.specs.Effects.{Lists, State, start, Move, Keeps, Clears, Calls, Returns, Ends, Refuses, clearing, stems_after, mask_len, mask_clearing, work_move, subroutine, call_move, Kind, Draws, DeclaresStems, Masks, Works, CallsFrom, GoesBack, EndsGlyph, IsRefused, kind, effect_of, effect, pushed, stacked, cleared}
+use Rattle.postscript_type2.specs.Runs.{Answer, Said, End, UsedUp, Returned, Finished, Fault, Run}
+use Rattle.postscript_type2.specs.Evaluation.{at_end, with_phrase, with_answer, with_any_answer, followed, finish, after_call, Stride, On, Into, Back, Over, Faults, moved, stride_by, stride, called, paced, routine, callee, mean}
 use Rattle.postscript_base.specs.Refusal.{Refusal, unexpected_eof, return_without_caller, trailing_data, too_deep}
-use Rattle.postscript_type2.specs.Spellings.{IsPhrase}
-use Rattle.postscript_type2.specs.Means as rules
-use Rattle.postscript_type2.specs.Means.{by, answer, Closes, Stops, Means, MeansRun, is_inner, MeaningIsComputed, RunIsMeant}
+use Rattle.postscript_type2.specs.Phrases.{IsPhrase}
+use Rattle.postscript_type2.specs.Meaning as rules
+use Rattle.postscript_type2.specs.Meaning.{by, answer, Closes, Stops, Means, MeansRun}
+use Rattle.postscript_type2.specs.Computed.{is_inner, MeaningIsComputed, RunIsMeant}
 use Rattle.postscript_type2.proofs.Inlining.{followed-ends}
-use Rattle.postscript_type2.proofs.Spellings.{reads-phrase, phrase-spelled, reads-no_phrase, no_phrase-spelled}
+use Rattle.postscript_type2.proofs.PhraseLaws.{reads-phrase, phrase-spelled, reads-no_phrase, no_phrase-spelled}
 use Rattle.postscript_type2.proofs.Still.{routine-from, behind-call}
 
 -- a stride and what follows it, by places of the bytes themselves
 abbrev acted : Lists → (left : ℕ) → (inner : Bool) → (bytes : List ℕ) → Stride → Run
-acted lists left inner bytes (On said answer st more) = says said (told answer (mean lists left inner (drop (more + 1) bytes) st))
+acted lists left inner bytes (On said answer st more) = with_phrase said (with_any_answer answer (mean lists left inner (drop (more + 1) bytes) st))
 acted lists left inner bytes (Into said sub st more) =
-    says said (called (callee lists left) sub st (after_call inner (drop (more + 1) bytes) (λ st'. mean lists left inner (drop (more + 1) bytes) st')))
-acted lists left inner bytes (Back said st) = says said (ends (if inner then Returned st else Fault return_without_caller))
-acted lists left inner bytes (Over said width more) = says said (ends (finish inner (drop (more + 1) bytes) width))
-acted lists left inner bytes (Stop e) = ends (Fault e)
+    with_phrase said (called (callee lists left) sub st (after_call inner (drop (more + 1) bytes) (λ st'. mean lists left inner (drop (more + 1) bytes) st')))
+acted lists left inner bytes (Back said st) = with_phrase said (at_end (if inner then Returned st else Fault return_without_caller))
+acted lists left inner bytes (Over said width more) = with_phrase said (at_end (finish inner (drop (more + 1) bytes) width))
+acted lists left inner bytes (Faults e) = at_end (Fault e)
 
 drop-more : (more b : ℕ) (r : List ℕ) → drop more r ≡ drop (more + 1) (b ∷ r)
 drop-more more b r = drop-drop more 1 (b ∷ r) ∙ ap (λ k. drop k (b ∷ r)) (omega arith)
@@ -31,13 +33,13 @@ drop-more more b r = drop-drop more 1 (b ∷ r) ∙ ap (λ k. drop k (b ∷ r)) 
 paced-acted : (lists : Lists) (left : ℕ) (inner : Bool) (b : ℕ) (r : List ℕ) (s : Stride) →
     paced (callee lists left) inner r (λ more st. routine lists (callee lists left) inner more r st) s ≡ acted lists left inner (b ∷ r) s
 paced-acted lists left inner b r (On said answer st more) =
-    ap (λ run. says said (told answer run)) (routine-from lists (callee lists left) inner more r st ∙ ap (λ bytes. mean lists left inner bytes st) (drop-more more b r))
+    ap (λ run. with_phrase said (with_any_answer answer run)) (routine-from lists (callee lists left) inner more r st ∙ ap (λ bytes. mean lists left inner bytes st) (drop-more more b r))
 paced-acted lists left inner b r (Into said sub st more) =
-    ap (λ go. says said (called (callee lists left) sub st (after_call inner (drop more r) go))) (behind-call lists (callee lists left) inner more r)
-    ∙ ap (λ bytes. says said (called (callee lists left) sub st (after_call inner bytes (λ st'. mean lists left inner bytes st')))) (drop-more more b r)
+    ap (λ go. with_phrase said (called (callee lists left) sub st (after_call inner (drop more r) go))) (behind-call lists (callee lists left) inner more r)
+    ∙ ap (λ bytes. with_phrase said (called (callee lists left) sub st (after_call inner bytes (λ st'. mean lists left inner bytes st')))) (drop-more more b r)
 paced-acted lists left inner b r (Back said st) = refl
-paced-acted lists left inner b r (Over said width more) = ap (λ bytes. says said (ends (finish inner bytes width))) (drop-more more b r)
-paced-acted lists left inner b r (Stop e) = refl
+paced-acted lists left inner b r (Over said width more) = ap (λ bytes. with_phrase said (at_end (finish inner bytes width))) (drop-more more b r)
+paced-acted lists left inner b r (Faults e) = refl
 
 mean-acted : (lists : Lists) (left : ℕ) (inner : Bool) (bytes : List ℕ) (st : State) → 0 < length bytes →
     mean lists left inner bytes st ≡ acted lists left inner bytes (stride lists bytes st)
@@ -46,14 +48,14 @@ mean-acted lists left inner (b ∷ r) st h = paced-acted lists left inner b r (s
 
 -- a phrase, by its operator's move, and what follows it
 abbrev goes : Lists → (left : ℕ) → (inner : Bool) → (p behind : List ℕ) → Operator → State → Move → Run
-goes lists left inner p behind op st (Keeps stack) = says (by op p) (mean lists left inner behind (stacked stack st))
+goes lists left inner p behind op st (Keeps stack) = with_phrase (by op p) (mean lists left inner behind (stacked stack st))
 goes lists left inner p behind op st (Clears taken stems width mask) =
-    says (by op (p ++ take mask behind)) (answers (answer op taken width) (mean lists left inner (drop mask behind) (cleared stems width)))
+    with_phrase (by op (p ++ take mask behind)) (with_answer (answer op taken width) (mean lists left inner (drop mask behind) (cleared stems width)))
 goes lists left inner p behind op st (Calls sub stack) =
-    says (by op p) (called (callee lists left) sub (stacked stack st) (after_call inner behind (λ st'. mean lists left inner behind st')))
-goes lists left inner p behind op st Returns = says (by op p) (ends (if inner then Returned st else Fault return_without_caller))
-goes lists left inner p behind op st (Ends width) = says (by op p) (ends (finish inner behind width))
-goes lists left inner p behind op st (Refuses e) = ends (Fault e)
+    with_phrase (by op p) (called (callee lists left) sub (stacked stack st) (after_call inner behind (λ st'. mean lists left inner behind st')))
+goes lists left inner p behind op st Returns = with_phrase (by op p) (at_end (if inner then Returned st else Fault return_without_caller))
+goes lists left inner p behind op st (Ends width) = with_phrase (by op p) (at_end (finish inner behind width))
+goes lists left inner p behind op st (Refuses e) = at_end (Fault e)
 
 acted-goes : (lists : Lists) (left : ℕ) (inner : Bool) (p behind : List ℕ) (op : Operator) (st : State) (more : ℕ) → length p ≡ more + 1 → (m : Move) →
     acted lists left inner (p ++ behind) (moved op more (p ++ behind) st m) ≡ goes lists left inner p behind op st m
@@ -65,19 +67,19 @@ acted-goes lists left inner p behind op st more long m =
     by_move : (m : Move) → take (more + 1) (p ++ behind) ≡ p → drop (more + 1) (p ++ behind) ≡ behind →
         acted lists left inner (p ++ behind) (moved op more (p ++ behind) st m) ≡ goes lists left inner p behind op st m
     by_move (Keeps stack) front rest =
-        ap (λ bytes. says (by op bytes) (mean lists left inner (drop (more + 1) (p ++ behind)) (stacked stack st))) front
-        ∙ ap (λ bytes. says (by op p) (mean lists left inner bytes (stacked stack st))) rest
+        ap (λ bytes. with_phrase (by op bytes) (mean lists left inner (drop (more + 1) (p ++ behind)) (stacked stack st))) front
+        ∙ ap (λ bytes. with_phrase (by op p) (mean lists left inner bytes (stacked stack st))) rest
     by_move (Clears taken stems width mask) front rest =
         let n : more + mask + 1 ≡ length p + mask = omega (arith, long) in
-        ap (λ k. says (by op (take k (p ++ behind))) (answers (answer op taken width) (mean lists left inner (drop k (p ++ behind)) (cleared stems width)))) n
-        ∙ ap (λ bytes. says (by op bytes) (answers (answer op taken width) (mean lists left inner (drop (length p + mask) (p ++ behind)) (cleared stems width)))) (take-append-add p behind mask)
-        ∙ ap (λ bytes. says (by op (p ++ take mask behind)) (answers (answer op taken width) (mean lists left inner bytes (cleared stems width)))) (drop-append-add p behind mask)
+        ap (λ k. with_phrase (by op (take k (p ++ behind))) (with_answer (answer op taken width) (mean lists left inner (drop k (p ++ behind)) (cleared stems width)))) n
+        ∙ ap (λ bytes. with_phrase (by op bytes) (with_answer (answer op taken width) (mean lists left inner (drop (length p + mask) (p ++ behind)) (cleared stems width)))) (take-append-add p behind mask)
+        ∙ ap (λ bytes. with_phrase (by op (p ++ take mask behind)) (with_answer (answer op taken width) (mean lists left inner bytes (cleared stems width)))) (drop-append-add p behind mask)
     by_move (Calls sub stack) front rest =
-        ap (λ bytes. says (by op bytes) (called (callee lists left) sub (stacked stack st) (after_call inner (drop (more + 1) (p ++ behind)) (λ st'. mean lists left inner (drop (more + 1) (p ++ behind)) st')))) front
-        ∙ ap (λ bytes. says (by op p) (called (callee lists left) sub (stacked stack st) (after_call inner bytes (λ st'. mean lists left inner bytes st')))) rest
-    by_move Returns front rest = ap (λ bytes. says (by op bytes) (ends (if inner then Returned st else Fault return_without_caller))) front
+        ap (λ bytes. with_phrase (by op bytes) (called (callee lists left) sub (stacked stack st) (after_call inner (drop (more + 1) (p ++ behind)) (λ st'. mean lists left inner (drop (more + 1) (p ++ behind)) st')))) front
+        ∙ ap (λ bytes. with_phrase (by op p) (called (callee lists left) sub (stacked stack st) (after_call inner bytes (λ st'. mean lists left inner bytes st')))) rest
+    by_move Returns front rest = ap (λ bytes. with_phrase (by op bytes) (at_end (if inner then Returned st else Fault return_without_caller))) front
     by_move (Ends width) front rest =
-        ap (λ bytes. says (by op bytes) (ends (finish inner (drop (more + 1) (p ++ behind)) width))) front ∙ ap (λ bytes. says (by op p) (ends (finish inner bytes width))) rest
+        ap (λ bytes. with_phrase (by op bytes) (at_end (finish inner (drop (more + 1) (p ++ behind)) width))) front ∙ ap (λ bytes. with_phrase (by op p) (at_end (finish inner bytes width))) rest
     by_move (Refuses e) front rest = refl
 
 mean-goes : (lists : Lists) (left : ℕ) (inner : Bool) (p behind : List ℕ) (ns : List ℤ) (op : Operator) (st : State) (m : Move) → IsPhrase p ns op →
@@ -100,7 +102,7 @@ some-bytes [] h = absurd (h refl)
 some-bytes (b ∷ r) h = omega arith
 
 called-deep : (lists : Lists) (left d : ℕ) → left + d ≡ 10 → 10 ≤ d → (sub : List ℕ) (st : State) (go : End → Run) →
-    called (callee lists left) sub st go ≡ ends (Fault too_deep)
+    called (callee lists left) sub st go ≡ at_end (Fault too_deep)
 called-deep lists zero d e h sub st go = refl
 called-deep lists (suc left) d e h sub st go = absurd (omega arith)
 
@@ -110,12 +112,12 @@ called-means lists zero d e h sub st go run means = absurd (omega arith)
 called-means lists (suc left) d e h sub st go run means = ap (λ r. followed r go) (means left (omega arith))
 
 -- what comes of a call's end where it ends the run
-after-stop : (inner : Bool) (behind : List ℕ) (go : State → Run) (end : End) → Stops end → after_call inner behind go end ≡ ends end
+after-stop : (inner : Bool) (behind : List ℕ) (go : State → Run) (end : End) → Stops end → after_call inner behind go end ≡ at_end end
 after-stop inner behind go end rules.at_use = refl
 after-stop inner behind go end (rules.at_fault e) = refl
 
 followed-by : (xs : List Answer) (ts : List Said) (end : End) (inner : Bool) (behind : List ℕ) (go : State → Run) (last : End) →
-    after_call inner behind go end ≡ ends last →
+    after_call inner behind go end ≡ at_end last →
     followed (record { answers = xs; trace = ts; end = end }) (after_call inner behind go) ≡ record { answers = xs; trace = ts; end = last }
 followed-by xs ts end inner behind go last e =
     ap (λ (r : Run). record { answers = xs ++ r.answers; trace = ts ++ r.trace; end = r.end }) e ∙ followed-ends xs ts end last
@@ -152,38 +154,38 @@ sound lists (rules.unread d rest st e some none) left h =
     ∙ ap (λ q. acted lists left (is_inner d) rest (stride_by lists rest st q)) (reads-no_phrase rest e none)
 sound lists (rules.refused d p behind ns op st e is does) left h = mean-goes lists left (is_inner d) p behind ns op st (Refuses e) is does
 sound lists (rules.keeps d p behind ns op st stack xs ts end is does later) left h =
-    mean-goes lists left (is_inner d) p behind ns op st (Keeps stack) is does ∙ ap (says (by op p)) (sound lists later left h)
+    mean-goes lists left (is_inner d) p behind ns op st (Keeps stack) is does ∙ ap (with_phrase (by op p)) (sound lists later left h)
 sound lists (rules.clears d p mask behind ns op st taken stems width xs ts end is does later) left h =
     mean-goes lists left (is_inner d) p (mask ++ behind) ns op st (Clears taken stems width (length mask)) is does
-    ∙ ap (λ q. says (by op (p ++ q)) (answers (answer op taken width) (mean lists left (is_inner d) (drop (length mask) (mask ++ behind)) (cleared stems width)))) (take-append_seam mask behind)
-    ∙ ap (λ q. says (by op (p ++ mask)) (answers (answer op taken width) (mean lists left (is_inner d) q (cleared stems width)))) (drop-append_seam mask behind)
-    ∙ ap (λ run. says (by op (p ++ mask)) (answers (answer op taken width) run)) (sound lists later left h)
+    ∙ ap (λ q. with_phrase (by op (p ++ q)) (with_answer (answer op taken width) (mean lists left (is_inner d) (drop (length mask) (mask ++ behind)) (cleared stems width)))) (take-append_seam mask behind)
+    ∙ ap (λ q. with_phrase (by op (p ++ mask)) (with_answer (answer op taken width) (mean lists left (is_inner d) q (cleared stems width)))) (drop-append_seam mask behind)
+    ∙ ap (λ run. with_phrase (by op (p ++ mask)) (with_answer (answer op taken width) run)) (sound lists later left h)
 sound lists (rules.calls_too_deep d p behind ns op st sub stack is does deep) left h =
-    mean-goes lists left (is_inner d) p behind ns op st (Calls sub stack) is does ∙ ap (says (by op p)) (called-deep lists left d h deep sub (stacked stack st) _)
+    mean-goes lists left (is_inner d) p behind ns op st (Calls sub stack) is does ∙ ap (with_phrase (by op p)) (called-deep lists left d h deep sub (stacked stack st) _)
 sound lists (rules.calls d p behind ns op st sub stack inner inner_trace back xs ts end is does room means later) left h =
     let go : State → Run = λ st'. mean lists left (is_inner d) behind st' in
     mean-goes lists left (is_inner d) p behind ns op st (Calls sub stack) is does
-    ∙ ap (says (by op p)) (called-means lists left d h room sub (stacked stack st) (after_call (is_inner d) behind go)
+    ∙ ap (with_phrase (by op p)) (called-means lists left d h room sub (stacked stack st) (after_call (is_inner d) behind go)
     (record { answers = inner; trace = inner_trace; end = Returned back }) (λ l e. sound lists means l e))
-    ∙ ap (λ (r : Run). says (by op p) (record { answers = inner ++ r.answers; trace = inner_trace ++ r.trace; end = r.end })) (sound lists later left h)
+    ∙ ap (λ (r : Run). with_phrase (by op p) (record { answers = inner ++ r.answers; trace = inner_trace ++ r.trace; end = r.end })) (sound lists later left h)
 sound lists (rules.calls_to_stop d p behind ns op st sub stack inner inner_trace end is does room means stops) left h =
     let go : State → Run = λ st'. mean lists left (is_inner d) behind st' in
     mean-goes lists left (is_inner d) p behind ns op st (Calls sub stack) is does
-    ∙ ap (says (by op p)) (called-means lists left d h room sub (stacked stack st) (after_call (is_inner d) behind go)
+    ∙ ap (with_phrase (by op p)) (called-means lists left d h room sub (stacked stack st) (after_call (is_inner d) behind go)
     (record { answers = inner; trace = inner_trace; end = end }) (λ l e. sound lists means l e))
-    ∙ ap (says (by op p)) (followed-by inner inner_trace end (is_inner d) behind go end (after-stop (is_inner d) behind go end stops))
+    ∙ ap (with_phrase (by op p)) (followed-by inner inner_trace end (is_inner d) behind go end (after-stop (is_inner d) behind go end stops))
 sound lists (rules.calls_to_finish d p behind ns op st sub stack inner inner_trace width end is does room means closes) left h =
     let go : State → Run = λ st'. mean lists left (is_inner d) behind st' in
     mean-goes lists left (is_inner d) p behind ns op st (Calls sub stack) is does
-    ∙ ap (says (by op p)) (called-means lists left d h room sub (stacked stack st) (after_call (is_inner d) behind go)
+    ∙ ap (with_phrase (by op p)) (called-means lists left d h room sub (stacked stack st) (after_call (is_inner d) behind go)
     (record { answers = inner; trace = inner_trace; end = Finished width }) (λ l e. sound lists means l e))
-    ∙ ap (says (by op p)) (followed-by inner inner_trace (Finished width) (is_inner d) behind go end (ap ends (finish-closes width d behind end closes)))
+    ∙ ap (with_phrase (by op p)) (followed-by inner inner_trace (Finished width) (is_inner d) behind go end (ap at_end (finish-closes width d behind end closes)))
 sound lists (rules.returns d p behind ns op st is does within) left h =
     mean-goes lists left (is_inner d) p behind ns op st Returns is does
-    ∙ ap (λ b. says (by op p) (ends (if b then Returned (pushed ns st) else Fault return_without_caller))) (inner-open d within)
+    ∙ ap (λ b. with_phrase (by op p) (at_end (if b then Returned (pushed ns st) else Fault return_without_caller))) (inner-open d within)
 sound lists (rules.returns_nowhere p behind ns op st is does) left h = mean-goes lists left false p behind ns op st Returns is does
 sound lists (rules.finishes d p behind ns op st width end is does closes) left h =
-    mean-goes lists left (is_inner d) p behind ns op st (Ends width) is does ∙ ap (λ e. says (by op p) (ends e)) (finish-closes width d behind end closes)
+    mean-goes lists left (is_inner d) p behind ns op st (Ends width) is does ∙ ap (λ e. with_phrase (by op p) (at_end e)) (finish-closes width d behind end closes)
 
 -- the bytes of a mask follow its operator
 abbrev MaskFits : (after : List ℕ) → Move → Type 0
@@ -237,18 +239,18 @@ called-goes : (lists : Lists) (left d : ℕ) (p behind : List ℕ) (ns : List �
     effect lists op behind (pushed ns st) ≡ Calls sub stack → d < 10 → ((st' : State) → MeansRun lists d behind st' (mean lists left (is_inner d) behind st')) →
     (xs : List Answer) (ts : List Said) (end : End) → Means lists (suc d) sub (stacked stack st) xs ts end →
     MeansRun lists d (p ++ behind) st
-    (says (by op p) (followed (record { answers = xs; trace = ts; end = end }) (after_call (is_inner d) behind (λ st'. mean lists left (is_inner d) behind st'))))
+    (with_phrase (by op p) (followed (record { answers = xs; trace = ts; end = end }) (after_call (is_inner d) behind (λ st'. mean lists left (is_inner d) behind st'))))
 called-goes lists left d p behind ns op st sub stack is does room ih xs ts UsedUp means =
-    subst (λ run. MeansRun lists d (p ++ behind) st (says (by op p) run)) (sym (followed-ends xs ts UsedUp UsedUp))
+    subst (λ run. MeansRun lists d (p ++ behind) st (with_phrase (by op p) run)) (sym (followed-ends xs ts UsedUp UsedUp))
     (rules.calls_to_stop d p behind ns op st sub stack xs ts UsedUp is does room means rules.at_use)
 called-goes lists left d p behind ns op st sub stack is does room ih xs ts (Fault e) means =
-    subst (λ run. MeansRun lists d (p ++ behind) st (says (by op p) run)) (sym (followed-ends xs ts (Fault e) (Fault e)))
+    subst (λ run. MeansRun lists d (p ++ behind) st (with_phrase (by op p) run)) (sym (followed-ends xs ts (Fault e) (Fault e)))
     (rules.calls_to_stop d p behind ns op st sub stack xs ts (Fault e) is does room means (rules.at_fault e))
 called-goes lists left d p behind ns op st sub stack is does room ih xs ts (Returned back) means =
     rules.calls d p behind ns op st sub stack xs ts back _ _ _ is does room means (ih back)
 called-goes lists left d p behind ns op st sub stack is does room ih xs ts (Finished width) means =
     let end = finish (is_inner d) behind width in
-    subst (λ run. MeansRun lists d (p ++ behind) st (says (by op p) run)) (sym (followed-ends xs ts (Finished width) end))
+    subst (λ run. MeansRun lists d (p ++ behind) st (with_phrase (by op p) run)) (sym (followed-ends xs ts (Finished width) end))
     (rules.calls_to_finish d p behind ns op st sub stack xs ts width end is does room means (closes-finish d behind width))
 
 -- a phrase, by its operator's move
@@ -266,7 +268,7 @@ goes-means lists left d h subs p behind ns op st is ih (Clears taken stems width
     let fewer : length rest ≡ length behind - mask = length-drop mask behind in
     let does' : effect lists op (q ++ rest) (pushed ns st) ≡ Clears taken stems width (length q) =
     ap (λ bytes. effect lists op bytes (pushed ns st)) whole ∙ does ∙ ap (Clears taken stems width) (sym long) in
-    subst (λ bytes. MeansRun lists d (p ++ bytes) st (says (by op (p ++ q)) (answers (answer op taken width) (mean lists left (is_inner d) rest (cleared stems width))))) whole
+    subst (λ bytes. MeansRun lists d (p ++ bytes) st (with_phrase (by op (p ++ q)) (with_answer (answer op taken width) (mean lists left (is_inner d) rest (cleared stems width))))) whole
     (rules.clears d p q rest ns op st taken stems width _ _ _ is does' (ih rest (cleared stems width) (omega (arith, fewer))))
 goes-means lists zero d h subs p behind ns op st is ih (Calls sub stack) does = rules.calls_too_deep d p behind ns op st sub stack is does (omega (arith, h))
 goes-means lists (suc left) d h subs p behind ns op st is ih (Calls sub stack) does =
@@ -286,8 +288,8 @@ rest-means lists (suc n) left d h subs (b ∷ r) st few =
   where
     by_phrase : ((rest : List ℕ) (st' : State) → length rest ≤ length r → MeansRun lists d rest st' (mean lists left (is_inner d) rest st')) →
         (q : Phrase) → phrase (b ∷ r) ≡ q → MeansRun lists d (b ∷ r) st (mean lists left (is_inner d) (b ∷ r) st)
-    by_phrase ih (Bad e) is =
-        let stops : mean lists left (is_inner d) (b ∷ r) st ≡ ends (Fault e) =
+    by_phrase ih (NoPhrase e) is =
+        let stops : mean lists left (is_inner d) (b ∷ r) st ≡ at_end (Fault e) =
         mean-acted lists left (is_inner d) (b ∷ r) st (omega arith) ∙ ap (λ q. acted lists left (is_inner d) (b ∷ r) (stride_by lists (b ∷ r) st q)) is in
         subst (MeansRun lists d (b ∷ r) st) (sym stops) (rules.unread d (b ∷ r) st e (λ e. cc) (no_phrase-spelled (b ∷ r) e is))
     by_phrase ih (Complete ns op more) is =

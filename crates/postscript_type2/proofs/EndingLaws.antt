@@ -10,18 +10,19 @@ use Rattle.postscript_base.specs.declared.error.Error.{Error}
 use Rattle.postscript_base.specs.declared.error.Error.TheVariants as errors
 use Rattle.postscript_type2.specs.declared.operation.Operator.{Operator}
 use Rattle.postscript_type2.specs.declared.operation.Operator.TheVariants.{And, Or, Not, Abs, Add, Sub, Div, Neg, Eq, Drop, IfElse, Mul, Sqrt, Dup, Exch, Index, Roll}
-use Rattle.postscript_type2.specs.Ends.{run_refusals, flatten_refusals, next_refusals, IsRunsEnd, RunsEndSo}
-use Rattle.postscript_type2.specs.Effects.{Lists, State, start, Move, Keeps, Clears, Calls, Returns, Ends, Refuses, clearing, stems_after, mask_len, work_move, named, subroutine, call_move, Kind, Draws, DeclaresStems, Masks, Works, CallsFrom, GoesBack, EndsGlyph, IsRefused, kind, effect_of, effect}
+use Rattle.postscript_type2.specs.Endings.{run_refusals, flatten_refusals, next_refusals, IsRunsEnd, RunsEndSo}
+use Rattle.postscript_type2.specs.Effects.{Lists, State, start, Move, Keeps, Clears, Calls, Returns, Ends, Refuses, clearing, stems_after, mask_len, work_move, named, subroutine, call_move, Kind, Draws, DeclaresStems, Masks, Works, CallsFrom, GoesBack, EndsGlyph, IsRefused, kind, effect_of, effect, pushed}
 use Rattle.postscript_type2.specs.FixedPoint.{cut, fit, absolute_value, opposite, root, sum, difference, product, quotient, both, either, denial, same_bits}
 use Rattle.postscript_type2.specs.Lengths.{taken}
 use Rattle.postscript_type2.specs.declared.program.machine.Machine.{Machine}
 use Rattle.postscript_type2.specs.Callers.{rests}
 use Rattle.postscript_type2.specs.Machines.{still_of}
 use Rattle.postscript_type2.specs.Working.{lists_of, state_of}
-use Rattle.postscript_type2.specs.Meaning.{Answer, End, UsedUp, Returned, Finished, Fault, Run, told, is_empty, after_call, Stride, On, Into, Back, Over, Stop, pushed, moved, stride_by, stride, Callee, called, paced, routine, callee, mean, run_of, fault_of}
+use Rattle.postscript_type2.specs.Runs.{Answer, End, UsedUp, Returned, Finished, Fault, Run, fault_of}
+use Rattle.postscript_type2.specs.Evaluation.{with_any_answer, is_empty, after_call, Stride, On, Into, Back, Over, Faults, moved, stride_by, stride, Callee, called, paced, routine, callee, mean, run_of}
 use Rattle.postscript_type2.specs.Number.{to_int, spelled, whole, signed, above, below}
 use Rattle.postscript_type2.specs.Operators.{operator_of}
-use Rattle.postscript_type2.specs.Phrases.{Phrase, Complete, Bad, is_number, passed, with_number, numbered, with_operator, escaped, ending, phrase_after, phrase}
+use Rattle.postscript_type2.specs.Parsing.{Phrase, Complete, NoPhrase, is_number, passed, with_number, numbered, with_operator, escaped, ending, phrase_after, phrase}
 use Rattle.postscript_base.specs.Refusal.{Refusal, refusal_of, number_of, unexpected_eof, malformed_number, return_without_caller, trailing_data, expected_operand, expected_integer, expected_more_operands, missing_subroutine}
 use Rattle.postscript_type2.specs.Stacks.{one_to_one, two_to_one, depth, roll_by}
 use Rattle.postscript_type2.specs.Still.{through, still}
@@ -120,18 +121,18 @@ spelled-cut first bytes place is =
 -- phrases
 abbrev PhraseListed : Phrase → Type 0
 PhraseListed (Complete numbers op more) = Unit {0}
-PhraseListed (Bad e) = Listed e
+PhraseListed (NoPhrase e) = Listed e
 
 passed-listed : (p : Phrase) → PhraseListed p → PhraseListed (passed p)
 passed-listed (Complete numbers op more) h = tt
-passed-listed (Bad e) h = h
+passed-listed (NoPhrase e) h = h
 
 numbered-listed : (o : Outcome ℤ) (behind : ℕ → Phrase) → IsCut o → ((more : ℕ) → PhraseListed (behind more)) → PhraseListed (numbered o behind)
 numbered-listed (Got x more) behind w h = with (behind more) (h more)
   where
     with : (p : Phrase) → PhraseListed p → PhraseListed (with_number x p)
     with (Complete numbers op more) h = tt
-    with (Bad e) h = h
+    with (NoPhrase e) h = h
 numbered-listed (Cut k) behind w h = subst Listed (sym w) at1
 numbered-listed Past behind w h = at1
 
@@ -290,7 +291,7 @@ effect-listed lists op after st = kind-listed (kind op) (operators-listed op) li
 
 -- strides
 abbrev StrideListed : Stride → Type 0
-StrideListed (Stop e) = Listed e
+StrideListed (Faults e) = Listed e
 StrideListed s = Unit {0}
 
 moved-listed : (op : Operator) (more : ℕ) (bytes : List ℕ) (st : State) (m : Move) → MoveListed m → StrideListed (moved op more bytes st m)
@@ -302,7 +303,7 @@ moved-listed op more bytes st Returns h = tt
 moved-listed op more bytes st (Ends width) h = tt
 
 stride-listed : (lists : Lists) (bytes : List ℕ) (st : State) (p : Phrase) → PhraseListed p → StrideListed (stride_by lists bytes st p)
-stride-listed lists bytes st (Bad e) h = h
+stride-listed lists bytes st (NoPhrase e) h = h
 stride-listed lists bytes st (Complete numbers op more) h =
     moved-listed op more bytes (pushed numbers st) _ (effect-listed lists op (drop (more + 1) bytes) (pushed numbers st))
 
@@ -328,7 +329,7 @@ after-ends inner behind go h (Returned st) m = h st
 after-ends inner behind go h (Finished width) m = finish-ends inner (inner && not (is_empty behind)) width
 after-ends inner behind go h (Fault e) m = m
 
-told-ends : (inner : Bool) (answer : Option Answer) (run : Run) → MayEnd inner run.end → MayEnd inner (told answer run).end
+told-ends : (inner : Bool) (answer : Option Answer) (run : Run) → MayEnd inner run.end → MayEnd inner (with_any_answer answer run).end
 told-ends inner None run h = h
 told-ends inner (Some answer) run h = h
 
@@ -351,7 +352,7 @@ paced-ends callee subs inner r go h (On said answer st more) l = told-ends inner
 paced-ends callee subs inner r go h (Into said sub st more) l = called-ends inner callee subs sub st (drop more r) (go more) (h more)
 paced-ends callee subs inner r go h (Back said st) l = return-ends inner st
 paced-ends callee subs inner r go h (Over said width more) l = finish-ends inner (inner && not (is_empty (drop more r))) width
-paced-ends callee subs inner r go h (Stop e) l = l
+paced-ends callee subs inner r go h (Faults e) l = l
 
 routine-ends : (lists : Lists) (callee : Callee) → CalleeEnds callee → (inner : Bool) (k : ℕ) (r : List ℕ) (st : State) → MayEnd inner (routine lists callee inner k r st).end
 routine-ends lists callee subs inner zero [] st = tt
