@@ -11,9 +11,8 @@ use Rattle.postscript_base.specs.declared.error.Error.TheVariants as errors
 use Rattle.postscript_type2.specs.declared.operation.Operator.{Operator}
 use Rattle.postscript_type2.specs.declared.operation.Operator.TheVariants.{And, Or, Not, Abs, Add, Sub, Div, Neg, Eq, Drop, IfElse, Mul, Sqrt, Dup, Exch, Index, Roll}
 use Rattle.postscript_type2.specs.Endings.{run_refusals, flatten_refusals, next_refusals, IsRunsEnd, RunsEndSo}
-use Rattle.postscript_type2.specs.Effects.{Lists, State, start, Move, Keeps, Clears, Calls, Returns, Ends, Refuses, clearing, stems_after, mask_len, work_move, named, subroutine, call_move, Kind, Draws, DeclaresStems, Masks, Works, CallsFrom, GoesBack, EndsGlyph, IsRefused, kind, effect_of, effect, pushed}
+use Rattle.postscript_type2.specs.Effects.{Lists, State, start, Move, Keeps, Clears, Calls, Returns, Ends, Refuses, clearing, stems_after, mask_len, mask_clearing, work_move, named, subroutine, call_move, Kind, Draws, DeclaresStems, Masks, Works, CallsFrom, GoesBack, EndsGlyph, IsRefused, kind, taken, effect_of, effect, pushed}
 use Rattle.postscript_type2.specs.FixedPoint.{cut, fit, absolute_value, opposite, root, sum, difference, product, quotient, both, either, denial, same_bits}
-use Rattle.postscript_type2.specs.Lengths.{taken}
 use Rattle.postscript_type2.specs.declared.program.machine.Machine.{Machine}
 use Rattle.postscript_type2.specs.Callers.{rests}
 use Rattle.postscript_type2.specs.Machines.{still_of}
@@ -257,6 +256,10 @@ clearing-listed : (st : State) (stems : ℕ) (o : Option ℕ) → MoveListed (cl
 clearing-listed st stems (Some n) = tt
 clearing-listed st stems None = at20
 
+mask-listed : (st : State) (stems : ℕ) (o : Option ℕ) → MoveListed (mask_clearing st stems o)
+mask-listed st stems (Some n) = tt
+mask-listed st stems None = at20
+
 if-move : (b : Bool) (x y : Move) → MoveListed x → MoveListed y → MoveListed (if b then x else y)
 if-move true x y p q = p
 if-move false x y p q = q
@@ -275,11 +278,11 @@ subroutine-listed routines =
     (λ number. given-listed (ok_or (named routines number) missing_subroutine) (ok_or-listed (named routines number) missing_subroutine at22))
 
 kind-listed : (k : Kind) → KindListed k → (lists : Lists) (op : Operator) (after : List ℕ) (st : State) → MoveListed (effect_of k lists op after st)
-kind-listed Draws h lists op after st = clearing-listed st st.stems (taken op (length st.stack))
-kind-listed DeclaresStems h lists op after st =
+kind-listed (Draws takes) h lists op after st = clearing-listed st st.stems (taken op (length st.stack))
+kind-listed (DeclaresStems takes) h lists op after st =
     if-move (nat_lt (stems_after st) 4294967296) _ _ (clearing-listed st (stems_after st) (taken op (length st.stack))) at29
-kind-listed Masks h lists op after st =
-    if-move (nat_lt (stems_after st) 4294967296) _ _ (if-move (nat_lt (length after) (mask_len (stems_after st))) _ _ at1 tt) at29
+kind-listed (Masks takes) h lists op after st =
+    if-move (nat_lt (stems_after st) 4294967296) _ _ (if-move (nat_lt (length after) (mask_len (stems_after st))) _ _ at1 (mask-listed st (stems_after st) (taken op (length st.stack)))) at29
 kind-listed (Works work) h lists op after st = work-listed (work st.stack) (h st.stack)
 kind-listed (CallsFrom routines) h lists op after st = call-listed (subroutine (routines lists) st.stack) (subroutine-listed (routines lists) st.stack)
 kind-listed GoesBack h lists op after st = tt

@@ -6,12 +6,11 @@ use Rattle.std.proofs.Common.{◌≡◌, refl, ap, sym, subst, ◌∙◌, ℕ, s
 use Rattle.std.specs.Option.{ok_or}
 use Rattle.postscript_type2.specs.declared.operation.Operator.{Operator}
 use Rattle.postscript_type2.specs.declared.operation.Operator.TheVariants.{CallSubr, CallGSubr, Return, Drop}
-use Rattle.postscript_type2.specs.Lengths.{taken}
 use Rattle.postscript_type2.specs.Number.{to_int}
 use Rattle.postscript_type2.specs.Parsing.{Phrase, Complete, NoPhrase, phrase, fronted}
 use Rattle.postscript_type2.specs.Works.{after, given, top_of}
 use Rattle.postscript_type2.specs.Stacks.{removal}
-use Rattle.postscript_type2.specs.Effects.{Lists, State, Move, Keeps, Clears, Calls, Returns, Ends, Refuses, clearing, stems_after, with_stems, mask_len, mask_clearing, work_move, named, subroutine, call_move, end_move, Kind, Draws, DeclaresStems, Masks, Works, CallsFrom, GoesBack, EndsGlyph, IsRefused, kind, effect_of, effect, pushed, stacked, cleared}
+use Rattle.postscript_type2.specs.Effects.{Lists, State, Move, Keeps, Clears, Calls, Returns, Ends, Refuses, clearing, stems_after, with_stems, mask_len, mask_clearing, work_move, named, subroutine, call_move, end_move, Kind, Draws, DeclaresStems, Masks, Works, CallsFrom, GoesBack, EndsGlyph, IsRefused, kind, taken, effect_of, effect, pushed, stacked, cleared}
 use Rattle.postscript_type2.specs.Runs.{Said, Finished, Run}
 use Rattle.postscript_type2.specs.Evaluation.{with_phrase, with_answer, with_any_answer, at_end, Stride, On, Into, Back, Over, Faults, said, moved, stride_by, stride, mean}
 use Rattle.postscript_type2.specs.Still.{next_still}
@@ -265,29 +264,31 @@ in-flat lists other left b r st = by_phrase (phrase (b ∷ r)) (local 0 (b ∷ r
         own-in other left b r st ns op more l move bare.0 (ap stands_flat is ∙ flat) (let h : more < length (b ∷ r) = l.room in omega (arith, bare.1))
         (λ after h. ap (λ k. effect_of k other op after (pushed ns st)) is ∙ does after)
 
-    mask-in : (ns : List ℤ) (op : Operator) (more : ℕ) → IsLocal 0 (b ∷ r) ns op more → kind op ≡ Masks → (fits short : Bool) →
+    mask-in : (ns : List ℤ) (op : Operator) (more : ℕ) → IsLocal 0 (b ∷ r) ns op more → (takes : ℕ → Bool) → kind op ≡ Masks takes → (o : Option ℕ) → taken op (length (st.stack ++ ns)) ≡ o → (fits short : Bool) →
         nat_lt (stems_after (pushed ns st)) (2 ^ 32) ≡ fits → nat_lt (length (drop (more + 1) (b ∷ r))) (mask_len (stems_after (pushed ns st))) ≡ short →
         InFlat other left st (moved op more (b ∷ r) (pushed ns st)
-        (if fits then (if short then Refuses unexpected_eof else mask_clearing (pushed ns st) (stems_after (pushed ns st))) else Refuses too_many_stems))
-    mask-in ns op more l is false short f e = tt
-    mask-in ns op more l is true true f e = tt
-    mask-in ns op more l is true false f e =
+        (if fits then (if short then Refuses unexpected_eof else mask_clearing (pushed ns st) (stems_after (pushed ns st)) o) else Refuses too_many_stems))
+    mask-in ns op more l takes is o counts false short f e = tt
+    mask-in ns op more l takes is o counts true true f e = tt
+    mask-in ns op more l takes is None counts true false f e = tt
+    mask-in ns op more l takes is (Some n) counts true false f e =
         let stems : ℕ = stems_after (pushed ns st) in
         let room : more + mask_len stems < length (b ∷ r) = let h : more < length (b ∷ r) = l.room in let d = length-drop (more + 1) (b ∷ r) in grind (arith, nat_tests) in
-        own-in other left b r st ns op more l (mask_clearing (pushed ns st) stems) tt (ap stands_flat is) room (λ after h.
+        own-in other left b r st ns op more l (mask_clearing (pushed ns st) stems (Some n)) tt (ap stands_flat is) room (λ after h.
         let enough : nat_lt (length after) (mask_len stems) ≡ false = grind (arith, nat_tests) in
         ap (λ k. effect_of k other op after (pushed ns st)) is
-        ∙ ap (λ t. if t then (if nat_lt (length after) (mask_len stems) then Refuses unexpected_eof else mask_clearing (pushed ns st) stems) else Refuses too_many_stems) f
-        ∙ ap (λ t. if t then Refuses unexpected_eof else mask_clearing (pushed ns st) stems) enough)
+        ∙ ap (λ t. if t then (if nat_lt (length after) (mask_len stems) then Refuses unexpected_eof else mask_clearing (pushed ns st) stems (taken op (length (st.stack ++ ns)))) else Refuses too_many_stems) f
+        ∙ ap (λ t. if t then Refuses unexpected_eof else mask_clearing (pushed ns st) stems (taken op (length (st.stack ++ ns)))) enough
+        ∙ ap (mask_clearing (pushed ns st) stems) counts)
 
     by_kind : (ns : List ℤ) (op : Operator) (more : ℕ) → IsLocal 0 (b ∷ r) ns op more → (k : Kind) → kind op ≡ k →
         InFlat other left st (moved op more (b ∷ r) (pushed ns st) (effect_of k lists op (drop (more + 1) (b ∷ r)) (pushed ns st)))
-    by_kind ns op more l Draws is =
-        bare-in ns op more l Draws is refl _ (clearing-bare (pushed ns st) st.stems (taken op (length (st.stack ++ ns)))) (λ after. refl)
-    by_kind ns op more l DeclaresStems is =
+    by_kind ns op more l (Draws takes) is =
+        bare-in ns op more l (Draws takes) is refl _ (clearing-bare (pushed ns st) st.stems (taken op (length (st.stack ++ ns)))) (λ after. refl)
+    by_kind ns op more l (DeclaresStems takes) is =
         let stems : ℕ = stems_after (pushed ns st) in
-        bare-in ns op more l DeclaresStems is refl _ (stems-bare stems _ (clearing-bare (pushed ns st) stems (taken op (length (st.stack ++ ns))))) (λ after. refl)
-    by_kind ns op more l Masks is = mask-in ns op more l is _ _ refl refl
+        bare-in ns op more l (DeclaresStems takes) is refl _ (stems-bare stems _ (clearing-bare (pushed ns st) stems (taken op (length (st.stack ++ ns))))) (λ after. refl)
+    by_kind ns op more l (Masks takes) is = mask-in ns op more l takes is _ refl _ _ refl refl
     by_kind ns op more l (Works work) is = bare-in ns op more l (Works work) is refl _ (work-bare (work (st.stack ++ ns))) (λ after. refl)
     by_kind ns op more l (CallsFrom routines) is = call-in other left b r st ns op more l routines is lists (subroutine (routines lists) (st.stack ++ ns)) refl
     by_kind ns op more l GoesBack is = return-in other left b r st ns op more l is

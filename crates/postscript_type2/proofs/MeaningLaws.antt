@@ -4,9 +4,8 @@ use Rattle.std.proofs.lemmas.List.{drop-drop, take-append-drop, length-take-le}
 use Rattle.std.proofs.Common.{◌≡◌, ◌≢◌, refl, ap, sym, subst, ◌∙◌, ℕ, zero, suc, ◌+◌, ◌-◌, ◌<◌, ◌≤◌, ℤ, Bool, true, false, List, [], ◌∷◌, ◌++◌, take, drop, length, length-append, length-drop, nat_lt, Option, Some, None, Result, Ok, Err, if◌then◌else◌, arith}
 use Rattle.std.proofs.lemmas.Bool.Decides.{nat_tests}
 use Rattle.postscript_type2.specs.declared.operation.Operator.{Operator}
-use Rattle.postscript_type2.specs.Lengths.{taken}
 use Rattle.postscript_type2.specs.Parsing.{Phrase, Complete, NoPhrase, phrase}
-use Rattle.postscript_type2.specs.Effects.{Lists, State, start, Move, Keeps, Clears, Calls, Returns, Ends, Refuses, clearing, stems_after, mask_len, mask_clearing, work_move, subroutine, call_move, Kind, Draws, DeclaresStems, Masks, Works, CallsFrom, GoesBack, EndsGlyph, IsRefused, kind, effect_of, effect, pushed, stacked, cleared}
+use Rattle.postscript_type2.specs.Effects.{Lists, State, start, Move, Keeps, Clears, Calls, Returns, Ends, Refuses, clearing, stems_after, mask_len, mask_clearing, work_move, subroutine, call_move, Kind, Draws, DeclaresStems, Masks, Works, CallsFrom, GoesBack, EndsGlyph, IsRefused, kind, taken, effect_of, effect, pushed, stacked, cleared}
 use Rattle.postscript_type2.specs.Runs.{Answer, Said, End, UsedUp, Returned, Finished, Fault, Run}
 use Rattle.postscript_type2.specs.Evaluation.{at_end, with_phrase, with_answer, with_any_answer, followed, finish, after_call, Stride, On, Into, Back, Over, Faults, moved, stride_by, stride, called, paced, routine, callee, mean}
 use Rattle.postscript_base.specs.Refusal.{Refusal, unexpected_eof, return_without_caller, trailing_data, too_deep}
@@ -200,10 +199,11 @@ if-fits : (after : List ℕ) (b : Bool) (m : Move) (e : Refusal) → MaskFits af
 if-fits after true m e h = h
 if-fits after false m e h = tt
 
-mask-fits : (after : List ℕ) (st : State) (b : Bool) → nat_lt (length after) (mask_len (stems_after st)) ≡ b →
-    MaskFits after (if b then Refuses unexpected_eof else mask_clearing st (stems_after st))
-mask-fits after st true h = tt
-mask-fits after st false h = grind (arith, nat_tests)
+mask-fits : (after : List ℕ) (st : State) (o : Option ℕ) (b : Bool) → nat_lt (length after) (mask_len (stems_after st)) ≡ b →
+    MaskFits after (if b then Refuses unexpected_eof else mask_clearing st (stems_after st) o)
+mask-fits after st o true h = tt
+mask-fits after st (Some n) false h = grind (arith, nat_tests)
+mask-fits after st None false h = tt
 
 work-fits : (after : List ℕ) (r : Result (Unit {0} × List ℤ) Refusal) → MaskFits after (work_move r)
 work-fits after (Ok x) = tt
@@ -214,11 +214,11 @@ call-fits after (Ok x) = tt
 call-fits after (Err e) = tt
 
 kind-fits : (k : Kind) (lists : Lists) (op : Operator) (after : List ℕ) (st : State) → MaskFits after (effect_of k lists op after st)
-kind-fits Draws lists op after st = clearing-fits after st st.stems (taken op (length st.stack))
-kind-fits DeclaresStems lists op after st =
+kind-fits (Draws takes) lists op after st = clearing-fits after st st.stems (taken op (length st.stack))
+kind-fits (DeclaresStems takes) lists op after st =
     if-fits after (nat_lt (stems_after st) 4294967296) _ _ (clearing-fits after st (stems_after st) (taken op (length st.stack)))
-kind-fits Masks lists op after st =
-    if-fits after (nat_lt (stems_after st) 4294967296) _ _ (mask-fits after st (nat_lt (length after) (mask_len (stems_after st))) refl)
+kind-fits (Masks takes) lists op after st =
+    if-fits after (nat_lt (stems_after st) 4294967296) _ _ (mask-fits after st (taken op (length st.stack)) (nat_lt (length after) (mask_len (stems_after st))) refl)
 kind-fits (Works work) lists op after st = work-fits after (work st.stack)
 kind-fits (CallsFrom routines) lists op after st = call-fits after (subroutine (routines lists) st.stack)
 kind-fits GoesBack lists op after st = tt

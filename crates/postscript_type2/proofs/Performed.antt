@@ -12,9 +12,9 @@ pub work-refused : (k : Kind) (lists : Lists) (op : Operator) (bytes : List ℕ)
     (e ≡ Memory) ⊎ (effect_of k lists op bytes st ≡ Refuses (refusal_of e))
 work-refused (Works work) lists op bytes st stack e (inl memory) = inl memory
 work-refused (Works work) lists op bytes st stack e (inr refused) = inr (ap work_move refused)
-work-refused Draws lists op bytes st stack e h = absurd h
-work-refused DeclaresStems lists op bytes st stack e h = absurd h
-work-refused Masks lists op bytes st stack e h = absurd h
+work-refused (Draws takes) lists op bytes st stack e h = absurd h
+work-refused (DeclaresStems takes) lists op bytes st stack e h = absurd h
+work-refused (Masks takes) lists op bytes st stack e h = absurd h
 work-refused (CallsFrom routines) lists op bytes st stack e h = absurd h
 work-refused GoesBack lists op bytes st stack e h = absurd h
 work-refused EndsGlyph lists op bytes st stack e h = absurd h

@@ -38,8 +38,13 @@ impl State {
     }
 
     /// A mask, where so many bytes follow its operator.
-    pub(super) fn mask<'l>(&mut self, alloc: Global, after: usize) -> Result<Effect<'l>>
-        ensures value { (bytes : List ℕ) → length bytes ≡ after → Does (mask_move bytes (state_of self.old)) self.old result self.new }
+    pub(super) fn mask<'l>(
+        &mut self,
+        alloc: Global,
+        operator: Operator,
+        after: usize,
+    ) -> Result<Effect<'l>>
+        ensures value { (bytes : List ℕ) → length bytes ≡ after → Does (mask_move operator bytes (state_of self.old)) self.old result self.new }
         ensures room { IfOk result (λ e. mask_of e ≤ after) }
     {
         let stems = self.stems_after()?;
@@ -47,7 +52,9 @@ impl State {
         if after < mask {
             return Err(Error::UnexpectedEof);
         }
-        let counted = self.stack.len() - self.stack.len() % 2;
+        let Some(counted) = operator.taken(self.stack.len()) else {
+            return Err(Error::MalformedOperands);
+        };
         let operands = self.clear(alloc, 0, counted)?;
         self.stems = stems;
         Ok(Effect::Clears(operands, mask))

@@ -117,7 +117,7 @@ impl State {
             Operator::HStem | Operator::VStem | Operator::HStemHM | Operator::VStemHM => self.stem(
                 alloc, operator,
             ),
-            Operator::HintMask | Operator::CntrMask => self.mask(alloc, after),
+            Operator::HintMask | Operator::CntrMask => self.mask(alloc, operator, after),
             Operator::Random => Err(Error::Unsupported(Part::Random)),
             Operator::Put => Err(Error::Unsupported(Part::Put)),
             Operator::Get => Err(Error::Unsupported(Part::Get)),
