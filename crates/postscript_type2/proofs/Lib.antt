@@ -13,6 +13,7 @@ pub mod Strides
 pub mod Arms
 pub mod Taken
 pub mod Performed
+pub mod Meant
 pub mod Rows
 pub mod SubroutineRows
 pub mod EffectRows
@@ -24,3 +25,4 @@ pub mod PhraseLaws
 pub mod MeaningLaws
 pub mod EndingLaws
 pub mod RollingLaws
+pub mod RuleRows

@@ -112,7 +112,7 @@ called-means lists (suc left) d e h sub st go run means = ap (λ r. followed r g
 
 -- what comes of a call's end where it ends the run
 after-stop : (inner : Bool) (behind : List ℕ) (go : State → Run) (end : End) → Stops end → after_call inner behind go end ≡ at_end end
-after-stop inner behind go end rules.at_use = refl
+after-stop inner behind go end rules.at_used_up = refl
 after-stop inner behind go end (rules.at_fault e) = refl
 
 followed-by : (xs : List Answer) (ts : List Said) (end : End) (inner : Bool) (behind : List ℕ) (go : State → Run) (last : End) →
@@ -242,7 +242,7 @@ called-goes : (lists : Lists) (left d : ℕ) (p behind : List ℕ) (ns : List �
     (with_phrase (by op p) (followed (record { answers = xs; trace = ts; end = end }) (after_call (is_inner d) behind (λ st'. mean lists left (is_inner d) behind st'))))
 called-goes lists left d p behind ns op st sub stack is does room ih xs ts UsedUp means =
     subst (λ run. MeansRun lists d (p ++ behind) st (with_phrase (by op p) run)) (sym (followed-ends xs ts UsedUp UsedUp))
-    (rules.calls_to_stop d p behind ns op st sub stack xs ts UsedUp is does room means rules.at_use)
+    (rules.calls_to_stop d p behind ns op st sub stack xs ts UsedUp is does room means rules.at_used_up)
 called-goes lists left d p behind ns op st sub stack is does room ih xs ts (Fault e) means =
     subst (λ run. MeansRun lists d (p ++ behind) st (with_phrase (by op p) run)) (sym (followed-ends xs ts (Fault e) (Fault e)))
     (rules.calls_to_stop d p behind ns op st sub stack xs ts (Fault e) is does room means (rules.at_fault e))

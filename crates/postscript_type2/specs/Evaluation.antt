@@ -33,15 +33,15 @@ is_empty [] = true
 is_empty (x ∷ xs) = false
 
 -- the end of a run at EndChar: in a subroutine no byte may follow
-abbrev pub finish : (inner : Bool) → (after : List ℕ) → Option ℤ → End
-finish inner after width = if inner && not (is_empty after) then Fault trailing_data else Finished width
+abbrev pub finish : (inner : Bool) → (behind : List ℕ) → Option ℤ → End
+finish inner behind width = if inner && not (is_empty behind) then Fault trailing_data else Finished width
 
 -- what comes of a call's end, where these bytes follow the call: where the routine returned, they are gone on with
-abbrev pub after_call : (inner : Bool) → (after : List ℕ) → (State → Run) → End → Run
-after_call inner after go (Returned st) = go st
-after_call inner after go UsedUp = at_end UsedUp
-after_call inner after go (Fault e) = at_end (Fault e)
-after_call inner after go (Finished width) = at_end (finish inner after width)
+abbrev pub after_call : (inner : Bool) → (behind : List ℕ) → (State → Run) → End → Run
+after_call inner behind go (Returned st) = go st
+after_call inner behind go UsedUp = at_end UsedUp
+after_call inner behind go (Fault e) = at_end (Fault e)
+after_call inner behind go (Finished width) = at_end (finish inner behind width)
 
 -- What a phrase does, told with it: the run goes on, goes into a routine, back to the caller, is over, or stops. more:
 -- how many bytes of the phrase follow its first one, those of a mask with them.

@@ -1,4 +1,5 @@
--- What a program means, rule by rule.
+-- What a program means, one case for each rule (Technical Note 5177, "Type 2 Charstring Organization", "Subroutine
+-- Operators", "Operator for Finishing a Path"; Appendix B for the ten calls that may nest).
 use Rattle.std.specs.Prelude.{◌≡◌, ◌≢◌, ℕ, suc, ◌<◌, ◌≤◌, ℤ, List, [], ◌∷◌, ◌++◌, length, Option}
 use Rattle.postscript_type2.specs.declared.operation.Operator.{Operator}
 use Rattle.postscript_type2.specs.Effects.{Lists, State, start, Keeps, Clears, Calls, Returns, Ends, Refuses, effect, pushed, stacked, cleared}
@@ -14,19 +15,20 @@ by op bytes = record { operator = op; bytes = bytes }
 abbrev pub answer : Operator → (taken : List ℤ) → (width : Option ℤ) → Answer
 answer op taken width = record { operator = op; operands = taken; width = width }
 
--- The glyph is finished, so many calls open and these bytes behind: in a subroutine no byte may follow.
+-- How the glyph is finished at EndChar, so many calls open and these bytes behind it: in a subroutine no byte may follow.
 pub data Closes (width : Option ℤ) : (depth : ℕ) → (behind : List ℕ) → End → Type 0 where
   in_outermost : (behind : List ℕ) → Closes width 0 behind (Finished width)
   at_last_byte : (depth : ℕ) → Closes width depth [] (Finished width)
   with_bytes_behind : (depth : ℕ) (behind : List ℕ) → 0 < depth → behind ≢ [] → Closes width depth behind (Fault trailing_data)
 
--- the ends of a subroutine that are those of its callers
+-- the ends of a subroutine that are its callers' ends too
 pub data Stops : End → Type 0 where
-  at_use : Stops UsedUp
+  at_used_up : Stops UsedUp
   at_fault : (e : Refusal) → Stops (Fault e)
 
--- What a rest of a routine means, from a state: its answers, its phrases and its end. depth: how many calls are open,
--- none in the outermost code. Each phrase is named with the bytes behind it.
+-- What the rest of a routine means, from a state: its answers, its trace of phrases and its end. depth: how many calls are
+-- open, none in the outermost code. A phrase stands at the front, before the bytes behind it; its numbers are pushed, and its
+-- operator's move decides the rule.
 pub data Means (lists : Lists) : (depth : ℕ) → (rest : List ℕ) → State → List Answer → List Said → End → Type 0 where
   -- the routine is used up
   used_up : (depth : ℕ) (st : State) → Means lists depth [] st [] [] UsedUp
