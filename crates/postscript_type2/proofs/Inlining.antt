@@ -147,7 +147,7 @@ flat-fault (Returned st) = refl
 flat-fault (Finished width) = refl
 flat-fault (Fault e) = refl
 
-flat-width : (a : List Answer) (end : End) → width_by a (flat_end end) ≡ width_by a end
+flat-width : (a : List Answer) (end : End) → width_by None a (flat_end end) ≡ width_by None a end
 flat-width a UsedUp = refl
 flat-width a (Returned st) = refl
 flat-width a (Finished width) = refl

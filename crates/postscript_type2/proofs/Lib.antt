@@ -24,5 +24,6 @@ pub mod InliningRows
 pub mod PhraseLaws
 pub mod MeaningLaws
 pub mod EndingLaws
+pub mod Telling
 pub mod RollingLaws
 pub mod RuleRows

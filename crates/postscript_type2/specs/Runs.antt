@@ -41,10 +41,11 @@ abbrev pub last_width : Option ℤ → List Answer → Option ℤ
 last_width width [] = width
 last_width width (answer ∷ answers) = last_width answer.width answers
 
--- the width of a run: that of EndChar, else that beside the last answer, else none
-abbrev pub width_by : List Answer → End → Option ℤ
-width_by answers (Finished width) = width
-width_by answers end = last_width None answers
+-- the width at this end, behind these answers and this width before them: that of EndChar, else that beside the last answer
+abbrev pub width_by : Option ℤ → List Answer → End → Option ℤ
+width_by width answers (Finished last) = last
+width_by width answers end = last_width width answers
 
+-- the width of a run, where none is settled before it
 abbrev pub width_of : Run → Option ℤ
-width_of run = width_by run.answers run.end
+width_of run = width_by None run.answers run.end

@@ -11,7 +11,7 @@ ghost use Rattle.postscript_type2.specs.Evaluation.{run_of};
 ghost use Rattle.postscript_type2.specs.Meaning.{IsRunOf};
 ghost use Rattle.postscript_type2.specs.Programs.{begun, Next, ended, failed};
 ghost use Rattle.postscript_type2.specs.Routines.{subroutines};
-ghost use Rattle.postscript_type2.specs.Whole.{Tells};
+ghost use Rattle.postscript_type2.specs.Whole.{Tells, TellsPending};
 
 mod arithmetic;
 mod callers;
@@ -155,13 +155,19 @@ pub struct Answers {
 /// Runs a code to its end. Want of memory is the only error.
 pub fn run(alloc: Global, code: &[u8], global: &[Vec<u8>], local: &[Vec<u8>]) -> Result<Answers>
     ensures listed { IfOk result (λ told. IfSome told.fault (λ e. IsOneOf run_refusals (number e))) }
-    ensures meant { IfOk result (λ told. (run : Run) ×
-        IsRunOf (subroutines global.now local.now) code.now run × Tells told run) }
+    ensures meant { IfOk result (λ told. (run : Run) × IsRunOf (subroutines global.now local.now) code.now run × Tells told run) }
     ensures tells { MatchResult result
         (λ told. Tells told (run_of (subroutines global.now local.now) code.now))
         (λ e. e ≡ Error.Memory) }
 {
-    let mut program = Program::new(alloc, code, global, local);
+    all_answers(alloc, Program::new(alloc, code, global, local))
+}
+
+/// All that a program still answers.
+fn all_answers(alloc: Global, program: Program<'_>) -> Result<Answers>
+    ensures { MatchResult result (λ told. TellsPending told program.entry) (λ e. e ≡ Error.Memory) }
+{
+    let mut program = program;
     let mut operations = Vec::new(alloc);
     let fault = loop {
         match program.next() {

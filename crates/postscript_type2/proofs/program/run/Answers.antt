@@ -1,26 +1,21 @@
-use Rattle.std.proofs.Common.{◌≡◌, arith}
-use Rattle.std.proofs.lemmas.Grind.{common_steps}
-use Rattle.std.specs.Option.{option_map}
-use Rattle.postscript_type2.specs.Effects.{Lists, start}
+use Rattle.std.proofs.Common.{◌≡◌, subst, MatchResult}
+use Rattle.postscript_base.specs.declared.error.Error.TheVariants.{Memory}
 use Rattle.postscript_type2.specs.Evaluation.{run_of}
-use Rattle.postscript_type2.specs.Runs.{fault_of}
-use Rattle.postscript_base.specs.Refusal.{refusal_of}
-use Rattle.postscript_type2.specs.Routines.{texts}
-use Rattle.postscript_type2.proofs.EndingLaws.{law, told-listed}
-use Rattle.postscript_type2.proofs.MeaningLaws.{complete}
-use Rattle.postscript_type2.proofs.program.run.Goals.{in-Ok-None, in-Err}
+use Rattle.postscript_type2.specs.Routines.{subroutines}
+use Rattle.postscript_type2.specs.Whole.{Tells, TellsPending}
+use Rattle.postscript_type2.proofs.Telling.{tells-whole, tells-meant, tells-listed}
+use Rattle.postscript_type2.proofs.program.run.Goals.{After-all_answers}
 use Rattle.postscript_type2.proofs.program.run.Goals as goal
 
+-- what the run of the code tells
+told : (c : After-all_answers) → MatchResult c.all_answers.result (λ told. Tells told (run_of (subroutines c.args.global.now c.args.local.now) c.args.code.now)) (λ e. e ≡ Memory)
+told c = tells-whole c.all_answers.result _ (subst (λ pending. MatchResult c.all_answers.result (λ told. TellsPending told pending) (λ e. e ≡ Memory)) c.new.ensures.value c.all_answers.ensures)
+
 pub returns-clause-listed : goal.returns-clause-listed
-returns-clause-listed c =
-    let lists : Lists = record { global = texts c.args.global.now; local = texts c.args.local.now } in
-    let told : option_map refusal_of c.match-next.fault ≡ fault_of (run_of lists c.args.code.now).end = grind (arith, common_steps) in
-    told-listed c.match-next.fault (run_of lists c.args.code.now).end (law lists c.args.code.now) told
+returns-clause-listed c = tells-listed (subroutines c.args.global.now c.args.local.now) c.args.code.now c.all_answers.result (told c)
 
 pub returns-clause-meant : goal.returns-clause-meant
-returns-clause-meant c =
-    let lists : Lists = record { global = texts c.args.global.now; local = texts c.args.local.now } in (
-      run_of lists c.args.code.now,
-      complete lists 10 0 (omega arith) c.args.code.now start,
-      record { operations = grind (arith, common_steps); fault = grind (arith, common_steps); width = grind (arith, common_steps) },
-    )
+returns-clause-meant c = tells-meant (subroutines c.args.global.now c.args.local.now) c.args.code.now c.all_answers.result (told c)
+
+pub returns-clause-tells : goal.returns-clause-tells
+returns-clause-tells c = told c
