@@ -109,10 +109,7 @@ impl<'l> Program<'l> {
     pub fn width(&self) -> Option<Operand>
         ensures { result ≡ self.now.width }
     {
-        match self.machine.state.width {
-            Some(width) => width,
-            None => None,
-        }
+        self.machine.state.width.flatten()
     }
 
     /// The same glyph as code without calls: the phrases of the run in their order, byte for byte with the bytes of their

@@ -48,7 +48,7 @@ impl State {
         ensures room { IfOk result (λ e. mask_of e ≤ after) }
     {
         let stems = self.stems_after()?;
-        let mask = (stems as usize + 7) / 8;
+        let mask = (stems as usize).div_ceil(8);
         if after < mask {
             return Err(Error::UnexpectedEof);
         }
