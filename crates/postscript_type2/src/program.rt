@@ -15,13 +15,13 @@ ghost use Rattle.postscript_type2.specs.Whole.{Tells, TellsPending};
 
 mod arithmetic;
 mod callers;
-mod calls;
 mod flat;
 mod hints;
 mod machine;
 mod routine;
 mod stack;
 mod state;
+mod subroutines;
 
 use crate::operation::{Operand, Operation, Operations};
 use flat::flat_code;

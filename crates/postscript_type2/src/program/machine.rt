@@ -5,9 +5,9 @@ ghost use Rattle.postscript_type2.specs.Routines.{subroutines};
 ghost use Rattle.postscript_type2.specs.Machines.{IsNested, still_of, Advances};
 
 use super::callers::{Callers, are_used_up};
-use super::calls::Subroutines;
 use super::routine::Routine;
 use super::state::{Effect, State};
+use super::subroutines::Subroutines;
 use crate::operation::{Operand, Operator};
 use postscript_base::{Error, Result};
 use std::alloc::Global;

@@ -1,12 +1,13 @@
 //! What an operator does with the stack.
 ghost use Rattle.std.specs.Prelude.{◌≡◌, ◌≤◌, ℕ, List, [], length, Some, OnErr, IfOk, IfErr};
 ghost use Rattle.postscript_base.specs.declared.error.Error.TheVariants.{Memory};
-ghost use Rattle.postscript_type2.specs.Effects.{Lists, settled as the_settled, path_move, last_of, kind, effect};
+ghost use Rattle.postscript_type2.specs.Effects.{Lists, settled as the_settled, path_move, last_of, kind, effect, subroutine, call_move};
 ghost use Rattle.postscript_type2.specs.Performing.{IsWork};
+ghost use Rattle.postscript_type2.specs.Routines.{texts};
 ghost use Rattle.postscript_type2.specs.Working.{lists_of, state_of, mask_of, Does};
 
-use super::calls::Subroutines;
-use super::stack::perform;
+use super::stack::{perform, whole_operand};
+use super::subroutines::{Subroutines, named};
 use crate::operation::{Operand, Operator};
 use postscript_base::error::Part;
 use postscript_base::{Error, Result};
@@ -92,6 +93,18 @@ impl State {
     {
         perform(operator, &mut self.stack)?;
         Ok(Effect::Keeps)
+    }
+
+    /// subr# callsubr (10), globalsubr# callgsubr (29)
+    fn call<'l>(&mut self, routines: &'l [Vec<u8>]) -> Result<Effect<'l>>
+        ensures value { Does (call_move (subroutine (texts routines.now) self.old.stack.items)) self.old result self.new }
+        ensures room { IfOk result (λ effect. mask_of effect ≡ 0) }
+    {
+        let number = whole_operand(&mut self.stack)?;
+        match named(routines, number) {
+            Some(routine) => Ok(Effect::Calls(routine)),
+            None => Err(Error::MissingSubroutine),
+        }
     }
 
     /// What the operator does, where so many bytes follow it.
