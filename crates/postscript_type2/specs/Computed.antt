@@ -1,13 +1,15 @@
--- The definitions by rules are what the functions of Parsing and Evaluation compute.
-use Rattle.std.specs.Prelude.{◌≡◌, ◌↔◌, ℕ, zero, suc, ◌+◌, ◌-◌, ◌≤◌, ℤ, Bool, true, false, List, ◌++◌, length}
+-- Laws of the definitions: what is said by rules, by items and by signs is what functions compute.
+use Rattle.std.specs.Prelude.{◌≡◌, ◌↔◌, ℕ, zero, suc, ◌+◌, ◌-◌, ◌≤◌, ℤ, int_div, Bool, true, false, List, ◌++◌, length}
 use Rattle.postscript_base.specs.Refusal.{Refusal}
 use Rattle.postscript_type2.specs.declared.operation.Operator.{Operator}
 use Rattle.postscript_type2.specs.Effects.{Lists, State}
 use Rattle.postscript_type2.specs.Evaluation.{mean, run_of}
+use Rattle.postscript_type2.specs.FixedPoint.{cut}
 use Rattle.postscript_type2.specs.Meaning.{MeansRun, IsRunOf}
 use Rattle.postscript_type2.specs.Parsing.{Complete, NoPhrase, phrase}
 use Rattle.postscript_type2.specs.Phrases.{IsPhrase, HasNoPhrase}
 use Rattle.postscript_type2.specs.Runs.{Run}
+use Rattle.postscript_type2.specs.Stacks.{IsRolled, rolled}
 
 -- A law of the definitions: a phrase is read exactly where one stands at the front, and it is that one.
 abbrev pub PhraseIsRead : Type 0
@@ -32,3 +34,11 @@ MeaningIsComputed = (lists : Lists) (depth : ℕ) → depth ≤ 10 → (rest : L
 -- so the run of a code is the one that it has by the rules
 abbrev pub RunIsMeant : Type 0
 RunIsMeant = (lists : Lists) (code : List ℕ) (run : Run) → IsRunOf lists code run ↔ (run_of lists code ≡ run)
+
+-- A law of the definitions: a list is rolled exactly where each item is at its place.
+abbrev pub RolledByItems : Type 0
+RolledByItems = (shift : ℤ) (xs ys : List ℤ) → IsRolled shift xs ys ↔ (ys ≡ rolled shift xs)
+
+-- A law of the definitions: the quotient by signs is the one that std computes.
+abbrev pub CutIsDivision : Type 0
+CutIsDivision = (x y : ℤ) → cut x y ≡ int_div x y

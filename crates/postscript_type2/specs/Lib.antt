@@ -25,4 +25,3 @@ pub mod Performing
 pub mod Callers
 pub mod Computed
 pub mod Endings
-pub mod Rolling
