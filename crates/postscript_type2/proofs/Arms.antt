@@ -6,10 +6,11 @@ use Rattle.std.proofs.lemmas.Grind.{common_steps}
 use Rattle.postscript_base.specs.declared.error.Error.{Error}
 use Rattle.postscript_base.specs.declared.error.Error.TheVariants.{Memory}
 use Rattle.postscript_type2.specs.declared.operation.Operator.{Operator}
-use Rattle.postscript_type2.specs.Effects.{Lists, State, Move, Keeps, Clears, Calls, Returns, Ends, Refuses, effect}
-use Rattle.postscript_type2.specs.Meaning.{Answer, Said, UsedUp, Finished, Fault, says, answers, ends, said, stacked, cleared, moved, stride}
-use Rattle.postscript_type2.specs.Phrases.{Complete, Bad, phrase, fronted}
-use Rattle.postscript_type2.specs.Refusals.{Refusal, refusal_of, return_without_caller, trailing_data, too_deep}
+use Rattle.postscript_type2.specs.Effects.{Lists, State, Move, Keeps, Clears, Calls, Returns, Ends, Refuses, effect, stacked, cleared}
+use Rattle.postscript_type2.specs.Runs.{Answer, Said, UsedUp, Finished, Fault}
+use Rattle.postscript_type2.specs.Evaluation.{with_phrase, with_answer, at_end, said, moved, stride}
+use Rattle.postscript_type2.specs.Parsing.{Complete, NoPhrase, phrase, fronted}
+use Rattle.postscript_base.specs.Refusal.{Refusal, refusal_of, return_without_caller, trailing_data, too_deep}
 use Rattle.postscript_type2.specs.Still.{still, next_still, are_used_up}
 use Rattle.postscript_type2.proofs.Still.{still_end}
 use Rattle.postscript_type2.proofs.Strides.{still_step-at, stride-is, stop-is}
@@ -53,36 +54,36 @@ with op front = record { operator = op; bytes = front }
 -- a stack is left
 pub kept : (lists : Lists) (left : ℕ) (cs : List (List ℕ)) (bytes rest front : List ℕ) (st : State) (ys : List ℤ) (op : Operator) (more : ℕ) (now : State) →
     IsRead bytes rest st ys op more → effect lists op rest (stacked ys st) ≡ Keeps now.stack → now ≡ stacked now.stack st → front ≡ take (more + 1) bytes →
-    still lists left bytes cs st ≡ says (with op front) (still lists left rest cs now)
+    still lists left bytes cs st ≡ with_phrase (with op front) (still lists left rest cs now)
 kept lists left cs bytes rest front st ys op more now read does is there =
     stepped lists left cs bytes rest st ys op more (Keeps now.stack) read does
-    ∙ ap (λ after. says (said op more bytes) (still lists left after cs (stacked now.stack st))) (sym read.behind)
-    ∙ ap (λ s. says (said op more bytes) (still lists left rest cs s)) (sym is)
-    ∙ ap (λ front'. says (with op front') (still lists left rest cs now)) (sym there)
+    ∙ ap (λ after. with_phrase (said op more bytes) (still lists left after cs (stacked now.stack st))) (sym read.behind)
+    ∙ ap (λ s. with_phrase (said op more bytes) (still lists left rest cs s)) (sym is)
+    ∙ ap (λ front'. with_phrase (with op front') (still lists left rest cs now)) (sym there)
 
 -- an operation is answered, and the bytes of its mask are passed
 pub answered : (lists : Lists) (left : ℕ) (cs : List (List ℕ)) (bytes rest behind front : List ℕ) (st : State) (ys : List ℤ) (op : Operator) (more mask : ℕ) (taken : List ℤ) (now : State) (width : Option ℤ) →
     IsRead bytes rest st ys op more → effect lists op rest (stacked ys st) ≡ Clears taken now.stems width mask → now ≡ cleared now.stems width → behind ≡ drop mask rest →
     front ≡ take (length bytes - length behind) bytes →
-    still lists left bytes cs st ≡ says (with op front) (answers (record { operator = op; operands = taken; width = width }) (still lists left behind cs now))
+    still lists left bytes cs st ≡ with_phrase (with op front) (with_answer (record { operator = op; operands = taken; width = width }) (still lists left behind cs now))
 answered lists left cs bytes rest behind front st ys op more mask taken now width read does is past is_front =
     let step = stepped lists left cs bytes rest st ys op more (Clears taken now.stems width mask) read does in
     let answer : Answer = record { operator = op; operands = taken; width = width } in
     let there : behind ≡ drop (more + mask + 1) bytes =
     past ∙ ap (drop mask) read.behind ∙ drop-drop mask (more + 1) bytes ∙ ap (λ n. drop n bytes) (omega arith) in
-    step ∙ ap (λ after. says (said op (more + mask) bytes) (answers answer (still lists left after cs (cleared now.stems width)))) (sym there)
-    ∙ ap (λ s. says (said op (more + mask) bytes) (answers answer (still lists left behind cs s))) (sym is)
-    ∙ ap (λ front'. says (with op front') (answers answer (still lists left behind cs now))) (sym (front-of bytes behind front (more + mask + 1) there is_front))
+    step ∙ ap (λ after. with_phrase (said op (more + mask) bytes) (with_answer answer (still lists left after cs (cleared now.stems width)))) (sym there)
+    ∙ ap (λ s. with_phrase (said op (more + mask) bytes) (with_answer answer (still lists left behind cs s))) (sym is)
+    ∙ ap (λ front'. with_phrase (with op front') (with_answer answer (still lists left behind cs now))) (sym (front-of bytes behind front (more + mask + 1) there is_front))
 
 -- a subroutine is entered
 pub entered : (lists : Lists) (left left' : ℕ) (cs cs' : List (List ℕ)) (bytes rest front : List ℕ) (st : State) (ys : List ℤ) (op : Operator) (more : ℕ) (code routine : List ℕ) (now : State) →
     IsRead bytes rest st ys op more → effect lists op rest (stacked ys st) ≡ Calls code now.stack → now ≡ stacked now.stack st → left ≡ suc left' → cs' ≡ rest ∷ cs → routine ≡ code →
-    front ≡ take (more + 1) bytes → still lists left bytes cs st ≡ says (with op front) (still lists left' routine cs' now)
+    front ≡ take (more + 1) bytes → still lists left bytes cs st ≡ with_phrase (with op front) (still lists left' routine cs' now)
 entered lists left left' cs cs' bytes rest front st ys op more code routine now read does is one_less pushed entry there =
     rw (one_less, pushed, entry, there)
     (stepped lists (suc left') cs bytes rest st ys op more (Calls code now.stack) read does
-    ∙ ap (λ after. says (said op more bytes) (still lists left' code (after ∷ cs) (stacked now.stack st))) (sym read.behind)
-    ∙ ap (λ s. says (said op more bytes) (still lists left' code (rest ∷ cs) s)) (sym is))
+    ∙ ap (λ after. with_phrase (said op more bytes) (still lists left' code (after ∷ cs) (stacked now.stack st))) (sym read.behind)
+    ∙ ap (λ s. with_phrase (said op more bytes) (still lists left' code (rest ∷ cs) s)) (sym is))
 
 -- an eleventh call
 pub too-deep-call : (lists : Lists) (cs : List (List ℕ)) (bytes rest : List ℕ) (st : State) (ys : List ℤ) (op : Operator) (more : ℕ) (routine : List ℕ) (stack : List ℤ) →
@@ -95,11 +96,11 @@ too-deep-call lists cs bytes rest st ys op more routine stack read does =
 -- a subroutine returns to its caller, and the outermost code to none
 pub returned : (lists : Lists) (left left' : ℕ) (caller : List ℕ) (cs cs' : List (List ℕ)) (bytes rest front : List ℕ) (st : State) (ys : List ℤ) (op : Operator) (more : ℕ) (now : State) →
     IsRead bytes rest st ys op more → effect lists op rest (stacked ys st) ≡ Returns → now ≡ stacked ys st → left' ≡ suc left → cs ≡ caller ∷ cs' → front ≡ take (more + 1) bytes →
-    still lists left bytes cs st ≡ says (with op front) (still lists left' caller cs' now)
+    still lists left bytes cs st ≡ with_phrase (with op front) (still lists left' caller cs' now)
 returned lists left left' caller cs cs' bytes rest front st ys op more now read does is one_more popped there =
     rw (one_more, popped, there)
     (stepped lists left (caller ∷ cs') bytes rest st ys op more Returns read does
-    ∙ ap (λ s. says (said op more bytes) (still lists (suc left) caller cs' s)) (sym is))
+    ∙ ap (λ s. with_phrase (said op more bytes) (still lists (suc left) caller cs' s)) (sym is))
 
 pub no-caller : (lists : Lists) (left : ℕ) (bytes rest : List ℕ) (st : State) (ys : List ℤ) (op : Operator) (more : ℕ) →
     IsRead bytes rest st ys op more → effect lists op rest (stacked ys st) ≡ Returns →
@@ -111,17 +112,17 @@ no-caller lists left bytes rest st ys op more read does =
 -- EndChar, where the subroutines of the chain are used up and where they are not
 ended : (lists : Lists) (left : ℕ) (cs : List (List ℕ)) (bytes rest : List ℕ) (st : State) (ys : List ℤ) (op : Operator) (more : ℕ) (width : Option ℤ) (used_up : Bool) →
     IsRead bytes rest st ys op more → effect lists op rest (stacked ys st) ≡ Ends width → used_up ≡ are_used_up rest cs →
-    still lists left bytes cs st ≡ says (said op more bytes) (ends (if used_up then Finished width else Fault trailing_data))
+    still lists left bytes cs st ≡ with_phrase (said op more bytes) (at_end (if used_up then Finished width else Fault trailing_data))
 ended lists left cs bytes rest st ys op more width used_up read does is =
     stepped lists left cs bytes rest st ys op more (Ends width) read does
-    ∙ ap (λ after. says (said op more bytes) (ends (if are_used_up after cs then Finished width else Fault trailing_data))) (sym read.behind)
-    ∙ ap (λ b. says (said op more bytes) (ends (if b then Finished width else Fault trailing_data))) (sym is)
+    ∙ ap (λ after. with_phrase (said op more bytes) (at_end (if are_used_up after cs then Finished width else Fault trailing_data))) (sym read.behind)
+    ∙ ap (λ b. with_phrase (said op more bytes) (at_end (if b then Finished width else Fault trailing_data))) (sym is)
 
 pub finished : (lists : Lists) (left : ℕ) (cs : List (List ℕ)) (bytes rest front : List ℕ) (st : State) (ys : List ℤ) (op : Operator) (more : ℕ) (width : Option ℤ) →
     IsRead bytes rest st ys op more → effect lists op rest (stacked ys st) ≡ Ends width → true ≡ are_used_up rest cs → front ≡ take (more + 1) bytes →
-    still lists left bytes cs st ≡ says (with op front) (ends (Finished width))
+    still lists left bytes cs st ≡ with_phrase (with op front) (at_end (Finished width))
 finished lists left cs bytes rest front st ys op more width read does is there =
-    ended lists left cs bytes rest st ys op more width true read does is ∙ ap (λ front'. says (with op front') (ends (Finished width))) (sym there)
+    ended lists left cs bytes rest st ys op more width true read does is ∙ ap (λ front'. with_phrase (with op front') (at_end (Finished width))) (sym there)
 
 pub trailing : (lists : Lists) (left : ℕ) (cs : List (List ℕ)) (bytes rest : List ℕ) (st : State) (ys : List ℤ) (op : Operator) (more : ℕ) (width : Option ℤ) →
     IsRead bytes rest st ys op more → effect lists op rest (stacked ys st) ≡ Ends width → false ≡ are_used_up rest cs →
@@ -139,7 +140,7 @@ refused lists left cs bytes rest st ys op more e read does =
     (ap (λ run. run.answers) step, ap (λ run. run.end) step)
 
 -- a refusal of the phrase
-unread : (lists : Lists) (left : ℕ) (cs : List (List ℕ)) (bytes : List ℕ) (st : State) (e : Refusal) → 0 < length bytes → phrase bytes ≡ Bad e →
+unread : (lists : Lists) (left : ℕ) (cs : List (List ℕ)) (bytes : List ℕ) (st : State) (e : Refusal) → 0 < length bytes → phrase bytes ≡ NoPhrase e →
     ((still lists left bytes cs st).answers ≡ []) × ((still lists left bytes cs st).end ≡ Fault e)
 unread lists left cs bytes st e some bad =
     let step = still_step-at lists left bytes cs st some ∙ ap (next_still lists left (λ k. drop (k + 1) bytes) cs) (stop-is lists bytes st e bad) in
@@ -153,13 +154,13 @@ refused-or-memory lists left cs bytes rest st ys op more e read (inl memory) = i
 refused-or-memory lists left cs bytes rest st ys op more e read (inr does) = inr (refused lists left cs bytes rest st ys op more (refusal_of e) read does)
 
 pub unread-or-memory : (lists : Lists) (left : ℕ) (cs : List (List ℕ)) (bytes : List ℕ) (st : State) (e : Error) → 0 < length bytes →
-    (e ≡ Memory) ⊎ (phrase bytes ≡ Bad (refusal_of e)) →
+    (e ≡ Memory) ⊎ (phrase bytes ≡ NoPhrase (refusal_of e)) →
     (e ≡ Memory) ⊎ (((still lists left bytes cs st).answers ≡ []) × ((still lists left bytes cs st).end ≡ Fault (refusal_of e)))
 unread-or-memory lists left cs bytes st e some (inl memory) = inl memory
 unread-or-memory lists left cs bytes st e some (inr bad) = inr (unread lists left cs bytes st (refusal_of e) some bad)
 
 -- a routine that is used up ends the run
-pub used-up : (lists : Lists) (left : ℕ) (cs : List (List ℕ)) (bytes : List ℕ) (st : State) → length bytes ≡ 0 → still lists left bytes cs st ≡ ends UsedUp
+pub used-up : (lists : Lists) (left : ℕ) (cs : List (List ℕ)) (bytes : List ℕ) (st : State) → length bytes ≡ 0 → still lists left bytes cs st ≡ at_end UsedUp
 used-up lists left cs [] st is = still_end lists left cs st
 used-up lists left cs (b ∷ r) st is = absurd (omega arith)
 

@@ -1,14 +1,14 @@
 -- What is read at a place, as what stands at the front of the rest.
 use Rattle.std.proofs.lemmas.List.{drop-drop}
-use Rattle.std.proofs.Common.{◌≡◌, ◌≢◌, refl, ap, sym, subst, ◌∙◌, ℕ, ◌+◌, ◌-◌, ◌≤◌, ◌⊎◌, inl, inr, Bool, true, false, List, [], ◌∷◌, length, take, drop, nat_lt, ℤ, pos, ◌-ℤ◌, ◌==◌, Result, Ok, Err, arith, if◌then◌else◌}
+use Rattle.std.proofs.Common.{◌≡◌, ◌≢◌, refl, ap, sym, subst, ◌∙◌, ℕ, ◌+◌, ◌-◌, inl, inr, Bool, true, false, List, [], ◌∷◌, length, take, drop, nat_lt, ℤ, pos, ◌-ℤ◌, ◌==◌, Result, Ok, Err, arith, if◌then◌else◌}
 use Rattle.std.proofs.lemmas.Grind.{common_steps}
 use Rattle.postscript_base.specs.Error.{code, IsOneOf, IsListed}
-use Rattle.postscript_base.specs.Tape.Outcome.{Outcome, Got, Fault, Past, Reading, after, ◌>>=◌, pure, fault, Answers}
+use Rattle.postscript_base.specs.Tape.Outcome.{Outcome, Got, Fault, Past, Reading, after, ◌>>=◌, pure, fault, Answers, RefusedAs}
 use Rattle.postscript_base.specs.Numbers.{slice, number as unsigned, big_endian}
 use Rattle.postscript_base.specs.declared.error.Error.{Error}
-use Rattle.postscript_base.specs.declared.error.Error.TheVariants.{UnexpectedEof, Io, Memory, MalformedOffset, MalformedNumber, OutOfRangeNumber, UnknownOperator, Unsupported, ExpectedOperand, ExpectedInteger, ExpectedMoreOperands, MalformedOperands, InvalidOperand, MissingSubroutine, ReturnWithoutCaller, TrailingData, TooDeep, Overflow, ZeroDivisor, NegativeRoot, TooManyStems, AlreadyFailed}
+use Rattle.postscript_base.specs.declared.error.Error.TheVariants.{UnexpectedEof, Io, Memory, MalformedOffset, MalformedNumber, OutOfRangeNumber, TapeStuck, MalformedOperation, MissingOperation, UnknownOperator, Unsupported, ExpectedOperand, ExpectedInteger, ExpectedMoreOperands, MalformedOperands, InvalidOperand, MissingSubroutine, ReturnWithoutCaller, TrailingData, TooDeep, Overflow, ZeroDivisor, NegativeRoot, TooManyStems, AlreadyFailed}
 use Rattle.postscript_type2.specs.Number.{number, spelled, whole, signed, above, below}
-use Rattle.postscript_type2.specs.Refusals.{Numbered, refusal_of}
+use Rattle.postscript_base.specs.Refusal.{refusal_of, number_of, unexpected_eof, malformed_number}
 use Rattle.postscript_type2.specs.Tokens.{ReadsByte, ReadsNumber}
 use Rattle.postscript_type2.proofs.Places.{later, IsLocal, number-local as unsigned-local, spelled-local}
 
@@ -27,7 +27,7 @@ after-within (Got x next) f w h = h x next
 after-within (Fault k) f w h = tt
 after-within Past f w h = w
 
-slice-by-within : (b : Bool) (xs : List ℕ) (next : ℕ) → Within (if b then Fault 1 else Got xs next)
+slice-by-within : (b : Bool) (xs : List ℕ) (next : ℕ) → Within (if b then Fault unexpected_eof else Got xs next)
 slice-by-within true xs next = tt
 slice-by-within false xs next = tt
 
@@ -42,7 +42,7 @@ of-unsigned-within size f bytes place = after-within (unsigned size bytes place)
 spelled-within : (first : ℕ) (bytes : List ℕ) (place : ℕ) → Within (spelled first bytes place)
 spelled-within first bytes place =
     if-within (first == 0x1c) (unsigned 2 >>= λ n. pure (whole (signed 0x8000 n))) _ bytes place (of-unsigned-within 2 (λ n. whole (signed 0x8000 n)) bytes place)
-    (if-within (nat_lt first 0x20) (fault 7) _ bytes place tt
+    (if-within (nat_lt first 0x20) (fault malformed_number) _ bytes place tt
     (if-within (nat_lt first 0xf7) (pure (whole (pos first -ℤ pos 139))) _ bytes place tt
     (if-within (nat_lt first 0xfb) (unsigned 1 >>= λ second. pure (whole (above first second))) _ bytes place (of-unsigned-within 1 (λ second. whole (above first second)) bytes place)
     (if-within (nat_lt first 0xff) (unsigned 1 >>= λ second. pure (whole (below first second))) (unsigned 4 >>= λ bits. pure (signed 0x80000000 bits)) bytes place (of-unsigned-within 1 (λ second. whole (below first second)) bytes place)
@@ -72,75 +72,51 @@ unfolding number
 number-local bytes place =
     ap (λ o. after o (λ first next. spelled first bytes next)) (unsigned-local 1 bytes place) ∙ behind bytes place (unsigned 1 (drop place bytes) 0)
 
--- which refusals a reading of a number has
-numbered-listed : (e : Error) → IsOneOf (1 ∷ 2 ∷ 7 ∷ []) (code e) → refusal_of e ≡ Numbered (code e)
-numbered-listed UnexpectedEof h = refl
-numbered-listed (Io x) h = refl
-numbered-listed Memory h = refl
-numbered-listed MalformedOffset h = refl
-numbered-listed MalformedNumber h = refl
-numbered-listed OutOfRangeNumber h = refl
-numbered-listed UnknownOperator h = refl
-numbered-listed (Unsupported x) (inl h) = absurd (omega arith)
-numbered-listed (Unsupported x) (inr (inl h)) = absurd (omega arith)
-numbered-listed (Unsupported x) (inr (inr (inl h))) = absurd (omega arith)
-numbered-listed (Unsupported x) (inr (inr (inr h))) = absurd h
-numbered-listed ExpectedOperand h = refl
-numbered-listed ExpectedInteger h = refl
-numbered-listed ExpectedMoreOperands h = refl
-numbered-listed MalformedOperands h = refl
-numbered-listed InvalidOperand h = refl
-numbered-listed MissingSubroutine h = refl
-numbered-listed ReturnWithoutCaller h = refl
-numbered-listed TrailingData h = refl
-numbered-listed TooDeep h = refl
-numbered-listed Overflow h = refl
-numbered-listed ZeroDivisor h = refl
-numbered-listed NegativeRoot h = refl
-numbered-listed TooManyStems h = refl
-numbered-listed AlreadyFailed h = refl
+eof-by : (e : Error) → number_of (refusal_of e) ≡ 1 → e ≡ UnexpectedEof
+eof-by UnexpectedEof h = refl
+eof-by (Io x) h = absurd (omega arith)
+eof-by Memory h = absurd (omega arith)
+eof-by MalformedOffset h = absurd (omega arith)
+eof-by TapeStuck h = absurd (omega arith)
+eof-by MalformedNumber h = absurd (omega arith)
+eof-by OutOfRangeNumber h = absurd (omega arith)
+eof-by UnknownOperator h = absurd (omega arith)
+eof-by ExpectedOperand h = absurd (omega arith)
+eof-by ExpectedInteger h = absurd (omega arith)
+eof-by ExpectedMoreOperands h = absurd (omega arith)
+eof-by MalformedOperands h = absurd (omega arith)
+eof-by InvalidOperand h = absurd (omega arith)
+eof-by MissingSubroutine h = absurd (omega arith)
+eof-by ReturnWithoutCaller h = absurd (omega arith)
+eof-by TrailingData h = absurd (omega arith)
+eof-by TooDeep h = absurd (omega arith)
+eof-by Overflow h = absurd (omega arith)
+eof-by ZeroDivisor h = absurd (omega arith)
+eof-by NegativeRoot h = absurd (omega arith)
+eof-by TooManyStems h = absurd (omega arith)
+eof-by AlreadyFailed h = absurd (omega arith)
+eof-by (Unsupported x) h = absurd (omega arith)
+eof-by (MalformedOperation x) h = absurd (omega arith)
+eof-by (MissingOperation x) h = absurd (omega arith)
 
-is-eof : (e : Error) → code e ≡ 1 → e ≡ UnexpectedEof
-is-eof UnexpectedEof h = refl
-is-eof (Io x) h = absurd (omega arith)
-is-eof Memory h = absurd (omega arith)
-is-eof MalformedOffset h = absurd (omega arith)
-is-eof MalformedNumber h = absurd (omega arith)
-is-eof OutOfRangeNumber h = absurd (omega arith)
-is-eof UnknownOperator h = absurd (omega arith)
-is-eof (Unsupported x) h = absurd (omega arith)
-is-eof ExpectedOperand h = absurd (omega arith)
-is-eof ExpectedInteger h = absurd (omega arith)
-is-eof ExpectedMoreOperands h = absurd (omega arith)
-is-eof MalformedOperands h = absurd (omega arith)
-is-eof InvalidOperand h = absurd (omega arith)
-is-eof MissingSubroutine h = absurd (omega arith)
-is-eof ReturnWithoutCaller h = absurd (omega arith)
-is-eof TrailingData h = absurd (omega arith)
-is-eof TooDeep h = absurd (omega arith)
-is-eof Overflow h = absurd (omega arith)
-is-eof ZeroDivisor h = absurd (omega arith)
-is-eof NegativeRoot h = absurd (omega arith)
-is-eof TooManyStems h = absurd (omega arith)
-is-eof AlreadyFailed h = absurd (omega arith)
+is-eof : (e : Error) → refusal_of e ≡ unexpected_eof → e ≡ UnexpectedEof
+is-eof e h = eof-by e (ap number_of h)
 
 pub got-later : {A : Type 0} (place : ℕ) (o : Outcome A) (x : A) (next : ℕ) → later place o ≡ Got x next → (n : ℕ) × (o ≡ Got x n) × (next ≡ place + n)
 got-later place (Got y n) x next h = (n, cc, cc)
 got-later place (Fault k) x next h = absurd (cc)
 got-later place Past x next h = absurd (cc)
 
-refused-later : {A : Type 0} (place : ℕ) (o : Outcome A) (k : ℕ) → Within o → (later place o ≡ Fault k) ⊎ ((later place o ≡ Past) × (k ≤ 2)) → o ≡ Fault k
-refused-later place (Got y n) k w (inl h) = absurd (cc)
-refused-later place (Got y n) k w (inr h) = let e : Got y (place + n) ≡ Past = h.0 in absurd (cc)
-refused-later place (Fault j) k w (inl h) = cc
-refused-later place (Fault j) k w (inr h) = let e : Fault j ≡ Past = h.0 in absurd (cc)
-refused-later place Past k w h = absurd w
+refused-later : {A : Type 0} (place : ℕ) (o : Outcome A) (e : Error) → Within o → RefusedAs e (later place o) → o ≡ Fault (refusal_of e)
+refused-later place (Got y n) e w h = absurd h
+refused-later place (Fault j) e w h = ap Fault (sym h)
+refused-later place Past e w h = absurd w
 
-other-than-memory : (k : ℕ) → IsOneOf (1 ∷ 2 ∷ 7 ∷ []) k → k ≢ 3
-other-than-memory k (inl h) = λ e. omega arith
-other-than-memory k (inr (inl h)) = λ e. omega arith
-other-than-memory k (inr (inr (inl h))) = λ e. omega arith
-other-than-memory k (inr (inr (inr h))) = absurd h
+other-than-memory : (e : Error) → IsOneOf (1 ∷ 2 ∷ 7 ∷ []) (code e) → e ≢ Memory
+other-than-memory e (inl h) is = let k : code e ≡ 3 = ap code is in omega arith
+other-than-memory e (inr (inl h)) is = let k : code e ≡ 3 = ap code is in omega arith
+other-than-memory e (inr (inr (inl h))) is = let k : code e ≡ 3 = ap code is in omega arith
+other-than-memory e (inr (inr (inr h))) is = absurd h
 
 pub reads-number : (bytes : List ℕ) (place next : ℕ) (r : Result ℤ Error) → Answers (λ x. x) r next (number bytes place) →
     IsListed (1 ∷ 2 ∷ 7 ∷ []) r → ReadsNumber (drop place bytes) r (drop next bytes)
@@ -148,11 +124,11 @@ reads-number bytes place next (Ok x) h listed =
     let g = got-later place (number (drop place bytes) 0) x next (sym (number-local bytes place) ∙ h) in
     (g.0, g.1, ap (λ n. drop n bytes) g.2 ∙ sym (drop-drop g.0 place bytes))
 reads-number bytes place next (Err e) h listed =
-    (code e, refused-later place (number (drop place bytes) 0) (code e) (number-within (drop place bytes) 0) (rw number-local at (h (other-than-memory (code e) listed))), numbered-listed e listed)
+    refused-later place (number (drop place bytes) 0) e (number-within (drop place bytes) 0) (rw number-local at (h (other-than-memory e listed)))
 
 -- a byte at the front
 abbrev front : List ℕ → Outcome ℕ
-front [] = Fault 1
+front [] = Fault unexpected_eof
 front (b ∷ rest) = Got b 1
 
 unsigned-front : (bytes : List ℕ) → unsigned 1 bytes 0 ≡ front bytes
@@ -160,19 +136,10 @@ unfolding unsigned slice
 unsigned-front [] = refl
 unsigned-front (b ∷ rest) = grind (arith, common_steps)
 
--- a refusal where the outcome is a fault, and where it is a value
-refused-fault : {A : Type 0} (o : Outcome A) (k j : ℕ) → o ≡ Fault j → (o ≡ Fault k) ⊎ ((o ≡ Past) × (k ≤ 2)) → k ≡ j
-refused-fault o k j is (inl h) = let e : Fault j ≡ Fault k = sym is ∙ h in cc
-refused-fault o k j is (inr h) = let e : Fault j ≡ Past = sym is ∙ h.0 in absurd (cc)
-
-refused-got : {A : Type 0} (k n : ℕ) (x : A) → ((Got x n ≡ Fault k) ⊎ ((Got x n ≡ Past) × (k ≤ 2))) → ⊥
-refused-got k n x (inl h) = cc
-refused-got k n x (inr h) = let e : Got x n ≡ Past = h.0 in cc
-
-byte-listed : (k : ℕ) → IsOneOf (1 ∷ 2 ∷ []) k → k ≢ 3
-byte-listed k (inl h) = λ e. omega arith
-byte-listed k (inr (inl h)) = λ e. omega arith
-byte-listed k (inr (inr h)) = absurd h
+byte-listed : (e : Error) → IsOneOf (1 ∷ 2 ∷ []) (code e) → e ≢ Memory
+byte-listed e (inl h) is = let k : code e ≡ 3 = ap code is in omega arith
+byte-listed e (inr (inl h)) is = let k : code e ≡ 3 = ap code is in omega arith
+byte-listed e (inr (inr h)) is = absurd h
 
 byte-by : (bytes rest : List ℕ) (place next : ℕ) (r : Result ℕ Error) → rest ≡ drop place bytes → Answers (λ x. x) r next (later place (front rest)) →
     IsListed (1 ∷ 2 ∷ []) r → ReadsByte rest r (drop next bytes)
@@ -183,9 +150,8 @@ byte-by bytes (b ∷ rest) place next (Ok x) e h listed =
     let behind : rest ≡ drop next bytes = ap (drop 1) e ∙ drop-drop 1 place bytes ∙ ap (λ n. drop n bytes) there in
     ap (λ y. y ∷ rest) value ∙ ap (λ xs. x ∷ xs) behind
 byte-by bytes [] place next (Err x) e h listed =
-    let other : code x ≢ 3 = byte-listed (code x) listed in
-    (refl, is-eof x (refused-fault (later place (front [])) (code x) 1 refl (h other)))
-byte-by bytes (b ∷ rest) place next (Err x) e h listed = absurd (refused-got (code x) (place + 1) b (h (byte-listed (code x) listed)))
+    (refl, is-eof x (h (byte-listed x listed)))
+byte-by bytes (b ∷ rest) place next (Err x) e h listed = absurd (h (byte-listed x listed))
 
 pub reads-byte : (bytes : List ℕ) (place next : ℕ) (r : Result ℕ Error) → Answers (λ x. x) r next (unsigned 1 bytes place) →
     IsListed (1 ∷ 2 ∷ []) r → ReadsByte (drop place bytes) r (drop next bytes)

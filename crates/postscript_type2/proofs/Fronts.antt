@@ -4,16 +4,16 @@ use Rattle.std.proofs.lemmas.List.{drop-drop}
 use Rattle.std.proofs.Common.{◌≡◌, refl, ap, sym, ◌∙◌, ℕ, zero, suc, ◌+◌, ◌<◌, true, false, cond, List, [], ◌∷◌, ◌++◌, drop, length, get_or, ℤ, append_assoc, zero-add, add-one, arith}
 use Rattle.postscript_base.specs.Tape.Outcome.{Outcome, Got}
 use Rattle.postscript_type2.specs.Number.{spelled}
-use Rattle.postscript_type2.specs.Phrases.{is_number, Phrase, Complete, Bad, passed, with_number, numbered, ending, phrase_after, phrase, fronted}
+use Rattle.postscript_type2.specs.Parsing.{is_number, Phrase, Complete, NoPhrase, passed, with_number, numbered, ending, phrase_after, phrase, fronted}
 use Rattle.postscript_type2.proofs.Places.{later, spelled-local}
 
 pub fronted-zero : (p : Phrase) → fronted [] 0 p ≡ p
 fronted-zero (Complete numbers op more) = ap (Complete numbers op) (zero-add more)
-fronted-zero (Bad e) = refl
+fronted-zero (NoPhrase e) = refl
 
 pub passed-fronted : (stack : List ℤ) (k : ℕ) (p : Phrase) → passed (fronted stack k p) ≡ fronted stack (suc k) p
 passed-fronted stack k (Complete numbers op more) = let e : suc (k + more) ≡ suc k + more = omega arith in ap (Complete (stack ++ numbers) op) e
-passed-fronted stack k (Bad e) = refl
+passed-fronted stack k (NoPhrase e) = refl
 
 -- a phrase past k bytes is the one that stands there
 pub phrase-from : (k : ℕ) (r : List ℕ) → phrase_after k r ≡ fronted [] k (phrase (drop k r))
@@ -27,7 +27,7 @@ fronted-number stack at more x (Complete numbers op n) =
     let e : at + (more + 1) + n ≡ at + suc (more + n) = omega arith in
     let f : (stack ++ x ∷ []) ++ numbers ≡ stack ++ (x ∷ numbers) = simp append_assoc in
     ap (λ k. Complete ((stack ++ x ∷ []) ++ numbers) op k) e ∙ ap (λ xs. Complete xs op (at + suc (more + n))) f
-fronted-number stack at more x (Bad e) = refl
+fronted-number stack at more x (NoPhrase e) = refl
 
 -- what stands at a place, by its first byte
 at-place : (at : ℕ) (bytes : List ℕ) → at < length bytes →

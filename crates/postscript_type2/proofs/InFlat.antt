@@ -6,41 +6,41 @@ use Rattle.std.proofs.Common.{◌≡◌, refl, ap, sym, subst, ◌∙◌, ℕ, s
 use Rattle.std.specs.Option.{ok_or}
 use Rattle.postscript_type2.specs.declared.operation.Operator.{Operator}
 use Rattle.postscript_type2.specs.declared.operation.Operator.TheVariants.{CallSubr, CallGSubr, Return, Drop}
-use Rattle.postscript_type2.specs.Lengths.{taken}
 use Rattle.postscript_type2.specs.Number.{to_int}
-use Rattle.postscript_type2.specs.Phrases.{Phrase, Complete, Bad, phrase, fronted}
+use Rattle.postscript_type2.specs.Parsing.{Phrase, Complete, NoPhrase, phrase, fronted}
 use Rattle.postscript_type2.specs.Works.{after, given, top_of}
 use Rattle.postscript_type2.specs.Stacks.{removal}
-use Rattle.postscript_type2.specs.Effects.{Lists, State, Move, Keeps, Clears, Calls, Returns, Ends, Refuses, clearing, stems_after, with_stems, mask_len, mask_clearing, work_move, named, subroutine, call_move, end_move, Kind, Draws, DeclaresStems, Masks, Works, CallsFrom, GoesBack, EndsGlyph, IsRefused, kind, effect_of, effect}
-use Rattle.postscript_type2.specs.Meaning.{Said, Finished, Run, says, answers, told, ends, Stride, On, Into, Back, Over, Stop, pushed, stacked, cleared, said, moved, stride_by, stride, mean}
+use Rattle.postscript_type2.specs.Effects.{Lists, State, Move, Keeps, Clears, Calls, Returns, Ends, Refuses, clearing, stems_after, with_stems, mask_len, mask_clearing, work_move, named, subroutine, call_move, end_move, Kind, Draws, DeclaresStems, Masks, Works, CallsFrom, GoesBack, EndsGlyph, IsRefused, kind, taken, effect_of, effect, pushed, stacked, cleared}
+use Rattle.postscript_type2.specs.Runs.{Said, Finished, Run}
+use Rattle.postscript_type2.specs.Evaluation.{with_phrase, with_answer, with_any_answer, at_end, Stride, On, Into, Back, Over, Faults, said, moved, stride_by, stride, mean}
 use Rattle.postscript_type2.specs.Still.{next_still}
 use Rattle.postscript_type2.specs.Flat.{without_operator, dropping, flat_by, flat_said}
-use Rattle.postscript_type2.specs.Refusals.{Refusal, unexpected_eof, expected_operand, expected_integer, missing_subroutine, too_many_stems}
+use Rattle.postscript_base.specs.Refusal.{Refusal, unexpected_eof, expected_operand, expected_integer, missing_subroutine, too_many_stems}
 use Rattle.postscript_type2.proofs.Strides.{still_step-at}
 use Rattle.postscript_type2.proofs.Locals.{stands_flat, IsLocal, Local, local}
 
 -- a phrase in the outermost code, whatever follows it, is told, and then a run
 abbrev Tells : (other : Lists) (left : ℕ) → State → Said → (List ℕ → Run) → Type 0
-Tells other left st said run = (x : List ℕ) → mean other left false (said.bytes ++ x) st ≡ says said (run x)
+Tells other left st said run = (x : List ℕ) → mean other left false (said.bytes ++ x) st ≡ with_phrase said (run x)
 
 -- What a stride's phrase means in flat code, whatever follows it: what it means in the run. A call and a return only take
 -- a number off the stack.
 abbrev pub InFlat : (other : Lists) (left : ℕ) → State → Stride → Type 0
-InFlat other left st (On said answer st' more) = Tells other left st (flat_said said) (λ x. told answer (mean other left false x st'))
+InFlat other left st (On said answer st' more) = Tells other left st (flat_said said) (λ x. with_any_answer answer (mean other left false x st'))
 InFlat other left st (Into said routine st' more) = Tells other left st (flat_said said) (λ x. mean other left false x st')
 InFlat other left st (Back said st') = Tells other left st (flat_said said) (λ x. mean other left false x st')
-InFlat other left st (Over said width more) = Tells other left st (flat_said said) (λ x. ends (Finished width))
-InFlat other left st (Stop e) = Unit {0}
+InFlat other left st (Over said width more) = Tells other left st (flat_said said) (λ x. at_end (Finished width))
+InFlat other left st (Faults e) = Unit {0}
 
 -- the same by an operator's move, where it neither calls nor returns
-abbrev Means : (other : Lists) (left : ℕ) → State → Said → Operator → State → Move → Type 0
-Means other left st said op st' (Keeps stack) = Tells other left st said (λ x. mean other left false x (stacked stack st'))
-Means other left st said op st' (Clears taken stems width mask) =
-    Tells other left st said (λ x. answers (record { operator = op; operands = taken; width = width }) (mean other left false x (cleared stems width)))
-Means other left st said op st' (Calls routine stack) = ⊥
-Means other left st said op st' Returns = ⊥
-Means other left st said op st' (Ends width) = Tells other left st said (λ x. ends (Finished width))
-Means other left st said op st' (Refuses e) = Unit {0}
+abbrev MeansInFlat : (other : Lists) (left : ℕ) → State → Said → Operator → State → Move → Type 0
+MeansInFlat other left st said op st' (Keeps stack) = Tells other left st said (λ x. mean other left false x (stacked stack st'))
+MeansInFlat other left st said op st' (Clears taken stems width mask) =
+    Tells other left st said (λ x. with_answer (record { operator = op; operands = taken; width = width }) (mean other left false x (cleared stems width)))
+MeansInFlat other left st said op st' (Calls routine stack) = ⊥
+MeansInFlat other left st said op st' Returns = ⊥
+MeansInFlat other left st said op st' (Ends width) = Tells other left st said (λ x. at_end (Finished width))
+MeansInFlat other left st said op st' (Refuses e) = Unit {0}
 
 abbrev IsOwn : Move → Type 0
 IsOwn (Calls routine stack) = ⊥
@@ -73,7 +73,7 @@ cut P front x n h =
 -- bytes that are a phrase with this move, whatever follows them
 phrase-in : (other : Lists) (left : ℕ) (bytes : List ℕ) (st : State) (ns : List ℤ) (op : Operator) (more : ℕ) (move : Move) → IsOwn move →
     ((x : List ℕ) → phrase (bytes ++ x) ≡ Complete ns op more) → ((x : List ℕ) → effect other op (drop (more + 1) (bytes ++ x)) (pushed ns st) ≡ move) →
-    length bytes ≡ extent more move + 1 → Means other left st (record { operator = op; bytes = bytes }) op (pushed ns st) move
+    length bytes ≡ extent more move + 1 → MeansInFlat other left st (record { operator = op; bytes = bytes }) op (pushed ns st) move
 phrase-in other left bytes st ns op more move own reads does long = by_move move own long step
   where
     step : (x : List ℕ) → mean other left false (bytes ++ x) st ≡ next_still other left (λ k. drop (k + 1) (bytes ++ x)) [] (moved op more (bytes ++ x) (pushed ns st) move)
@@ -84,14 +84,14 @@ phrase-in other left bytes st ns op more move own reads does long = by_move move
 
     by_move : (move : Move) → IsOwn move → length bytes ≡ extent more move + 1 →
         ((x : List ℕ) → mean other left false (bytes ++ x) st ≡ next_still other left (λ k. drop (k + 1) (bytes ++ x)) [] (moved op more (bytes ++ x) (pushed ns st) move)) →
-        Means other left st (record { operator = op; bytes = bytes }) op (pushed ns st) move
+        MeansInFlat other left st (record { operator = op; bytes = bytes }) op (pushed ns st) move
     by_move (Keeps stack) own l is = λ x.
-        is x ∙ cut (λ t d. says (record { operator = op; bytes = t }) (mean other left false d (stacked stack (pushed ns st)))) bytes x (more + 1) l
+        is x ∙ cut (λ t d. with_phrase (record { operator = op; bytes = t }) (mean other left false d (stacked stack (pushed ns st)))) bytes x (more + 1) l
     by_move (Clears taken stems width mask) own l is = λ x.
-        is x ∙ cut (λ t d. says (record { operator = op; bytes = t }) (answers (record { operator = op; operands = taken; width = width }) (mean other left false d (cleared stems width)))) bytes x (more + mask + 1) l
+        is x ∙ cut (λ t d. with_phrase (record { operator = op; bytes = t }) (with_answer (record { operator = op; operands = taken; width = width }) (mean other left false d (cleared stems width)))) bytes x (more + mask + 1) l
     by_move (Calls routine stack) own l is = own
     by_move Returns own l is = own
-    by_move (Ends width) own l is = λ x. is x ∙ cut (λ t d. says (record { operator = op; bytes = t }) (ends (Finished width))) bytes x (more + 1) l
+    by_move (Ends width) own l is = λ x. is x ∙ cut (λ t d. with_phrase (record { operator = op; bytes = t }) (at_end (Finished width))) bytes x (more + 1) l
     by_move (Refuses e) own l is = tt
 
 -- a phrase in flat code, by the kind of its operator
@@ -122,7 +122,7 @@ own-in : (other : Lists) (left : ℕ) (b : ℕ) (r : List ℕ) (st : State) (ns 
     (move : Move) → IsOwn move → stands_flat (kind op) ≡ true → more + mask_of move < length (b ∷ r) →
     ((after : List ℕ) → mask_of move ≤ length after → effect other op after (pushed ns st) ≡ move) → InFlat other left st (moved op more (b ∷ r) (pushed ns st) move)
 own-in other left b r st ns op more l move own flat room does =
-    by_move move own (subst (λ s. Means other left st s op (pushed ns st) move) (sym (flat-own op bytes (kind op) refl flat)) means)
+    by_move move own (subst (λ s. MeansInFlat other left st s op (pushed ns st) move) (sym (flat-own op bytes (kind op) refl flat)) means)
   where
     bytes : List ℕ
     bytes = take (extent more move + 1) (b ∷ r)
@@ -142,10 +142,10 @@ own-in other left b r st ns op more l move own flat room does =
     enough : (x : List ℕ) → mask_of move ≤ length (drop (more + 1) (bytes ++ x))
     enough x = omega (arith, length-drop (more + 1) (bytes ++ x), length-append bytes x, long, extent-is more move)
 
-    means : Means other left st (record { operator = op; bytes = bytes }) op (pushed ns st) move
+    means : MeansInFlat other left st (record { operator = op; bytes = bytes }) op (pushed ns st) move
     means = phrase-in other left bytes st ns op more move own (λ x. ap phrase (parts x) ∙ l.stands (mask ++ x)) (λ x. does (drop (more + 1) (bytes ++ x)) (enough x)) long
 
-    by_move : (move : Move) → IsOwn move → Means other left st (flat_by op (take (extent more move + 1) (b ∷ r))) op (pushed ns st) move → InFlat other left st (moved op more (b ∷ r) (pushed ns st) move)
+    by_move : (move : Move) → IsOwn move → MeansInFlat other left st (flat_by op (take (extent more move + 1) (b ∷ r))) op (pushed ns st) move → InFlat other left st (moved op more (b ∷ r) (pushed ns st) move)
     by_move (Keeps stack) own m = m
     by_move (Clears taken stems width mask) own m = m
     by_move (Calls routine stack) own m = absurd own
@@ -264,29 +264,31 @@ in-flat lists other left b r st = by_phrase (phrase (b ∷ r)) (local 0 (b ∷ r
         own-in other left b r st ns op more l move bare.0 (ap stands_flat is ∙ flat) (let h : more < length (b ∷ r) = l.room in omega (arith, bare.1))
         (λ after h. ap (λ k. effect_of k other op after (pushed ns st)) is ∙ does after)
 
-    mask-in : (ns : List ℤ) (op : Operator) (more : ℕ) → IsLocal 0 (b ∷ r) ns op more → kind op ≡ Masks → (fits short : Bool) →
+    mask-in : (ns : List ℤ) (op : Operator) (more : ℕ) → IsLocal 0 (b ∷ r) ns op more → (takes : ℕ → Bool) → kind op ≡ Masks takes → (o : Option ℕ) → taken op (length (st.stack ++ ns)) ≡ o → (fits short : Bool) →
         nat_lt (stems_after (pushed ns st)) (2 ^ 32) ≡ fits → nat_lt (length (drop (more + 1) (b ∷ r))) (mask_len (stems_after (pushed ns st))) ≡ short →
         InFlat other left st (moved op more (b ∷ r) (pushed ns st)
-        (if fits then (if short then Refuses unexpected_eof else mask_clearing (pushed ns st) (stems_after (pushed ns st))) else Refuses too_many_stems))
-    mask-in ns op more l is false short f e = tt
-    mask-in ns op more l is true true f e = tt
-    mask-in ns op more l is true false f e =
+        (if fits then (if short then Refuses unexpected_eof else mask_clearing (pushed ns st) (stems_after (pushed ns st)) o) else Refuses too_many_stems))
+    mask-in ns op more l takes is o counts false short f e = tt
+    mask-in ns op more l takes is o counts true true f e = tt
+    mask-in ns op more l takes is None counts true false f e = tt
+    mask-in ns op more l takes is (Some n) counts true false f e =
         let stems : ℕ = stems_after (pushed ns st) in
         let room : more + mask_len stems < length (b ∷ r) = let h : more < length (b ∷ r) = l.room in let d = length-drop (more + 1) (b ∷ r) in grind (arith, nat_tests) in
-        own-in other left b r st ns op more l (mask_clearing (pushed ns st) stems) tt (ap stands_flat is) room (λ after h.
+        own-in other left b r st ns op more l (mask_clearing (pushed ns st) stems (Some n)) tt (ap stands_flat is) room (λ after h.
         let enough : nat_lt (length after) (mask_len stems) ≡ false = grind (arith, nat_tests) in
         ap (λ k. effect_of k other op after (pushed ns st)) is
-        ∙ ap (λ t. if t then (if nat_lt (length after) (mask_len stems) then Refuses unexpected_eof else mask_clearing (pushed ns st) stems) else Refuses too_many_stems) f
-        ∙ ap (λ t. if t then Refuses unexpected_eof else mask_clearing (pushed ns st) stems) enough)
+        ∙ ap (λ t. if t then (if nat_lt (length after) (mask_len stems) then Refuses unexpected_eof else mask_clearing (pushed ns st) stems (taken op (length (st.stack ++ ns)))) else Refuses too_many_stems) f
+        ∙ ap (λ t. if t then Refuses unexpected_eof else mask_clearing (pushed ns st) stems (taken op (length (st.stack ++ ns)))) enough
+        ∙ ap (mask_clearing (pushed ns st) stems) counts)
 
     by_kind : (ns : List ℤ) (op : Operator) (more : ℕ) → IsLocal 0 (b ∷ r) ns op more → (k : Kind) → kind op ≡ k →
         InFlat other left st (moved op more (b ∷ r) (pushed ns st) (effect_of k lists op (drop (more + 1) (b ∷ r)) (pushed ns st)))
-    by_kind ns op more l Draws is =
-        bare-in ns op more l Draws is refl _ (clearing-bare (pushed ns st) st.stems (taken op (length (st.stack ++ ns)))) (λ after. refl)
-    by_kind ns op more l DeclaresStems is =
+    by_kind ns op more l (Draws takes) is =
+        bare-in ns op more l (Draws takes) is refl _ (clearing-bare (pushed ns st) st.stems (taken op (length (st.stack ++ ns)))) (λ after. refl)
+    by_kind ns op more l (DeclaresStems takes) is =
         let stems : ℕ = stems_after (pushed ns st) in
-        bare-in ns op more l DeclaresStems is refl _ (stems-bare stems _ (clearing-bare (pushed ns st) stems (taken op (length (st.stack ++ ns))))) (λ after. refl)
-    by_kind ns op more l Masks is = mask-in ns op more l is _ _ refl refl
+        bare-in ns op more l (DeclaresStems takes) is refl _ (stems-bare stems _ (clearing-bare (pushed ns st) stems (taken op (length (st.stack ++ ns))))) (λ after. refl)
+    by_kind ns op more l (Masks takes) is = mask-in ns op more l takes is _ refl _ _ refl refl
     by_kind ns op more l (Works work) is = bare-in ns op more l (Works work) is refl _ (work-bare (work (st.stack ++ ns))) (λ after. refl)
     by_kind ns op more l (CallsFrom routines) is = call-in other left b r st ns op more l routines is lists (subroutine (routines lists) (st.stack ++ ns)) refl
     by_kind ns op more l GoesBack is = return-in other left b r st ns op more l is
@@ -295,4 +297,4 @@ in-flat lists other left b r st = by_phrase (phrase (b ∷ r)) (local 0 (b ∷ r
 
     by_phrase : (p : Phrase) → Local 0 (b ∷ r) p → InFlat other left st (stride_by lists (b ∷ r) st p)
     by_phrase (Complete ns op more) l = by_kind ns op more l (kind op) refl
-    by_phrase (Bad e) l = tt
+    by_phrase (NoPhrase e) l = tt

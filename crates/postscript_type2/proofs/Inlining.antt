@@ -7,10 +7,11 @@ use Rattle.std.specs.List.{AllPass}
 use Rattle.postscript_type2.specs.declared.operation.Operator.{Operator}
 use Rattle.postscript_type2.specs.declared.operation.Operator.TheVariants.{CallSubr, CallGSubr, Return}
 use Rattle.postscript_type2.specs.Effects.{Lists, State, start}
-use Rattle.postscript_type2.specs.Meaning.{Answer, Said, End, UsedUp, Returned, Finished, Fault, Run, ends, says, answers, followed, is_empty, after_call, Stride, On, Into, Back, Over, Stop, stride, Callee, paced, routine, callee, mean, run_of, fault_of, width_by, width_of}
+use Rattle.postscript_type2.specs.Runs.{Answer, Said, End, UsedUp, Returned, Finished, Fault, Run, fault_of, width_by, width_of}
+use Rattle.postscript_type2.specs.Evaluation.{at_end, with_phrase, with_answer, followed, is_empty, after_call, Stride, On, Into, Back, Over, Faults, stride, Callee, paced, routine, callee, mean, run_of}
 use Rattle.postscript_type2.specs.Flat.{flat_by, flat_said, flat_bytes, flat_text}
-use Rattle.postscript_type2.specs.Inlining.{is_flat, KeepsMeaning, FlatTextIsFlat}
-use Rattle.postscript_type2.specs.Refusals.{trailing_data}
+use Rattle.postscript_type2.specs.Inlining.{is_flat, KeepsMeaning, FlatTextKeepsMeaning}
+use Rattle.postscript_base.specs.Refusal.{trailing_data}
 use Rattle.postscript_type2.proofs.InFlat.{InFlat, in-flat}
 
 -- no fault, and where the run was used up nothing follows
@@ -22,10 +23,10 @@ MayFollow (Fault e) x = ⊥
 
 -- how flat code goes on with bytes that follow it
 abbrev onward : Lists → (left : ℕ) → End → List ℕ → Run
-onward other left UsedUp x = ends UsedUp
+onward other left UsedUp x = at_end UsedUp
 onward other left (Returned st) x = mean other left false x st
-onward other left (Finished width) x = ends (Finished width)
-onward other left (Fault e) x = ends (Fault e)
+onward other left (Finished width) x = at_end (Finished width)
+onward other left (Fault e) x = at_end (Fault e)
 
 -- a run's answers and its flat trace, and then another run
 abbrev flattened : Run → Run → Run
@@ -49,8 +50,8 @@ flattened-two run go next =
     ap (λ a. told-run a (map flat_said run.trace ++ (map flat_said go.trace ++ next.trace))) e ∙ ap (told-run ((run.answers ++ go.answers) ++ next.answers)) f
 
 -- nothing follows
-followed-ends : (a : List Answer) (t : List Said) (before end : End) →
-    followed (record { answers = a; trace = t; end = before }) (λ e. ends end) ≡ record { answers = a; trace = t; end = end }
+pub followed-ends : (a : List Answer) (t : List Said) (before end : End) →
+    followed (record { answers = a; trace = t; end = before }) (λ e. at_end end) ≡ record { answers = a; trace = t; end = end }
 followed-ends a t before end =
     let told-run : List Answer → List Said → Run = λ a t. record { answers = a; trace = t; end = end } in
     ap (λ a. told-run a (t ++ [])) (append-nil a) ∙ ap (told-run a) (append-nil t)
@@ -63,7 +64,7 @@ inline-followed other left inner after st go next a t UsedUp ih = subst (Inlines
 inline-followed other left inner after st go next a t (Fault e) ih = λ x m. absurd m
 inline-followed other left inner after st go next a t (Finished width) ih = by_finish (inner && not (is_empty after))
   where
-    by_finish : (bad : Bool) → Inlines other left st (followed (record { answers = a; trace = t; end = Finished width }) (λ e. ends (if bad then Fault trailing_data else Finished width)))
+    by_finish : (bad : Bool) → Inlines other left st (followed (record { answers = a; trace = t; end = Finished width }) (λ e. at_end (if bad then Fault trailing_data else Finished width)))
     by_finish true = λ x m. absurd m
     by_finish false = subst (Inlines other left st) (sym (followed-ends a t (Finished width) (Finished width))) ih
 inline-followed other left inner after st go next a t (Returned st') ih = λ x m.
@@ -77,29 +78,29 @@ inline-followed other left inner after st go next a t (Returned st') ih = λ x m
 
 -- a phrase, and a run behind it
 inline-told : (other : Lists) (left : ℕ) (st : State) (said : Said) (run : Run) (go : List ℕ → Run) →
-    ((x : List ℕ) → mean other left false (flat_bytes said ++ x) st ≡ says (flat_said said) (go x)) →
-    ((x : List ℕ) → MayFollow run.end x → go (flat_text run.trace ++ x) ≡ flattened run (onward other left run.end x)) → Inlines other left st (says said run)
+    ((x : List ℕ) → mean other left false (flat_bytes said ++ x) st ≡ with_phrase (flat_said said) (go x)) →
+    ((x : List ℕ) → MayFollow run.end x → go (flat_text run.trace ++ x) ≡ flattened run (onward other left run.end x)) → Inlines other left st (with_phrase said run)
 inline-told other left st said run go tells ih x m =
-    ap (λ bytes. mean other left false bytes st) (append_assoc (flat_bytes said) (flat_text run.trace) x) ∙ tells (flat_text run.trace ++ x) ∙ ap (says (flat_said said)) (ih x m)
+    ap (λ bytes. mean other left false bytes st) (append_assoc (flat_bytes said) (flat_text run.trace) x) ∙ tells (flat_text run.trace ++ x) ∙ ap (with_phrase (flat_said said)) (ih x m)
 
 inline-by : (other : Lists) (left : ℕ) (callee : Callee) → AllInline other left callee → (inner : Bool) (r : List ℕ) (st : State)
     (go : ℕ → State → Run) → ((more : ℕ) (st' : State) → Inlines other left st' (go more st')) → (s : Stride) → InFlat other left st s →
     Inlines other left st (paced callee inner r go s)
 inline-by other left callee subs inner r st go next (On said None st' more) flat = inline-told other left st said (go more st') _ flat (next more st')
 inline-by other left callee subs inner r st go next (On said (Some answer) st' more) flat =
-    inline-told other left st said (answers answer (go more st')) _ flat (λ x m. ap (answers answer) (next more st' x m))
+    inline-told other left st said (with_answer answer (go more st')) _ flat (λ x m. ap (with_answer answer) (next more st' x m))
 inline-by other left None subs inner r st go next (Into said sub st' more) flat = λ x m. absurd m
 inline-by other left (Some means) subs inner r st go next (Into said sub st' more) flat =
     inline-told other left st said (followed (means sub st') (after_call inner (drop more r) (go more))) _ flat
     (inline-followed other left inner (drop more r) st' (go more) (next more) (means sub st').answers (means sub st').trace (means sub st').end (subs sub st'))
-inline-by other left callee subs true r st go next (Back said st') flat = inline-told other left st said (ends (Returned st')) _ flat (λ x m. refl)
+inline-by other left callee subs true r st go next (Back said st') flat = inline-told other left st said (at_end (Returned st')) _ flat (λ x m. refl)
 inline-by other left callee subs false r st go next (Back said st') flat = λ x m. absurd m
 inline-by other left callee subs inner r st go next (Over said width more) flat = over-by (inner && not (is_empty (drop more r)))
   where
-    over-by : (bad : Bool) → Inlines other left st (says said (ends (if bad then Fault trailing_data else Finished width)))
+    over-by : (bad : Bool) → Inlines other left st (with_phrase said (at_end (if bad then Fault trailing_data else Finished width)))
     over-by true = λ x m. absurd m
-    over-by false = inline-told other left st said (ends (Finished width)) _ flat (λ x m. refl)
-inline-by other left callee subs inner r st go next (Stop e) flat = λ x m. absurd m
+    over-by false = inline-told other left st said (at_end (Finished width)) _ flat (λ x m. refl)
+inline-by other left callee subs inner r st go next (Faults e) flat = λ x m. absurd m
 
 inline-routine : (lists other : Lists) (left : ℕ) (callee : Callee) → AllInline other left callee → (inner : Bool) (k : ℕ) (r : List ℕ) (st : State) →
     Inlines other left st (routine lists callee inner k r st)
@@ -146,7 +147,7 @@ flat-fault (Returned st) = refl
 flat-fault (Finished width) = refl
 flat-fault (Fault e) = refl
 
-flat-width : (a : List Answer) (end : End) → width_by a (flat_end end) ≡ width_by a end
+flat-width : (a : List Answer) (end : End) → width_by None a (flat_end end) ≡ width_by None a end
 flat-width a UsedUp = refl
 flat-width a (Returned st) = refl
 flat-width a (Finished width) = refl
@@ -182,8 +183,8 @@ keeps_meaning lists code none other =
           own_text = ap (λ r. flat_text r.trace) same ∙ flat-text run.trace;
         }
 
-pub law : FlatTextIsFlat
-law lists other code none = let kept = keeps_meaning lists code none other in (kept.faultless, kept.own_text)
+pub law : FlatTextKeepsMeaning
+law lists other code none = keeps_meaning lists code none other
 
 -- the same of a result that is the flat text
 pub keeps-result : {V E : Type 0} (items : V → List ℕ) (lists : Lists) (code : List ℕ) (r : Result V E) →

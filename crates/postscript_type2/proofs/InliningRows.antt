@@ -1,12 +1,12 @@
 -- Flat code of small programs with calls, computed from the definitions.
-use Rattle.std.proofs.Common.{◌≡◌, refl, ℕ, List, [], ◌∷◌, Option, Some, None, ℤ, pos, map}
-use Rattle.postscript_type2.specs.declared.operation.Operator.{Operator}
+use Rattle.std.proofs.Common.{◌≡◌, refl, ℕ, List, [], ◌∷◌, Some, None, ℤ, pos}
 use Rattle.postscript_type2.specs.declared.operation.Operator.TheVariants.{HStem, HintMask, HMoveTo, RLineTo}
 use Rattle.postscript_type2.specs.Effects.{Lists}
 use Rattle.postscript_type2.specs.Number.{whole}
-use Rattle.postscript_type2.specs.Meaning.{run_of, operation, fault_of, width_of}
+use Rattle.postscript_type2.specs.Evaluation.{run_of}
 use Rattle.postscript_type2.specs.Flat.{flat_text}
-use Rattle.postscript_type2.specs.Refusals.{Refusal, missing_subroutine}
+use Rattle.postscript_base.specs.Refusal.{missing_subroutine}
+use Rattle.postscript_type2.proofs.Meant.{Tells, meant}
 
 -- The local subroutine has a mask, moves by a number of its own, leaves an operand and returns; the global one ends the glyph.
 abbrev with_calls : Lists
@@ -14,9 +14,6 @@ with_calls = record { global = (0x0e ∷ []) ∷ []; local = (0x13 ∷ 0x80 ∷ 
 
 abbrev no_lists : Lists
 no_lists = record { global = []; local = [] }
-
-abbrev tells : Lists → List ℕ → List (Operator × List ℤ) × Option Refusal × Option ℤ
-tells lists code = (map operation (run_of lists code).answers, fault_of (run_of lists code).end, width_of (run_of lists code))
 
 abbrev n : ℕ → ℤ
 n k = whole (pos k)
@@ -34,15 +31,15 @@ flat =
 flat_of_code : flat_text (run_of with_calls code).trace ≡ flat
 flat_of_code = refl
 
-code_tells : tells with_calls code ≡ ((HStem, n 1 ∷ n 2 ∷ []) ∷ (HintMask, []) ∷ (HMoveTo, n 1 ∷ []) ∷ (RLineTo, n 2 ∷ n 4 ∷ []) ∷ [], None, Some (n 3))
-code_tells = refl
+code_tells : Tells with_calls code ((HStem, n 1 ∷ n 2 ∷ []) ∷ (HintMask, []) ∷ (HMoveTo, n 1 ∷ []) ∷ (RLineTo, n 2 ∷ n 4 ∷ []) ∷ [], None, Some (n 3))
+code_tells = meant _ _ refl
 
-flat_tells : tells no_lists flat ≡ ((HStem, n 1 ∷ n 2 ∷ []) ∷ (HintMask, []) ∷ (HMoveTo, n 1 ∷ []) ∷ (RLineTo, n 2 ∷ n 4 ∷ []) ∷ [], None, Some (n 3))
-flat_tells = refl
+flat_tells : Tells no_lists flat ((HStem, n 1 ∷ n 2 ∷ []) ∷ (HintMask, []) ∷ (HMoveTo, n 1 ∷ []) ∷ (RLineTo, n 2 ∷ n 4 ∷ []) ∷ [], None, Some (n 3))
+flat_tells = meant _ _ refl
 
 flat_of_flat : flat_text (run_of no_lists flat).trace ≡ flat
 flat_of_flat = refl
 
 -- the code itself is refused without its lists
-code_without_lists : tells no_lists code ≡ ((HStem, n 1 ∷ n 2 ∷ []) ∷ [], Some missing_subroutine, Some (n 3))
-code_without_lists = refl
+code_without_lists : Tells no_lists code ((HStem, n 1 ∷ n 2 ∷ []) ∷ [], Some missing_subroutine, Some (n 3))
+code_without_lists = meant _ _ refl

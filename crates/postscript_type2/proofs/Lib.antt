@@ -12,6 +12,8 @@ pub mod Still
 pub mod Strides
 pub mod Arms
 pub mod Taken
+pub mod Performed
+pub mod Meant
 pub mod Rows
 pub mod SubroutineRows
 pub mod EffectRows
@@ -19,3 +21,9 @@ pub mod Locals
 pub mod InFlat
 pub mod Inlining
 pub mod InliningRows
+pub mod PhraseLaws
+pub mod MeaningLaws
+pub mod EndingLaws
+pub mod Telling
+pub mod RollingLaws
+pub mod RuleRows

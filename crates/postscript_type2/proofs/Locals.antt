@@ -2,12 +2,13 @@
 use Rattle.std.proofs.lemmas.Bool.Decides.{nat_tests}
 use Rattle.std.proofs.lemmas.List.{take-append-le, take-take}
 use Rattle.std.proofs.Common.{◌≡◌, refl, ap, sym, ◌∙◌, ℕ, zero, suc, ◌+◌, ◌-◌, ◌<◌, ◌≤◌, ◌==◌, Bool, true, false, ◌&&◌, ◌||◌, cond, List, [], ◌∷◌, ◌++◌, take, length, length-take, length-append, nat_lt, Option, Some, None, ℤ, pos, ◌-ℤ◌, if◌then◌else◌, arith}
+use Rattle.postscript_base.specs.Refusal.{malformed_number}
 use Rattle.postscript_base.specs.Tape.Outcome.{Outcome, Got, Fault, Past, end, after, Reading, ◌>>=◌, pure, fault}
 use Rattle.postscript_base.specs.Numbers.{slice, number, big_endian}
 use Rattle.postscript_type2.specs.declared.operation.Operator.{Operator}
 use Rattle.postscript_type2.specs.Number.{spelled, whole, signed, above, below}
 use Rattle.postscript_type2.specs.Operators.{operators, lookup, operator_of}
-use Rattle.postscript_type2.specs.Phrases.{is_number, Phrase, Complete, Bad, passed, with_number, with_operator, numbered, escaped, ending, phrase_after, phrase, fronted}
+use Rattle.postscript_type2.specs.Parsing.{is_number, Phrase, Complete, NoPhrase, passed, with_number, with_operator, numbered, escaped, ending, phrase_after, phrase, fronted}
 use Rattle.postscript_type2.specs.Effects.{Kind, CallsFrom, GoesBack, kind}
 use Rattle.postscript_type2.proofs.Fronts.{fronted-zero, passed-fronted, number-first}
 
@@ -50,7 +51,7 @@ number-prompt size = mapped-prompt (slice size) big_endian (slice-prompt size)
 spelled-prompt : (first : ℕ) → IsPrompt (spelled first)
 spelled-prompt first =
     if-prompt (first == 0x1c) _ _ (mapped-prompt (number 2) (λ n. whole (signed 0x8000 n)) (number-prompt 2))
-    (if-prompt (nat_lt first 0x20) (fault 7) _ (λ r y m x next is within. is)
+    (if-prompt (nat_lt first 0x20) (fault malformed_number) _ (λ r y m x next is within. is)
     (if-prompt (nat_lt first 0xf7) (pure (whole (pos first -ℤ pos 139))) _ (λ r y m x next is within. is)
     (if-prompt (nat_lt first 0xfb) _ _ (mapped-prompt (number 1) (λ second. whole (above first second)) (number-prompt 1))
     (if-prompt (nat_lt first 0xff) _ _ (mapped-prompt (number 1) (λ second. whole (below first second)) (number-prompt 1))
@@ -97,7 +98,7 @@ long-flat second op e = long-in operators (0x0c00 + second) op refl (omega arith
 
 with-fronted : (x : ℤ) (numbers : List ℤ) (m : ℕ) (p : Phrase) → with_number x (fronted numbers m p) ≡ fronted (x ∷ numbers) (suc m) p
 with-fronted x numbers m (Complete ns op n) = let e : suc (m + n) ≡ suc m + n = omega arith in ap (Complete (x ∷ (numbers ++ ns)) op) e
-with-fronted x numbers m (Bad e) = refl
+with-fronted x numbers m (NoPhrase e) = refl
 
 -- A phrase past the first k of these bytes: it has passed them; its last byte is one of the bytes; and, whatever follows,
 -- its bytes are the phrase, and those before an operator of one byte are the phrase's numbers.
@@ -109,10 +110,10 @@ pub record IsLocal (k : ℕ) (r : List ℕ) (numbers : List ℤ) (op : Operator)
 
 abbrev pub Local : (k : ℕ) → List ℕ → Phrase → Type 0
 Local k r (Complete numbers op more) = IsLocal k r numbers op more
-Local k r (Bad e) = Unit {0}
+Local k r (NoPhrase e) = Unit {0}
 
 skip : (k b : ℕ) (r : List ℕ) (p : Phrase) → Local k r p → Local (suc k) (b ∷ r) (passed p)
-skip k b r (Bad e) l = tt
+skip k b r (NoPhrase e) l = tt
 skip k b r (Complete numbers op more) l = record {
   passes = let h : k ≤ more = l.passes in omega arith;
   room = let h : more < length r = l.room in omega arith;
@@ -121,7 +122,7 @@ skip k b r (Complete numbers op more) l = record {
 }
 
 more-number : (b : ℕ) (r : List ℕ) (x : ℤ) (j : ℕ) → is_number b ≡ true → spelled b r 0 ≡ Got x j → (p : Phrase) → Local j r p → Local 0 (b ∷ r) (with_number x p)
-more-number b r x j t e (Bad f) l = tt
+more-number b r x j t e (NoPhrase f) l = tt
 more-number b r x j t e (Complete numbers op more) l = record {
   passes = omega arith;
   room = let h : more < length r = l.room in omega arith;

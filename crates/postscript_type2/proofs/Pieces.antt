@@ -9,8 +9,8 @@ use Rattle.postscript_base.specs.declared.error.Error.TheVariants.{UnknownOperat
 use Rattle.postscript_type2.specs.declared.operation.Operator.{Operator}
 use Rattle.postscript_type2.specs.Number.{number, spelled}
 use Rattle.postscript_type2.specs.Operators.{operator_of}
-use Rattle.postscript_type2.specs.Phrases.{Phrase, Complete, Bad, is_number, numbered, phrase_after, phrase, ending, escaped, with_operator, fronted}
-use Rattle.postscript_type2.specs.Refusals.{Refusal, Numbered, refusal_of}
+use Rattle.postscript_type2.specs.Parsing.{Phrase, Complete, NoPhrase, is_number, numbered, phrase_after, phrase, ending, escaped, with_operator, fronted}
+use Rattle.postscript_base.specs.Refusal.{Refusal, refusal_of}
 use Rattle.postscript_type2.specs.Tokens.{ReadsOperator, ReadsPhrase, ending_of}
 use Rattle.postscript_type2.proofs.Bytes.{number-front, got-later}
 use Rattle.postscript_type2.proofs.Places.{later, spelled-local}
@@ -21,7 +21,7 @@ with-operator : (old new : List ℕ) (more : ℕ) (o : Option Operator) (r : Res
 with-operator old new more (Some op) (Ok op') is there e = let same : op ≡ op' = cc in (more, is ∙ ap (λ x. Complete [] x more) same, there)
 with-operator old new more (Some op) (Err f) is there e = absurd (cc)
 with-operator old new more None (Ok op') is there e = absurd (cc)
-with-operator old new more None (Err f) is there e = let same : UnknownOperator ≡ f = cc in is ∙ ap (λ x. Bad (refusal_of x)) same
+with-operator old new more None (Err f) is there e = let same : UnknownOperator ≡ f = cc in is ∙ ap (λ x. NoPhrase (refusal_of x)) same
 
 -- an operator of two bytes, and one of one
 pub operator-two : (old rest new : List ℕ) (first second : ℕ) (r : Result Operator Error) → old ≡ first ∷ rest → rest ≡ second ∷ new → first ≡ 12 →
@@ -40,12 +40,12 @@ operator-one old new first r one other e =
 -- the same phrase, so many bytes on
 shifted : ℕ → Phrase → Phrase
 shifted k (Complete numbers op more) = Complete numbers op (k + more)
-shifted k (Bad e) = Bad e
+shifted k (NoPhrase e) = NoPhrase e
 
 fronted-shifted : (k n : ℕ) (stack : List ℤ) (p : Phrase) → fronted stack (k + n) p ≡ shifted k (fronted stack n p)
 unfolding shifted
 fronted-shifted k n stack (Complete numbers op more) = let e : k + n + more ≡ k + (n + more) = omega arith in ap (Complete (stack ++ numbers) op) e
-fronted-shifted k n stack (Bad e) = refl
+fronted-shifted k n stack (NoPhrase e) = refl
 
 spelled-at : (self rest : List ℕ) (first next : ℕ) (x : ℤ) → self ≡ first ∷ rest → number self 0 ≡ Got x next → spelled first self 1 ≡ Got x next
 spelled-at self rest first next x is got =
@@ -70,13 +70,13 @@ front-shorter self rest first next x is got =
     let shorter : length (drop next self) ≡ length self - next = length-drop next self in
     omega (arith, g.2)
 
-later-fault : {A : Type 0} (n k : ℕ) (o : Outcome A) → later n o ≡ Fault k → o ≡ Fault k
+later-fault : {A : Type 0} (n : ℕ) (k : Refusal) (o : Outcome A) → later n o ≡ Fault k → o ≡ Fault k
 later-fault n k (Got x next) h = absurd (cc)
 later-fault n k (Fault j) h = cc
 later-fault n k Past h = absurd (cc)
 
 -- a number that is cut
-pub front-cut : (self rest : List ℕ) (first k : ℕ) → self ≡ first ∷ rest → is_number first ≡ true → number self 0 ≡ Fault k → phrase self ≡ Bad (Numbered k)
+pub front-cut : (self rest : List ℕ) (first : ℕ) (k : Refusal) → self ≡ first ∷ rest → is_number first ≡ true → number self 0 ≡ Fault k → phrase self ≡ NoPhrase k
 front-cut self rest first k is begins cut =
     let there : number (first ∷ rest) 0 ≡ Fault k = subst (λ bytes. number bytes 0 ≡ Fault k) is cut in
     let behind : spelled first rest 0 ≡ Fault k = later-fault 1 k (spelled first rest 0) (sym (spelled-local first (first ∷ rest) 1) ∙ sym (number-front first rest) ∙ there) in
@@ -88,10 +88,10 @@ front-ending self rest first is other =
     rw is (ap (λ b. cond b (numbered (spelled first rest 0) (λ more. phrase_after more rest)) (ending first rest)) other)
 
 -- what is refused at the front of the rest is refused of the whole
-pub refused-behind : (k : ℕ) (stack stack' : List ℤ) (p p' : Phrase) (e : Refusal) → fronted stack' k p' ≡ fronted stack 0 p → p' ≡ Bad e → p ≡ Bad e
+pub refused-behind : (k : ℕ) (stack stack' : List ℤ) (p p' : Phrase) (e : Refusal) → fronted stack' k p' ≡ fronted stack 0 p → p' ≡ NoPhrase e → p ≡ NoPhrase e
 refused-behind k stack stack' (Complete numbers op more) p' e same bad =
-    let other : Bad e ≡ Complete (stack ++ numbers) op (0 + more) = sym (ap (fronted stack' k) bad) ∙ same in absurd (cc)
-refused-behind k stack stack' (Bad f) p' e same bad = let other : Bad e ≡ Bad f = sym (ap (fronted stack' k) bad) ∙ same in sym other
+    let other : NoPhrase e ≡ Complete (stack ++ numbers) op (0 + more) = sym (ap (fronted stack' k) bad) ∙ same in absurd (cc)
+refused-behind k stack stack' (NoPhrase f) p' e same bad = let other : NoPhrase e ≡ NoPhrase f = sym (ap (fronted stack' k) bad) ∙ same in sym other
 
 pub reads-operator : (old self new : List ℕ) (stack stack' : List ℤ) (k : ℕ) (r : Result Operator Error) → self ≡ drop k old →
     fronted stack' k (phrase self) ≡ fronted stack 0 (phrase old) → phrase self ≡ ending_of self → ReadsOperator self r new → ReadsPhrase old stack r new stack'

@@ -1,5 +1,6 @@
 -- Numbers at a place of a list are those at the front of what stands there.
 use Rattle.std.proofs.Common.{◌≡◌, refl, ap, sym, ◌∙◌, ℕ, ◌+◌, ◌-◌, Bool, true, false, nat_lt, if◌then◌else◌, ◌==◌, List, length, take, drop, ℤ, pos, ◌-ℤ◌, add-zero, length-drop, arith}
+use Rattle.postscript_base.specs.Refusal.{malformed_number}
 use Rattle.postscript_base.specs.Tape.Outcome.{Outcome, Got, Fault, Past, end, after, Reading, ◌>>=◌, pure, fault}
 use Rattle.postscript_base.specs.Numbers.{slice, number, big_endian}
 use Rattle.postscript_type2.specs.Number.{spelled, whole, signed, above, below}
@@ -51,7 +52,7 @@ of-number-local size f bytes place =
 pub spelled-local : (first : ℕ) → IsLocal (spelled first)
 spelled-local first =
     if-local (first == 0x1c) _ _ (of-number-local 2 (λ n. whole (signed 0x8000 n)))
-    (if-local (nat_lt first 0x20) (fault 7) _ (λ bytes place. refl)
+    (if-local (nat_lt first 0x20) (fault malformed_number) _ (λ bytes place. refl)
     (if-local (nat_lt first 0xf7) _ _ (pure-local (whole (pos first -ℤ pos 139)))
     (if-local (nat_lt first 0xfb) _ _ (of-number-local 1 (λ second. whole (above first second)))
     (if-local (nat_lt first 0xff) _ _ (of-number-local 1 (λ second. whole (below first second)))

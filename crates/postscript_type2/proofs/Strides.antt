@@ -3,10 +3,10 @@ use Rattle.std.proofs.Math.Path.{fun_ext}
 use Rattle.std.proofs.lemmas.List.{drop-drop}
 use Rattle.std.proofs.Common.{◌≡◌, ap, sym, ◌∙◌, ℕ, ◌+◌, ◌-◌, ◌<◌, List, [], ◌∷◌, ◌++◌, drop, length, ℤ, arith}
 use Rattle.postscript_type2.specs.declared.operation.Operator.{Operator}
-use Rattle.postscript_type2.specs.Phrases.{Phrase, Complete, Bad, phrase, fronted}
-use Rattle.postscript_type2.specs.Effects.{Lists, State, effect}
-use Rattle.postscript_type2.specs.Meaning.{stacked, Stop, moved, stride, stride_by}
-use Rattle.postscript_type2.specs.Refusals.{Refusal}
+use Rattle.postscript_type2.specs.Parsing.{Phrase, Complete, NoPhrase, phrase, fronted}
+use Rattle.postscript_type2.specs.Effects.{Lists, State, effect, stacked}
+use Rattle.postscript_type2.specs.Evaluation.{Faults, moved, stride, stride_by}
+use Rattle.postscript_base.specs.Refusal.{Refusal}
 use Rattle.postscript_type2.specs.Still.{still, next_still}
 use Rattle.postscript_type2.proofs.Still.{still_step}
 
@@ -27,7 +27,7 @@ of-fronted stack ys k (Complete numbers op' more) op last e =
     let more' : more ≡ last - k = omega (arith, there) in
     let same : op' ≡ op = cc in
     (numbers, ap (λ o. Complete numbers o more) same ∙ ap (Complete numbers op) more', cc)
-of-fronted stack ys k (Bad f) op last e = cc
+of-fronted stack ys k (NoPhrase f) op last e = cc
 
 -- A phrase that begins at a place was read into a stack and an operator, and its last byte stands at the place last.
 pub stride-is : (lists : Lists) (bytes : List ℕ) (place : ℕ) (st : State) (ys : List ℤ) (op : Operator) (last : ℕ) →
@@ -42,5 +42,5 @@ stride-is lists bytes place st ys op last e =
     ∙ ap (λ zs. moved op more r (stacked zs st) (effect lists op (drop (more + 1) r) (stacked zs st))) (sym s.2)
 
 -- a phrase that was refused
-pub stop-is : (lists : Lists) (bytes : List ℕ) (st : State) (e : Refusal) → phrase bytes ≡ Bad e → stride lists bytes st ≡ Stop e
+pub stop-is : (lists : Lists) (bytes : List ℕ) (st : State) (e : Refusal) → phrase bytes ≡ NoPhrase e → stride lists bytes st ≡ Faults e
 stop-is lists bytes st e h = ap (stride_by lists bytes st) h

@@ -2,14 +2,20 @@
 -- "Conditional Operators").
 use Rattle.std.specs.Option.{unwrap_or}
 use Rattle.std.specs.Ordering.{int_eq}
-use Rattle.std.specs.Prelude.{ℕ, ◌*◌, ◌^◌, ℤ, pos, neg_ℤ, nat_abs, ◌+ℤ◌, ◌-ℤ◌, ◌*ℤ◌, int_div, int_lt, int_le, nat_le, Bool, not, ◌&&◌, ◌||◌, Result, Ok, Err, if◌then◌else◌}
+use Rattle.std.specs.Prelude.{ℕ, ◌*◌, ◌/◌, ◌^◌, ℤ, pos, neg_ℤ, nat_abs, ◌+ℤ◌, ◌-ℤ◌, ◌*ℤ◌, int_lt, int_le, nat_le, Bool, not, ◌&&◌, ◌||◌, Result, Ok, Err, if◌then◌else◌}
 use Rattle.postscript_type2.specs.Lengths.{greatest}
 use Rattle.postscript_type2.specs.Number.{whole}
-use Rattle.postscript_type2.specs.Refusals.{Refusal, overflow, zero_divisor, negative_root}
+use Rattle.postscript_base.specs.Refusal.{Refusal, overflow, zero_divisor, negative_root}
 
--- the quotient, cut towards zero
+-- whether exactly one of two numbers is below zero
+abbrev pub is_one_below : ℤ → ℤ → Bool
+is_one_below x y = if int_lt x (pos 0) then not (int_lt y (pos 0)) else int_lt y (pos 0)
+
+-- the quotient, cut towards zero: the whole part of |x| / |y|, and below zero where exactly one of the two is
 abbrev pub cut : ℤ → ℤ → ℤ
-cut x y = int_div x y
+cut x y =
+    let whole_part = pos (nat_abs x / nat_abs y) in
+    if is_one_below x y then neg_ℤ whole_part else whole_part
 
 -- the bits, if 32 bits hold them
 abbrev pub fit : ℤ → Result ℤ Refusal

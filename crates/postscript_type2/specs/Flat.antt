@@ -3,7 +3,7 @@ use Rattle.std.specs.List.{flat_map}
 use Rattle.std.specs.Prelude.{ℕ, ◌-◌, List, [], ◌∷◌, ◌++◌, take, length}
 use Rattle.postscript_type2.specs.declared.operation.Operator.{Operator}
 use Rattle.postscript_type2.specs.declared.operation.Operator.TheVariants.{CallSubr, CallGSubr, Return, Drop}
-use Rattle.postscript_type2.specs.Meaning.{Said}
+use Rattle.postscript_type2.specs.Runs.{Said}
 
 -- a phrase without its operator, which has one byte
 abbrev pub without_operator : List ℕ → List ℕ

@@ -7,8 +7,9 @@ use Rattle.postscript_type2.specs.declared.program.machine.Event.TheVariants as 
 use Rattle.postscript_type2.specs.declared.program.machine.Machine.{Machine}
 use Rattle.postscript_type2.specs.declared.program.machine.Said as code
 use Rattle.postscript_type2.specs.Callers.{rests}
-use Rattle.postscript_type2.specs.Meaning.{Said, UsedUp, Finished, Fault, Run, ends, says, answers}
-use Rattle.postscript_type2.specs.Refusals.{refusal_of}
+use Rattle.postscript_type2.specs.Runs.{Said, UsedUp, Finished, Fault, Run}
+use Rattle.postscript_type2.specs.Evaluation.{at_end, with_phrase, with_answer}
+use Rattle.postscript_base.specs.Refusal.{refusal_of}
 use Rattle.postscript_type2.specs.Still.{still}
 use Rattle.postscript_type2.specs.Working.{lists_of, state_of, settled_width}
 
@@ -24,10 +25,10 @@ said_of said = record { operator = said.operator; bytes = said.bytes.now }
 
 -- Of what was still answered the event is the first, and the machine still answers what is left.
 abbrev pub Advances : Run → Option (Option ℤ) → Result Event Error → Machine → Type 0
-Advances before width (Ok events.UsedUp) new = (before ≡ ends UsedUp) × (new.state.width ≡ width)
-Advances before width (Ok (events.Went said)) new = (before ≡ says (said_of said) (still_of new)) × (new.state.width ≡ width)
+Advances before width (Ok events.UsedUp) new = (before ≡ at_end UsedUp) × (new.state.width ≡ width)
+Advances before width (Ok (events.Went said)) new = (before ≡ with_phrase (said_of said) (still_of new)) × (new.state.width ≡ width)
 Advances before width (Ok (events.Answered said operands)) new =
-    before ≡ says (said_of said) (answers (record { operator = said.operator; operands = operands.items; width = settled_width new.state.width }) (still_of new))
+    before ≡ with_phrase (said_of said) (with_answer (record { operator = said.operator; operands = operands.items; width = settled_width new.state.width }) (still_of new))
 Advances before width (Ok (events.Over said)) new =
-    (last : Option ℤ) × (before ≡ says (said_of said) (ends (Finished last))) × (new.state.width ≡ Some last)
+    (last : Option ℤ) × (before ≡ with_phrase (said_of said) (at_end (Finished last))) × (new.state.width ≡ Some last)
 Advances before width (Err e) new = ((e ≡ Memory) ⊎ ((before.answers ≡ []) × (before.end ≡ Fault (refusal_of e)))) × (new.state.width ≡ width)

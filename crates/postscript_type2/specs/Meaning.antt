@@ -1,166 +1,95 @@
--- What a program means: each call is evaluated to its end.
-use Rattle.std.specs.Prelude.{ℕ, zero, suc, ◌+◌, ℤ, Bool, true, false, ◌&&◌, not, List, [], ◌∷◌, ◌++◌, take, drop, Option, Some, None, if◌then◌else◌}
+-- What a program means, one case for each rule (Technical Note 5177, "Type 2 Charstring Organization", "Subroutine
+-- Operators", "Operator for Finishing a Path"; Appendix B for the ten calls that may nest).
+use Rattle.std.specs.Prelude.{◌≡◌, ◌≢◌, ℕ, suc, ◌<◌, ◌≤◌, ℤ, List, [], ◌∷◌, ◌++◌, length, Option}
 use Rattle.postscript_type2.specs.declared.operation.Operator.{Operator}
-use Rattle.postscript_type2.specs.Effects.{Lists, State, start, Move, Keeps, Clears, Calls, Returns, Ends, Refuses, effect}
-use Rattle.postscript_type2.specs.Phrases.{Phrase, Complete, Bad, phrase}
-use Rattle.postscript_type2.specs.Refusals.{Refusal, return_without_caller, trailing_data, too_deep}
+use Rattle.postscript_type2.specs.Effects.{Lists, State, start, Keeps, Clears, Calls, Returns, Ends, Refuses, effect, pushed, stacked, cleared}
+use Rattle.postscript_type2.specs.Runs.{Answer, Said, End, UsedUp, Returned, Finished, Fault, Run}
+use Rattle.postscript_base.specs.Refusal.{Refusal, return_without_caller, trailing_data, too_deep}
+use Rattle.postscript_type2.specs.Phrases.{IsPhrase, HasNoPhrase}
 
--- an operation, and the width after it
-pub record Answer : Type 0 where
-  pub operator : Operator
-  pub operands : List ℤ
-  pub width : Option ℤ
+-- a phrase that is told: its operator and its bytes
+abbrev pub by : Operator → (bytes : List ℕ) → Said
+by op bytes = record { operator = op; bytes = bytes }
 
--- a phrase of the run: its operator, and its bytes with those of its mask
-pub record Said : Type 0 where
-  pub operator : Operator
-  pub bytes : List ℕ
+-- the answer of a clearing operator
+abbrev pub answer : Operator → (taken : List ℤ) → (width : Option ℤ) → Answer
+answer op taken width = record { operator = op; operands = taken; width = width }
 
--- a routine was used up; it returned; EndChar came; or something was refused
-pub data End : Type 0 where
-  UsedUp : End
-  Returned : State → End
-  Finished : (width : Option ℤ) → End
-  Fault : Refusal → End
+-- How the glyph is finished at EndChar, so many calls open and these bytes behind it: in a subroutine no byte may follow.
+pub data Closes (width : Option ℤ) : (depth : ℕ) → (behind : List ℕ) → End → Type 0 where
+  in_outermost : (behind : List ℕ) → Closes width 0 behind (Finished width)
+  at_last_byte : (depth : ℕ) → Closes width depth [] (Finished width)
+  with_bytes_behind : (depth : ℕ) (behind : List ℕ) → 0 < depth → behind ≢ [] → Closes width depth behind (Fault trailing_data)
 
-pub record Run : Type 0 where
-  pub answers : List Answer
-  pub trace : List Said
-  pub end : End
+-- the ends of a subroutine that are its callers' ends too
+pub data Stops : End → Type 0 where
+  at_used_up : Stops UsedUp
+  at_fault : (e : Refusal) → Stops (Fault e)
 
--- runs, one thing after another
-abbrev pub ends : End → Run
-ends end = record { answers = []; trace = []; end = end }
+-- What the rest of a routine means, from a state: its answers, its trace of phrases and its end. depth: how many calls are
+-- open, none in the outermost code. A phrase stands at the front, before the bytes behind it; its numbers are pushed, and its
+-- operator's move decides the rule.
+pub data Means (lists : Lists) : (depth : ℕ) → (rest : List ℕ) → State → List Answer → List Said → End → Type 0 where
+  -- the routine is used up
+  used_up : (depth : ℕ) (st : State) → Means lists depth [] st [] [] UsedUp
+  -- bytes are left, and no phrase stands there
+  unread : (depth : ℕ) (rest : List ℕ) (st : State) (e : Refusal) → rest ≢ [] → HasNoPhrase rest e → Means lists depth rest st [] [] (Fault e)
+  -- the operator is refused
+  refused : (depth : ℕ) (phrase behind : List ℕ) (numbers : List ℤ) (op : Operator) (st : State) (e : Refusal) →
+      IsPhrase phrase numbers op → effect lists op behind (pushed numbers st) ≡ Refuses e →
+      Means lists depth (phrase ++ behind) st [] [] (Fault e)
+  -- the operator leaves a stack, and what follows it goes on with that
+  keeps : (depth : ℕ) (phrase behind : List ℕ) (numbers : List ℤ) (op : Operator) (st : State) (stack : List ℤ)
+      (answers : List Answer) (trace : List Said) (end : End) →
+      IsPhrase phrase numbers op → effect lists op behind (pushed numbers st) ≡ Keeps stack →
+      Means lists depth behind (stacked stack st) answers trace end →
+      Means lists depth (phrase ++ behind) st answers (by op phrase ∷ trace) end
+  -- the operator clears the stack and is answered, the bytes of a mask are its own, and what follows them goes on
+  clears : (depth : ℕ) (phrase mask behind : List ℕ) (numbers : List ℤ) (op : Operator) (st : State)
+      (taken : List ℤ) (stems : ℕ) (width : Option ℤ) (answers : List Answer) (trace : List Said) (end : End) →
+      IsPhrase phrase numbers op → effect lists op (mask ++ behind) (pushed numbers st) ≡ Clears taken stems width (length mask) →
+      Means lists depth behind (cleared stems width) answers trace end →
+      Means lists depth (phrase ++ (mask ++ behind)) st (answer op taken width ∷ answers) (by op (phrase ++ mask) ∷ trace) end
+  -- a call where ten are open
+  calls_too_deep : (depth : ℕ) (phrase behind : List ℕ) (numbers : List ℤ) (op : Operator) (st : State)
+      (subroutine : List ℕ) (stack : List ℤ) →
+      IsPhrase phrase numbers op → effect lists op behind (pushed numbers st) ≡ Calls subroutine stack → 10 ≤ depth →
+      Means lists depth (phrase ++ behind) st [] (by op phrase ∷ []) (Fault too_deep)
+  -- a call that returns, and what follows it goes on with the state that comes back
+  calls : (depth : ℕ) (phrase behind : List ℕ) (numbers : List ℤ) (op : Operator) (st : State)
+      (subroutine : List ℕ) (stack : List ℤ) (inner : List Answer) (inner_trace : List Said) (back : State)
+      (answers : List Answer) (trace : List Said) (end : End) →
+      IsPhrase phrase numbers op → effect lists op behind (pushed numbers st) ≡ Calls subroutine stack → depth < 10 →
+      Means lists (suc depth) subroutine (stacked stack st) inner inner_trace (Returned back) →
+      Means lists depth behind back answers trace end →
+      Means lists depth (phrase ++ behind) st (inner ++ answers) (by op phrase ∷ (inner_trace ++ trace)) end
+  -- a call whose subroutine is used up or refused: so ends the run
+  calls_to_stop : (depth : ℕ) (phrase behind : List ℕ) (numbers : List ℤ) (op : Operator) (st : State)
+      (subroutine : List ℕ) (stack : List ℤ) (inner : List Answer) (inner_trace : List Said) (end : End) →
+      IsPhrase phrase numbers op → effect lists op behind (pushed numbers st) ≡ Calls subroutine stack → depth < 10 →
+      Means lists (suc depth) subroutine (stacked stack st) inner inner_trace end → Stops end →
+      Means lists depth (phrase ++ behind) st inner (by op phrase ∷ inner_trace) end
+  -- a call whose subroutine finishes the glyph
+  calls_to_finish : (depth : ℕ) (phrase behind : List ℕ) (numbers : List ℤ) (op : Operator) (st : State)
+      (subroutine : List ℕ) (stack : List ℤ) (inner : List Answer) (inner_trace : List Said) (width : Option ℤ) (end : End) →
+      IsPhrase phrase numbers op → effect lists op behind (pushed numbers st) ≡ Calls subroutine stack → depth < 10 →
+      Means lists (suc depth) subroutine (stacked stack st) inner inner_trace (Finished width) → Closes width depth behind end →
+      Means lists depth (phrase ++ behind) st inner (by op phrase ∷ inner_trace) end
+  -- a return, in a subroutine and in the outermost code
+  returns : (depth : ℕ) (phrase behind : List ℕ) (numbers : List ℤ) (op : Operator) (st : State) →
+      IsPhrase phrase numbers op → effect lists op behind (pushed numbers st) ≡ Returns → 0 < depth →
+      Means lists depth (phrase ++ behind) st [] (by op phrase ∷ []) (Returned (pushed numbers st))
+  returns_nowhere : (phrase behind : List ℕ) (numbers : List ℤ) (op : Operator) (st : State) →
+      IsPhrase phrase numbers op → effect lists op behind (pushed numbers st) ≡ Returns →
+      Means lists 0 (phrase ++ behind) st [] (by op phrase ∷ []) (Fault return_without_caller)
+  -- the end of the glyph
+  finishes : (depth : ℕ) (phrase behind : List ℕ) (numbers : List ℤ) (op : Operator) (st : State) (width : Option ℤ) (end : End) →
+      IsPhrase phrase numbers op → effect lists op behind (pushed numbers st) ≡ Ends width → Closes width depth behind end →
+      Means lists depth (phrase ++ behind) st [] (by op phrase ∷ []) end
 
-abbrev pub says : Said → Run → Run
-says said run = record { answers = run.answers; trace = said ∷ run.trace; end = run.end }
+-- the same of a run, and of the run of a code
+abbrev pub MeansRun : Lists → (depth : ℕ) → (rest : List ℕ) → State → Run → Type 0
+MeansRun lists depth rest st run = Means lists depth rest st run.answers run.trace run.end
 
-abbrev pub answers : Answer → Run → Run
-answers answer run = record { answers = answer ∷ run.answers; trace = run.trace; end = run.end }
-
-abbrev pub told : Option Answer → Run → Run
-told None run = run
-told (Some answer) run = answers answer run
-
--- a run, and what comes of its end
-abbrev pub followed : Run → (End → Run) → Run
-followed run go = record {
-  answers = run.answers ++ (go run.end).answers;
-  trace = run.trace ++ (go run.end).trace;
-  end = (go run.end).end;
-}
-
-abbrev pub is_empty : {A : Type 0} → List A → Bool
-is_empty [] = true
-is_empty (x ∷ xs) = false
-
--- the end of a run at EndChar: in a subroutine no byte may follow
-abbrev pub finish : (inner : Bool) → (after : List ℕ) → Option ℤ → End
-finish inner after width = if inner && not (is_empty after) then Fault trailing_data else Finished width
-
--- what comes of a call's end, where these bytes follow the call: where the routine returned, they are gone on with
-abbrev pub after_call : (inner : Bool) → (after : List ℕ) → (State → Run) → End → Run
-after_call inner after go (Returned st) = go st
-after_call inner after go UsedUp = ends UsedUp
-after_call inner after go (Fault e) = ends (Fault e)
-after_call inner after go (Finished width) = ends (finish inner after width)
-
--- What a phrase does, told with it: the run goes on, goes into a routine, back to the caller, is over, or stops. more:
--- how many bytes of the phrase follow its first one, those of a mask with them.
-pub data Stride : Type 0 where
-  On : Said → Option Answer → State → (more : ℕ) → Stride
-  Into : Said → (routine : List ℕ) → State → (more : ℕ) → Stride
-  Back : Said → State → Stride
-  Over : Said → (width : Option ℤ) → (more : ℕ) → Stride
-  Stop : Refusal → Stride
-
--- the state with numbers on its stack, with another stack, and after a clearing operator
-abbrev pub pushed : List ℤ → State → State
-pushed numbers st = record { stack = st.stack ++ numbers; stems = st.stems; width = st.width }
-
-abbrev pub stacked : List ℤ → State → State
-stacked stack st = record { stack = stack; stems = st.stems; width = st.width }
-
-abbrev pub cleared : (stems : ℕ) → Option ℤ → State
-cleared stems width = record { stack = []; stems = stems; width = Some width }
-
-abbrev pub said : Operator → (more : ℕ) → List ℕ → Said
-said op more bytes = record { operator = op; bytes = take (more + 1) bytes }
-
--- the stride of a phrase at the front of these bytes, by its operator's move
-abbrev pub moved : Operator → (more : ℕ) → (bytes : List ℕ) → State → Move → Stride
-moved op more bytes st (Keeps stack) = On (said op more bytes) None (stacked stack st) more
-moved op more bytes st (Clears taken stems width mask) =
-    On (said op (more + mask) bytes) (Some (record { operator = op; operands = taken; width = width })) (cleared stems width) (more + mask)
-moved op more bytes st (Calls routine stack) = Into (said op more bytes) routine (stacked stack st) more
-moved op more bytes st Returns = Back (said op more bytes) st
-moved op more bytes st (Ends width) = Over (said op more bytes) width more
-moved op more bytes st (Refuses e) = Stop e
-
-abbrev pub stride_by : Lists → (bytes : List ℕ) → State → Phrase → Stride
-stride_by lists bytes st (Bad e) = Stop e
-stride_by lists bytes st (Complete numbers op more) =
-    moved op more bytes (pushed numbers st) (effect lists op (drop (more + 1) bytes) (pushed numbers st))
-
--- the stride of the phrase at the front
-abbrev pub stride : Lists → (bytes : List ℕ) → State → Stride
-stride lists bytes st = stride_by lists bytes st (phrase bytes)
-
--- what a subroutine means, where calls may still nest
-abbrev pub Callee : Type 0
-Callee = Option (List ℕ → State → Run)
-
--- a call: what the routine means, and then what follows the call
-abbrev pub called : Callee → (routine : List ℕ) → State → (End → Run) → Run
-called None routine st go = ends (Fault too_deep)
-called (Some means) routine st go = followed (means routine st) go
-
--- A stride, and what follows it. r: the bytes behind the phrase's first. go: what they mean past so many of them.
-abbrev pub paced : Callee → (inner : Bool) → (r : List ℕ) → (go : ℕ → State → Run) → Stride → Run
-paced callee inner r go (On said answer st more) = says said (told answer (go more st))
-paced callee inner r go (Into said routine st more) = says said (called callee routine st (after_call inner (drop more r) (go more)))
-paced callee inner r go (Back said st) = says said (ends (if inner then Returned st else Fault return_without_caller))
-paced callee inner r go (Over said width more) = says said (ends (finish inner (drop more r) width))
-paced callee inner r go (Stop e) = ends (Fault e)
-
--- what a routine means past its first k bytes
-abbrev pub routine : Lists → Callee → (inner : Bool) → (k : ℕ) → List ℕ → State → Run
-routine lists callee inner k [] st = ends UsedUp
-routine lists callee inner (suc k) (b ∷ r) st = routine lists callee inner k r st
-routine lists callee inner zero (b ∷ r) st =
-    paced callee inner r (λ more st'. routine lists callee inner more r st') (stride lists (b ∷ r) st)
-
--- what a subroutine means where so many calls may still nest
-abbrev pub callee : Lists → (left : ℕ) → Callee
-callee lists zero = None
-callee lists (suc left) = Some (λ r st. routine lists (callee lists left) true 0 r st)
-
--- what the rest of a routine means where so many calls may still nest: in a subroutine, or in the outermost code
-abbrev pub mean : Lists → (left : ℕ) → (inner : Bool) → List ℕ → State → Run
-mean lists left inner r st = routine lists (callee lists left) inner 0 r st
-
--- the run of a code: ten calls may nest
-abbrev pub run_of : Lists → (code : List ℕ) → Run
-run_of lists code = mean lists 10 false code start
-
--- an answer without its width
-abbrev pub operation : Answer → Operator × List ℤ
-operation answer = (answer.operator, answer.operands)
-
--- the refusal at the end, if there is one
-abbrev pub fault_of : End → Option Refusal
-fault_of (Fault e) = Some e
-fault_of end = None
-
--- the width after these answers
-abbrev pub last_width : Option ℤ → List Answer → Option ℤ
-last_width width [] = width
-last_width width (answer ∷ answers) = last_width answer.width answers
-
--- the width of a run: that of EndChar, else that beside the last answer, else none
-abbrev pub width_by : List Answer → End → Option ℤ
-width_by answers (Finished width) = width
-width_by answers end = last_width None answers
-
-abbrev pub width_of : Run → Option ℤ
-width_of run = width_by run.answers run.end
+abbrev pub IsRunOf : Lists → (code : List ℕ) → Run → Type 0
+IsRunOf lists code run = MeansRun lists 0 code start run

@@ -1,6 +1,7 @@
 -- Numbers of charstrings, and the 16.16 numbers that they stand for (Technical Note 5177, "Charstring Number Encoding").
 use Rattle.std.specs.Ordering.{int_eq}
 use Rattle.std.specs.Prelude.{ℕ, ◌*◌, ℤ, pos, ◌+ℤ◌, ◌-ℤ◌, ◌*ℤ◌, int_div, int_rem, Option, Some, None, ◌==◌, nat_lt, if◌then◌else◌}
+use Rattle.postscript_base.specs.Refusal.{malformed_number}
 use Rattle.postscript_base.specs.Tape.Outcome.{Reading, ◌>>=◌, pure, fault}
 use Rattle.postscript_base.specs.Numbers.{number as unsigned}
 
@@ -27,7 +28,7 @@ below first second = (pos 251 -ℤ pos first) *ℤ pos 256 -ℤ pos second -ℤ 
 abbrev pub spelled : ℕ → Reading ℤ
 spelled first =
     if first == 0x1c then (unsigned 2 >>= λ n. pure (whole (signed 0x8000 n)))
-    else if nat_lt first 0x20 then fault 7
+    else if nat_lt first 0x20 then fault malformed_number
     else if nat_lt first 0xf7 then pure (whole (pos first -ℤ pos 139))
     else if nat_lt first 0xfb then (unsigned 1 >>= λ second. pure (whole (above first second)))
     else if nat_lt first 0xff then (unsigned 1 >>= λ second. pure (whole (below first second)))

@@ -1,9 +1,9 @@
 -- What the code of works on the stack does.
-use Rattle.std.specs.Prelude.{◌≡◌, ◌⊎◌, ℤ, List, Result, Ok, Err}
+use Rattle.std.specs.Prelude.{◌≡◌, ◌⊎◌, ℤ, List, Option, Some, None, Result, Ok, Err}
 use Rattle.postscript_base.specs.declared.error.Error.{Error}
 use Rattle.postscript_base.specs.declared.error.Error.TheVariants.{Memory}
-use Rattle.postscript_type2.specs.Effects.{Kind, Works}
-use Rattle.postscript_type2.specs.Refusals.{Refusal, refusal_of}
+use Rattle.postscript_type2.specs.Effects.{Kind, Draws, Works}
+use Rattle.postscript_base.specs.Refusal.{Refusal, refusal_of}
 use Rattle.postscript_type2.specs.Works.{Work}
 
 -- From the old stack to the new one the code does a work and gives its value, or it refuses what the work refuses.
@@ -17,12 +17,15 @@ abbrev pub Gives : {A : Type 0} → Result A Refusal → Result A Error → Type
 Gives wanted (Ok value) = wanted ≡ Ok value
 Gives wanted (Err e) = wanted ≡ Err (refusal_of e)
 
--- the kind of the operators that work on the stack alone
-abbrev pub IsWork : Kind → Type 0
-IsWork (Works work) = Unit {0}
-IsWork kind = ⊥
+-- the code does the work of such a kind, and leaves the stack at any other kind
+abbrev pub PerformsKind : Kind → List ℤ → Option (Result (Unit {0}) Error) → List ℤ → Type 0
+PerformsKind (Works work) old (Some result) new = Performs work old result new
+PerformsKind (Works work) old None new = ⊥
+PerformsKind kind old (Some result) new = ⊥
+PerformsKind kind old None new = new ≡ old
 
--- the code does the work of such a kind
-abbrev pub PerformsKind : Kind → List ℤ → Result (Unit {0}) Error → List ℤ → Type 0
-PerformsKind (Works work) old result new = Performs work old result new
-PerformsKind kind old result new = ⊥
+-- the kinds of the operators that work on the stack alone or draw
+abbrev pub WorksOrDraws : Kind → Type 0
+WorksOrDraws (Works work) = Unit {0}
+WorksOrDraws (Draws takes) = Unit {0}
+WorksOrDraws kind = ⊥

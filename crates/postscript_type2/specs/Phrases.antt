@@ -1,61 +1,30 @@
--- Phrases: operands, and the operator behind them (Technical Note 5177, "Charstring Operator Encoding").
-use Rattle.std.specs.Prelude.{ℕ, zero, suc, ◌+◌, ℤ, Bool, nat_lt, ◌==◌, ◌||◌, List, [], ◌∷◌, ◌++◌, Option, Some, None, if◌then◌else◌}
-use Rattle.postscript_base.specs.Tape.Outcome.{Outcome, Got, Fault, Past}
+-- How phrases are spelled (Technical Note 5177, "Charstring Number Encoding" and "Charstring Operator Encoding").
+use Rattle.std.specs.Prelude.{◌≡◌, ◌≢◌, ℕ, ◌+◌, ◌<◌, ◌≤◌, ℤ, pos, ◌-ℤ◌, List, [], ◌∷◌, ◌++◌, Some, None}
+use Rattle.postscript_base.specs.Numbers.{big_endian}
 use Rattle.postscript_type2.specs.declared.operation.Operator.{Operator}
-use Rattle.postscript_type2.specs.Number.{spelled}
+use Rattle.postscript_type2.specs.Number.{whole, signed, above, below}
 use Rattle.postscript_type2.specs.Operators.{operator_of}
-use Rattle.postscript_type2.specs.Refusals.{Refusal, Numbered, unexpected_eof, unknown_operator}
+use Rattle.postscript_base.specs.Refusal.{Refusal, unexpected_eof, unknown_operator}
 
--- Complete: the numbers, the operator, and how many bytes the phrase has after its first. Bad: why there is none.
-pub data Phrase : Type 0 where
-  Complete : (numbers : List ℤ) (operator : Operator) (more : ℕ) → Phrase
-  Bad : Refusal → Phrase
+-- the bytes of a number, over its bits
+pub data IsNumber : List ℕ → ℤ → Type 0 where
+  of_two_bytes : (a b : ℕ) → IsNumber (0x1c ∷ a ∷ b ∷ []) (whole (signed 0x8000 (big_endian (a ∷ b ∷ []))))
+  small : (first : ℕ) → 0x20 ≤ first → first < 0xf7 → IsNumber (first ∷ []) (whole (pos first -ℤ pos 139))
+  positive : (first second : ℕ) → 0xf7 ≤ first → first < 0xfb → IsNumber (first ∷ second ∷ []) (whole (above first second))
+  negative : (first second : ℕ) → 0xfb ≤ first → first < 0xff → IsNumber (first ∷ second ∷ []) (whole (below first second))
+  of_bits : (first a b c d : ℕ) → 0xff ≤ first → IsNumber (first ∷ a ∷ b ∷ c ∷ d ∷ []) (signed 0x80000000 (big_endian (a ∷ b ∷ c ∷ d ∷ [])))
 
--- whether a number begins with this byte
-abbrev pub is_number : ℕ → Bool
-is_number first = (first == 0x1c) || nat_lt 0x1f first
+-- the bytes of a phrase: numbers, and then an operator
+pub data IsPhrase : List ℕ → List ℤ → Operator → Type 0 where
+  operator : (code : ℕ) (op : Operator) → code < 0x20 → operator_of code ≡ Some op → IsPhrase (code ∷ []) [] op
+  escaped_operator : (second : ℕ) (op : Operator) → operator_of (0x0c00 + second) ≡ Some op → IsPhrase (0x0c ∷ second ∷ []) [] op
+  after_number : (number more : List ℕ) (x : ℤ) (xs : List ℤ) (op : Operator) → IsNumber number x → IsPhrase more xs op → IsPhrase (number ++ more) (x ∷ xs) op
 
--- a phrase with one byte more before it, which is not its own
-abbrev pub passed : Phrase → Phrase
-passed (Complete numbers op more) = Complete numbers op (suc more)
-passed (Bad e) = Bad e
-
--- a phrase with a number before it
-abbrev pub with_number : ℤ → Phrase → Phrase
-with_number x (Complete numbers op more) = Complete (x ∷ numbers) op (suc more)
-with_number x (Bad e) = Bad e
-
--- a number, and the phrase that stands behind its bytes
-abbrev pub numbered : Outcome ℤ → (ℕ → Phrase) → Phrase
-numbered (Got x more) behind = with_number x (behind more)
-numbered (Fault number) behind = Bad (Numbered number)
-numbered Past behind = Bad unexpected_eof
-
--- an operator alone, of one byte and so many more
-abbrev pub with_operator : ℕ → Option Operator → Phrase
-with_operator more (Some op) = Complete [] op more
-with_operator more None = Bad unknown_operator
-
--- the operator whose code is 0x0c00 and the second byte
-abbrev pub escaped : List ℕ → Phrase
-escaped [] = Bad unexpected_eof
-escaped (second ∷ r) = with_operator 1 (operator_of (0x0c00 + second))
-
--- the operator that a first byte begins
-abbrev pub ending : ℕ → List ℕ → Phrase
-ending first r = if first == 0x0c then escaped r else with_operator 0 (operator_of first)
-
--- past the first k bytes: as many numbers as there are, then one operator
-abbrev pub phrase_after : (k : ℕ) → List ℕ → Phrase
-phrase_after k [] = Bad unexpected_eof
-phrase_after (suc k) (b ∷ r) = passed (phrase_after k r)
-phrase_after zero (b ∷ r) = if is_number b then numbered (spelled b r 0) (λ more. phrase_after more r) else ending b r
-
--- the phrase at the front
-abbrev pub phrase : List ℕ → Phrase
-phrase bytes = phrase_after 0 bytes
-
--- a phrase with numbers and so many bytes before it
-abbrev pub fronted : (stack : List ℤ) → (k : ℕ) → Phrase → Phrase
-fronted stack k (Complete numbers op more) = Complete (stack ++ numbers) op (k + more)
-fronted stack k (Bad e) = Bad e
+-- why no phrase stands at the front of these bytes
+pub data HasNoPhrase : List ℕ → Refusal → Type 0 where
+  no_operator : HasNoPhrase [] unexpected_eof
+  lone_escape : HasNoPhrase (0x0c ∷ []) unexpected_eof
+  cut_number : (bytes missing : List ℕ) (x : ℤ) → bytes ≢ [] → missing ≢ [] → IsNumber (bytes ++ missing) x → HasNoPhrase bytes unexpected_eof
+  no_such_operator : (code : ℕ) (rest : List ℕ) → code < 0x20 → code ≢ 0x0c → code ≢ 0x1c → operator_of code ≡ None → HasNoPhrase (code ∷ rest) unknown_operator
+  no_such_escape : (second : ℕ) (rest : List ℕ) → operator_of (0x0c00 + second) ≡ None → HasNoPhrase (0x0c ∷ second ∷ rest) unknown_operator
+  behind_number : (number rest : List ℕ) (x : ℤ) (e : Refusal) → IsNumber number x → HasNoPhrase rest e → HasNoPhrase (number ++ rest) e

@@ -4,40 +4,40 @@ use Rattle.std.specs.declared.alloc.Global.{Global}
 use Rattle.postscript_base.specs.declared.error.Error.{Error}
 use Rattle.postscript_base.specs.declared.error.Error.TheVariants.{Memory, AlreadyFailed}
 use Rattle.postscript_type2.specs.declared.operation.Operator.{Operator}
-use Rattle.postscript_type2.specs.Meaning.{Answer, End, UsedUp, Returned, Finished, Fault, Run}
-use Rattle.postscript_type2.specs.Refusals.{refusal_of}
+use Rattle.postscript_type2.specs.Runs.{Answer, End, UsedUp, Returned, Finished, Fault, Run}
+use Rattle.postscript_base.specs.Refusal.{refusal_of}
 
 -- the answers that are left, the end behind them, the width so far, and whether the end has been told
-pub record Left : Type 0 where
+pub record Pending : Type 0 where
   pub answers : List Answer
   pub end : End
   pub width : Option ℤ
   pub is_told : Bool
 
 -- before the first answer of a run
-abbrev pub begun : Run → Left
+abbrev pub begun : Run → Pending
 begun run = record { answers = run.answers; end = run.end; width = None; is_told = false }
 
 -- after an end without fault was told
-abbrev pub ended : Option ℤ → Left
+abbrev pub ended : Option ℤ → Pending
 ended width = record { answers = []; end = UsedUp; width = width; is_told = true }
 
 -- after a refusal was told
-abbrev pub failed : Option ℤ → Left
+abbrev pub failed : Option ℤ → Pending
 failed width = record { answers = []; end = Fault (refusal_of AlreadyFailed); width = width; is_told = true }
 
 -- An end without fault: at EndChar the width is its own, and elsewhere it stays.
-abbrev pub Closes : End → Option ℤ → Option ℤ → Type 0
-Closes UsedUp width new = new ≡ width
-Closes (Finished last) width new = new ≡ last
-Closes (Returned st) width new = ⊥
-Closes (Fault e) width new = ⊥
+abbrev pub IsLastWidth : End → Option ℤ → Option ℤ → Type 0
+IsLastWidth UsedUp width new = new ≡ width
+IsLastWidth (Finished last) width new = new ≡ last
+IsLastWidth (Returned st) width new = ⊥
+IsLastWidth (Fault e) width new = ⊥
 
 -- The head of what is left is answered, with the width beside it, and the tail is left. With no head, None is answered at
 -- an end without fault, and the refusal at a fault; the width stays as it was before a refusal. Want of memory may come in
 -- place of any answer.
-abbrev pub Next : Left → Result (Option (Operator × Vec ℤ Global)) Error → Left → Type 0
+abbrev pub Next : Pending → Result (Option (Operator × Vec ℤ Global)) Error → Pending → Type 0
 Next old (Ok (Some operation)) new =
     (old.answers ≡ record { operator = operation.0; operands = operation.1.items; width = new.width } ∷ new.answers) × (new.end ≡ old.end) × (new.is_told ≡ false)
-Next old (Ok None) new = (old.answers ≡ []) × Closes old.end old.width new.width × (new ≡ ended new.width)
+Next old (Ok None) new = (old.answers ≡ []) × IsLastWidth old.end old.width new.width × (new ≡ ended new.width)
 Next old (Err e) new = ((e ≡ Memory) ⊎ ((old.answers ≡ []) × (old.end ≡ Fault (refusal_of e)))) × (new ≡ failed old.width)

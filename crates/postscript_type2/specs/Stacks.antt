@@ -1,8 +1,8 @@
 -- Operators that work on the stack alone (Technical Note 5177, "Arithmetic Operators" and "Conditional Operators").
 use Rattle.std.specs.Int.{int_rem_euclid}
 use Rattle.std.specs.List.{slice_rotate_right}
-use Rattle.std.specs.Prelude.{ℕ, ◌-◌, ℤ, pos, negsuc, nat_abs, int_le, nat_lt, List, ◌++◌, length, take, drop, Result, Ok, Err, if◌then◌else◌}
-use Rattle.postscript_type2.specs.Refusals.{Refusal, expected_more_operands, invalid_operand}
+use Rattle.std.specs.Prelude.{◌≡◌, ℕ, ◌-◌, ◌<◌, ℤ, pos, negsuc, ◌+ℤ◌, nat_abs, int_le, nat_lt, List, ◌++◌, length, take, drop, slice_get, Result, Ok, Err, if◌then◌else◌}
+use Rattle.postscript_base.specs.Refusal.{Refusal, expected_more_operands, invalid_operand}
 use Rattle.postscript_type2.specs.Works.{Work, ◌>>=◌, ◌>>◌, given, operand, whole_operand, operand_below, push}
 
 -- a number for a number
@@ -61,7 +61,16 @@ copy = do
   x ← operand_below (depth i)
   push x
 
--- item k of a list goes to place (k + shift) mod its length
+-- the place of item k of so many after a roll: (k + shift) mod their number
+abbrev pub place : (shift : ℤ) → (count k : ℕ) → ℕ
+place shift count k = nat_abs (int_rem_euclid (pos k +ℤ shift) (pos count))
+
+-- as many items, and each at its place
+pub record IsRolled (shift : ℤ) (xs ys : List ℤ) : Type 0 where
+  pub as_many : length ys ≡ length xs
+  pub items : (k : ℕ) → k < length xs → slice_get ys (place shift (length xs) k) ≡ slice_get xs k
+
+-- the list that is rolled so, as std turns it
 abbrev pub rolled : (shift : ℤ) → List ℤ → List ℤ
 rolled shift xs = slice_rotate_right xs (nat_abs (int_rem_euclid shift (pos (length xs))))
 

@@ -1,8 +1,9 @@
 -- What a program in the middle of its run still answers.
 use Rattle.std.specs.Prelude.{ℕ, zero, suc, Bool, true, ◌&&◌, not, List, [], ◌∷◌, if◌then◌else◌}
 use Rattle.postscript_type2.specs.Effects.{Lists, State}
-use Rattle.postscript_type2.specs.Meaning.{Finished, Fault, Run, ends, says, told, followed, is_empty, after_call, Stride, On, Into, Back, Over, Stop, mean}
-use Rattle.postscript_type2.specs.Refusals.{return_without_caller, trailing_data, too_deep}
+use Rattle.postscript_type2.specs.Runs.{Finished, Fault, Run}
+use Rattle.postscript_type2.specs.Evaluation.{at_end, with_phrase, with_any_answer, followed, is_empty, after_call, Stride, On, Into, Back, Over, Faults, mean}
+use Rattle.postscript_base.specs.Refusal.{return_without_caller, trailing_data, too_deep}
 
 -- a subroutine's run, gone on with through the rests of its callers, the innermost first. left: how many calls may
 -- still nest in the subroutine
@@ -21,13 +22,13 @@ abbrev pub are_used_up : (rest : List ℕ) → (callers : List (List ℕ)) → B
 are_used_up rest [] = true
 are_used_up rest (caller ∷ callers) = is_empty rest && are_used_up caller callers
 
--- One step of a program with a chain of callers. after more: the bytes behind the phrase's first one and so many more
-abbrev pub next_still : Lists → (left : ℕ) → (after : ℕ → List ℕ) → (callers : List (List ℕ)) → Stride → Run
-next_still lists left after callers (On said answer st more) = says said (told answer (still lists left (after more) callers st))
-next_still lists zero after callers (Into said routine st more) = says said (ends (Fault too_deep))
-next_still lists (suc left) after callers (Into said routine st more) = says said (still lists left routine (after more ∷ callers) st)
-next_still lists left after [] (Back said st) = says said (ends (Fault return_without_caller))
-next_still lists left after (caller ∷ callers) (Back said st) = says said (still lists (suc left) caller callers st)
-next_still lists left after callers (Over said width more) =
-    says said (ends (if are_used_up (after more) callers then Finished width else Fault trailing_data))
-next_still lists left after callers (Stop e) = ends (Fault e)
+-- One step of a program with a chain of callers. behind more: the bytes behind the phrase's first one and so many more
+abbrev pub next_still : Lists → (left : ℕ) → (behind : ℕ → List ℕ) → (callers : List (List ℕ)) → Stride → Run
+next_still lists left behind callers (On said answer st more) = with_phrase said (with_any_answer answer (still lists left (behind more) callers st))
+next_still lists zero behind callers (Into said routine st more) = with_phrase said (at_end (Fault too_deep))
+next_still lists (suc left) behind callers (Into said routine st more) = with_phrase said (still lists left routine (behind more ∷ callers) st)
+next_still lists left behind [] (Back said st) = with_phrase said (at_end (Fault return_without_caller))
+next_still lists left behind (caller ∷ callers) (Back said st) = with_phrase said (still lists (suc left) caller callers st)
+next_still lists left behind callers (Over said width more) =
+    with_phrase said (at_end (if are_used_up (behind more) callers then Finished width else Fault trailing_data))
+next_still lists left behind callers (Faults e) = at_end (Fault e)

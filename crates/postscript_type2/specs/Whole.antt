@@ -4,8 +4,9 @@ use Rattle.std.specs.Option.{option_map}
 use Rattle.std.specs.declared.alloc.Global.{Global}
 use Rattle.postscript_type2.specs.declared.operation.Operator.{Operator}
 use Rattle.postscript_type2.specs.declared.program.Answers.{Answers}
-use Rattle.postscript_type2.specs.Meaning.{Run, operation, fault_of, width_of}
-use Rattle.postscript_type2.specs.Refusals.{refusal_of}
+use Rattle.postscript_type2.specs.Programs.{Pending}
+use Rattle.postscript_type2.specs.Runs.{Run, operation, fault_of, width_by, width_of}
+use Rattle.postscript_base.specs.Refusal.{refusal_of}
 
 abbrev pub operation_of : Operator × Vec ℤ Global → Operator × List ℤ
 operation_of x = (x.0, x.1.items)
@@ -15,3 +16,9 @@ pub record Tells (told : Answers) (run : Run) : Type 0 where
   pub operations : map operation_of told.operations.items ≡ map operation run.answers
   pub fault : option_map refusal_of told.fault ≡ fault_of run.end
   pub width : told.width ≡ width_of run
+
+-- the same of what a program still answers
+pub record TellsPending (told : Answers) (pending : Pending) : Type 0 where
+  pub operations : map operation_of told.operations.items ≡ map operation pending.answers
+  pub fault : option_map refusal_of told.fault ≡ fault_of pending.end
+  pub width : told.width ≡ width_by pending.width pending.answers pending.end

@@ -1,8 +1,9 @@
 //! The operations.
-ghost use Rattle.std.specs.Prelude.{◌≡◌, ◌<◌, ◌≤◌, ℤ, nat_lt, Some, IfSome};
+ghost use Rattle.std.specs.Prelude.{◌≡◌, ◌<◌, ◌≤◌, ℤ, Some, IfSome};
 ghost use Rattle.std.specs.Option.{ok_or};
 ghost use Rattle.postscript_base.specs.declared.error.Error.TheVariants as errors;
-ghost use Rattle.postscript_type2.specs.Lengths.{exactly as the_exactly, groups_and as the_groups_and, curves_of_four as the_curves_of_four, greatest, taken as the_taken};
+ghost use Rattle.postscript_type2.specs.Effects.{taken as the_taken};
+ghost use Rattle.postscript_type2.specs.Lengths.{exactly as the_exactly, some, pairs as the_pairs, groups_and as the_groups_and, curves_of_four as the_curves_of_four, greatest};
 ghost use Rattle.postscript_type2.specs.Number.{whole, to_int};
 ghost use Rattle.postscript_type2.specs.Operators.{operator_of, name_of};
 ghost use Rattle.postscript_type2.specs.Texts.{text};
@@ -82,55 +83,104 @@ pub type Operation = (Operator, Vec<Operand>);
 /// A collection of operations.
 pub type Operations = Vec<Operation>;
 
-/// An operator (Technical Note 5177, Appendix A).
+/// An operator, with the operands before it and the code behind its name (Technical Note 5177, Appendix A).
 #[derive(Clone, Copy, Debug, PartialEq, Eq)]
 pub enum Operator {
+    /// y dy {dya dyb}* hstem (1)
     HStem,
+    /// x dx {dxa dxb}* vstem (3)
     VStem,
+    /// dy1 vmoveto (4)
     VMoveTo,
+    /// {dxa dya}+ rlineto (5)
     RLineTo,
+    /// dx1 {dya dxb}* hlineto (6), {dxa dyb}+ hlineto (6)
     HLineTo,
+    /// dy1 {dxa dyb}* vlineto (7), {dya dxb}+ vlineto (7)
     VLineTo,
+    /// {dxa dya dxb dyb dxc dyc}+ rrcurveto (8)
     RRCurveTo,
+    /// subr# callsubr (10)
     CallSubr,
+    /// return (11)
     Return,
+    /// endchar (14)
     EndChar,
+    /// y dy {dya dyb}* hstemhm (18)
     HStemHM,
+    /// hintmask (19 and its mask)
     HintMask,
+    /// cntrmask (20 and its mask)
     CntrMask,
+    /// dx1 dy1 rmoveto (21)
     RMoveTo,
+    /// dx1 hmoveto (22)
     HMoveTo,
+    /// x dx {dxa dxb}* vstemhm (23)
     VStemHM,
+    /// {dxa dya dxb dyb dxc dyc}+ dxd dyd rcurveline (24)
     RCurveLine,
+    /// {dxa dya}+ dxb dyb dxc dyc dxd dyd rlinecurve (25)
     RLineCurve,
+    /// dx1? {dya dxb dyb dyc}+ vvcurveto (26)
     VVCurveTo,
+    /// dy1? {dxa dxb dyb dxc}+ hhcurveto (27)
     HHCurveTo,
+    /// globalsubr# callgsubr (29)
     CallGSubr,
+    /// dy1 dx2 dy2 dx3 {dxa dxb dyb dyc dyd dxe dye dxf}* dyf? vhcurveto (30),
+    /// {dya dxb dyb dxc dxd dxe dye dyf}+ dxf? vhcurveto (30)
     VHCurveTo,
+    /// dx1 dx2 dy2 dy3 {dya dxb dyb dxc dxd dxe dye dyf}* dxf? hvcurveto (31),
+    /// {dxa dxb dyb dyc dyd dxe dye dxf}+ dyf? hvcurveto (31)
     HVCurveTo,
+    /// num1 num2 and (12 3) 1_or_0
     And,
+    /// num1 num2 or (12 4) 1_or_0
     Or,
+    /// num1 not (12 5) 1_or_0
     Not,
+    /// num abs (12 9) num2
     Abs,
+    /// num1 num2 add (12 10) sum
     Add,
+    /// num1 num2 sub (12 11) difference
     Sub,
+    /// num1 num2 div (12 12) quotient
     Div,
+    /// num neg (12 14) num2
     Neg,
+    /// num1 num2 eq (12 15) 1_or_0
     Eq,
+    /// num drop (12 18)
     Drop,
+    /// val i put (12 20)
     Put,
+    /// i get (12 21) val
     Get,
+    /// s1 s2 v1 v2 ifelse (12 22) s1_or_s2
     IfElse,
+    /// random (12 23) num2
     Random,
+    /// num1 num2 mul (12 24) product
     Mul,
+    /// num sqrt (12 26) num2
     Sqrt,
+    /// any dup (12 27) any any
     Dup,
+    /// num1 num2 exch (12 28) num2 num1
     Exch,
+    /// numX .. num0 i index (12 29) numX .. num0 numi
     Index,
+    /// num(N-1) .. num0 N J roll (12 30) num((J-1) mod N) .. num0 num(N-1) .. num(J mod N)
     Roll,
+    /// dx1 dx2 dy2 dx3 dx4 dx5 dx6 hflex (12 34)
     HFlex,
+    /// dx1 dy1 dx2 dy2 dx3 dy3 dx4 dy4 dx5 dy5 dx6 dy6 fd flex (12 35)
     Flex,
+    /// dx1 dy1 dx2 dy2 dx3 dx4 dx5 dy5 dx6 hflex1 (12 36)
     HFlex1,
+    /// dx1 dy1 dx2 dy2 dx3 dy3 dx4 dy4 dx5 dy5 d6 flex1 (12 37)
     Flex1,
 }
 
@@ -272,7 +322,7 @@ impl Operator {
             Operator::Flex1 => exactly(11, length),
             Operator::HFlex => exactly(7, length),
             Operator::HFlex1 => exactly(9, length),
-            Operator::HintMask | Operator::CntrMask => exactly(0, length),
+            Operator::HintMask | Operator::CntrMask => pairs(length),
             _ => None,
         }
     }
@@ -288,10 +338,18 @@ fn exactly(m: usize, length: usize) -> Option<usize>
 
 /// All operands, where there are any.
 fn any(length: usize) -> Option<usize>
-    ensures value { result ≡ greatest (nat_lt 0) length }
+    ensures value { result ≡ greatest some length }
     ensures room { IfSome result (λ n. n ≤ length) }
 {
     if length == 0 { None } else { Some(length) }
+}
+
+/// All operands, but for an odd one.
+fn pairs(length: usize) -> Option<usize>
+    ensures value { result ≡ greatest the_pairs length }
+    ensures room { IfSome result (λ n. n ≤ length) }
+{
+    Some(length - length % 2)
 }
 
 /// `k` or `2 k` or `3 k` and so on, and `m` more.

@@ -1,23 +1,27 @@
 //! The programs.
-ghost use Rattle.std.specs.Prelude.{◌≡◌, ◌⊎◌, MatchResult, OnOk, IfOk, IfErr};
+ghost use Rattle.std.specs.Prelude.{◌≡◌, ◌⊎◌, MatchResult, OnOk, IfOk, IfErr, IfSome};
+ghost use Rattle.postscript_base.specs.Error.{code as number, IsOneOf, IsListed};
 ghost use Rattle.postscript_type2.specs.Effects.{Lists};
+ghost use Rattle.postscript_type2.specs.Endings.{run_refusals, flatten_refusals, next_refusals};
 ghost use Rattle.postscript_type2.specs.Flat.{flat_text};
-ghost use Rattle.postscript_type2.specs.Inlining.{KeepsMeaning, FlatTextIsFlat};
-ghost use Rattle.postscript_type2.specs.Refusals.{refusal_of};
-ghost use Rattle.postscript_type2.specs.Meaning.{run_of, fault_of};
+ghost use Rattle.postscript_type2.specs.Inlining.{KeepsMeaning, FlatTextKeepsMeaning};
+ghost use Rattle.postscript_base.specs.Refusal.{refusal_of};
+ghost use Rattle.postscript_type2.specs.Runs.{Run, fault_of};
+ghost use Rattle.postscript_type2.specs.Evaluation.{run_of};
+ghost use Rattle.postscript_type2.specs.Meaning.{IsRunOf};
 ghost use Rattle.postscript_type2.specs.Programs.{begun, Next, ended, failed};
-ghost use Rattle.postscript_type2.specs.Routines.{texts};
-ghost use Rattle.postscript_type2.specs.Whole.{Tells};
+ghost use Rattle.postscript_type2.specs.Routines.{subroutines};
+ghost use Rattle.postscript_type2.specs.Whole.{Tells, TellsPending};
 
 mod arithmetic;
 mod callers;
-mod calls;
 mod flat;
 mod hints;
 mod machine;
 mod routine;
 mod stack;
 mod state;
+mod subroutines;
 
 use crate::operation::{Operand, Operation, Operations};
 use flat::flat_code;
@@ -42,13 +46,13 @@ pub struct Program<'l> {
 }
 
 impl<'l> Model for Program<'l> {
-    ghost use Rattle.postscript_type2.specs.Programs.{Left};
+    ghost use Rattle.postscript_type2.specs.Programs.{Pending};
 
-    ghost Value = { Left };
+    ghost Value = { Pending };
 
-    ghost use Rattle.postscript_type2.specs.Lefts.{left_of};
+    ghost use Rattle.postscript_type2.specs.Views.{pending_of};
 
-    ghost view = { λ program. left_of program.phase program.machine };
+    ghost view = { λ program. pending_of program.phase program.machine };
 
     ghost use Rattle.std.specs.Prelude.{◌≡◌};
     ghost use Rattle.postscript_type2.specs.Machines.{IsNested};
@@ -60,7 +64,8 @@ impl<'l> Model for Program<'l> {
 impl<'l> Program<'l> {
     /// Creates a program of a code, and of the global and the local subroutines.
     pub fn new(alloc: Global, code: &'l [u8], global: &'l [Vec<u8>], local: &'l [Vec<u8>]) -> Self
-        ensures { result ≡ begun (run_of (record { global = texts global.now; local = texts local.now }) code.now) }
+        ensures value { result ≡ begun (run_of (subroutines global.now local.now) code.now) }
+        ensures meant { (run : Run) × IsRunOf (subroutines global.now local.now) code.now run × (result ≡ begun run) }
     {
         Program {
             machine: Machine::new(alloc, code, global, local),
@@ -74,6 +79,7 @@ impl<'l> Program<'l> {
     /// `AlreadyFailed` from then on, and the width stays as it was before.
     pub fn next(&mut self) -> Result<Option<Operation>>
         ensures next { Next self.old result self.new }
+        ensures listed { IsListed next_refusals result }
         ensures ended { self.old ≡ ended self.old.width → result ≡ Ok None }
         ensures failed { self.old ≡ failed self.old.width → result ≡ Err Error.AlreadyFailed }
     {
@@ -103,10 +109,7 @@ impl<'l> Program<'l> {
     pub fn width(&self) -> Option<Operand>
         ensures { result ≡ self.now.width }
     {
-        match self.machine.state.width {
-            Some(width) => width,
-            None => None,
-        }
+        self.machine.state.width.flatten()
     }
 
     /// The same glyph as code without calls: the phrases of the run in their order, byte for byte with the bytes of their
@@ -120,15 +123,16 @@ impl<'l> Program<'l> {
         global: &'l [Vec<u8>],
         local: &'l [Vec<u8>],
     ) -> Result<Vec<u8>>
-        ensures faultless { let run = run_of (record { global = texts global.now; local = texts local.now }) code.now in
+        ensures faultless { let run = run_of (subroutines global.now local.now) code.now in
             OnOk result (fault_of run.end ≡ None) }
-        ensures text { let run = run_of (record { global = texts global.now; local = texts local.now }) code.now in
+        ensures text { let run = run_of (subroutines global.now local.now) code.now in
             IfOk result (λ flat. flat.items ≡ flat_text run.trace) }
-        ensures keeps { let run = run_of (record { global = texts global.now; local = texts local.now }) code.now in
-            IfOk result (λ flat. (lists : Lists) → KeepsMeaning lists flat.items run) }
-        ensures refused { let run = run_of (record { global = texts global.now; local = texts local.now }) code.now in
+        ensures keeps { let run = run_of (subroutines global.now local.now) code.now in
+            IfOk result (λ flat. (other : Lists) → KeepsMeaning other flat.items run) }
+        ensures refused { let run = run_of (subroutines global.now local.now) code.now in
             IfErr result (λ e. (e ≡ Error.Memory) ⊎ (fault_of run.end ≡ Some (refusal_of e))) }
-        ensures law { FlatTextIsFlat }
+        ensures listed { IsListed flatten_refusals result }
+        ensures law { FlatTextKeepsMeaning }
     {
         flat_code(alloc, Machine::new(alloc, code, global, local))
     }
@@ -147,11 +151,20 @@ pub struct Answers {
 
 /// Runs a code to its end. Want of memory is the only error.
 pub fn run(alloc: Global, code: &[u8], global: &[Vec<u8>], local: &[Vec<u8>]) -> Result<Answers>
-    ensures { MatchResult result
-        (λ told. Tells told (run_of (record { global = texts global.now; local = texts local.now }) code.now))
+    ensures listed { IfOk result (λ told. IfSome told.fault (λ e. IsOneOf run_refusals (number e))) }
+    ensures meant { IfOk result (λ told. (run : Run) × IsRunOf (subroutines global.now local.now) code.now run × Tells told run) }
+    ensures tells { MatchResult result
+        (λ told. Tells told (run_of (subroutines global.now local.now) code.now))
         (λ e. e ≡ Error.Memory) }
 {
-    let mut program = Program::new(alloc, code, global, local);
+    all_answers(alloc, Program::new(alloc, code, global, local))
+}
+
+/// All that a program still answers.
+fn all_answers(alloc: Global, program: Program<'_>) -> Result<Answers>
+    ensures { MatchResult result (λ told. TellsPending told program.entry) (λ e. e ≡ Error.Memory) }
+{
+    let mut program = program;
     let mut operations = Vec::new(alloc);
     let fault = loop {
         match program.next() {

@@ -38,16 +38,23 @@ impl State {
     }
 
     /// A mask, where so many bytes follow its operator.
-    pub(super) fn mask<'l>(&mut self, alloc: Global, after: usize) -> Result<Effect<'l>>
-        ensures value { (bytes : List ℕ) → length bytes ≡ after → Does (mask_move bytes (state_of self.old)) self.old result self.new }
+    pub(super) fn mask<'l>(
+        &mut self,
+        alloc: Global,
+        operator: Operator,
+        after: usize,
+    ) -> Result<Effect<'l>>
+        ensures value { (bytes : List ℕ) → length bytes ≡ after → Does (mask_move operator bytes (state_of self.old)) self.old result self.new }
         ensures room { IfOk result (λ e. mask_of e ≤ after) }
     {
         let stems = self.stems_after()?;
-        let mask = (stems as usize + 7) / 8;
+        let mask = (stems as usize).div_ceil(8);
         if after < mask {
             return Err(Error::UnexpectedEof);
         }
-        let counted = self.stack.len() - self.stack.len() % 2;
+        let Some(counted) = operator.taken(self.stack.len()) else {
+            return Err(Error::MalformedOperands);
+        };
         let operands = self.clear(alloc, 0, counted)?;
         self.stems = stems;
         Ok(Effect::Clears(operands, mask))

@@ -1,13 +1,13 @@
 //! The machine of a program: one phrase at a time.
 ghost use Rattle.std.specs.Prelude.{◌≡◌, IfOk};
-ghost use Rattle.postscript_type2.specs.Meaning.{run_of};
-ghost use Rattle.postscript_type2.specs.Routines.{texts};
+ghost use Rattle.postscript_type2.specs.Evaluation.{run_of};
+ghost use Rattle.postscript_type2.specs.Routines.{subroutines};
 ghost use Rattle.postscript_type2.specs.Machines.{IsNested, still_of, Advances};
 
 use super::callers::{Callers, are_used_up};
-use super::calls::Subroutines;
 use super::routine::Routine;
 use super::state::{Effect, State};
+use super::subroutines::Subroutines;
 use crate::operation::{Operand, Operator};
 use postscript_base::{Error, Result};
 use std::alloc::Global;
@@ -55,7 +55,7 @@ impl<'l> Machine<'l> {
         global: &'l [Vec<u8>],
         local: &'l [Vec<u8>],
     ) -> Self
-        ensures run { still_of result ≡ run_of (record { global = texts global.now; local = texts local.now }) code.now }
+        ensures run { still_of result ≡ run_of (subroutines global.now local.now) code.now }
         ensures width { result.state.width ≡ None }
         ensures nested { IsNested result }
     {

@@ -1,7 +1,7 @@
 //! A routine: code, and the place that is reached in it.
 ghost use Rattle.std.specs.Prelude.{◌≡◌, ◌-◌, ◌≤◌, length, take, drop};
-ghost use Rattle.postscript_type2.specs.Meaning.{is_empty};
-ghost use Rattle.postscript_type2.specs.Phrases.{is_number};
+ghost use Rattle.postscript_type2.specs.Evaluation.{is_empty};
+ghost use Rattle.postscript_type2.specs.Parsing.{is_number};
 ghost use Rattle.postscript_type2.specs.Tokens.{LooksAt, ReadsByte, ReadsNumber, ReadsOperator, ReadsPhrase};
 
 use crate::number;
@@ -45,13 +45,7 @@ impl<'l> Routine<'l> {
     pub(crate) fn first(&self) -> Option<u8>
         ensures { LooksAt self.now result }
     {
-        let place = self.tape.position() as usize;
-        let bytes: &[u8] = self.tape.get_ref();
-        if place < bytes.len() {
-            Some(bytes[place])
-        } else {
-            None
-        }
+        self.rest().first().copied()
     }
 
     /// The bytes that are not read yet.
@@ -75,9 +69,7 @@ impl<'l> Routine<'l> {
     pub(crate) fn len(&self) -> usize
         ensures { result ≡ length self.now }
     {
-        let place = self.tape.position() as usize;
-        let bytes: &[u8] = self.tape.get_ref();
-        bytes.len().saturating_sub(place)
+        self.rest().len()
     }
 
     /// Passes so many bytes, which are there.

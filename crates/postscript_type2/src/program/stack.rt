@@ -3,7 +3,7 @@ ghost use Rattle.std.specs.Prelude.{◌≡◌, length, pos};
 ghost use Rattle.postscript_type2.specs.Effects.{kind};
 ghost use Rattle.postscript_type2.specs.FixedPoint.{absolute_value, opposite, root, sum, difference, product, quotient, both, either, denial, same_bits};
 ghost use Rattle.postscript_type2.specs.Stacks.{one_to_one, two_to_one, choice, removal, exchange, duplication, copy, depth as the_depth, rolled, roll_by as the_roll_by, roll as the_roll};
-ghost use Rattle.postscript_type2.specs.Performing.{IsWork, Performs, PerformsKind};
+ghost use Rattle.postscript_type2.specs.Performing.{Performs, PerformsKind};
 ghost use Rattle.postscript_type2.specs.Works.{operand as the_operand, whole_operand as the_whole_operand, operand_below as the_operand_below, push as the_push};
 
 use super::arithmetic;
@@ -233,12 +233,11 @@ pub(crate) fn roll(stack: &mut Vec<Operand>) -> Result<()>
     roll_by(stack, shift, span)
 }
 
-/// What an operator does that works on the stack alone.
-pub(crate) fn perform(operator: Operator, stack: &mut Vec<Operand>) -> Result<()>
-    requires { IsWork (kind operator) }
+/// Does the work of an operator that works on the stack alone; none where the operator is another.
+pub(crate) fn perform(operator: Operator, stack: &mut Vec<Operand>) -> Option<Result<()>>
     ensures { PerformsKind (kind operator) stack.old.items result stack.new.items }
 {
-    match operator {
+    Some(match operator {
         Operator::Abs => abs(stack),
         Operator::Add => add(stack),
         Operator::Sub => sub(stack),
@@ -256,6 +255,6 @@ pub(crate) fn perform(operator: Operator, stack: &mut Vec<Operand>) -> Result<()
         Operator::Dup => dup(stack),
         Operator::Index => index(stack),
         Operator::Roll => roll(stack),
-        _ => unreachable!(),
-    }
+        _ => return None,
+    })
 }

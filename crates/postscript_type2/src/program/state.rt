@@ -1,12 +1,13 @@
 //! What an operator does with the stack.
 ghost use Rattle.std.specs.Prelude.{◌≡◌, ◌≤◌, ℕ, List, [], length, Some, OnErr, IfOk, IfErr};
 ghost use Rattle.postscript_base.specs.declared.error.Error.TheVariants.{Memory};
-ghost use Rattle.postscript_type2.specs.Effects.{Lists, settled as the_settled, path_move, last_of, kind, effect};
-ghost use Rattle.postscript_type2.specs.Performing.{IsWork};
+ghost use Rattle.postscript_type2.specs.Effects.{Lists, settled as the_settled, path_move, last_of, kind, effect, subroutine, call_move};
+ghost use Rattle.postscript_type2.specs.Performing.{WorksOrDraws};
+ghost use Rattle.postscript_type2.specs.Routines.{texts};
 ghost use Rattle.postscript_type2.specs.Working.{lists_of, state_of, mask_of, Does};
 
-use super::calls::Subroutines;
-use super::stack::perform;
+use super::stack::{perform, whole_operand};
+use super::subroutines::{Subroutines, named};
 use crate::operation::{Operand, Operator};
 use postscript_base::error::Part;
 use postscript_base::{Error, Result};
@@ -84,14 +85,31 @@ impl State {
         Ok(Effect::Clears(operands, 0))
     }
 
-    /// An operator that works on the stack alone.
-    fn work<'l>(&mut self, operator: Operator) -> Result<Effect<'l>>
-        requires { IsWork (kind operator) }
+    /// An operator that works on the stack alone, and any other as one that draws.
+    fn work<'l>(&mut self, alloc: Global, operator: Operator) -> Result<Effect<'l>>
+        requires { WorksOrDraws (kind operator) }
         ensures value { (lists : Lists) → (bytes : List ℕ) → Does (effect lists operator bytes (state_of self.old)) self.old result self.new }
         ensures room { IfOk result (λ effect. mask_of effect ≡ 0) }
     {
-        perform(operator, &mut self.stack)?;
-        Ok(Effect::Keeps)
+        match perform(operator, &mut self.stack) {
+            Some(done) => {
+                done?;
+                Ok(Effect::Keeps)
+            }
+            None => self.path(alloc, operator),
+        }
+    }
+
+    /// subr# callsubr (10), globalsubr# callgsubr (29)
+    fn call<'l>(&mut self, routines: &'l [Vec<u8>]) -> Result<Effect<'l>>
+        ensures value { Does (call_move (subroutine (texts routines.now) self.old.stack.items)) self.old result self.new }
+        ensures room { IfOk result (λ effect. mask_of effect ≡ 0) }
+    {
+        let number = whole_operand(&mut self.stack)?;
+        match named(routines, number) {
+            Some(routine) => Ok(Effect::Calls(routine)),
+            None => Err(Error::MissingSubroutine),
+        }
     }
 
     /// What the operator does, where so many bytes follow it.
@@ -117,28 +135,11 @@ impl State {
             Operator::HStem | Operator::VStem | Operator::HStemHM | Operator::VStemHM => self.stem(
                 alloc, operator,
             ),
-            Operator::HintMask | Operator::CntrMask => self.mask(alloc, after),
+            Operator::HintMask | Operator::CntrMask => self.mask(alloc, operator, after),
             Operator::Random => Err(Error::Unsupported(Part::Random)),
             Operator::Put => Err(Error::Unsupported(Part::Put)),
             Operator::Get => Err(Error::Unsupported(Part::Get)),
-            Operator::Abs
-            | Operator::Add
-            | Operator::Sub
-            | Operator::Div
-            | Operator::Neg
-            | Operator::Mul
-            | Operator::Sqrt
-            | Operator::And
-            | Operator::Or
-            | Operator::Not
-            | Operator::Eq
-            | Operator::IfElse
-            | Operator::Drop
-            | Operator::Exch
-            | Operator::Dup
-            | Operator::Index
-            | Operator::Roll => self.work(operator),
-            _ => self.path(alloc, operator),
+            _ => self.work(alloc, operator),
         }
     }
 }

@@ -4,11 +4,11 @@ use Rattle.postscript_type2.specs.declared.program.Phase.{Phase}
 use Rattle.postscript_type2.specs.declared.program.Phase.TheVariants as phases
 use Rattle.postscript_type2.specs.declared.program.machine.Machine.{Machine}
 use Rattle.postscript_type2.specs.Machines.{still_of}
-use Rattle.postscript_type2.specs.Programs.{Left, ended, failed}
+use Rattle.postscript_type2.specs.Programs.{Pending, ended, failed}
 use Rattle.postscript_type2.specs.Working.{settled_width}
 
-abbrev pub left_of : Phase → Machine → Left
-left_of phases.Running machine =
+abbrev pub pending_of : Phase → Machine → Pending
+pending_of phases.Running machine =
     record { answers = (still_of machine).answers; end = (still_of machine).end; width = settled_width machine.state.width; is_told = false }
-left_of phases.Ended machine = ended (settled_width machine.state.width)
-left_of phases.Failed machine = failed (settled_width machine.state.width)
+pending_of phases.Ended machine = ended (settled_width machine.state.width)
+pending_of phases.Failed machine = failed (settled_width machine.state.width)

@@ -1,0 +1,24 @@
+-- What programs tell by the rules.
+use Rattle.std.proofs.Common.{◌≡◌, ℕ, ℤ, List, map, Option, arith}
+use Rattle.postscript_base.specs.Refusal.{Refusal}
+use Rattle.postscript_type2.specs.declared.operation.Operator.{Operator}
+use Rattle.postscript_type2.specs.Effects.{Lists, start}
+use Rattle.postscript_type2.specs.Evaluation.{run_of}
+use Rattle.postscript_type2.specs.Meaning.{IsRunOf}
+use Rattle.postscript_type2.specs.Runs.{Run, operation, fault_of, width_of}
+use Rattle.postscript_type2.proofs.MeaningLaws.{complete}
+
+-- operations, a fault and a width
+abbrev pub Told : Type 0
+Told = List (Operator × List ℤ) × Option Refusal × Option ℤ
+
+abbrev pub told_of : Run → Told
+told_of run = (map operation run.answers, fault_of run.end, width_of run)
+
+-- by the rules a code has a run that tells so
+abbrev pub Tells : Lists → List ℕ → Told → Type 0
+Tells lists code told = (run : Run) × IsRunOf lists code run × (told_of run ≡ told)
+
+-- it does where the run that is computed tells so
+pub meant : (lists : Lists) (code : List ℕ) {told : Told} → told_of (run_of lists code) ≡ told → Tells lists code told
+meant lists code told = (run_of lists code, complete lists 10 0 (omega arith) code start, told)

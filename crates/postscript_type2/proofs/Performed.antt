@@ -1,0 +1,21 @@
+-- A work on the stack, by the kind of its operator.
+use Rattle.std.proofs.Common.{◌≡◌, ap, ◌⊎◌, inl, inr, ℕ, ℤ, List, Some, Err}
+use Rattle.postscript_base.specs.Refusal.{refusal_of}
+use Rattle.postscript_base.specs.declared.error.Error.{Error}
+use Rattle.postscript_base.specs.declared.error.Error.TheVariants.{Memory}
+use Rattle.postscript_type2.specs.declared.operation.Operator.{Operator}
+use Rattle.postscript_type2.specs.Effects.{Lists, State, Refuses, work_move, Kind, Draws, DeclaresStems, Masks, Works, CallsFrom, GoesBack, EndsGlyph, IsRefused, effect_of}
+use Rattle.postscript_type2.specs.Performing.{PerformsKind}
+
+-- a work that is refused
+pub work-refused : (k : Kind) (lists : Lists) (op : Operator) (bytes : List ℕ) (st : State) (stack : List ℤ) (e : Error) → PerformsKind k st.stack (Some (Err e)) stack →
+    (e ≡ Memory) ⊎ (effect_of k lists op bytes st ≡ Refuses (refusal_of e))
+work-refused (Works work) lists op bytes st stack e (inl memory) = inl memory
+work-refused (Works work) lists op bytes st stack e (inr refused) = inr (ap work_move refused)
+work-refused (Draws takes) lists op bytes st stack e h = absurd h
+work-refused (DeclaresStems takes) lists op bytes st stack e h = absurd h
+work-refused (Masks takes) lists op bytes st stack e h = absurd h
+work-refused (CallsFrom routines) lists op bytes st stack e h = absurd h
+work-refused GoesBack lists op bytes st stack e h = absurd h
+work-refused EndsGlyph lists op bytes st stack e h = absurd h
+work-refused (IsRefused part) lists op bytes st stack e h = absurd h

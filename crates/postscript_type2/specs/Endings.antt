@@ -1,0 +1,30 @@
+-- How runs end.
+use Rattle.std.specs.Prelude.{ℕ, List, [], ◌∷◌}
+use Rattle.postscript_base.specs.Error.{IsOneOf}
+use Rattle.postscript_type2.specs.Effects.{Lists}
+use Rattle.postscript_type2.specs.Runs.{End, UsedUp, Returned, Finished, Fault}
+use Rattle.postscript_type2.specs.Evaluation.{run_of}
+use Rattle.postscript_base.specs.Refusal.{number_of}
+
+-- the refusals that end a run, by their numbers: bytes are wanting, no such operator, and those of the operators
+abbrev pub run_refusals : List ℕ
+run_refusals = 1 ∷ 9 ∷ 16 ∷ 17 ∷ 18 ∷ 19 ∷ 20 ∷ 21 ∷ 22 ∷ 23 ∷ 24 ∷ 25 ∷ 26 ∷ 27 ∷ 28 ∷ 29 ∷ []
+
+-- the same, and want of memory
+abbrev pub flatten_refusals : List ℕ
+flatten_refusals = 3 ∷ run_refusals
+
+-- the same, and that a refusal was told before
+abbrev pub next_refusals : List ℕ
+next_refusals = 30 ∷ flatten_refusals
+
+-- the end of a whole run: no return, and no other refusal
+abbrev pub IsRunsEnd : End → Type 0
+IsRunsEnd UsedUp = Unit {0}
+IsRunsEnd (Returned st) = ⊥
+IsRunsEnd (Finished width) = Unit {0}
+IsRunsEnd (Fault e) = IsOneOf run_refusals (number_of e)
+
+-- a law of the definitions
+abbrev pub RunsEndSo : Type 0
+RunsEndSo = (lists : Lists) (code : List ℕ) → IsRunsEnd (run_of lists code).end

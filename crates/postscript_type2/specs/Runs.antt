@@ -1,0 +1,51 @@
+-- What a run tells: its operations, its phrases and its end.
+use Rattle.std.specs.Prelude.{ℕ, ℤ, List, [], ◌∷◌, Option, Some, None}
+use Rattle.postscript_base.specs.Refusal.{Refusal}
+use Rattle.postscript_type2.specs.declared.operation.Operator.{Operator}
+use Rattle.postscript_type2.specs.Effects.{State}
+
+-- an operation, and the width after it
+pub record Answer : Type 0 where
+  pub operator : Operator
+  pub operands : List ℤ
+  pub width : Option ℤ
+
+-- a phrase of the run: its operator, and its bytes with those of its mask
+pub record Said : Type 0 where
+  pub operator : Operator
+  pub bytes : List ℕ
+
+-- a routine was used up; it returned; EndChar came; or something was refused
+pub data End : Type 0 where
+  UsedUp : End
+  Returned : State → End
+  Finished : (width : Option ℤ) → End
+  Fault : Refusal → End
+
+pub record Run : Type 0 where
+  pub answers : List Answer
+  pub trace : List Said
+  pub end : End
+
+-- an answer without its width
+abbrev pub operation : Answer → Operator × List ℤ
+operation answer = (answer.operator, answer.operands)
+
+-- the refusal at the end, if there is one
+abbrev pub fault_of : End → Option Refusal
+fault_of (Fault e) = Some e
+fault_of end = None
+
+-- the width after these answers
+abbrev pub last_width : Option ℤ → List Answer → Option ℤ
+last_width width [] = width
+last_width width (answer ∷ answers) = last_width answer.width answers
+
+-- the width at this end, behind these answers and this width before them: that of EndChar, else that beside the last answer
+abbrev pub width_by : Option ℤ → List Answer → End → Option ℤ
+width_by width answers (Finished last) = last
+width_by width answers end = last_width width answers
+
+-- the width of a run, where none is settled before it
+abbrev pub width_of : Run → Option ℤ
+width_of run = width_by None run.answers run.end

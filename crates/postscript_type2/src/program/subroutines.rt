@@ -1,0 +1,38 @@
+//! Subroutines, by their numbers.
+ghost use Rattle.std.specs.Prelude.{◌≡◌, option_map};
+ghost use Rattle.postscript_type2.specs.Effects.{bias as the_bias, named as the_named};
+ghost use Rattle.postscript_type2.specs.Routines.{texts};
+
+/// The subroutines of a font set and those of one font.
+#[derive(Clone, Copy)]
+pub(crate) struct Subroutines<'l> {
+    pub(crate) global: &'l [Vec<u8>],
+    pub(crate) local: &'l [Vec<u8>],
+}
+
+/// How far below zero the numbers of so many subroutines begin.
+fn bias(count: usize) -> i64
+    ensures { result ≡ the_bias count }
+{
+    if count < 1240 {
+        107
+    } else if count < 33900 {
+        1131
+    } else {
+        32768
+    }
+}
+
+/// The subroutine that a number names.
+pub(super) fn named<'l>(routines: &'l [Vec<u8>], number: i16) -> Option<&'l [u8]>
+    ensures { option_map (λ routine. routine.now) result ≡ the_named (texts routines.now) number }
+{
+    let place = i64::from(number) + bias(routines.len());
+    if place < 0 {
+        return None;
+    }
+    match routines.get(place as usize) {
+        Some(routine) => Some(routine.as_slice()),
+        None => None,
+    }
+}
