@@ -4,10 +4,10 @@ use Rattle.std.proofs.Common.{◌≡◌, ◌≢◌, refl, ap, sym, subst, ◌∙
 use Rattle.std.proofs.lemmas.Grind.{common_steps}
 use Rattle.postscript_base.specs.Error.{code, IsOneOf, IsListed}
 use Rattle.postscript_base.specs.Tape.Outcome.{Outcome, Got, Fault, Past, Reading, after, ◌>>=◌, pure, fault, Answers, RefusedAs}
-use Rattle.postscript_base.specs.Numbers.{slice, number as unsigned, big_endian}
+use Rattle.postscript_base.specs.Numbers.{slice, number as unsigned, big_endian, two_sided, above, below}
 use Rattle.postscript_base.specs.declared.error.Error.{Error}
 use Rattle.postscript_base.specs.declared.error.Error.TheVariants.{UnexpectedEof, Io, Memory, MalformedOffset, MalformedNumber, OutOfRangeNumber, TapeStuck, MalformedOperation, MissingOperation, UnknownOperator, Unsupported, ExpectedOperand, ExpectedInteger, ExpectedMoreOperands, MalformedOperands, InvalidOperand, MissingSubroutine, ReturnWithoutCaller, TrailingData, TooDeep, Overflow, ZeroDivisor, NegativeRoot, TooManyStems, AlreadyFailed}
-use Rattle.postscript_type2.specs.Number.{number, spelled, whole, signed, above, below}
+use Rattle.postscript_type2.specs.Number.{number, spelled, whole}
 use Rattle.postscript_base.specs.Refusal.{refusal_of, number_of, unexpected_eof, malformed_number}
 use Rattle.postscript_type2.specs.Tokens.{ReadsByte, ReadsNumber}
 use Rattle.postscript_type2.proofs.Places.{later, IsLocal, number-local as unsigned-local, spelled-local}
@@ -41,12 +41,12 @@ of-unsigned-within size f bytes place = after-within (unsigned size bytes place)
 
 spelled-within : (first : ℕ) (bytes : List ℕ) (place : ℕ) → Within (spelled first bytes place)
 spelled-within first bytes place =
-    if-within (first == 0x1c) (unsigned 2 >>= λ n. pure (whole (signed 0x8000 n))) _ bytes place (of-unsigned-within 2 (λ n. whole (signed 0x8000 n)) bytes place)
+    if-within (first == 0x1c) (unsigned 2 >>= λ n. pure (whole (two_sided 0x8000 n))) _ bytes place (of-unsigned-within 2 (λ n. whole (two_sided 0x8000 n)) bytes place)
     (if-within (nat_lt first 0x20) (fault malformed_number) _ bytes place tt
     (if-within (nat_lt first 0xf7) (pure (whole (pos first -ℤ pos 139))) _ bytes place tt
     (if-within (nat_lt first 0xfb) (unsigned 1 >>= λ second. pure (whole (above first second))) _ bytes place (of-unsigned-within 1 (λ second. whole (above first second)) bytes place)
-    (if-within (nat_lt first 0xff) (unsigned 1 >>= λ second. pure (whole (below first second))) (unsigned 4 >>= λ bits. pure (signed 0x80000000 bits)) bytes place (of-unsigned-within 1 (λ second. whole (below first second)) bytes place)
-    (of-unsigned-within 4 (signed 0x80000000) bytes place)))))
+    (if-within (nat_lt first 0xff) (unsigned 1 >>= λ second. pure (whole (below first second))) (unsigned 4 >>= λ bits. pure (two_sided 0x80000000 bits)) bytes place (of-unsigned-within 1 (λ second. whole (below first second)) bytes place)
+    (of-unsigned-within 4 (two_sided 0x80000000) bytes place)))))
 
 number-within : (bytes : List ℕ) (place : ℕ) → Within (number bytes place)
 unfolding number

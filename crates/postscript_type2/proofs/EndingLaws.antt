@@ -4,7 +4,7 @@ use Rattle.std.proofs.Common.{◌≡◌, refl, ap, sym, subst, ℕ, zero, suc, �
 use Rattle.std.specs.Option.{ok_or, option_map}
 use Rattle.std.specs.Ordering.{int_eq}
 use Rattle.postscript_base.specs.Error.{code, IsOneOf, IsListed}
-use Rattle.postscript_base.specs.Numbers.{slice, number as unsigned, big_endian}
+use Rattle.postscript_base.specs.Numbers.{slice, number as unsigned, big_endian, two_sided, above, below}
 use Rattle.postscript_base.specs.Tape.Outcome.{Outcome, Got, Fault as Cut, Past, Reading, after as chained, ◌>>=◌ as ◌>>>◌, pure, fault}
 use Rattle.postscript_base.specs.declared.error.Error.{Error}
 use Rattle.postscript_base.specs.declared.error.Error.TheVariants as errors
@@ -19,7 +19,7 @@ use Rattle.postscript_type2.specs.Machines.{still_of}
 use Rattle.postscript_type2.specs.Working.{lists_of, state_of}
 use Rattle.postscript_type2.specs.Runs.{Answer, End, UsedUp, Returned, Finished, Fault, Run, fault_of}
 use Rattle.postscript_type2.specs.Evaluation.{with_any_answer, is_empty, after_call, Stride, On, Into, Back, Over, Faults, moved, stride_by, stride, Callee, called, paced, routine, callee, mean, run_of}
-use Rattle.postscript_type2.specs.Number.{to_int, spelled, whole, signed, above, below}
+use Rattle.postscript_type2.specs.Number.{to_int, spelled, whole}
 use Rattle.postscript_type2.specs.Operators.{operator_of}
 use Rattle.postscript_type2.specs.Parsing.{Phrase, Complete, NoPhrase, is_number, passed, with_number, numbered, with_operator, escaped, ending, phrase_after, phrase}
 use Rattle.postscript_base.specs.Refusal.{Refusal, refusal_of, number_of, unexpected_eof, malformed_number, return_without_caller, trailing_data, expected_operand, expected_integer, expected_more_operands, missing_subroutine}
@@ -107,12 +107,12 @@ of-unsigned-cut size f bytes place =
 
 pub spelled-cut : (first : ℕ) (bytes : List ℕ) (place : ℕ) → is_number first ≡ true → IsCut (spelled first bytes place)
 spelled-cut first bytes place is =
-    if-cut (first == 0x1c) (unsigned 2 >>> λ n. pure (whole (signed 0x8000 n))) _ bytes place (λ e. of-unsigned-cut 2 (λ n. whole (signed 0x8000 n)) bytes place)
+    if-cut (first == 0x1c) (unsigned 2 >>> λ n. pure (whole (two_sided 0x8000 n))) _ bytes place (λ e. of-unsigned-cut 2 (λ n. whole (two_sided 0x8000 n)) bytes place)
     (λ other. if-cut (nat_lt first 0x20) (fault malformed_number) _ bytes place (λ low. absurd (no-number first other low is))
     (λ e. if-cut (nat_lt first 0xf7) (pure (whole (pos first -ℤ pos 139))) _ bytes place (λ e. tt)
     (λ e. if-cut (nat_lt first 0xfb) (unsigned 1 >>> λ second. pure (whole (above first second))) _ bytes place (λ e. of-unsigned-cut 1 (λ second. whole (above first second)) bytes place)
-    (λ e. if-cut (nat_lt first 0xff) (unsigned 1 >>> λ second. pure (whole (below first second))) (unsigned 4 >>> λ bits. pure (signed 0x80000000 bits)) bytes place (λ e. of-unsigned-cut 1 (λ second. whole (below first second)) bytes place)
-    (λ e. of-unsigned-cut 4 (signed 0x80000000) bytes place)))))
+    (λ e. if-cut (nat_lt first 0xff) (unsigned 1 >>> λ second. pure (whole (below first second))) (unsigned 4 >>> λ bits. pure (two_sided 0x80000000 bits)) bytes place (λ e. of-unsigned-cut 1 (λ second. whole (below first second)) bytes place)
+    (λ e. of-unsigned-cut 4 (two_sided 0x80000000) bytes place)))))
   where
     no-number : (first : ℕ) → (first == 0x1c) ≡ false → nat_lt first 0x20 ≡ true → is_number first ≡ true → ⊥
     no-number first other low is = grind (arith, nat_tests)

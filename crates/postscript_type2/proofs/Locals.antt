@@ -4,9 +4,9 @@ use Rattle.std.proofs.lemmas.List.{take-append-le, take-take}
 use Rattle.std.proofs.Common.{◌≡◌, refl, ap, sym, ◌∙◌, ℕ, zero, suc, ◌+◌, ◌-◌, ◌<◌, ◌≤◌, ◌==◌, Bool, true, false, ◌&&◌, ◌||◌, cond, List, [], ◌∷◌, ◌++◌, take, length, length-take, length-append, nat_lt, Option, Some, None, ℤ, pos, ◌-ℤ◌, if◌then◌else◌, arith}
 use Rattle.postscript_base.specs.Refusal.{malformed_number}
 use Rattle.postscript_base.specs.Tape.Outcome.{Outcome, Got, Fault, Past, end, after, Reading, ◌>>=◌, pure, fault}
-use Rattle.postscript_base.specs.Numbers.{slice, number, big_endian}
+use Rattle.postscript_base.specs.Numbers.{slice, number, big_endian, two_sided, above, below}
 use Rattle.postscript_type2.specs.declared.operation.Operator.{Operator}
-use Rattle.postscript_type2.specs.Number.{spelled, whole, signed, above, below}
+use Rattle.postscript_type2.specs.Number.{spelled, whole}
 use Rattle.postscript_type2.specs.Operators.{operators, lookup, operator_of}
 use Rattle.postscript_type2.specs.Parsing.{is_number, Phrase, Complete, NoPhrase, passed, with_number, with_operator, numbered, escaped, ending, phrase_after, phrase, fronted}
 use Rattle.postscript_type2.specs.Effects.{Kind, CallsFrom, GoesBack, kind}
@@ -50,12 +50,12 @@ number-prompt size = mapped-prompt (slice size) big_endian (slice-prompt size)
 -- what a first byte begins
 spelled-prompt : (first : ℕ) → IsPrompt (spelled first)
 spelled-prompt first =
-    if-prompt (first == 0x1c) _ _ (mapped-prompt (number 2) (λ n. whole (signed 0x8000 n)) (number-prompt 2))
+    if-prompt (first == 0x1c) _ _ (mapped-prompt (number 2) (λ n. whole (two_sided 0x8000 n)) (number-prompt 2))
     (if-prompt (nat_lt first 0x20) (fault malformed_number) _ (λ r y m x next is within. is)
     (if-prompt (nat_lt first 0xf7) (pure (whole (pos first -ℤ pos 139))) _ (λ r y m x next is within. is)
     (if-prompt (nat_lt first 0xfb) _ _ (mapped-prompt (number 1) (λ second. whole (above first second)) (number-prompt 1))
     (if-prompt (nat_lt first 0xff) _ _ (mapped-prompt (number 1) (λ second. whole (below first second)) (number-prompt 1))
-    (mapped-prompt (number 4) (signed 0x80000000) (number-prompt 4))))))
+    (mapped-prompt (number 4) (two_sided 0x80000000) (number-prompt 4))))))
 
 -- whether operators of a kind stand in flat code as they are
 abbrev pub stands_flat : Kind → Bool

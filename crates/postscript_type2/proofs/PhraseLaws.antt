@@ -3,10 +3,10 @@ use Rattle.std.proofs.Math.Seq.{drop-append_seam, take-append-add}
 use Rattle.std.proofs.lemmas.Bool.Decides.{nat_tests}
 use Rattle.std.proofs.lemmas.List.{append-nil, take-append-drop, length-take-le}
 use Rattle.std.proofs.Common.{◌≡◌, ◌≢◌, refl, ap, sym, subst, ◌∙◌, ℕ, zero, suc, ◌+◌, ◌-◌, ◌<◌, ◌≤◌, ◌⊎◌, inl, inr, ℤ, pos, ◌-ℤ◌, Bool, true, false, cond, nat_lt, ◌==◌, List, [], ◌∷◌, ◌++◌, length, length-append, length-drop, take, drop, append_assoc, zero-add, Option, Some, None, if◌then◌else◌, arith}
-use Rattle.postscript_base.specs.Numbers.{slice, number as unsigned, big_endian}
+use Rattle.postscript_base.specs.Numbers.{slice, number as unsigned, big_endian, two_sided, above, below}
 use Rattle.postscript_base.specs.Tape.Outcome.{Got, Fault, end, Reading, after, ◌>>=◌, pure, fault}
 use Rattle.postscript_type2.specs.declared.operation.Operator.{Operator}
-use Rattle.postscript_type2.specs.Number.{spelled, whole, signed, above, below}
+use Rattle.postscript_type2.specs.Number.{spelled, whole}
 use Rattle.postscript_type2.specs.Operators.{operator_of}
 use Rattle.postscript_type2.specs.Parsing.{Phrase, Complete, NoPhrase, is_number, with_number, numbered, with_operator, escaped, ending, phrase_after, phrase, fronted}
 use Rattle.postscript_base.specs.Refusal.{Refusal, unexpected_eof, malformed_number}
@@ -25,7 +25,7 @@ skip true x y bytes place h = absurd (cc)
 skip false x y bytes place h = refl
 
 abbrev two : Reading ℤ
-two = unsigned 2 >>= λ n. pure (whole (signed 0x8000 n))
+two = unsigned 2 >>= λ n. pure (whole (two_sided 0x8000 n))
 
 abbrev one_above : ℕ → Reading ℤ
 one_above first = unsigned 1 >>= λ second. pure (whole (above first second))
@@ -34,7 +34,7 @@ abbrev one_below : ℕ → Reading ℤ
 one_below first = unsigned 1 >>= λ second. pure (whole (below first second))
 
 abbrev four : Reading ℤ
-four = unsigned 4 >>= λ bits. pure (signed 0x80000000 bits)
+four = unsigned 4 >>= λ bits. pure (two_sided 0x80000000 bits)
 
 reads-small : (b : ℕ) (r : List ℕ) → 0x20 ≤ b → b < 0xf7 → spelled b r 0 ≡ Got (whole (pos b -ℤ pos 139)) 0
 reads-small b r low high =
@@ -94,7 +94,7 @@ abbrev ReadsSo : List ℕ → ℤ → Type 0
 ReadsSo number x = (b : ℕ) × (s : List ℕ) × (number ≡ b ∷ s) × (is_number b ≡ true) × ((tail : List ℕ) → spelled b (s ++ tail) 0 ≡ Got x (length s))
 
 reads-number : (number : List ℕ) (x : ℤ) → IsNumber number x → ReadsSo number x
-reads-number number x (spellings.of_two_bytes a b) = (0x1c, a ∷ b ∷ [], refl, refl, λ tail. unsigned-there 2 (λ n. whole (signed 0x8000 n)) (a ∷ b ∷ tail) (omega arith))
+reads-number number x (spellings.of_two_bytes a b) = (0x1c, a ∷ b ∷ [], refl, refl, λ tail. unsigned-there 2 (λ n. whole (two_sided 0x8000 n)) (a ∷ b ∷ tail) (omega arith))
 reads-number number x (spellings.small b low high) = (b, [], refl, is-number b low, λ tail. reads-small b tail low high)
 reads-number number x (spellings.positive b second low high) =
     (b, second ∷ [], refl, is-number b (omega (arith, low)), λ tail. reads-above b (second ∷ tail) low high ∙ by_one b second tail)
@@ -111,7 +111,7 @@ reads-number number x (spellings.of_bits b a c d e low) = (
   a ∷ c ∷ d ∷ e ∷ [],
   refl,
   is-number b (omega (arith, low)),
-  λ tail. reads-bits b (a ∷ c ∷ d ∷ e ∷ tail) low ∙ unsigned-there 4 (signed 0x80000000) (a ∷ c ∷ d ∷ e ∷ tail) (omega arith),
+  λ tail. reads-bits b (a ∷ c ∷ d ∷ e ∷ tail) low ∙ unsigned-there 4 (two_sided 0x80000000) (a ∷ c ∷ d ∷ e ∷ tail) (omega arith),
 )
 
 cons-parts : (x y : ℕ) (xs ys : List ℕ) → x ∷ xs ≡ y ∷ ys → (x ≡ y) × (xs ≡ ys)
@@ -155,9 +155,9 @@ number-at : (b : ℕ) (r : List ℕ) → Form b → Stands b r ⊎ IsCut b r
 number-at b r (inl e) = subst (λ c. Stands c r ⊎ IsCut c r) (sym e) (at_two r)
   where
     at_two : (r : List ℕ) → Stands 0x1c r ⊎ IsCut 0x1c r
-    at_two [] = inr (0 ∷ 0 ∷ [], _, unsigned-cut 2 (λ n. whole (signed 0x8000 n)) [] (omega arith), λ e. cc, spellings.of_two_bytes 0 0)
-    at_two (a ∷ []) = inr (0 ∷ [], _, unsigned-cut 2 (λ n. whole (signed 0x8000 n)) (a ∷ []) (omega arith), λ e. cc, spellings.of_two_bytes a 0)
-    at_two (a ∷ c ∷ t) = inl (2, _, unsigned-there 2 (λ n. whole (signed 0x8000 n)) (a ∷ c ∷ t) (omega arith), spellings.of_two_bytes a c, omega arith)
+    at_two [] = inr (0 ∷ 0 ∷ [], _, unsigned-cut 2 (λ n. whole (two_sided 0x8000 n)) [] (omega arith), λ e. cc, spellings.of_two_bytes 0 0)
+    at_two (a ∷ []) = inr (0 ∷ [], _, unsigned-cut 2 (λ n. whole (two_sided 0x8000 n)) (a ∷ []) (omega arith), λ e. cc, spellings.of_two_bytes a 0)
+    at_two (a ∷ c ∷ t) = inl (2, _, unsigned-there 2 (λ n. whole (two_sided 0x8000 n)) (a ∷ c ∷ t) (omega arith), spellings.of_two_bytes a c, omega arith)
 number-at b r (inr (inl h)) = inl (0, _, reads-small b r h.0 h.1, spellings.small b h.0 h.1, omega arith)
 number-at b [] (inr (inr (inl h))) =
     inr (0 ∷ [], _, reads-above b [] h.0 h.1 ∙ unsigned-cut 1 (λ s. whole (above b s)) [] (omega arith), λ e. cc, spellings.positive b 0 h.0 h.1)
@@ -172,7 +172,7 @@ number-at b (s ∷ t) (inr (inr (inr (inl h)))) =
 number-at b r (inr (inr (inr (inr h)))) = at_four r
   where
     cut : (r : List ℕ) → length r < 4 → spelled b r 0 ≡ Fault unexpected_eof
-    cut r few = reads-bits b r h ∙ unsigned-cut 4 (signed 0x80000000) r few
+    cut r few = reads-bits b r h ∙ unsigned-cut 4 (two_sided 0x80000000) r few
 
     at_four : (r : List ℕ) → Stands b r ⊎ IsCut b r
     at_four [] = inr (0 ∷ 0 ∷ 0 ∷ 0 ∷ [], _, cut [] (omega arith), λ e. cc, spellings.of_bits b 0 0 0 0 h)
@@ -180,7 +180,7 @@ number-at b r (inr (inr (inr (inr h)))) = at_four r
     at_four (a ∷ c ∷ []) = inr (0 ∷ 0 ∷ [], _, cut (a ∷ c ∷ []) (omega arith), λ e. cc, spellings.of_bits b a c 0 0 h)
     at_four (a ∷ c ∷ d ∷ []) = inr (0 ∷ [], _, cut (a ∷ c ∷ d ∷ []) (omega arith), λ e. cc, spellings.of_bits b a c d 0 h)
     at_four (a ∷ c ∷ d ∷ e ∷ t) =
-        inl (4, _, reads-bits b (a ∷ c ∷ d ∷ e ∷ t) h ∙ unsigned-there 4 (signed 0x80000000) (a ∷ c ∷ d ∷ e ∷ t) (omega arith), spellings.of_bits b a c d e h, omega arith)
+        inl (4, _, reads-bits b (a ∷ c ∷ d ∷ e ∷ t) h ∙ unsigned-there 4 (two_sided 0x80000000) (a ∷ c ∷ d ∷ e ∷ t) (omega arith), spellings.of_bits b a c d e h, omega arith)
 
 -- a number before a phrase, or before what is none
 number-before : (number : List ℕ) (x : ℤ) → IsNumber number x → (tail : List ℕ) →

@@ -2,8 +2,8 @@
 use Rattle.std.proofs.Common.{◌≡◌, refl, ap, sym, ◌∙◌, ℕ, ◌+◌, ◌-◌, Bool, true, false, nat_lt, if◌then◌else◌, ◌==◌, List, length, take, drop, ℤ, pos, ◌-ℤ◌, add-zero, length-drop, arith}
 use Rattle.postscript_base.specs.Refusal.{malformed_number}
 use Rattle.postscript_base.specs.Tape.Outcome.{Outcome, Got, Fault, Past, end, after, Reading, ◌>>=◌, pure, fault}
-use Rattle.postscript_base.specs.Numbers.{slice, number, big_endian}
-use Rattle.postscript_type2.specs.Number.{spelled, whole, signed, above, below}
+use Rattle.postscript_base.specs.Numbers.{slice, number, big_endian, two_sided, above, below}
+use Rattle.postscript_type2.specs.Number.{spelled, whole}
 
 -- the same, so many places on
 abbrev pub later : {A : Type 0} → ℕ → Outcome A → Outcome A
@@ -51,9 +51,9 @@ of-number-local size f bytes place =
 -- what a first byte begins
 pub spelled-local : (first : ℕ) → IsLocal (spelled first)
 spelled-local first =
-    if-local (first == 0x1c) _ _ (of-number-local 2 (λ n. whole (signed 0x8000 n)))
+    if-local (first == 0x1c) _ _ (of-number-local 2 (λ n. whole (two_sided 0x8000 n)))
     (if-local (nat_lt first 0x20) (fault malformed_number) _ (λ bytes place. refl)
     (if-local (nat_lt first 0xf7) _ _ (pure-local (whole (pos first -ℤ pos 139)))
     (if-local (nat_lt first 0xfb) _ _ (of-number-local 1 (λ second. whole (above first second)))
     (if-local (nat_lt first 0xff) _ _ (of-number-local 1 (λ second. whole (below first second)))
-    (of-number-local 4 (signed 0x80000000))))))
+    (of-number-local 4 (two_sided 0x80000000))))))

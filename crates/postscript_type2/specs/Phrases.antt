@@ -1,18 +1,18 @@
 -- How phrases are spelled (Technical Note 5177, "Charstring Number Encoding" and "Charstring Operator Encoding").
 use Rattle.std.specs.Prelude.{◌≡◌, ◌≢◌, ℕ, ◌+◌, ◌<◌, ◌≤◌, ℤ, pos, ◌-ℤ◌, List, [], ◌∷◌, ◌++◌, Some, None}
-use Rattle.postscript_base.specs.Numbers.{big_endian}
+use Rattle.postscript_base.specs.Numbers.{big_endian, two_sided, above, below}
 use Rattle.postscript_type2.specs.declared.operation.Operator.{Operator}
-use Rattle.postscript_type2.specs.Number.{whole, signed, above, below}
+use Rattle.postscript_type2.specs.Number.{whole}
 use Rattle.postscript_type2.specs.Operators.{operator_of}
 use Rattle.postscript_base.specs.Refusal.{Refusal, unexpected_eof, unknown_operator}
 
 -- the bytes of a number, over its bits
 pub data IsNumber : List ℕ → ℤ → Type 0 where
-  of_two_bytes : (a b : ℕ) → IsNumber (0x1c ∷ a ∷ b ∷ []) (whole (signed 0x8000 (big_endian (a ∷ b ∷ []))))
+  of_two_bytes : (a b : ℕ) → IsNumber (0x1c ∷ a ∷ b ∷ []) (whole (two_sided 0x8000 (big_endian (a ∷ b ∷ []))))
   small : (first : ℕ) → 0x20 ≤ first → first < 0xf7 → IsNumber (first ∷ []) (whole (pos first -ℤ pos 139))
   positive : (first second : ℕ) → 0xf7 ≤ first → first < 0xfb → IsNumber (first ∷ second ∷ []) (whole (above first second))
   negative : (first second : ℕ) → 0xfb ≤ first → first < 0xff → IsNumber (first ∷ second ∷ []) (whole (below first second))
-  of_bits : (first a b c d : ℕ) → 0xff ≤ first → IsNumber (first ∷ a ∷ b ∷ c ∷ d ∷ []) (signed 0x80000000 (big_endian (a ∷ b ∷ c ∷ d ∷ [])))
+  of_bits : (first a b c d : ℕ) → 0xff ≤ first → IsNumber (first ∷ a ∷ b ∷ c ∷ d ∷ []) (two_sided 0x80000000 (big_endian (a ∷ b ∷ c ∷ d ∷ [])))
 
 -- the bytes of a phrase: numbers, and then an operator
 pub data IsPhrase : List ℕ → List ℤ → Operator → Type 0 where

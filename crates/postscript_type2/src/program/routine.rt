@@ -6,6 +6,7 @@ ghost use Rattle.postscript_type2.specs.Tokens.{LooksAt, ReadsByte, ReadsNumber,
 
 use crate::number;
 use crate::operation::{Operand, Operator};
+use postscript_base::number::byte;
 use postscript_base::{Error, Result};
 use std::io::Cursor;
 use std::marker::Model;
@@ -87,7 +88,7 @@ impl<'l> Routine<'l> {
     fn byte(&mut self) -> Result<u8>
         ensures { ReadsByte self.old result self.new }
     {
-        number::byte(&mut self.tape)
+        byte(&mut self.tape)
     }
 
     fn number(&mut self) -> Result<Operand>
