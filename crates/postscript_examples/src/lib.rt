@@ -1,0 +1,7 @@
+//! Examples of use. Each is proved from the library's public contracts alone.
+#![tactic(auto)]
+
+pub mod glyphs;
+pub mod tapes;
+#[cfg(test)]
+mod tests;
