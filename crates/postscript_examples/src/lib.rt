@@ -1,4 +1,8 @@
 //! Examples of use. Each is proved from the library's public contracts alone.
 #![tactic(auto)]
 
+pub mod glyphs;
 pub mod readers;
+pub mod tapes;
+#[cfg(test)]
+mod tests;

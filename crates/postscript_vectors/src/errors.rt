@@ -7,7 +7,7 @@ use std::io::ErrorKind;
 use std::test::Fail;
 
 #[test]
-fn numbers_and_messages(rt: HostRuntime) -> Result<(), Fail> {
+fn refusals(rt: HostRuntime) -> Result<(), Fail> {
     let refusals = [
         (Error::UnexpectedEof, 1, "failed to fill whole buffer"),
         (
@@ -67,11 +67,7 @@ fn numbers_and_messages(rt: HostRuntime) -> Result<(), Fail> {
         let text = error.to_string(rt.alloc())?;
         assert_eq!(rt; text.as_str(), message);
     }
-    Ok(())
-}
-
-#[test]
-fn faults_of_others(rt: HostRuntime) {
+    // Faults of others.
     let end = Error::from(io::Error::from(ErrorKind::UnexpectedEof));
     assert!(rt; matches!(end, Error::UnexpectedEof));
     for kind in [
@@ -85,4 +81,5 @@ fn faults_of_others(rt: HostRuntime) {
         }
     }
     assert!(rt; matches!(Error::from(AllocError), Error::Memory));
+    Ok(())
 }

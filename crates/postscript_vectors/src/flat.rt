@@ -1,9 +1,8 @@
 //! Flat code.
-use crate::programs::{Outcome, bytes_of, routines_of, text_of};
+use crate::programs::{DOUBLING, Outcome, bytes_of, routines_of, text_of};
 use postscript::type2::{self, Program};
 use std::alloc::Global;
 use std::process::Abort;
-use std::test::Fail;
 
 /// A code in hex, its local subroutines in hex, each after a space, and its flat code in hex.
 type Row = (&'static str, &'static str, &'static str);
@@ -59,34 +58,33 @@ fn check<R: AllocGlobal + Abort>(rt: &R, row: &Row) -> Outcome<()> {
     Ok(())
 }
 
+/// Flattens a code whose run is refused.
+fn check_faulty<R: AllocGlobal + Abort>(
+    rt: &R,
+    code: &str,
+    local: &str,
+    number: u8,
+) -> Outcome<()> {
+    let bytes = bytes_of(rt.alloc(), code)?;
+    let local = routines_of(rt.alloc(), local)?;
+    match Program::flatten(rt.alloc(), bytes.as_slice(), &[], local.as_slice()) {
+        Ok(_) => assert!(rt; false, "at {code}"),
+        Err(fault) => assert_eq!(rt; fault.code(), number, "at {code}"),
+    }
+    Ok(())
+}
+
 #[test]
 fn flat_codes(rt: HostRuntime) -> Outcome<()> {
     for row in FLAT {
         check(&rt, row)?;
     }
-    Ok(())
-}
-
-#[test]
-fn faulty_codes(rt: HostRuntime) -> Outcome<()> {
     for (code, local, number) in FAULTY {
-        let bytes = bytes_of(rt.alloc(), code)?;
-        let local = routines_of(rt.alloc(), local)?;
-        match Program::flatten(rt.alloc(), bytes.as_slice(), &[], local.as_slice()) {
-            Ok(_) => assert!(rt; false, "at {code}"),
-            Err(fault) => assert_eq!(rt; fault.code(), *number, "at {code}"),
-        }
+        check_faulty(&rt, code, local, *number)?;
     }
-    Ok(())
-}
-
-#[test]
-fn a_code_that_doubles(rt: HostRuntime) -> Outcome<()> {
-    // Each of nine subroutines calls the next one twice, and the last one moves: 512 moves, a thousand calls.
-    let words =
-        "210a210a0b 220a220a0b 230a230a0b 240a240a0b 250a250a0b 260a260a0b 270a270a0b 280a280a0b 290a290a0b 8c160b";
+    // 512 moves, and a thousand calls.
     let code = bytes_of(rt.alloc(), "200a0e")?;
-    let local = routines_of(rt.alloc(), words)?;
+    let local = routines_of(rt.alloc(), DOUBLING)?;
     let flat = Program::flatten(rt.alloc(), code.as_slice(), &[], local.as_slice())?;
     assert_eq!(rt; flat.len(), 7163);
     let again = Program::flatten(rt.alloc(), flat.as_slice(), &[], &[])?;

@@ -1,7 +1,6 @@
-//! Tests of the library against outside vectors, the tapes and charstrings that they read, and callers that are proved.
+//! Tests of the library against outside vectors, and the tapes and charstrings that they read.
 #![tactic(auto)]
 
-pub mod callers;
 #[cfg(test)]
 mod decimals;
 #[cfg(test)]

@@ -6,7 +6,7 @@ use std::io::Cursor;
 use std::test::Fail;
 
 #[test]
-fn offsets(rt: HostRuntime) -> std::result::Result<(), Fail> {
+fn offsets_and_headers(rt: HostRuntime) -> std::result::Result<(), Fail> {
     let bytes = [0x01, 0x02, 0x03, 0x04, 0x05, 0x06, 0x07, 0x08, 0x09, 0x0a];
     let mut tape = Cursor::new(bytes.as_slice());
     for (size, wanted) in [(1, 0x01), (2, 0x0203), (3, 0x04_0506), (4, 0x0708_090a)] {
@@ -25,11 +25,6 @@ fn offsets(rt: HostRuntime) -> std::result::Result<(), Fail> {
     tape.jump(7)?;
     let cut: Result<Offset> = tape.take_given(rt.alloc(), 4);
     assert_eq!(rt; code_of(cut), 1);
-    Ok(())
-}
-
-#[test]
-fn headers(rt: HostRuntime) -> std::result::Result<(), Fail> {
     let bytes = [0x01, 0x00, 0x04, 0x02];
     let mut tape = Cursor::new(bytes.as_slice());
     let wanted = Header {

@@ -566,14 +566,25 @@ fn check<R: AllocGlobal + Abort>(rt: &R, rows: &[Row]) -> Outcome<()> {
     Ok(())
 }
 
-#[test]
-fn paths_and_numbers(rt: HostRuntime) -> Outcome<()> {
-    check(&rt, PATHS_AND_NUMBERS)
+/// A list in which each of nine subroutines calls the next one twice, and the last one moves.
+pub const DOUBLING: &str =
+    "210a210a0b 220a220a0b 230a230a0b 240a240a0b 250a250a0b 260a260a0b 270a270a0b 280a280a0b 290a290a0b 8c160b";
+
+/// What 512 moves answer.
+fn many_moves(alloc: Global) -> Result<String, AllocError> {
+    let mut text = String::new(alloc);
+    for _ in 0..512 {
+        text.push_str("HMoveTo 1 | ")?;
+    }
+    text.push_str("end | width none")?;
+    Ok(text)
 }
 
 #[test]
-fn calls(rt: HostRuntime) -> Outcome<()> {
-    check(&rt, CALLS)?;
+fn runs(rt: HostRuntime) -> Outcome<()> {
+    for rows in [PATHS_AND_NUMBERS, CALLS, PATHS_AND_HINTS, ARITHMETIC] {
+        check(&rt, rows)?;
+    }
     for (code, global, local, wanted) in GLOBAL_CALLS {
         let global = routines_of(rt.alloc(), global)?;
         let local = routines_of(rt.alloc(), local)?;
@@ -585,33 +596,17 @@ fn calls(rt: HostRuntime) -> Outcome<()> {
         let found = told(rt.alloc(), code, &[], local.as_slice())?;
         assert_eq!(rt; found.as_str(), *wanted, "at {code} with {count}");
     }
-    Ok(())
-}
-
-#[test]
-fn calls_that_double(rt: HostRuntime) -> Outcome<()> {
-    // Each of nine calls the next one twice, and the last one moves.
-    let words =
-        "210a210a0b 220a220a0b 230a230a0b 240a240a0b 250a250a0b 260a260a0b 270a270a0b 280a280a0b 290a290a0b 8c160b";
-    let local = routines_of(rt.alloc(), words)?;
-    let mut wanted = String::new(rt.alloc());
-    for _ in 0..512 {
-        wanted.push_str("HMoveTo 1 | ")?;
-    }
-    wanted.push_str("end | width none")?;
+    let local = routines_of(rt.alloc(), DOUBLING)?;
     let found = told(rt.alloc(), "200a0e", &[], local.as_slice())?;
+    let wanted = many_moves(rt.alloc())?;
     assert!(rt; found.as_str() == wanted.as_str());
+    for count in [0, 1, 64, 65, 1000] {
+        let code = charstring(rt.alloc(), count)?;
+        let answers = type2::run(rt.alloc(), code.as_slice(), &[], &[])?;
+        assert!(rt; answers.fault.is_none(), "at {count}");
+        assert_eq!(rt; answers.operations.len(), count);
+    }
     Ok(())
-}
-
-#[test]
-fn paths_and_hints(rt: HostRuntime) -> Outcome<()> {
-    check(&rt, PATHS_AND_HINTS)
-}
-
-#[test]
-fn arithmetic(rt: HostRuntime) -> Outcome<()> {
-    check(&rt, ARITHMETIC)
 }
 
 /// What the next step of a program answers, and the width after it.
@@ -710,8 +705,8 @@ const NUMBERS: &[(&str, Result<i32, u8>)] = &[
     ("ff000000", Err(1)),
 ];
 
-#[test]
-fn numbers(rt: HostRuntime) -> Outcome<()> {
+/// Reads each number.
+fn check_numbers<R: AllocGlobal + Abort>(rt: &R) -> Outcome<()> {
     for (digits, wanted) in NUMBERS {
         let bytes = bytes_of(rt.alloc(), digits)?;
         let mut tape = Cursor::new(bytes.as_slice());
@@ -775,8 +770,8 @@ const OPERATORS: &[(u16, &str)] = &[
     (0x0c25, "Flex1"),
 ];
 
-#[test]
-fn operators(rt: HostRuntime) -> Outcome<()> {
+/// Each code, and no other, has its operator.
+fn check_operators<R: Abort>(rt: &R) -> Outcome<()> {
     for (code, name) in OPERATORS {
         assert_eq!(rt; Operator::from(*code)?.name(), *name, "at {code}");
     }
@@ -791,41 +786,39 @@ fn operators(rt: HostRuntime) -> Outcome<()> {
     Ok(())
 }
 
-#[test]
-fn operands(rt: HostRuntime) -> Outcome<()> {
-    let table = [
-        (0, Some(0), "0"),
-        (65536, Some(1), "1"),
-        (-65536, Some(-1), "-1"),
-        (2147418112, Some(32767), "32767"),
-        (-2147483648, Some(-32768), "-32768"),
-        (1, None, "1/65536"),
-        (-1, None, "-1/65536"),
-        (32768, None, "32768/65536"),
-        (65537, None, "65537/65536"),
-        (2147483647, None, "2147483647/65536"),
-    ];
-    for (bits, whole, text) in table {
-        let operand = Operand::from_bits(bits);
-        assert_eq!(rt; operand.bits(), bits);
-        assert_eq!(rt; operand.to_int(), whole, "at {bits}");
+/// Bits, the whole number, and the text.
+const OPERANDS: &[(i32, Option<i16>, &str)] = &[
+    (0, Some(0), "0"),
+    (65536, Some(1), "1"),
+    (-65536, Some(-1), "-1"),
+    (2147418112, Some(32767), "32767"),
+    (-2147483648, Some(-32768), "-32768"),
+    (1, None, "1/65536"),
+    (-1, None, "-1/65536"),
+    (32768, None, "32768/65536"),
+    (65537, None, "65537/65536"),
+    (2147483647, None, "2147483647/65536"),
+];
+
+/// Asks each operand.
+fn check_operands<R: AllocGlobal + Abort>(rt: &R) -> Outcome<()> {
+    for (bits, whole, text) in OPERANDS {
+        let operand = Operand::from_bits(*bits);
+        assert_eq!(rt; operand.bits(), *bits);
+        assert_eq!(rt; operand.to_int(), *whole, "at {bits}");
         if let Some(number) = whole {
-            assert!(rt; Operand::from_int(number) == operand, "at {bits}");
+            assert!(rt; Operand::from_int(*number) == operand, "at {bits}");
         }
         let shown = operand.to_string(rt.alloc())?;
-        assert_eq!(rt; shown.as_str(), text);
+        assert_eq!(rt; shown.as_str(), *text);
     }
     assert!(rt; Operand::from_int(-1) < Operand::from_bits(-1));
     Ok(())
 }
 
 #[test]
-fn a_long_charstring(rt: HostRuntime) -> Outcome<()> {
-    for count in [0, 1, 64, 65, 1000] {
-        let code = charstring(rt.alloc(), count)?;
-        let answers = type2::run(rt.alloc(), code.as_slice(), &[], &[])?;
-        assert!(rt; answers.fault.is_none(), "at {count}");
-        assert_eq!(rt; answers.operations.len(), count);
-    }
-    Ok(())
+fn tables(rt: HostRuntime) -> Outcome<()> {
+    check_numbers(&rt)?;
+    check_operators(&rt)?;
+    check_operands(&rt)
 }

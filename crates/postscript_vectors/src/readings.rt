@@ -1,13 +1,16 @@
-//! Readings of a tape.
-use crate::callers::{first_byte_twice, first_number};
+//! Readings of tapes of every kind.
 use crate::tapes::{Trouble, TroubledTape};
 use postscript::tape::{Opaque, fixed, read_many};
-use postscript::{Result, Tape};
+use postscript::{Error, Result, Tape};
 use std::alloc::Global;
 use std::fs;
 use std::fs::File;
-use std::io::{BufReader, Cursor};
+use std::io::{BufReader, Cursor, ErrorKind};
+use std::process::Abort;
 use std::test::Fail;
+
+/// What a helper gives, or the error that fails its test.
+type Outcome<T> = std::result::Result<T, Fail>;
 
 /// The number of a refusal, 0 where there is none.
 pub fn code_of<T: Drop>(outcome: Result<T>) -> u8 {
@@ -17,18 +20,9 @@ pub fn code_of<T: Drop>(outcome: Result<T>) -> u8 {
     }
 }
 
-#[test]
-fn a_peek_stays(rt: HostRuntime) -> std::result::Result<(), Fail> {
-    let mut tape = Cursor::new([0x01, 0x02].as_slice());
-    assert_eq!(rt; tape.peek::<u16>(rt.alloc())?, 258);
-    assert_eq!(rt; Tape::position(&mut tape)?, 0);
-    assert_eq!(rt; code_of(tape.peek::<u32>(rt.alloc())), 1);
-    assert_eq!(rt; Tape::position(&mut tape)?, 0);
-    assert_eq!(rt; tape.take::<u8>(rt.alloc())?, 1);
-    assert_eq!(rt; tape.peek::<u8>(rt.alloc())?, 2);
-    assert_eq!(rt; Tape::position(&mut tape)?, 1);
-    Ok(())
-}
+const TWELVE: [u8; 12] = [
+    0x01, 0x02, 0x03, 0xff, 0x05, 0x06, 0x07, 0x08, 0x09, 0x0a, 0x0b, 0x0c,
+];
 
 /// Reads a value of each width.
 fn read_each<T: Tape>(alloc: Global, tape: &mut T) -> Result<(u8, u16, u32, [u8; 3], [u8; 2])> {
@@ -41,75 +35,63 @@ fn read_each<T: Tape>(alloc: Global, tape: &mut T) -> Result<(u8, u16, u32, [u8;
     ))
 }
 
-const TWELVE: [u8; 12] = [
-    0x01, 0x02, 0x03, 0xff, 0x05, 0x06, 0x07, 0x08, 0x09, 0x0a, 0x0b, 0x0c,
+/// A place, the byte there, the number of the two bytes there, and the refusals of looks at two and at four bytes.
+const PLACES: [(u64, u8, u16, u8, u8); 5] = [
+    (11, 0x0c, 0, 1, 1),
+    (0, 0x01, 0x0102, 0, 0),
+    (3, 0xff, 0xff05, 0, 0),
+    (10, 0x0b, 0x0b0c, 0, 1),
+    (1, 0x02, 0x0203, 0, 0),
 ];
 
-#[test]
-fn the_high_byte_comes_first(rt: HostRuntime) -> std::result::Result<(), Fail> {
+/// Reads the twelve bytes of a tape that stands at the first: the high byte comes first, jumps arrive, and looks stay.
+fn read_twelve<R: AllocGlobal + Abort, T: Tape>(rt: &R, tape: &mut T, name: &str) -> Outcome<()> {
     let wanted = (0x01, 0x0203, 0xff05_0607, [0x08, 0x09, 0x0a], [0x0b, 0x0c]);
-    let mut cursor = Cursor::new(TWELVE.as_slice());
-    assert!(rt; read_each(rt.alloc(), &mut cursor)? == wanted);
-    assert_eq!(rt; code_of(cursor.take::<u8>(rt.alloc())), 1);
+    assert!(rt; read_each(rt.alloc(), tape)? == wanted, "at {name}");
+    assert_eq!(rt; Tape::position(tape)?, 12, "at {name}");
+    assert_eq!(rt; code_of(Tape::take::<u8>(tape, rt.alloc())), 1, "at {name}");
+    for (place, byte, number, two, four) in PLACES {
+        assert_eq!(rt; tape.jump(place)?, place, "at {name}");
+        assert_eq!(rt; Tape::position(tape)?, place, "at {name}");
+        assert_eq!(rt; tape.peek::<u8>(rt.alloc())?, byte, "at {name}");
+        assert_eq!(rt;
+            tape.peek::<u16>(rt.alloc()).unwrap_or(0),
+            number,
+            "at {name}"
+        );
+        assert_eq!(rt; code_of(tape.peek::<u16>(rt.alloc())), two, "at {name}");
+        assert_eq!(rt; code_of(tape.peek::<u32>(rt.alloc())), four, "at {name}");
+        assert_eq!(rt; Tape::position(tape)?, place, "at {name}");
+        assert_eq!(rt; Tape::take::<u8>(tape, rt.alloc())?, byte, "at {name}");
+        assert_eq!(rt; Tape::position(tape)?, place.saturating_add(1), "at {name}");
+    }
+    Ok(())
+}
+
+#[test]
+fn tapes(rt: HostRuntime) -> Outcome<()> {
+    read_twelve(&rt, &mut Cursor::new(TWELVE.as_slice()), "a cursor")?;
+    let owned = Vec::from_slice(rt.alloc(), &TWELVE)?;
+    read_twelve(&rt, &mut Cursor::new(owned), "a cursor of a vector")?;
+    let mut opaque = Opaque(Cursor::new(TWELVE.as_slice()));
+    read_twelve(&rt, &mut &mut opaque, "an opaque cursor")?;
+    let mut buffered = BufReader::new(rt.alloc(), Cursor::new(TWELVE.as_slice()))?;
+    read_twelve(&rt, &mut buffered, "a buffered cursor")?;
     for trouble in [Trouble::Interrupted, Trouble::OneByte] {
         let mut tape = TroubledTape::new(&TWELVE, trouble);
-        assert!(rt; read_each(rt.alloc(), &mut tape)? == wanted);
+        read_twelve(&rt, &mut tape, "a troubled tape")?;
+        let mut opaque = Opaque(TroubledTape::new(&TWELVE, trouble));
+        read_twelve(&rt, &mut opaque, "an opaque troubled tape")?;
+        let mut buffered = BufReader::new(rt.alloc(), TroubledTape::new(&TWELVE, trouble))?;
+        read_twelve(&rt, &mut buffered, "a buffered troubled tape")?;
     }
-    let mut owned = Cursor::new(Vec::from_slice(rt.alloc(), &TWELVE)?);
-    assert!(rt; read_each(rt.alloc(), &mut owned)? == wanted);
-    let mut buffered = BufReader::new(rt.alloc(), Cursor::new(TWELVE.as_slice()))?;
-    assert!(rt; read_each(rt.alloc(), &mut buffered)? == wanted);
-    let mut opaque = Opaque(Cursor::new(TWELVE.as_slice()));
-    assert!(rt; read_each(rt.alloc(), &mut &mut opaque)? == wanted);
-    Ok(())
-}
-
-#[test]
-fn a_failed_call_is_told(rt: HostRuntime) -> std::result::Result<(), Fail> {
-    for calls in 0..5 {
-        let mut tape = TroubledTape::new(&TWELVE, Trouble::FailsAfter(calls));
-        assert_eq!(rt; code_of(read_each(rt.alloc(), &mut tape)), 2);
-        assert_eq!(rt; tape.failures(), 1);
-    }
-    let mut tape = TroubledTape::new(&TWELVE, Trouble::FailsAfter(5));
-    assert_eq!(rt; code_of(read_each(rt.alloc(), &mut tape)), 0);
-    assert_eq!(rt; code_of(tape.jump(3)), 2);
-    assert_eq!(rt; tape.failures(), 1);
-    Ok(())
-}
-
-#[test]
-fn a_failed_peek_goes_back(rt: HostRuntime) -> std::result::Result<(), Fail> {
-    // Asking the place passes, the reading fails, and the seek back passes.
-    let mut tape = TroubledTape::new(&[0x01, 0x02], Trouble::FailsAfter(1));
-    assert_eq!(rt; code_of(tape.peek::<u16>(rt.alloc())), 2);
-    assert_eq!(rt; tape.place(), 0);
-    assert_eq!(rt; tape.peek::<u16>(rt.alloc())?, 258);
-    // A failed seek back is told in place of the reading.
-    let mut tape = TroubledTape::new(&[0x01, 0x02], Trouble::FailsAfter(2));
-    assert_eq!(rt; code_of(tape.peek::<u16>(rt.alloc())), 2);
-    Ok(())
-}
-
-#[test]
-fn io_without_failure(rt: HostRuntime) {
-    // Wanting bytes are the end of the tape, and no fault of it.
-    for length in 0..12usize {
-        let mut tape = TroubledTape::new(&TWELVE[..length], Trouble::OneByte);
-        assert_eq!(rt; code_of(read_each(rt.alloc(), &mut tape)), 1);
-        assert_eq!(rt; tape.failures(), 0);
-    }
-}
-
-#[test]
-fn jumps(rt: HostRuntime) -> std::result::Result<(), Fail> {
-    let mut tape = Cursor::new(TWELVE.as_slice());
-    for (place, byte) in [(11, 0x0c), (0, 0x01), (3, 0xff)] {
-        assert_eq!(rt; tape.jump(place)?, place);
-        assert_eq!(rt; Tape::position(&mut tape)?, place);
-        assert_eq!(rt; tape.take::<u8>(rt.alloc())?, byte);
-    }
+    fs::write(&rt, "twelve.bin", TWELVE.as_slice())?;
+    read_twelve(&rt, &mut File::open(&rt, "twelve.bin")?, "a file")?;
+    let mut buffered = BufReader::new(rt.alloc(), File::open(&rt, "twelve.bin")?)?;
+    read_twelve(&rt, &mut buffered, "a buffered file")?;
+    fs::remove_file(&rt, "twelve.bin")?;
     // A cursor goes past its end, where nothing can be read.
+    let mut tape = Cursor::new(TWELVE.as_slice());
     for place in [12, 13, u64::MAX] {
         assert_eq!(rt; tape.jump(place)?, place);
         assert_eq!(rt; code_of(tape.take::<u8>(rt.alloc())), 1);
@@ -117,8 +99,144 @@ fn jumps(rt: HostRuntime) -> std::result::Result<(), Fail> {
     Ok(())
 }
 
+/// What is asked of a tape.
+#[derive(Clone, Copy, Debug, PartialEq, Eq)]
+enum Question {
+    /// A value of each width, of which the second is answered.
+    Each,
+    /// A byte.
+    Byte,
+    /// A look at two bytes.
+    Look,
+    /// A jump to the fourth byte.
+    Jump,
+}
+
+/// What a troubled tape is handed in as.
+#[derive(Clone, Copy, Debug, PartialEq, Eq)]
+enum Wrapping {
+    Bare,
+    Opaque,
+    Buffered,
+}
+
+const WRAPPINGS: [Wrapping; 3] = [Wrapping::Bare, Wrapping::Opaque, Wrapping::Buffered];
+
+/// What a tape answers.
+fn asked<T: Tape>(alloc: Global, tape: &mut T, question: Question) -> Result<u64> {
+    match question {
+        Question::Each => Ok(u64::from(read_each(alloc, tape)?.1)),
+        Question::Byte => Ok(u64::from(Tape::take::<u8>(tape, alloc)?)),
+        Question::Look => Ok(u64::from(tape.peek::<u16>(alloc)?)),
+        Question::Jump => tape.jump(3),
+    }
+}
+
+/// What a troubled tape answers in a wrapping, or the number of the refusal; 0 for a fault that is not the tape's own.
+fn answer(
+    alloc: Global,
+    tape: &mut TroubledTape<'_>,
+    wrapping: Wrapping,
+    question: Question,
+) -> Outcome<std::result::Result<u64, u8>> {
+    let answer = match wrapping {
+        Wrapping::Bare => asked(alloc, tape, question),
+        Wrapping::Opaque => asked(alloc, &mut Opaque(tape), question),
+        // With room for a byte nothing is read ahead.
+        Wrapping::Buffered => asked(
+            alloc,
+            &mut BufReader::with_capacity(alloc, 1, tape)?,
+            question,
+        ),
+    };
+    Ok(answer.map_err(|e| match e {
+        Error::Io(fault) if fault.kind() != ErrorKind::PermissionDenied => 0,
+        e => e.code(),
+    }))
+}
+
+/// What is asked, what is answered, the place after it, and how many reads have been asked for by then.
+type Asked = (Question, std::result::Result<u64, u8>, u64, u32);
+
+/// How many calls pass before the one that fails, and what is asked.
+const FAILING: &[(u32, &[Asked])] = &[
+    (0, &[(Question::Each, Err(2), 0, 1)]),
+    (1, &[(Question::Each, Err(2), 1, 2)]),
+    (2, &[(Question::Each, Err(2), 3, 3)]),
+    (3, &[(Question::Each, Err(2), 7, 4)]),
+    (4, &[(Question::Each, Err(2), 10, 5)]),
+    (
+        5,
+        &[
+            (Question::Each, Ok(0x0203), 12, 5),
+            (Question::Jump, Err(2), 12, 5),
+            (Question::Jump, Ok(3), 3, 5),
+        ],
+    ),
+    // A look whose question for the place fails reads nothing.
+    (
+        0,
+        &[
+            (Question::Look, Err(2), 0, 0),
+            (Question::Look, Ok(0x0102), 0, 1),
+        ],
+    ),
+    (
+        1,
+        &[
+            (Question::Byte, Ok(1), 1, 1),
+            (Question::Look, Err(2), 1, 1),
+            (Question::Look, Ok(0x0203), 1, 2),
+        ],
+    ),
+    // A look whose reading fails goes back.
+    (
+        1,
+        &[
+            (Question::Look, Err(2), 0, 1),
+            (Question::Look, Ok(0x0102), 0, 2),
+        ],
+    ),
+    // A failed seek back is told in place of the reading.
+    (2, &[(Question::Look, Err(2), 2, 1)]),
+];
+
 #[test]
-fn lists_of_bytes(rt: HostRuntime) -> std::result::Result<(), Fail> {
+fn failing_tapes(rt: HostRuntime) -> Outcome<()> {
+    for (calls, row) in FAILING {
+        for wrapping in WRAPPINGS {
+            let mut tape = TroubledTape::new(&TWELVE, Trouble::FailsAfter(*calls));
+            for (question, wanted, place, reads) in *row {
+                let found = answer(rt.alloc(), &mut tape, wrapping, *question)?;
+                assert!(rt; found == *wanted, "at {calls} {wrapping:?} {question:?}");
+                assert_eq!(rt;
+                    tape.place(),
+                    *place,
+                    "at {calls} {wrapping:?} {question:?}"
+                );
+                assert_eq!(rt;
+                    tape.reads(),
+                    *reads,
+                    "at {calls} {wrapping:?} {question:?}"
+                );
+            }
+            assert_eq!(rt; tape.failures(), 1, "at {calls} {wrapping:?}");
+        }
+    }
+    // Wanting bytes are the end of the tape, and no fault of it.
+    for length in 0..12usize {
+        for wrapping in WRAPPINGS {
+            let mut tape = TroubledTape::new(&TWELVE[..length], Trouble::OneByte);
+            let found = answer(rt.alloc(), &mut tape, wrapping, Question::Each)?;
+            assert!(rt; found == Err(1), "at {length} {wrapping:?}");
+            assert_eq!(rt; tape.failures(), 0);
+        }
+    }
+    Ok(())
+}
+
+#[test]
+fn lists(rt: HostRuntime) -> Outcome<()> {
     let mut tape = Cursor::new([0x01, 0x02].as_slice());
     let both: Vec<u8> = tape.take_given(rt.alloc(), 2)?;
     assert!(rt; both.as_slice() == [0x01, 0x02].as_slice());
@@ -135,39 +253,12 @@ fn lists_of_bytes(rt: HostRuntime) -> std::result::Result<(), Fail> {
     let copied: Vec<u8> = tape.take_given(rt.alloc(), 150_000)?;
     assert_eq!(rt; copied.len(), 150_000);
     assert_eq!(rt; Tape::position(&mut tape)?, 150_000);
-    Ok(())
-}
-
-#[test]
-fn lists_of_values(rt: HostRuntime) -> std::result::Result<(), Fail> {
+    // Values of two bytes.
     let mut tape = Cursor::new(TWELVE.as_slice());
     let numbers: Vec<u16> = read_many(rt.alloc(), &mut tape, 3)?;
     assert!(rt; numbers.as_slice() == [0x0102, 0x03ff, 0x0506].as_slice());
     let none: Vec<u32> = read_many(rt.alloc(), &mut tape, 0)?;
     assert!(rt; none.is_empty());
     assert_eq!(rt; code_of(read_many::<u16, _>(rt.alloc(), &mut tape, 4)), 1);
-    Ok(())
-}
-
-#[test]
-fn callers(rt: HostRuntime) -> std::result::Result<(), Fail> {
-    assert_eq!(rt; first_number(rt.alloc(), &[0x12, 0x34, 0x56])?, 0x1234);
-    assert_eq!(rt; code_of(first_number(rt.alloc(), &[0x12])), 1);
-    let bytes = Vec::from_slice(rt.alloc(), &[7])?;
-    assert!(rt; first_byte_twice(rt.alloc(), bytes)? == (7, 7));
-    Ok(())
-}
-
-#[test]
-fn a_file(rt: HostRuntime) -> std::result::Result<(), Fail> {
-    fs::write(&rt, "twelve.bin", TWELVE.as_slice())?;
-    let mut file = File::open(&rt, "twelve.bin")?;
-    let (first, second, third, fourth, fifth) = read_each(rt.alloc(), &mut file)?;
-    assert!(rt; (first, second, third) == (0x01, 0x0203, 0xff05_0607));
-    assert!(rt; fourth == [0x08, 0x09, 0x0a] && fifth == [0x0b, 0x0c]);
-    assert_eq!(rt; code_of(file.take::<u8>(rt.alloc())), 1);
-    assert_eq!(rt; file.jump(1)?, 1);
-    assert_eq!(rt; file.peek::<u16>(rt.alloc())?, 0x0203);
-    assert_eq!(rt; file.position()?, 1);
     Ok(())
 }

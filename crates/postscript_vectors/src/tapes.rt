@@ -14,11 +14,12 @@ pub enum Trouble {
     OneByte,
 }
 
-/// A tape over bytes in memory that misbehaves, and counts its failures.
+/// A tape over bytes in memory that misbehaves, and counts its reads and its failures.
 #[derive(Drop)]
 pub struct TroubledTape<'l> {
     bytes: Cursor<&'l [u8]>,
     trouble: Option<Trouble>,
+    reads: u32,
     failures: u32,
 }
 
@@ -27,8 +28,14 @@ impl<'l> TroubledTape<'l> {
         TroubledTape {
             bytes: Cursor::new(bytes),
             trouble: Some(trouble),
+            reads: 0,
             failures: 0,
         }
+    }
+
+    /// How many reads were asked for.
+    pub fn reads(&self) -> u32 {
+        self.reads
     }
 
     /// How many calls have failed with the kind `PermissionDenied`.
@@ -60,6 +67,7 @@ impl<'l> TroubledTape<'l> {
 
 impl<'l> Read for TroubledTape<'l> {
     fn read(&mut self, buf: &mut [u8]) -> io::Result<usize> {
+        self.reads = self.reads.saturating_add(1);
         self.count()?;
         match self.trouble {
             Some(Trouble::Interrupted) => {

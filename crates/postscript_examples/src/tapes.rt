@@ -1,4 +1,4 @@
-//! Callers that are proved from the library's contracts alone: on a cursor a reading is exact.
+//! Readings of a cursor: each gives exactly what the bytes say.
 ghost use Rattle.std.specs.Prelude.{◌≡◌, ◌≤◌, ◌<◌, length, take, vec_len, IsOkAnd};
 ghost use Rattle.postscript_base.specs.Numbers.{big_endian};
 

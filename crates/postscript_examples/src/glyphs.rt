@@ -1,0 +1,49 @@
+//! Glyphs from their charstrings.
+ghost use Rattle.std.specs.Prelude.{◌≡◌, ◌⊎◌, None, Some, map, IfOk, IfErr};
+ghost use Rattle.postscript_type2.specs.Meaning.{run_of, operation, fault_of, width_of};
+ghost use Rattle.postscript_type2.specs.Refusals.{refusal_of};
+ghost use Rattle.postscript_type2.specs.Routines.{texts};
+ghost use Rattle.postscript_type2.specs.Whole.{operation_of};
+
+use postscript::type2::{self, Operand, Operations, Program};
+use postscript::{Error, Result};
+use std::alloc::Global;
+
+/// The operations of a glyph, and its width.
+pub fn glyph(
+    alloc: Global,
+    code: &[u8],
+    global: &[Vec<u8>],
+    local: &[Vec<u8>],
+) -> Result<(Operations, Option<Operand>)>
+    ensures operations { let run = run_of (record { global = texts global.now; local = texts local.now }) code.now in
+        IfOk result (λ glyph. map operation_of glyph.0.items ≡ map operation run.answers) }
+    ensures width { let run = run_of (record { global = texts global.now; local = texts local.now }) code.now in
+        IfOk result (λ glyph. glyph.1 ≡ width_of run) }
+    ensures refused { let run = run_of (record { global = texts global.now; local = texts local.now }) code.now in
+        IfErr result (λ e. (e ≡ Error.Memory) ⊎ (fault_of run.end ≡ Some (refusal_of e))) }
+{
+    let answers = type2::run(alloc, code, global, local)?;
+    match answers.fault {
+        None => Ok((answers.operations, answers.width)),
+        Some(fault) => Err(fault),
+    }
+}
+
+/// How many operands a glyph's operations have, and its width, one operation at a time.
+pub fn operand_count(
+    alloc: Global,
+    code: &[u8],
+    global: &[Vec<u8>],
+    local: &[Vec<u8>],
+) -> Result<(u64, Option<Operand>)> {
+    let mut program = Program::new(alloc, code, global, local);
+    let mut count = 0u64;
+    for _ in 0..u64::MAX {
+        let Some((_operator, operands)) = program.next()? else {
+            break;
+        };
+        count = count.saturating_add(operands.len() as u64);
+    }
+    Ok((count, program.width()))
+}
