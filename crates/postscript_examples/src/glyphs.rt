@@ -1,8 +1,9 @@
 //! Glyphs from their charstrings.
 ghost use Rattle.std.specs.Prelude.{◌≡◌, ◌⊎◌, None, Some, map, IfOk, IfErr};
-ghost use Rattle.postscript_type2.specs.Meaning.{run_of, operation, fault_of, width_of};
-ghost use Rattle.postscript_type2.specs.Refusals.{refusal_of};
-ghost use Rattle.postscript_type2.specs.Routines.{texts};
+ghost use Rattle.postscript_type2.specs.Evaluation.{run_of};
+ghost use Rattle.postscript_type2.specs.Runs.{operation, fault_of, width_of};
+ghost use Rattle.postscript_base.specs.Refusal.{refusal_of};
+ghost use Rattle.postscript_type2.specs.Routines.{subroutines};
 ghost use Rattle.postscript_type2.specs.Whole.{operation_of};
 
 use postscript::type2::{self, Operand, Operations, Program};
@@ -16,11 +17,11 @@ pub fn glyph(
     global: &[Vec<u8>],
     local: &[Vec<u8>],
 ) -> Result<(Operations, Option<Operand>)>
-    ensures operations { let run = run_of (record { global = texts global.now; local = texts local.now }) code.now in
+    ensures operations { let run = run_of (subroutines global.now local.now) code.now in
         IfOk result (λ glyph. map operation_of glyph.0.items ≡ map operation run.answers) }
-    ensures width { let run = run_of (record { global = texts global.now; local = texts local.now }) code.now in
+    ensures width { let run = run_of (subroutines global.now local.now) code.now in
         IfOk result (λ glyph. glyph.1 ≡ width_of run) }
-    ensures refused { let run = run_of (record { global = texts global.now; local = texts local.now }) code.now in
+    ensures refused { let run = run_of (subroutines global.now local.now) code.now in
         IfErr result (λ e. (e ≡ Error.Memory) ⊎ (fault_of run.end ≡ Some (refusal_of e))) }
 {
     let answers = type2::run(alloc, code, global, local)?;

@@ -104,8 +104,9 @@ impl<'l> Program<'l> {
         }
     }
 
-    /// The width of the glyph, once it is settled, in 16.16 bits: the operand beneath those of the first operation that
-    /// clears the stack (Technical Note 5177, "Type 2 Charstring Organization").
+    /// The width of the glyph, once it is settled, in 16.16 bits: the operand beneath those that count as taken by the
+    /// first operator that clears the stack, or by `endchar` (Technical Note 5177, "Type 2 Charstring Organization"). A
+    /// mask counts as taking the longest even number of operands, `endchar` four where there are as many, and else none.
     pub fn width(&self) -> Option<Operand>
         ensures { result ≡ self.now.width }
     {

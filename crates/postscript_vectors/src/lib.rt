@@ -4,6 +4,8 @@
 #[cfg(test)]
 mod decimals;
 #[cfg(test)]
+mod dictionaries;
+#[cfg(test)]
 mod errors;
 #[cfg(test)]
 mod flat;

@@ -96,3 +96,30 @@ impl<'l> ReadSeek for TroubledTape<'l> {
         self.seek(to)
     }
 }
+
+/// A tape of zeros without end that tells the place 0, wherever it is sent.
+#[derive(Debug, Drop)]
+pub struct Still;
+
+impl Read for Still {
+    fn read(&mut self, buf: &mut [u8]) -> io::Result<usize> {
+        buf.fill(0);
+        Ok(buf.len())
+    }
+}
+
+impl Seek for Still {
+    fn seek(&mut self, _to: SeekFrom) -> io::Result<u64> {
+        Ok(0)
+    }
+}
+
+impl ReadSeek for Still {
+    fn read_full(&mut self, buf: &mut [u8]) -> io::Result<()> {
+        self.read_exact(buf)
+    }
+
+    fn seek_to(&mut self, to: SeekFrom) -> io::Result<u64> {
+        self.seek(to)
+    }
+}
