@@ -38,7 +38,7 @@ behind_goes operands first bytes place h = by (begins_operand first)
     by true = goes_after (begun first bytes place) _ place (length bytes) (begun_goes first bytes place h) (λ operand next within. (omega arith, within))
     by false = goes_after (operator_begun first bytes place) _ place (length bytes) (operator_goes first bytes place h) (λ operator next within. (omega arith, within))
 
-step_goes : (operands : List Decimal) (bytes : List ℕ) (place : ℕ) → Goes (place + 1) (length bytes) (step operands bytes place)
+pub step_goes : (operands : List Decimal) (bytes : List ℕ) (place : ℕ) → Goes (place + 1) (length bytes) (step operands bytes place)
 unfolding step
 step_goes operands bytes place = byte_then_goes (behind operands) (behind_goes operands) bytes place
 

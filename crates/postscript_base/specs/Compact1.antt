@@ -9,5 +9,6 @@ pub mod Nibbles
 pub mod Significant
 pub mod Operation
 pub mod Dictionary
+pub mod DictionaryLaw
 pub mod Defaults
 pub mod Operands

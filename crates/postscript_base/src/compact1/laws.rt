@@ -1,6 +1,7 @@
-//! What equality and hash of operands say.
+//! What equality and hash of operands say, and what dictionaries are.
 ghost use Rattle.std.specs.Prelude.{◌≡◌, ◌↔◌, IsTrue};
 ghost use Rattle.postscript_base.specs.Compact1.Decimal.{AreEqual, Decimal, HasOperand};
+ghost use Rattle.postscript_base.specs.Compact1.DictionaryLaw.{ReadsDictionaries};
 
 use super::operand::Operand;
 use std::hash::Hash;
@@ -18,4 +19,11 @@ pub fn are_equal(a: &Operand, b: &Operand) -> bool
 /// Operands of one value hash alike.
 pub fn hash_alike()
     ensures { (a b : Decimal) → HasOperand a → HasOperand b → AreEqual a b → ⟦<Operand as Hash>⟧.hash_input a ≡ ⟦<Operand as Hash>⟧.hash_input b }
+{}
+
+/// A dictionary is read where bytes are operations followed by an unfinished rest, and the map has the operands of the
+/// last operation of each operator. Other bytes are refused as the first number or operator that is bad.
+#[tactic(auto, using(crate::proofs::DictionaryIs::reads_dictionaries))]
+pub fn reads_dictionaries()
+    ensures law { ReadsDictionaries }
 {}

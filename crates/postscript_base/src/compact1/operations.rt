@@ -87,12 +87,14 @@ impl Operations {
 ///
 /// Refused: `TapeStuck` where the place of the tape does not rise, `MalformedNumber`, `OutOfRangeNumber`,
 /// `UnknownOperator`, `Io`, `Memory`, and `UnexpectedEof` from a seek.
-#[tactic(auto, using(crate::proofs::Outcomes::refused_after, crate::proofs::OperationSteps::operation_takes), unfolding(crate::specs::Compact1::Dictionary::dictionary))]
+#[tactic(auto, using(crate::proofs::Outcomes::refused_after, crate::proofs::OperationSteps::operation_takes, crate::proofs::DictionaryIs::reads_dictionaries), unfolding(crate::specs::Compact1::Dictionary::dictionary))]
 impl Value for Operations {
     ghost use Rattle.std.specs.Prelude.{[], ◌∷◌};
     ghost use Rattle.postscript_base.specs.Tape.Outcome.{same};
     ghost use Rattle.postscript_base.specs.Tape.Seen.{each_as_it_is};
     ghost use Rattle.postscript_base.specs.Compact1.Dictionary.{Dictionary, dictionary};
+    ghost use Rattle.postscript_base.specs.Compact1.DictionaryLaw.{ReadsDictionaries};
+    ghost use Rattle.postscript_base.specs.Tape.{Reads};
 
     ghost Shown = { Dictionary };
 
@@ -106,7 +108,12 @@ impl Value for Operations {
 
     ghost refusals = { 1 ∷ 2 ∷ 3 ∷ 4 ∷ 7 ∷ 8 ∷ 9 ∷ [] };
 
-    fn read<T: Tape>(alloc: Global, tape: &mut T) -> Result<Operations> {
+    /// Whoever calls it learns what dictionaries are.
+    fn read<T: Tape>(alloc: Global, tape: &mut T) -> Result<Operations>
+        ensures exact { Reads same (T.state tape.old) result (T.state tape.new) dictionary }
+        ensures listed { IsListed (1 ∷ 2 ∷ 3 ∷ 4 ∷ 7 ∷ 8 ∷ 9 ∷ []) result }
+        ensures law { ReadsDictionaries }
+    {
         let all = read_to_end::<Operation, T>(alloc, tape)?;
         of_all(alloc, all)
     }

@@ -1,0 +1,310 @@
+-- What the end cuts, and what stands behind operands: an operand more, an operator, or neither.
+use Rattle.std.proofs.Common.{◌≡◌, refl, sym, ap, subst, ◌∙◌, ℕ, ◌+◌, ◌-◌, ◌/◌, ◌≤◌, Bool, true, false, ◌&&◌, ◌||◌, List, [], ◌∷◌, ◌++◌, length, take, drop, ◌==◌, nat_lt, not, cond, Option, Some, None, arith, if◌then◌else◌, length-drop}
+use Rattle.std.specs.Prelude.{flat_map, nat_eq}
+use Rattle.std.specs.List.{prefix_len}
+use Rattle.std.specs.Map.{lookup}
+use Rattle.std.proofs.lemmas.List.{drop-drop}
+use Rattle.std.proofs.lemmas.Bool.Decides.{nat_tests}
+use Rattle.postscript_base.specs.Refusal.{Refusal, Numbered, OfPart, OfMalformed, OfMissing, malformed_number, unexpected_eof, unknown_operator}
+use Rattle.postscript_base.specs.Tape.Outcome.{Outcome, Got, Fault, Past, Reading, after, end, ◌>>=◌, pure}
+use Rattle.postscript_base.specs.Tape.Loops.{is_end}
+use Rattle.postscript_base.specs.Numbers.{slice, number as unsigned, two_sided, above, below}
+use Rattle.postscript_base.specs.Compact1.Decimal.{Decimal, operand_of}
+use Rattle.postscript_base.specs.Compact1.Number.{begun, number, whole}
+use Rattle.postscript_base.specs.Compact1.Reals.{Real, ended_by, is_in_text, nibbles, operand_if, real, real_of, symbols, text_of_real, valued, value_of}
+use Rattle.postscript_base.specs.Compact1.Operation.{begins_operand, known, operator_begun, step}
+use Rattle.postscript_base.specs.Compact1.Operators.{operator_of, operators}
+use Rattle.postscript_base.specs.Compact1.DictionaryLaw.{begins, is_cut, is_cut_operand, is_open, operator, BadAt, RefusedBy}
+use Rattle.postscript_base.specs.declared.compact1.operator.Operator.{Operator}
+use Rattle.postscript_base.proofs.Nibbles.{byte_at, byte_none}
+use Rattle.postscript_base.proofs.Onward.{Goes}
+use Rattle.postscript_base.proofs.OperationSteps.{Found, step_goes}
+
+-- whether a reading was refused for want of bytes
+abbrev pub wants : {A : Type 0} → Outcome A → Bool
+wants (Got value next) = false
+wants (Fault refusal) = is_end refusal
+wants Past = false
+
+wants_after : {A B : Type 0} (o : Outcome A) (f : A → ℕ → Outcome B) → ((value : A) (next : ℕ) → wants (f value next) ≡ false) → wants (after o f) ≡ wants o
+wants_after (Got value next) f h = h value next
+wants_after (Fault refusal) f h = refl
+wants_after Past f h = refl
+
+wants_if : {A : Type 0} (b : Bool) (x y : Reading A) (bytes : List ℕ) (place : ℕ) (s t : Bool) → wants (x bytes place) ≡ s → wants (y bytes place) ≡ t → wants ((if b then x else y) bytes place) ≡ (if b then s else t)
+wants_if true x y bytes place s t h g = h
+wants_if false x y bytes place s t h g = g
+
+wants_number : (size : ℕ) (bytes : List ℕ) (place : ℕ) → wants (unsigned size bytes place) ≡ nat_lt (length (drop place bytes)) size
+unfolding unsigned slice
+wants_number size bytes place = wants_after (slice size bytes place) _ (λ value next. refl) ∙ rw (length-drop place bytes) (by (nat_lt (length bytes - place) size))
+  where
+    by : (b : Bool) → wants (if b then end else Got (take size (drop place bytes)) (place + size)) ≡ b
+    by true = refl
+    by false = refl
+
+wants_of : {A : Type 0} (size : ℕ) (f : ℕ → A) (bytes : List ℕ) (place : ℕ) → wants ((unsigned size >>= λ n. pure (f n)) bytes place) ≡ nat_lt (length (drop place bytes)) size
+wants_of size f bytes place = wants_after (unsigned size bytes place) _ (λ value next. refl) ∙ wants_number size bytes place
+
+prefix_within : (p : ℕ → Bool) (xs : List ℕ) → prefix_len p xs ≤ length xs
+prefix_within p [] = omega arith
+prefix_within p (x ∷ xs) = by (p x) (prefix_within p xs)
+  where
+    by : (b : Bool) → prefix_len p xs ≤ length xs → (if b then 1 + prefix_len p xs else 0) ≤ length (x ∷ xs)
+    by true less = omega arith
+    by false less = omega arith
+
+wants_ended : (all rest text : List ℕ) (next : ℕ) → drop (prefix_len is_in_text all) all ≡ rest → wants (ended_by rest text next) ≡ is_open all
+wants_ended all [] text next e =
+    let within = prefix_within is_in_text all in
+    let none : length all - prefix_len is_in_text all ≡ 0 = sym (length-drop (prefix_len is_in_text all) all) ∙ ap length e in
+    grind (arith, nat_tests)
+wants_ended all (nibble ∷ rest) text next e =
+    let some : length all - prefix_len is_in_text all ≡ length (nibble ∷ rest) = sym (length-drop (prefix_len is_in_text all) all) ∙ ap length e in
+    let differs : is_open all ≡ false = grind (arith, nat_tests) in
+    by (nibble == 15) ∙ sym differs
+  where
+    by : (b : Bool) → wants (if b then Got text next else Fault malformed_number) ≡ false
+    by true = refl
+    by false = refl
+
+wants_text : (bytes : List ℕ) (place : ℕ) → wants (text_of_real bytes place) ≡ is_open (nibbles (drop place bytes))
+unfolding text_of_real
+wants_text bytes place =
+    let all = nibbles (drop place bytes) in
+    let count = prefix_len is_in_text all in
+    wants_ended all (drop count all) (flat_map symbols (take count all)) (place + (count / 2 + 1)) refl
+
+wants_operand : (o : Option Decimal) (bytes : List ℕ) (place : ℕ) → wants (operand_if o bytes place) ≡ false
+wants_operand None bytes place = refl
+wants_operand (Some operand) bytes place = refl
+
+wants_valued : (o : Option Real) (bytes : List ℕ) (place : ℕ) → wants (valued o bytes place) ≡ false
+wants_valued None bytes place = refl
+wants_valued (Some r) bytes place = wants_operand (operand_of (value_of r).mantissa (value_of r).exponent) bytes place
+
+wants_real : (bytes : List ℕ) (place : ℕ) → wants (real bytes place) ≡ is_open (nibbles (drop place bytes))
+unfolding real
+wants_real bytes place = wants_after (text_of_real bytes place) _ (λ value next. wants_valued (real_of value) bytes next) ∙ wants_text bytes place
+
+-- the tests of an operand's first byte, in the order of its reading
+abbrev chain : ℕ → List ℕ → Bool
+chain first rest =
+    if first == 0x1c then nat_lt (length rest) 2
+    else if first == 0x1d then nat_lt (length rest) 4
+    else if first == 0x1e then is_open (nibbles rest)
+    else if nat_lt first 0x20 then false
+    else if nat_lt first 0xf7 then false
+    else if nat_lt first 0xfb then nat_lt (length rest) 1
+    else if nat_lt first 0xff then nat_lt (length rest) 1
+    else false
+
+chain_is : (first : ℕ) (rest : List ℕ) → chain first rest ≡ is_cut_operand first rest
+chain_is first rest = by (first == 0x1c) (first == 0x1d) (first == 0x1e) (nat_lt first 0x20) refl (nat_lt first 0xf7) refl (nat_lt first 0xfb) refl (nat_lt first 0xff) refl
+  where
+    by : (a b c d : Bool) → nat_lt first 0x20 ≡ d → (e : Bool) → nat_lt first 0xf7 ≡ e → (f : Bool) → nat_lt first 0xfb ≡ f → (g : Bool) → nat_lt first 0xff ≡ g →
+        (if a then nat_lt (length rest) 2 else if b then nat_lt (length rest) 4 else if c then is_open (nibbles rest) else if d then false else if e then false else if f then nat_lt (length rest) 1 else if g then nat_lt (length rest) 1 else false)
+        ≡ (if a then nat_lt (length rest) 2 else if b then nat_lt (length rest) 4 else if c then is_open (nibbles rest) else if e then false else if g then nat_lt (length rest) 1 else false)
+    by true b c d p e q f r g s = refl
+    by false true c d p e q f r g s = refl
+    by false false true d p e q f r g s = refl
+    by false false false d p true q f r g s = elim d as (λ d. (if d then false else false) ≡ false) [ true ↦ refl | false ↦ refl ]
+    by false false false true p false q f r g s = absurd (grind (arith, nat_tests))
+    by false false false false p false q true r true s = refl
+    by false false false false p false q true r false s = absurd (grind (arith, nat_tests))
+    by false false false false p false q false r g s = refl
+
+wants_begun : (first : ℕ) (bytes : List ℕ) (place : ℕ) → wants (begun first bytes place) ≡ is_cut_operand first (drop place bytes)
+wants_begun first bytes place =
+    wants_if (first == 0x1c) _ _ bytes place _ _ (wants_of 2 (λ n. whole (two_sided 0x8000 n)) bytes place)
+    (wants_if (first == 0x1d) _ _ bytes place _ _ (wants_of 4 (λ n. whole (two_sided 0x80000000 n)) bytes place)
+    (wants_if (first == 0x1e) _ _ bytes place _ _ (wants_real bytes place)
+    (wants_if (nat_lt first 0x20) _ _ bytes place _ _ refl
+    (wants_if (nat_lt first 0xf7) _ _ bytes place _ _ refl
+    (wants_if (nat_lt first 0xfb) _ _ bytes place _ _ (wants_of 1 (λ n. whole (above first n)) bytes place)
+    (wants_if (nat_lt first 0xff) _ _ bytes place _ _ (wants_of 1 (λ n. whole (below first n)) bytes place) refl))))))
+    ∙ chain_is first (drop place bytes)
+
+-- another first byte begins no operand
+begins_none : (first : ℕ) (bytes : List ℕ) (place : ℕ) → begins_operand first ≡ false → begun first bytes place ≡ Fault malformed_number
+begins_none first bytes place h =
+    let a : (first == 0x1c) ≡ false = grind (arith, nat_tests) in
+    let b : (first == 0x1d) ≡ false = grind (arith, nat_tests) in
+    let c : (first == 0x1e) ≡ false = grind (arith, nat_tests) in
+    by a b c (nat_lt first 0x20) refl
+  where
+    by : (first == 0x1c) ≡ false → (first == 0x1d) ≡ false → (first == 0x1e) ≡ false → (d : Bool) → nat_lt first 0x20 ≡ d → begun first bytes place ≡ Fault malformed_number
+    by a b c true p = rw (a, b, c, p) refl
+    by a b c false p =
+        let e : nat_lt first 0xf7 ≡ false = grind (arith, nat_tests) in
+        let f : nat_lt first 0xfb ≡ false = grind (arith, nat_tests) in
+        let g : nat_lt first 0xff ≡ false = grind (arith, nat_tests) in
+        rw (a, b, c, p, e, f, g) refl
+
+-- no operator has the code of an operand's first byte
+no_operand : List (ℕ × Operator) → Bool
+no_operand [] = true
+no_operand (entry ∷ entries) = not (begins_operand entry.0) && no_operand entries
+
+both : (a b : Bool) → (a && b) ≡ true → (a ≡ true) × (b ≡ true)
+both true b h = (refl, h)
+both false b h = absurd (cc)
+
+no_entry : (n : ℕ) (entries : List (ℕ × Operator)) → no_operand entries ≡ true → begins_operand n ≡ true → lookup (nat_eq n) entries ≡ None
+unfolding no_operand
+no_entry n [] p h = refl
+no_entry n (entry ∷ entries) p h = by (nat_eq n entry.0) refl (no_entry n entries parts.1 h)
+  where
+    parts : (not (begins_operand entry.0) ≡ true) × (no_operand entries ≡ true)
+    parts = both (not (begins_operand entry.0)) (no_operand entries) p
+
+    by : (b : Bool) → nat_eq n entry.0 ≡ b → lookup (nat_eq n) entries ≡ None → cond b (Some entry.1) (lookup (nat_eq n) entries) ≡ None
+    by true f rest =
+        let is : n ≡ entry.0 = grind (arith, nat_tests) in
+        let not_one : not (begins_operand n) ≡ true = subst (λ m. not (begins_operand m) ≡ true) (sym is) parts.0 in
+        let never : not true ≡ true = subst (λ b. not b ≡ true) h not_one in absurd (cc)
+    by false f rest = rest
+
+unknown : (first : ℕ) → begins_operand first ≡ true → operator_of first ≡ None
+unfolding operator_of no_operand
+unknown first h = no_entry first operators refl h
+
+operator_none : (first : ℕ) (bytes : List ℕ) (place : ℕ) → begins_operand first ≡ true → operator_begun first bytes place ≡ Fault unknown_operator
+operator_none first bytes place h =
+    let a : (first == 0x0c) ≡ false = grind (arith, nat_tests) in
+    rw (a, unknown first h) refl
+
+wants_known : (o : Option Operator) (bytes : List ℕ) (place : ℕ) → wants (known o bytes place) ≡ false
+wants_known None bytes place = refl
+wants_known (Some o) bytes place = refl
+
+wants_operator : (first : ℕ) (bytes : List ℕ) (place : ℕ) → wants (operator_begun first bytes place) ≡ ((first == 0x0c) && nat_lt (length (drop place bytes)) 1)
+wants_operator first bytes place = by (first == 0x0c)
+  where
+    by : (b : Bool) → wants ((if b then (unsigned 1 >>= λ second. known (operator_of (0x0c00 + second))) else known (operator_of first)) bytes place) ≡ (b && nat_lt (length (drop place bytes)) 1)
+    by true = wants_after (unsigned 1 bytes place) _ (λ second next. wants_known (operator_of (0x0c00 + second)) bytes next) ∙ wants_number 1 bytes place
+    by false = wants_known (operator_of first) bytes place
+
+abbrev pub found_operand : List Decimal → Decimal → ℕ → Outcome Found
+found_operand operands operand next = Got (None, operands ++ operand ∷ []) next
+
+abbrev pub found_operator : List Decimal → Operator → ℕ → Outcome Found
+found_operator operands operator next = Got (Some operator, operands) next
+
+-- What stands at a place: where an operand begins, a number, and no operator; else an operator, and no number.
+pub data Stands (bytes : List ℕ) (place : ℕ) : Type 0 where
+  a_number : begins (drop place bytes) ≡ true → ((operands : List Decimal) → step operands bytes place ≡ after (number bytes place) (found_operand operands))
+      → wants (number bytes place) ≡ is_cut (drop place bytes) → operator bytes place ≡ Fault unknown_operator → Stands bytes place
+  an_operator : (refusal : Refusal) → begins (drop place bytes) ≡ false → ((operands : List Decimal) → step operands bytes place ≡ after (operator bytes place) (found_operator operands))
+      → wants (operator bytes place) ≡ is_cut (drop place bytes) → number bytes place ≡ Fault refusal → Stands bytes place
+
+or_false : (b : Bool) → (b || false) ≡ b
+or_false true = refl
+or_false false = refl
+
+at_byte : (bytes rest : List ℕ) (place first : ℕ) → first ∷ rest ≡ drop place bytes → Stands bytes place
+unfolding step number
+at_byte bytes rest place first e = by (begins_operand first) refl
+  where
+    got : unsigned 1 bytes place ≡ Got first (place + 1)
+    got = byte_at bytes rest place first e
+
+    there : drop (place + 1) bytes ≡ rest
+    there = sym (drop-drop 1 place bytes) ∙ sym (ap (drop 1) e)
+
+    number_is : number bytes place ≡ begun first bytes (place + 1)
+    number_is = ap (λ o. after o (λ first at. begun first bytes at)) got
+
+    operator_is : operator bytes place ≡ operator_begun first bytes (place + 1)
+    operator_is = ap (λ o. after o (λ first at. operator_begun first bytes at)) got
+
+    by : (b : Bool) → begins_operand first ≡ b → Stands bytes place
+    by true h =
+        let other : (first == 0x0c) ≡ false = grind (arith, nat_tests) in
+        a_number (ap begins (sym e) ∙ h) (λ operands. rw (got, h) refl)
+        (ap wants number_is ∙ wants_begun first bytes (place + 1) ∙ ap (is_cut_operand first) there
+        ∙ sym (ap (λ c. is_cut_operand first rest || (c && nat_lt (length rest) 1)) other ∙ or_false (is_cut_operand first rest)) ∙ ap is_cut e)
+        (operator_is ∙ operator_none first bytes (place + 1) h)
+    by false h =
+        let none : is_cut_operand first rest ≡ false = sym (ap (is_cut_operand first) there) ∙ sym (wants_begun first bytes (place + 1)) ∙ ap wants (begins_none first bytes (place + 1) h) in
+        an_operator malformed_number (ap begins (sym e) ∙ h) (λ operands. rw (got, h) refl)
+        (ap wants operator_is ∙ wants_operator first bytes (place + 1) ∙ ap (λ rest. (first == 0x0c) && nat_lt (length rest) 1) there
+        ∙ sym (ap (λ c. c || ((first == 0x0c) && nat_lt (length rest) 1)) none) ∙ ap is_cut e)
+        (number_is ∙ begins_none first bytes (place + 1) h)
+
+pub stands : (bytes : List ℕ) (place : ℕ) → Stands bytes place
+unfolding step number
+stands bytes place = by (drop place bytes) refl
+  where
+    by : (rest : List ℕ) → rest ≡ drop place bytes → Stands bytes place
+    by [] e = let none = byte_none bytes place e in an_operator unexpected_eof (ap begins (sym e)) (λ operands. rw none refl) (rw none (ap is_cut e)) (rw none refl)
+    by (first ∷ rest) e = at_byte bytes rest place first e
+
+-- a step is refused for want of bytes exactly where the end cuts
+wants_step : (front : List Decimal) (bytes : List ℕ) (place : ℕ) → wants (step front bytes place) ≡ is_cut (drop place bytes)
+wants_step front bytes place = elim (stands bytes place) [
+  | a_number b s w n ↦ ap wants (s front) ∙ wants_after (number bytes place) (found_operand front) (λ operand next. refl) ∙ w
+  | an_operator refusal b s w n ↦ ap wants (s front) ∙ wants_after (operator bytes place) (found_operator front) (λ operator next. refl) ∙ w
+]
+
+is_fault : {A : Type 0} (o : Outcome A) → wants o ≡ true → o ≡ end
+is_fault (Got value next) e = absurd (cc)
+is_fault (Fault (Numbered n)) e = let is : n ≡ 1 = grind (arith, nat_tests) in ap (λ n. Fault (Numbered n)) is
+is_fault (Fault (OfPart part)) e = absurd (cc)
+is_fault (Fault (OfMalformed operator)) e = absurd (cc)
+is_fault (Fault (OfMissing operator)) e = absurd (cc)
+is_fault Past e = absurd (cc)
+
+pub cut_step : (front : List Decimal) (bytes : List ℕ) (place : ℕ) → is_cut (drop place bytes) ≡ true → step front bytes place ≡ end
+cut_step front bytes place cut = is_fault (step front bytes place) (wants_step front bytes place ∙ cut)
+
+-- an operand is a step
+pub operand_step : (front : List Decimal) (bytes : List ℕ) (place : ℕ) (operand : Decimal) (next : ℕ) → number bytes place ≡ Got operand next → step front bytes place ≡ Got (None, front ++ operand ∷ []) next
+operand_step front bytes place operand next e = elim (stands bytes place) [
+  | a_number b s w n ↦ s front ∙ ap (λ o. after o (found_operand front)) e
+  | an_operator refusal b s w n ↦ let never : Fault refusal ≡ Got operand next = sym n ∙ e in absurd (cc)
+]
+
+-- an operator is a step
+pub operator_step : (front : List Decimal) (bytes : List ℕ) (place : ℕ) (o : Operator) (next : ℕ) → operator bytes place ≡ Got o next → step front bytes place ≡ Got (Some o, front) next
+operator_step front bytes place o next e = elim (stands bytes place) [
+  | a_number b s w n ↦ let never : Fault unknown_operator ≡ Got o next = sym n ∙ e in absurd (cc)
+  | an_operator refusal b s w n ↦ s front ∙ ap (λ o. after o (found_operator front)) e
+]
+
+-- what is refused is a step that is refused
+pub bad_step : (front : List Decimal) (bytes : List ℕ) (place : ℕ) (refusal : Refusal) → BadAt bytes place refusal → step front bytes place ≡ Fault refusal
+bad_step front bytes place refusal bad = elim (stands bytes place) [
+  | a_number b s w n ↦ s front ∙ ap (λ o. after o (found_operand front)) (subst (λ b. RefusedBy b bytes place refusal) b bad)
+  | an_operator other b s w n ↦ s front ∙ ap (λ o. after o (found_operator front)) (subst (λ b. RefusedBy b bytes place refusal) b bad)
+]
+
+pub bad_cut : (bytes : List ℕ) (place : ℕ) (refusal : Refusal) → BadAt bytes place refusal → is_cut (drop place bytes) ≡ is_end refusal
+bad_cut bytes place refusal bad = sym (wants_step [] bytes place) ∙ ap wants (bad_step [] bytes place refusal bad)
+
+-- what a step has read: an operand, an operator, or what is refused
+abbrev pub IsStep : List Decimal → List ℕ → ℕ → Outcome Found → Type 0
+IsStep front bytes place (Got (None, all) next) = (operand : Decimal) × (all ≡ front ++ operand ∷ []) × (number bytes place ≡ Got operand next)
+IsStep front bytes place (Got (Some o, all) next) = (all ≡ front) × (operator bytes place ≡ Got o next)
+IsStep front bytes place (Fault refusal) = BadAt bytes place refusal
+IsStep front bytes place Past = ⊥
+
+pub step_is : (front : List Decimal) (bytes : List ℕ) (place : ℕ) → IsStep front bytes place (step front bytes place)
+step_is front bytes place = by (stands bytes place)
+  where
+    never : step front bytes place ≡ Past → ⊥
+    never e = subst (Goes {A = Found} (place + 1) (length bytes)) e (step_goes front bytes place)
+
+    by : Stands bytes place → IsStep front bytes place (step front bytes place)
+    by (a_number b s w n) = subst (IsStep front bytes place) (sym (s front)) (go (number bytes place) refl)
+      where
+        go : (o : Outcome Decimal) → number bytes place ≡ o → IsStep front bytes place (after o (found_operand front))
+        go (Got operand next) e = (operand, refl, e)
+        go (Fault refusal) e = subst (λ b. RefusedBy b bytes place refusal) (sym b) e
+        go Past e = never (s front ∙ ap (λ o. after o (found_operand front)) e)
+    by (an_operator other b s w n) = subst (IsStep front bytes place) (sym (s front)) (go (operator bytes place) refl)
+      where
+        go : (o : Outcome Operator) → operator bytes place ≡ o → IsStep front bytes place (after o (found_operator front))
+        go (Got o next) e = (refl, e)
+        go (Fault refusal) e = subst (λ b. RefusedBy b bytes place refusal) (sym b) e
+        go Past e = never (s front ∙ ap (λ o. after o (found_operator front)) e)

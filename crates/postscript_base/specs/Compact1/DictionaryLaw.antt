@@ -1,0 +1,107 @@
+-- A dictionary in its own words: operations one behind the other, and an unfinished rest (Technical Note 5176, "DICT Data").
+use Rattle.std.specs.Prelude.{◌≡◌, ◌≢◌, ◌⊎◌, ℕ, Bool, true, false, ◌&&◌, ◌||◌, List, [], ◌∷◌, length, drop, Option, Some, None, ◌==◌, nat_lt, if◌then◌else◌}
+use Rattle.std.specs.Option.{option_or}
+use Rattle.std.specs.List.{prefix_len}
+use Rattle.std.specs.FinMap.{get}
+use Rattle.std.specs.Ordering.{eq_by_cmp}
+use Rattle.postscript_base.specs.Tape.Outcome.{Got, Fault, Past, Reading, ◌>>=◌}
+use Rattle.postscript_base.specs.Refusal.{Refusal, malformed_number, out_of_range_number, unknown_operator}
+use Rattle.postscript_base.specs.Numbers.{number as unsigned}
+use Rattle.postscript_base.specs.Compact1.Decimal.{Decimal}
+use Rattle.postscript_base.specs.Compact1.Number.{number}
+use Rattle.postscript_base.specs.Compact1.Reals.{is_in_text, nibbles}
+use Rattle.postscript_base.specs.Compact1.Operators.{operator_cmp}
+use Rattle.postscript_base.specs.Compact1.Operation.{Operation, begins_operand, operator_begun}
+use Rattle.postscript_base.specs.Compact1.Dictionary.{Dictionary, dictionary}
+use Rattle.postscript_base.specs.declared.compact1.operator.Operator.{Operator}
+
+-- spellings of operands, one behind the other, from a place to the next
+abbrev pub OperandsAt : List ℕ → ℕ → List Decimal → ℕ → Type 0
+OperandsAt bytes place [] next = next ≡ place
+OperandsAt bytes place (operand ∷ operands) next = (at : ℕ) × (number bytes place ≡ Got operand at) × OperandsAt bytes at operands next
+
+-- the spelling of an operator: one byte, or 0x0c and a byte, by the list
+abbrev pub operator : Reading Operator
+operator = unsigned 1 >>= operator_begun
+
+-- operands, then an operator
+abbrev pub OperationAt : List ℕ → ℕ → Operation → ℕ → Type 0
+OperationAt bytes place operation next = (at : ℕ) × OperandsAt bytes place operation.1 at × (operator bytes at ≡ Got operation.0 next)
+
+abbrev pub OperationsAt : List ℕ → ℕ → List Operation → ℕ → Type 0
+OperationsAt bytes place [] next = next ≡ place
+OperationsAt bytes place (operation ∷ operations) next = (at : ℕ) × OperationAt bytes place operation at × OperationsAt bytes at operations next
+
+-- no nibble ends the text of a real, and none is reserved
+abbrev pub is_open : List ℕ → Bool
+is_open all = prefix_len is_in_text all == length all
+
+-- behind the first byte of an operand fewer bytes stand than its spelling has
+abbrev pub is_cut_operand : ℕ → List ℕ → Bool
+is_cut_operand first rest =
+    if first == 0x1c then nat_lt (length rest) 2
+    else if first == 0x1d then nat_lt (length rest) 4
+    else if first == 0x1e then is_open (nibbles rest)
+    else if nat_lt first 0xf7 then false
+    else if nat_lt first 0xff then nat_lt (length rest) 1
+    else false
+
+-- nothing, the beginning of an operand, or 0x0c alone
+abbrev pub is_cut : List ℕ → Bool
+is_cut [] = true
+is_cut (first ∷ rest) = is_cut_operand first rest || ((first == 0x0c) && nat_lt (length rest) 1)
+
+-- an unfinished rest: operands, and what the end cuts
+pub record UnfinishedAt (bytes : List ℕ) (place : ℕ) : Type 0 where
+  pub operands : List Decimal
+  pub next : ℕ
+  pub are : OperandsAt bytes place operands next
+  pub cut : is_cut (drop next bytes) ≡ true
+
+-- the operands of an operator's last operation
+abbrev pub last_of : List Operation → Operator → Option (List Decimal)
+last_of [] q = None
+last_of (operation ∷ operations) q = option_or (last_of operations q) (if eq_by_cmp operator_cmp q operation.0 then Some operation.1 else None)
+
+-- From the place on the bytes are operations, followed by an unfinished rest. The map has exactly the operators that
+-- occur, each with the operands of its last operation.
+pub record IsDictionary (bytes : List ℕ) (place : ℕ) (map : Dictionary) : Type 0 where
+  pub operations : List Operation
+  pub next : ℕ
+  pub are : OperationsAt bytes place operations next
+  pub rest : UnfinishedAt bytes next
+  pub last : (q : Operator) → get map q ≡ last_of operations q
+
+-- the first byte is that of an operand
+abbrev pub begins : List ℕ → Bool
+begins [] = false
+begins (first ∷ rest) = begins_operand first
+
+-- what begins as an operand is refused as one, and anything else as an operator
+abbrev pub RefusedBy : Bool → List ℕ → ℕ → Refusal → Type 0
+RefusedBy true bytes place refusal = number bytes place ≡ Fault refusal
+RefusedBy false bytes place refusal = operator bytes place ≡ Fault refusal
+
+abbrev pub BadAt : List ℕ → ℕ → Refusal → Type 0
+BadAt bytes place refusal = RefusedBy (begins (drop place bytes)) bytes place refusal
+
+-- Behind operations and operands of one more, what stands is refused, though the end does not cut it.
+pub record IsRefused (bytes : List ℕ) (place : ℕ) (refusal : Refusal) : Type 0 where
+  pub operations : List Operation
+  pub front : ℕ
+  pub are : OperationsAt bytes place operations front
+  pub operands : List Decimal
+  pub next : ℕ
+  pub stand : OperandsAt bytes front operands next
+  pub bad : BadAt bytes next refusal
+  pub whole : is_cut (drop next bytes) ≡ false
+
+-- What is read is the dictionary that the bytes are, and all of a dictionary is read. Other bytes are refused as the
+-- first number or operator that is bad.
+pub record ReadsDictionaries : Type 0 where
+  pub all : (bytes : List ℕ) (place : ℕ) (map : Dictionary) → IsDictionary bytes place map → dictionary bytes place ≡ Got map (length bytes)
+  pub only : (bytes : List ℕ) (place : ℕ) (map : Dictionary) (next : ℕ) → dictionary bytes place ≡ Got map next → IsDictionary bytes place map × (next ≡ length bytes)
+  pub refused : (bytes : List ℕ) (place : ℕ) (refusal : Refusal) → IsRefused bytes place refusal → dictionary bytes place ≡ Fault refusal
+  pub refused_only : (bytes : List ℕ) (place : ℕ) (refusal : Refusal) → dictionary bytes place ≡ Fault refusal → IsRefused bytes place refusal
+  pub refusals : (bytes : List ℕ) (place : ℕ) (refusal : Refusal) → dictionary bytes place ≡ Fault refusal → (refusal ≡ malformed_number) ⊎ ((refusal ≡ out_of_range_number) ⊎ (refusal ≡ unknown_operator))
+  pub never_past : (bytes : List ℕ) (place : ℕ) → dictionary bytes place ≢ Past
