@@ -6,7 +6,8 @@ use Rattle.std.proofs.lemmas.Grind.{common_steps}
 use Rattle.postscript_base.specs.declared.error.Error.{Error}
 use Rattle.postscript_base.specs.declared.error.Error.TheVariants.{Memory}
 use Rattle.postscript_type2.specs.declared.operation.Operator.{Operator}
-use Rattle.postscript_type2.specs.Effects.{Lists, State, Move, Keeps, Clears, Calls, Returns, Ends, Refuses, effect, stacked, cleared}
+use Rattle.postscript_type2.specs.Effects.{State, Move, Keeps, Clears, Calls, Returns, Ends, Refuses, effect, stacked, cleared}
+use Rattle.postscript_type2.specs.Routines.{Lists}
 use Rattle.postscript_type2.specs.Runs.{Answer, Said, UsedUp, Finished, Fault}
 use Rattle.postscript_type2.specs.Evaluation.{with_phrase, with_answer, at_end, said, moved, stride}
 use Rattle.postscript_type2.specs.Parsing.{Complete, NoPhrase, phrase, fronted}

@@ -3,7 +3,9 @@ use Rattle.std.proofs.Common.{◌≡◌, refl, ℕ, Bool, true, false, List, [],
 use Rattle.postscript_type2.specs.declared.operation.Operator.{Operator}
 use Rattle.postscript_type2.specs.declared.operation.Operator.TheVariants.{HStem, RLineTo, RRCurveTo, CallSubr, Return, EndChar, HintMask, CntrMask, RCurveLine, RLineCurve, HHCurveTo, CallGSubr, HVCurveTo, And, Or, Not, Abs, Add, Sub, Div, Neg, Eq, Drop, IfElse, Mul, Sqrt, Dup, Exch, Index, Roll, Flex}
 use Rattle.postscript_type2.specs.Number.{whole}
-use Rattle.postscript_type2.specs.Effects.{Lists, State, start, Move, Keeps, Clears, Calls, Refuses, bias, taken, effect}
+use Rattle.postscript_type2.specs.Effects.{State, start, Move, Keeps, Clears, Calls, Refuses, bias, effect}
+use Rattle.postscript_type2.specs.Kinds.{taken}
+use Rattle.postscript_type2.specs.Routines.{Lists}
 use Rattle.postscript_type2.specs.Runs.{End, UsedUp, Finished, Fault}
 use Rattle.postscript_type2.specs.Evaluation.{Back, called, callee, after_call, mean, moved, said}
 use Rattle.postscript_type2.specs.Still.{still}

@@ -11,7 +11,9 @@ use Rattle.postscript_base.specs.declared.error.Error.TheVariants as errors
 use Rattle.postscript_type2.specs.declared.operation.Operator.{Operator}
 use Rattle.postscript_type2.specs.declared.operation.Operator.TheVariants.{And, Or, Not, Abs, Add, Sub, Div, Neg, Eq, Drop, IfElse, Mul, Sqrt, Dup, Exch, Index, Roll}
 use Rattle.postscript_type2.specs.Endings.{run_refusals, flatten_refusals, next_refusals, IsRunsEnd, RunsEndSo}
-use Rattle.postscript_type2.specs.Effects.{Lists, State, start, Move, Keeps, Clears, Calls, Returns, Ends, Refuses, clearing, stems_after, mask_len, mask_clearing, work_move, named, subroutine, call_move, Kind, Draws, DeclaresStems, Masks, Works, CallsFrom, GoesBack, EndsGlyph, IsRefused, kind, taken, effect_of, effect, pushed}
+use Rattle.postscript_type2.specs.Effects.{State, start, Move, Keeps, Clears, Calls, Returns, Ends, Refuses, clearing, stems_after, mask_len, mask_clearing, work_move, named, subroutine, call_move, effect_of, effect, pushed}
+use Rattle.postscript_type2.specs.Kinds.{Kind, Draws, DeclaresStems, Masks, Works, CallsFrom, GoesBack, EndsGlyph, IsRefused, kind, taken}
+use Rattle.postscript_type2.specs.Routines.{Lists}
 use Rattle.postscript_type2.specs.FixedPoint.{cut, fit, absolute_value, opposite, root, sum, difference, product, quotient, both, either, denial, same_bits}
 use Rattle.postscript_type2.specs.declared.program.machine.Machine.{Machine}
 use Rattle.postscript_type2.specs.Callers.{rests}

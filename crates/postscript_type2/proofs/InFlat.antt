@@ -10,7 +10,9 @@ use Rattle.postscript_type2.specs.Number.{to_int}
 use Rattle.postscript_type2.specs.Parsing.{Phrase, Complete, NoPhrase, phrase, fronted}
 use Rattle.postscript_type2.specs.Works.{after, given, top_of}
 use Rattle.postscript_type2.specs.Stacks.{removal}
-use Rattle.postscript_type2.specs.Effects.{Lists, State, Move, Keeps, Clears, Calls, Returns, Ends, Refuses, clearing, stems_after, with_stems, mask_len, mask_clearing, work_move, named, subroutine, call_move, end_move, Kind, Draws, DeclaresStems, Masks, Works, CallsFrom, GoesBack, EndsGlyph, IsRefused, kind, taken, effect_of, effect, pushed, stacked, cleared}
+use Rattle.postscript_type2.specs.Effects.{State, Move, Keeps, Clears, Calls, Returns, Ends, Refuses, clearing, stems_after, with_stems, mask_len, mask_clearing, work_move, named, subroutine, call_move, end_move, effect_of, effect, pushed, stacked, cleared}
+use Rattle.postscript_type2.specs.Kinds.{Kind, Draws, DeclaresStems, Masks, Works, CallsFrom, GoesBack, EndsGlyph, IsRefused, kind, taken}
+use Rattle.postscript_type2.specs.Routines.{Lists}
 use Rattle.postscript_type2.specs.Runs.{Said, Finished, Run}
 use Rattle.postscript_type2.specs.Evaluation.{with_phrase, with_answer, with_any_answer, at_end, Stride, On, Into, Back, Over, Faults, said, moved, stride_by, stride, mean}
 use Rattle.postscript_type2.specs.Still.{next_still}

@@ -9,7 +9,7 @@ use Rattle.postscript_type2.specs.declared.operation.Operator.{Operator}
 use Rattle.postscript_type2.specs.Number.{spelled, whole, signed, above, below}
 use Rattle.postscript_type2.specs.Operators.{operators, lookup, operator_of}
 use Rattle.postscript_type2.specs.Parsing.{is_number, Phrase, Complete, NoPhrase, passed, with_number, with_operator, numbered, escaped, ending, phrase_after, phrase, fronted}
-use Rattle.postscript_type2.specs.Effects.{Kind, CallsFrom, GoesBack, kind}
+use Rattle.postscript_type2.specs.Kinds.{Kind, CallsFrom, GoesBack, kind}
 use Rattle.postscript_type2.proofs.Fronts.{fronted-zero, passed-fronted, number-first}
 
 -- a reading that looks at no byte past its next place

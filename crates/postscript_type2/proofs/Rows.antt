@@ -6,7 +6,7 @@ use Rattle.postscript_type2.specs.declared.operation.Operator.TheVariants.{HStem
 use Rattle.postscript_type2.specs.Number.{whole}
 use Rattle.postscript_type2.specs.Evaluation.{run_of}
 use Rattle.postscript_base.specs.Refusal.{OfPart, unexpected_eof, unknown_operator, malformed_operands}
-use Rattle.postscript_type2.specs.Effects.{Lists}
+use Rattle.postscript_type2.specs.Routines.{Lists}
 use Rattle.postscript_type2.proofs.Meant.{Told, Tells as TellsIn, meant}
 
 abbrev no_lists : Lists

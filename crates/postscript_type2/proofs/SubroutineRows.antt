@@ -7,7 +7,7 @@ use Rattle.postscript_type2.specs.Evaluation.{run_of}
 use Rattle.postscript_type2.proofs.Roots.{whole_root-is}
 use Rattle.postscript_type2.specs.Flat.{flat_text}
 use Rattle.postscript_base.specs.Refusal.{unexpected_eof, malformed_operands, expected_operand, expected_integer, expected_more_operands, invalid_operand, missing_subroutine, return_without_caller, trailing_data, too_deep, overflow, zero_divisor, negative_root}
-use Rattle.postscript_type2.specs.Effects.{Lists}
+use Rattle.postscript_type2.specs.Routines.{Lists}
 use Rattle.postscript_type2.proofs.Meant.{Told, Tells as TellsIn, meant}
 
 abbrev with_local : List (List ℕ) → Lists

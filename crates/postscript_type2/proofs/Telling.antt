@@ -5,7 +5,8 @@ use Rattle.postscript_base.specs.declared.error.Error.{Error}
 use Rattle.postscript_base.specs.declared.error.Error.TheVariants.{Memory}
 use Rattle.std.proofs.Common.{ℕ, List}
 use Rattle.postscript_type2.specs.declared.program.Answers.{Answers}
-use Rattle.postscript_type2.specs.Effects.{Lists, start}
+use Rattle.postscript_type2.specs.Effects.{start}
+use Rattle.postscript_type2.specs.Routines.{Lists}
 use Rattle.postscript_type2.specs.Endings.{run_refusals}
 use Rattle.postscript_type2.specs.Evaluation.{run_of}
 use Rattle.postscript_type2.specs.Meaning.{IsRunOf}

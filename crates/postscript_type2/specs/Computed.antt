@@ -2,7 +2,8 @@
 use Rattle.std.specs.Prelude.{◌≡◌, ◌↔◌, ℕ, zero, suc, ◌+◌, ◌-◌, ◌≤◌, ℤ, int_div, Bool, true, false, List, ◌++◌, length}
 use Rattle.postscript_base.specs.Refusal.{Refusal}
 use Rattle.postscript_type2.specs.declared.operation.Operator.{Operator}
-use Rattle.postscript_type2.specs.Effects.{Lists, State}
+use Rattle.postscript_type2.specs.Effects.{State}
+use Rattle.postscript_type2.specs.Routines.{Lists}
 use Rattle.postscript_type2.specs.Evaluation.{mean, run_of}
 use Rattle.postscript_type2.specs.FixedPoint.{cut}
 use Rattle.postscript_type2.specs.Meaning.{MeansRun, IsRunOf}

@@ -2,7 +2,8 @@
 -- Operators", "Operator for Finishing a Path"; Appendix B for the ten calls that may nest).
 use Rattle.std.specs.Prelude.{◌≡◌, ◌≢◌, ℕ, suc, ◌<◌, ◌≤◌, ℤ, List, [], ◌∷◌, ◌++◌, length, Option}
 use Rattle.postscript_type2.specs.declared.operation.Operator.{Operator}
-use Rattle.postscript_type2.specs.Effects.{Lists, State, start, Keeps, Clears, Calls, Returns, Ends, Refuses, effect, pushed, stacked, cleared}
+use Rattle.postscript_type2.specs.Effects.{State, start, Keeps, Clears, Calls, Returns, Ends, Refuses, effect, pushed, stacked, cleared}
+use Rattle.postscript_type2.specs.Routines.{Lists}
 use Rattle.postscript_type2.specs.Runs.{Answer, Said, End, UsedUp, Returned, Finished, Fault, Run}
 use Rattle.postscript_base.specs.Refusal.{Refusal, return_without_caller, trailing_data, too_deep}
 use Rattle.postscript_type2.specs.Phrases.{IsPhrase, HasNoPhrase}
