@@ -126,6 +126,7 @@ impl<'l> Program<'l> {
             OnOk result (fault_of run.end ≡ None) }
         ensures text { let run = run_of (subroutines global.now local.now) code.now in
             IfOk result (λ flat. flat.items ≡ flat_text run.trace) }
+        ensures meant { IfOk result (λ flat. (run : Run) × IsRunOf (subroutines global.now local.now) code.now run × (flat.items ≡ flat_text run.trace)) }
         ensures keeps { let run = run_of (subroutines global.now local.now) code.now in
             IfOk result (λ flat. (other : Lists) → KeepsMeaning other flat.items run) }
         ensures refused { let run = run_of (subroutines global.now local.now) code.now in
