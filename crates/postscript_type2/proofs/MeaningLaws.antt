@@ -3,18 +3,18 @@ use Rattle.std.proofs.Math.Seq.{take-append_seam, drop-append_seam, take-append-
 use Rattle.std.proofs.lemmas.List.{drop-drop, take-append-drop, length-take-le}
 use Rattle.std.proofs.Common.{◌≡◌, ◌≢◌, refl, ap, sym, subst, ◌∙◌, ℕ, zero, suc, ◌+◌, ◌-◌, ◌<◌, ◌≤◌, ℤ, Bool, true, false, List, [], ◌∷◌, ◌++◌, take, drop, length, length-append, length-drop, nat_lt, Option, Some, None, Result, Ok, Err, if◌then◌else◌, arith}
 use Rattle.std.proofs.lemmas.Bool.Decides.{nat_tests}
-use Rattle.postscript_type2.specs.declared.operation.Operator.{Operator}
-use Rattle.postscript_type2.specs.Parsing.{Phrase, Complete, NoPhrase, phrase}
-use Rattle.postscript_type2.specs.Effects.{State, start, Move, Keeps, Clears, Calls, Returns, Ends, Refuses, clearing, stems_after, mask_len, mask_clearing, work_move, subroutine, call_move, effect_of, effect, pushed, stacked, cleared}
-use Rattle.postscript_type2.specs.Kinds.{Kind, Draws, DeclaresStems, Masks, Works, CallsFrom, GoesBack, EndsGlyph, IsRefused, kind, taken}
-use Rattle.postscript_type2.specs.Routines.{Lists}
-use Rattle.postscript_type2.specs.Runs.{Answer, Said, End, UsedUp, Returned, Finished, Fault, Run}
-use Rattle.postscript_type2.specs.Evaluation.{at_end, with_phrase, with_answer, with_any_answer, followed, finish, after_call, Stride, On, Into, Back, Over, Faults, moved, stride_by, stride, called, paced, routine, callee, mean}
 use Rattle.postscript_base.specs.Refusal.{Refusal, unexpected_eof, return_without_caller, trailing_data, too_deep}
-use Rattle.postscript_type2.specs.Phrases.{IsPhrase}
+use Rattle.postscript_type2.specs.declared.operation.Operator.{Operator}
+use Rattle.postscript_type2.specs.Computed.{is_inner, MeaningIsComputed, RunIsMeant}
+use Rattle.postscript_type2.specs.Effects.{State, start, Move, Keeps, Clears, Calls, Returns, Ends, Refuses, clearing, stems_after, mask_len, mask_clearing, work_move, subroutine, call_move, effect_of, effect, pushed, stacked, cleared}
+use Rattle.postscript_type2.specs.Evaluation.{at_end, with_phrase, with_answer, with_any_answer, followed, finish, after_call, Stride, On, Into, Back, Over, Faults, moved, stride_by, stride, called, paced, routine, callee, mean}
+use Rattle.postscript_type2.specs.Kinds.{Kind, Draws, DeclaresStems, Masks, Works, CallsFrom, GoesBack, EndsGlyph, IsRefused, kind, taken}
 use Rattle.postscript_type2.specs.Meaning as rules
 use Rattle.postscript_type2.specs.Meaning.{by, answer, Closes, Stops, Means, MeansRun}
-use Rattle.postscript_type2.specs.Computed.{is_inner, MeaningIsComputed, RunIsMeant}
+use Rattle.postscript_type2.specs.Parsing.{Phrase, Complete, NoPhrase, phrase}
+use Rattle.postscript_type2.specs.Phrases.{IsPhrase}
+use Rattle.postscript_type2.specs.Routines.{Lists}
+use Rattle.postscript_type2.specs.Runs.{Answer, Said, End, UsedUp, Returned, Finished, Fault, Run}
 use Rattle.postscript_type2.proofs.Inlining.{followed-ends}
 use Rattle.postscript_type2.proofs.PhraseLaws.{reads-phrase, phrase-spelled, reads-no_phrase, no_phrase-spelled}
 use Rattle.postscript_type2.proofs.Still.{routine-from, behind-call}

@@ -1,12 +1,12 @@
 -- What a program means, one case for each rule (Technical Note 5177, "Type 2 Charstring Organization", "Subroutine
 -- Operators", "Operator for Finishing a Path"; Appendix B for the ten calls that may nest).
 use Rattle.std.specs.Prelude.{◌≡◌, ◌≢◌, ℕ, suc, ◌<◌, ◌≤◌, ℤ, List, [], ◌∷◌, ◌++◌, length, Option}
+use Rattle.postscript_base.specs.Refusal.{Refusal, return_without_caller, trailing_data, too_deep}
 use Rattle.postscript_type2.specs.declared.operation.Operator.{Operator}
 use Rattle.postscript_type2.specs.Effects.{State, start, Move, Keeps, Clears, Calls, Returns, Ends, Refuses, effect, pushed, stacked, cleared}
+use Rattle.postscript_type2.specs.Phrases.{IsPhrase, HasNoPhrase}
 use Rattle.postscript_type2.specs.Routines.{Lists}
 use Rattle.postscript_type2.specs.Runs.{Answer, Said, End, UsedUp, Returned, Finished, Fault, Run}
-use Rattle.postscript_base.specs.Refusal.{Refusal, return_without_caller, trailing_data, too_deep}
-use Rattle.postscript_type2.specs.Phrases.{IsPhrase, HasNoPhrase}
 
 -- a phrase that is told: its operator and its bytes
 abbrev pub by : Operator → (bytes : List ℕ) → Said

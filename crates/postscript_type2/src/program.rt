@@ -1,15 +1,15 @@
 //! The programs.
 ghost use Rattle.std.specs.Prelude.{◌≡◌, ◌⊎◌, MatchResult, OnOk, IfOk, IfErr, IfSome};
 ghost use Rattle.postscript_base.specs.Error.{code as number, IsOneOf, IsListed};
-ghost use Rattle.postscript_type2.specs.Routines.{Lists, subroutines};
+ghost use Rattle.postscript_base.specs.Refusal.{refusal_of};
 ghost use Rattle.postscript_type2.specs.Endings.{run_refusals, flatten_refusals, next_refusals};
+ghost use Rattle.postscript_type2.specs.Evaluation.{run_of};
 ghost use Rattle.postscript_type2.specs.Flat.{flat_text};
 ghost use Rattle.postscript_type2.specs.Inlining.{KeepsMeaning, FlatTextKeepsMeaning};
-ghost use Rattle.postscript_base.specs.Refusal.{refusal_of};
-ghost use Rattle.postscript_type2.specs.Runs.{Run, fault_of};
-ghost use Rattle.postscript_type2.specs.Evaluation.{run_of};
 ghost use Rattle.postscript_type2.specs.Meaning.{IsRunOf};
 ghost use Rattle.postscript_type2.specs.Programs.{begun, Next, ended, failed};
+ghost use Rattle.postscript_type2.specs.Routines.{Lists, subroutines};
+ghost use Rattle.postscript_type2.specs.Runs.{Run, fault_of};
 ghost use Rattle.postscript_type2.specs.Whole.{Tells, TellsPending};
 
 mod arithmetic;
