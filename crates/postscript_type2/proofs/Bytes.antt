@@ -2,13 +2,13 @@
 use Rattle.std.proofs.lemmas.List.{drop-drop}
 use Rattle.std.proofs.Common.{◌≡◌, ◌≢◌, refl, ap, sym, subst, ◌∙◌, ℕ, ◌+◌, ◌-◌, inl, inr, Bool, true, false, List, [], ◌∷◌, length, take, drop, nat_lt, ℤ, pos, ◌-ℤ◌, ◌==◌, Result, Ok, Err, arith, if◌then◌else◌}
 use Rattle.std.proofs.lemmas.Grind.{common_steps}
-use Rattle.postscript_base.specs.Error.{code, IsOneOf, IsListed}
-use Rattle.postscript_base.specs.Tape.Outcome.{Outcome, Got, Fault, Past, Reading, after, ◌>>=◌, pure, fault, Answers, RefusedAs}
-use Rattle.postscript_base.specs.Numbers.{slice, number as unsigned, big_endian, two_sided, above, below}
 use Rattle.postscript_base.specs.declared.error.Error.{Error}
 use Rattle.postscript_base.specs.declared.error.Error.TheVariants.{UnexpectedEof, Io, Memory, MalformedOffset, MalformedNumber, OutOfRangeNumber, TapeStuck, MalformedOperation, MissingOperation, UnknownOperator, Unsupported, ExpectedOperand, ExpectedInteger, ExpectedMoreOperands, MalformedOperands, InvalidOperand, MissingSubroutine, ReturnWithoutCaller, TrailingData, TooDeep, Overflow, ZeroDivisor, NegativeRoot, TooManyStems, AlreadyFailed}
-use Rattle.postscript_type2.specs.Number.{number, spelled, whole}
+use Rattle.postscript_base.specs.Error.{code, IsOneOf, IsListed}
+use Rattle.postscript_base.specs.Numbers.{slice, number as unsigned, big_endian, two_sided, above, below}
+use Rattle.postscript_base.specs.Tape.Outcome.{Outcome, Got, Fault, Past, Reading, after, ◌>>=◌, pure, fault, Answers, RefusedAs}
 use Rattle.postscript_base.specs.Refusal.{refusal_of, number_of, unexpected_eof, malformed_number}
+use Rattle.postscript_type2.specs.Number.{number, spelled, whole}
 use Rattle.postscript_type2.specs.Tokens.{ReadsByte, ReadsNumber}
 use Rattle.postscript_type2.proofs.Places.{later, IsLocal, number-local as unsigned-local, spelled-local}
 

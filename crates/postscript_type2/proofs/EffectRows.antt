@@ -1,14 +1,16 @@
 -- What operators do on small stacks, and pieces of runs with calls, computed from the definitions.
 use Rattle.std.proofs.Common.{◌≡◌, refl, ℕ, Bool, true, false, List, [], ◌∷◌, Some, None, ℤ, pos, neg_ℤ, ◌-◌, ◌^◌, replicate}
+use Rattle.postscript_base.specs.Refusal.{unexpected_eof, malformed_operands, expected_operand, expected_integer, expected_more_operands, invalid_operand, missing_subroutine, trailing_data, too_deep, overflow, zero_divisor, negative_root, too_many_stems}
 use Rattle.postscript_type2.specs.declared.operation.Operator.{Operator}
 use Rattle.postscript_type2.specs.declared.operation.Operator.TheVariants.{HStem, RLineTo, RRCurveTo, CallSubr, Return, EndChar, HintMask, CntrMask, RCurveLine, RLineCurve, HHCurveTo, CallGSubr, HVCurveTo, And, Or, Not, Abs, Add, Sub, Div, Neg, Eq, Drop, IfElse, Mul, Sqrt, Dup, Exch, Index, Roll, Flex}
-use Rattle.postscript_type2.specs.Number.{whole}
-use Rattle.postscript_type2.specs.Effects.{Lists, State, start, Move, Keeps, Clears, Calls, Refuses, bias, taken, effect}
-use Rattle.postscript_type2.specs.Runs.{End, UsedUp, Finished, Fault}
+use Rattle.postscript_type2.specs.Effects.{State, start, Move, Keeps, Clears, Calls, Refuses, bias, effect}
 use Rattle.postscript_type2.specs.Evaluation.{Back, called, callee, after_call, mean, moved, said}
-use Rattle.postscript_type2.specs.Still.{still}
 use Rattle.postscript_type2.specs.Flat.{flat_text}
-use Rattle.postscript_base.specs.Refusal.{unexpected_eof, malformed_operands, expected_operand, expected_integer, expected_more_operands, invalid_operand, missing_subroutine, trailing_data, too_deep, overflow, zero_divisor, negative_root, too_many_stems}
+use Rattle.postscript_type2.specs.Kinds.{taken}
+use Rattle.postscript_type2.specs.Number.{whole}
+use Rattle.postscript_type2.specs.Routines.{Lists}
+use Rattle.postscript_type2.specs.Runs.{End, UsedUp, Finished, Fault}
+use Rattle.postscript_type2.specs.Still.{still}
 
 abbrev no_lists : Lists
 no_lists = record { global = []; local = [] }

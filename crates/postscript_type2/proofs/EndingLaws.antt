@@ -3,28 +3,30 @@ use Rattle.std.proofs.lemmas.Bool.Decides.{nat_tests}
 use Rattle.std.proofs.Common.{◌≡◌, refl, ap, sym, subst, ℕ, zero, suc, ◌+◌, ◌-◌, ◌⊎◌, inl, inr, ℤ, pos, negsuc, ◌-ℤ◌, ◌+ℤ◌, ◌*ℤ◌, neg_ℤ, nat_abs, int_lt, int_le, Bool, true, false, ◌||◌, ◌&&◌, not, nat_lt, ◌==◌, List, [], ◌∷◌, length, drop, take, slice_get, Option, Some, None, Result, Ok, Err, IfErr, IfSome, if◌then◌else◌, arith}
 use Rattle.std.specs.Option.{ok_or, option_map}
 use Rattle.std.specs.Ordering.{int_eq}
+use Rattle.postscript_base.specs.declared.error.Error.{Error}
+use Rattle.postscript_base.specs.declared.error.Error.TheVariants as errors
 use Rattle.postscript_base.specs.Error.{code, IsOneOf, IsListed}
 use Rattle.postscript_base.specs.Numbers.{slice, number as unsigned, big_endian, two_sided, above, below}
 use Rattle.postscript_base.specs.Tape.Outcome.{Outcome, Got, Fault as Cut, Past, Reading, after as chained, ◌>>=◌ as ◌>>>◌, pure, fault}
-use Rattle.postscript_base.specs.declared.error.Error.{Error}
-use Rattle.postscript_base.specs.declared.error.Error.TheVariants as errors
+use Rattle.postscript_base.specs.Refusal.{Refusal, refusal_of, number_of, unexpected_eof, malformed_number, return_without_caller, trailing_data, expected_operand, expected_integer, expected_more_operands, missing_subroutine}
 use Rattle.postscript_type2.specs.declared.operation.Operator.{Operator}
 use Rattle.postscript_type2.specs.declared.operation.Operator.TheVariants.{And, Or, Not, Abs, Add, Sub, Div, Neg, Eq, Drop, IfElse, Mul, Sqrt, Dup, Exch, Index, Roll}
-use Rattle.postscript_type2.specs.Endings.{run_refusals, flatten_refusals, next_refusals, IsRunsEnd, RunsEndSo}
-use Rattle.postscript_type2.specs.Effects.{Lists, State, start, Move, Keeps, Clears, Calls, Returns, Ends, Refuses, clearing, stems_after, mask_len, mask_clearing, work_move, named, subroutine, call_move, Kind, Draws, DeclaresStems, Masks, Works, CallsFrom, GoesBack, EndsGlyph, IsRefused, kind, taken, effect_of, effect, pushed}
-use Rattle.postscript_type2.specs.FixedPoint.{cut, fit, absolute_value, opposite, root, sum, difference, product, quotient, both, either, denial, same_bits}
 use Rattle.postscript_type2.specs.declared.program.machine.Machine.{Machine}
 use Rattle.postscript_type2.specs.Callers.{rests}
-use Rattle.postscript_type2.specs.Machines.{still_of}
-use Rattle.postscript_type2.specs.Working.{lists_of, state_of}
-use Rattle.postscript_type2.specs.Runs.{Answer, End, UsedUp, Returned, Finished, Fault, Run, fault_of}
+use Rattle.postscript_type2.specs.Effects.{State, start, Move, Keeps, Clears, Calls, Returns, Ends, Refuses, clearing, stems_after, mask_len, mask_clearing, work_move, named, subroutine, call_move, effect_of, effect, pushed}
+use Rattle.postscript_type2.specs.Endings.{run_refusals, flatten_refusals, next_refusals, IsRunsEnd, RunsEndSo}
 use Rattle.postscript_type2.specs.Evaluation.{with_any_answer, is_empty, after_call, Stride, On, Into, Back, Over, Faults, moved, stride_by, stride, Callee, called, paced, routine, callee, mean, run_of}
+use Rattle.postscript_type2.specs.FixedPoint.{cut, fit, absolute_value, opposite, root, sum, difference, product, quotient, both, either, denial, same_bits}
+use Rattle.postscript_type2.specs.Kinds.{Kind, Draws, DeclaresStems, Masks, Works, CallsFrom, GoesBack, EndsGlyph, IsRefused, kind, taken}
+use Rattle.postscript_type2.specs.Machines.{still_of}
 use Rattle.postscript_type2.specs.Number.{to_int, spelled, whole}
 use Rattle.postscript_type2.specs.Operators.{operator_of}
 use Rattle.postscript_type2.specs.Parsing.{Phrase, Complete, NoPhrase, is_number, passed, with_number, numbered, with_operator, escaped, ending, phrase_after, phrase}
-use Rattle.postscript_base.specs.Refusal.{Refusal, refusal_of, number_of, unexpected_eof, malformed_number, return_without_caller, trailing_data, expected_operand, expected_integer, expected_more_operands, missing_subroutine}
+use Rattle.postscript_type2.specs.Routines.{Lists}
+use Rattle.postscript_type2.specs.Runs.{Answer, End, UsedUp, Returned, Finished, Fault, Run, fault_of}
 use Rattle.postscript_type2.specs.Stacks.{one_to_one, two_to_one, depth, roll_by}
 use Rattle.postscript_type2.specs.Still.{through, still}
+use Rattle.postscript_type2.specs.Working.{lists_of, state_of}
 use Rattle.postscript_type2.specs.Works.{Work, ◌>>=◌, given, after, top_of, pop, operand, whole_operand, operand_below, push}
 
 abbrev Listed : Refusal → Type 0

@@ -4,20 +4,22 @@ use Rattle.std.proofs.lemmas.Bool.Decides.{nat_tests}
 use Rattle.std.proofs.lemmas.List.{append-nil, length-take-le, take-take}
 use Rattle.std.proofs.Common.{◌≡◌, refl, ap, sym, subst, ◌∙◌, ℕ, suc, ◌+◌, ◌-◌, ◌<◌, ◌≤◌, ◌^◌, Bool, true, false, List, [], ◌∷◌, ◌++◌, take, drop, length, length-append, length-drop, append_assoc, add-one, nat_lt, ℤ, pos, Option, Some, None, Result, Ok, Err, slice_get, if◌then◌else◌, arith}
 use Rattle.std.specs.Option.{ok_or}
+use Rattle.postscript_base.specs.Refusal.{Refusal, unexpected_eof, expected_operand, expected_integer, missing_subroutine, too_many_stems}
 use Rattle.postscript_type2.specs.declared.operation.Operator.{Operator}
 use Rattle.postscript_type2.specs.declared.operation.Operator.TheVariants.{CallSubr, CallGSubr, Return, Drop}
+use Rattle.postscript_type2.specs.Effects.{State, Move, Keeps, Clears, Calls, Returns, Ends, Refuses, clearing, stems_after, with_stems, mask_len, mask_clearing, work_move, named, subroutine, call_move, end_move, effect_of, effect, pushed, stacked, cleared}
+use Rattle.postscript_type2.specs.Evaluation.{with_phrase, with_answer, with_any_answer, at_end, Stride, On, Into, Back, Over, Faults, said, moved, stride_by, stride, mean}
+use Rattle.postscript_type2.specs.Flat.{without_operator, dropping, flat_by, flat_said}
+use Rattle.postscript_type2.specs.Kinds.{Kind, Draws, DeclaresStems, Masks, Works, CallsFrom, GoesBack, EndsGlyph, IsRefused, kind, taken}
 use Rattle.postscript_type2.specs.Number.{to_int}
 use Rattle.postscript_type2.specs.Parsing.{Phrase, Complete, NoPhrase, phrase, fronted}
-use Rattle.postscript_type2.specs.Works.{after, given, top_of}
-use Rattle.postscript_type2.specs.Stacks.{removal}
-use Rattle.postscript_type2.specs.Effects.{Lists, State, Move, Keeps, Clears, Calls, Returns, Ends, Refuses, clearing, stems_after, with_stems, mask_len, mask_clearing, work_move, named, subroutine, call_move, end_move, Kind, Draws, DeclaresStems, Masks, Works, CallsFrom, GoesBack, EndsGlyph, IsRefused, kind, taken, effect_of, effect, pushed, stacked, cleared}
+use Rattle.postscript_type2.specs.Routines.{Lists}
 use Rattle.postscript_type2.specs.Runs.{Said, Finished, Run}
-use Rattle.postscript_type2.specs.Evaluation.{with_phrase, with_answer, with_any_answer, at_end, Stride, On, Into, Back, Over, Faults, said, moved, stride_by, stride, mean}
+use Rattle.postscript_type2.specs.Stacks.{removal}
 use Rattle.postscript_type2.specs.Still.{next_still}
-use Rattle.postscript_type2.specs.Flat.{without_operator, dropping, flat_by, flat_said}
-use Rattle.postscript_base.specs.Refusal.{Refusal, unexpected_eof, expected_operand, expected_integer, missing_subroutine, too_many_stems}
-use Rattle.postscript_type2.proofs.Strides.{still_step-at}
+use Rattle.postscript_type2.specs.Works.{after, given, top_of}
 use Rattle.postscript_type2.proofs.Locals.{stands_flat, IsLocal, Local, local}
+use Rattle.postscript_type2.proofs.Strides.{still_step-at}
 
 -- a phrase in the outermost code, whatever follows it, is told, and then a run
 abbrev Tells : (other : Lists) (left : ℕ) → State → Said → (List ℕ → Run) → Type 0

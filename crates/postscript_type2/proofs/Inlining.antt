@@ -4,14 +4,15 @@ use Rattle.std.proofs.lemmas.List.Concat.{flat_map-append}
 use Rattle.std.proofs.lemmas.List.Elements.{All-nil, All-cons}
 use Rattle.std.proofs.Common.{◌≡◌, refl, ap, sym, subst, ◌∙◌, ℕ, zero, suc, Bool, true, false, ◌&&◌, not, List, [], ◌∷◌, ◌++◌, map, drop, append_assoc, Some, None, Result, Ok, Err, IfOk, OnOk, if◌then◌else◌}
 use Rattle.std.specs.List.{AllPass}
+use Rattle.postscript_base.specs.Refusal.{trailing_data}
 use Rattle.postscript_type2.specs.declared.operation.Operator.{Operator}
 use Rattle.postscript_type2.specs.declared.operation.Operator.TheVariants.{CallSubr, CallGSubr, Return}
-use Rattle.postscript_type2.specs.Effects.{Lists, State, start}
-use Rattle.postscript_type2.specs.Runs.{Answer, Said, End, UsedUp, Returned, Finished, Fault, Run, fault_of, width_by, width_of}
+use Rattle.postscript_type2.specs.Effects.{State, start}
 use Rattle.postscript_type2.specs.Evaluation.{at_end, with_phrase, with_answer, followed, is_empty, after_call, Stride, On, Into, Back, Over, Faults, stride, Callee, paced, routine, callee, mean, run_of}
 use Rattle.postscript_type2.specs.Flat.{flat_by, flat_said, flat_bytes, flat_text}
 use Rattle.postscript_type2.specs.Inlining.{is_flat, KeepsMeaning, FlatTextKeepsMeaning}
-use Rattle.postscript_base.specs.Refusal.{trailing_data}
+use Rattle.postscript_type2.specs.Routines.{Lists}
+use Rattle.postscript_type2.specs.Runs.{Answer, Said, End, UsedUp, Returned, Finished, Fault, Run, fault_of, width_by, width_of}
 use Rattle.postscript_type2.proofs.InFlat.{InFlat, in-flat}
 
 -- no fault, and where the run was used up nothing follows

@@ -2,14 +2,14 @@
 use Rattle.std.proofs.lemmas.Bool.Decides.{nat_tests}
 use Rattle.std.proofs.lemmas.List.{take-append-le, take-take}
 use Rattle.std.proofs.Common.{◌≡◌, refl, ap, sym, ◌∙◌, ℕ, zero, suc, ◌+◌, ◌-◌, ◌<◌, ◌≤◌, ◌==◌, Bool, true, false, ◌&&◌, ◌||◌, cond, List, [], ◌∷◌, ◌++◌, take, length, length-take, length-append, nat_lt, Option, Some, None, ℤ, pos, ◌-ℤ◌, if◌then◌else◌, arith}
-use Rattle.postscript_base.specs.Refusal.{malformed_number}
-use Rattle.postscript_base.specs.Tape.Outcome.{Outcome, Got, Fault, Past, end, after, Reading, ◌>>=◌, pure, fault}
 use Rattle.postscript_base.specs.Numbers.{slice, number, big_endian, two_sided, above, below}
+use Rattle.postscript_base.specs.Tape.Outcome.{Outcome, Got, Fault, Past, end, after, Reading, ◌>>=◌, pure, fault}
+use Rattle.postscript_base.specs.Refusal.{malformed_number}
 use Rattle.postscript_type2.specs.declared.operation.Operator.{Operator}
+use Rattle.postscript_type2.specs.Kinds.{Kind, CallsFrom, GoesBack, kind}
 use Rattle.postscript_type2.specs.Number.{spelled, whole}
 use Rattle.postscript_type2.specs.Operators.{operators, lookup, operator_of}
 use Rattle.postscript_type2.specs.Parsing.{is_number, Phrase, Complete, NoPhrase, passed, with_number, with_operator, numbered, escaped, ending, phrase_after, phrase, fronted}
-use Rattle.postscript_type2.specs.Effects.{Kind, CallsFrom, GoesBack, kind}
 use Rattle.postscript_type2.proofs.Fronts.{fronted-zero, passed-fronted, number-first}
 
 -- a reading that looks at no byte past its next place

@@ -3,16 +3,18 @@ use Rattle.std.proofs.Math.Seq.{take-append_seam, drop-append_seam, take-append-
 use Rattle.std.proofs.lemmas.List.{drop-drop, take-append-drop, length-take-le}
 use Rattle.std.proofs.Common.{◌≡◌, ◌≢◌, refl, ap, sym, subst, ◌∙◌, ℕ, zero, suc, ◌+◌, ◌-◌, ◌<◌, ◌≤◌, ℤ, Bool, true, false, List, [], ◌∷◌, ◌++◌, take, drop, length, length-append, length-drop, nat_lt, Option, Some, None, Result, Ok, Err, if◌then◌else◌, arith}
 use Rattle.std.proofs.lemmas.Bool.Decides.{nat_tests}
-use Rattle.postscript_type2.specs.declared.operation.Operator.{Operator}
-use Rattle.postscript_type2.specs.Parsing.{Phrase, Complete, NoPhrase, phrase}
-use Rattle.postscript_type2.specs.Effects.{Lists, State, start, Move, Keeps, Clears, Calls, Returns, Ends, Refuses, clearing, stems_after, mask_len, mask_clearing, work_move, subroutine, call_move, Kind, Draws, DeclaresStems, Masks, Works, CallsFrom, GoesBack, EndsGlyph, IsRefused, kind, taken, effect_of, effect, pushed, stacked, cleared}
-use Rattle.postscript_type2.specs.Runs.{Answer, Said, End, UsedUp, Returned, Finished, Fault, Run}
-use Rattle.postscript_type2.specs.Evaluation.{at_end, with_phrase, with_answer, with_any_answer, followed, finish, after_call, Stride, On, Into, Back, Over, Faults, moved, stride_by, stride, called, paced, routine, callee, mean}
 use Rattle.postscript_base.specs.Refusal.{Refusal, unexpected_eof, return_without_caller, trailing_data, too_deep}
-use Rattle.postscript_type2.specs.Phrases.{IsPhrase}
+use Rattle.postscript_type2.specs.declared.operation.Operator.{Operator}
+use Rattle.postscript_type2.specs.Computed.{is_inner, MeaningIsComputed, RunIsMeant}
+use Rattle.postscript_type2.specs.Effects.{State, start, Move, Keeps, Clears, Calls, Returns, Ends, Refuses, clearing, stems_after, mask_len, mask_clearing, work_move, subroutine, call_move, effect_of, effect, pushed, stacked, cleared}
+use Rattle.postscript_type2.specs.Evaluation.{at_end, with_phrase, with_answer, with_any_answer, followed, finish, after_call, Stride, On, Into, Back, Over, Faults, moved, stride_by, stride, called, paced, routine, callee, mean}
+use Rattle.postscript_type2.specs.Kinds.{Kind, Draws, DeclaresStems, Masks, Works, CallsFrom, GoesBack, EndsGlyph, IsRefused, kind, taken}
 use Rattle.postscript_type2.specs.Meaning as rules
 use Rattle.postscript_type2.specs.Meaning.{by, answer, Closes, Stops, Means, MeansRun}
-use Rattle.postscript_type2.specs.Computed.{is_inner, MeaningIsComputed, RunIsMeant}
+use Rattle.postscript_type2.specs.Parsing.{Phrase, Complete, NoPhrase, phrase}
+use Rattle.postscript_type2.specs.Phrases.{IsPhrase}
+use Rattle.postscript_type2.specs.Routines.{Lists}
+use Rattle.postscript_type2.specs.Runs.{Answer, Said, End, UsedUp, Returned, Finished, Fault, Run}
 use Rattle.postscript_type2.proofs.Inlining.{followed-ends}
 use Rattle.postscript_type2.proofs.PhraseLaws.{reads-phrase, phrase-spelled, reads-no_phrase, no_phrase-spelled}
 use Rattle.postscript_type2.proofs.Still.{routine-from, behind-call}
@@ -151,40 +153,40 @@ sound lists (rules.used_up d st) left h = refl
 sound lists (rules.unread d rest st e some none) left h =
     mean-acted lists left (is_inner d) rest st (some-bytes rest some)
     ∙ ap (λ q. acted lists left (is_inner d) rest (stride_by lists rest st q)) (reads-no_phrase rest e none)
-sound lists (rules.refused d p behind ns op st e is does) left h = mean-goes lists left (is_inner d) p behind ns op st (Refuses e) is does
-sound lists (rules.keeps d p behind ns op st stack xs ts end is does later) left h =
-    mean-goes lists left (is_inner d) p behind ns op st (Keeps stack) is does ∙ ap (with_phrase (by op p)) (sound lists later left h)
-sound lists (rules.clears d p mask behind ns op st taken stems width xs ts end is does later) left h =
-    mean-goes lists left (is_inner d) p (mask ++ behind) ns op st (Clears taken stems width (length mask)) is does
+sound lists (rules.refused d p behind ns op st e moves) left h = mean-goes lists left (is_inner d) p behind ns op st (Refuses e) moves.spelled moves.does
+sound lists (rules.keeps d p behind ns op st stack xs ts end moves later) left h =
+    mean-goes lists left (is_inner d) p behind ns op st (Keeps stack) moves.spelled moves.does ∙ ap (with_phrase (by op p)) (sound lists later left h)
+sound lists (rules.clears d p mask behind ns op st taken stems width xs ts end moves later) left h =
+    mean-goes lists left (is_inner d) p (mask ++ behind) ns op st (Clears taken stems width (length mask)) moves.spelled moves.does
     ∙ ap (λ q. with_phrase (by op (p ++ q)) (with_answer (answer op taken width) (mean lists left (is_inner d) (drop (length mask) (mask ++ behind)) (cleared stems width)))) (take-append_seam mask behind)
     ∙ ap (λ q. with_phrase (by op (p ++ mask)) (with_answer (answer op taken width) (mean lists left (is_inner d) q (cleared stems width)))) (drop-append_seam mask behind)
     ∙ ap (λ run. with_phrase (by op (p ++ mask)) (with_answer (answer op taken width) run)) (sound lists later left h)
-sound lists (rules.calls_too_deep d p behind ns op st sub stack is does deep) left h =
-    mean-goes lists left (is_inner d) p behind ns op st (Calls sub stack) is does ∙ ap (with_phrase (by op p)) (called-deep lists left d h deep sub (stacked stack st) _)
-sound lists (rules.calls d p behind ns op st sub stack inner inner_trace back xs ts end is does room means later) left h =
+sound lists (rules.calls_too_deep d p behind ns op st sub stack moves deep) left h =
+    mean-goes lists left (is_inner d) p behind ns op st (Calls sub stack) moves.spelled moves.does ∙ ap (with_phrase (by op p)) (called-deep lists left d h deep sub (stacked stack st) _)
+sound lists (rules.calls d p behind ns op st sub stack inner inner_trace back xs ts end moves room means later) left h =
     let go : State → Run = λ st'. mean lists left (is_inner d) behind st' in
-    mean-goes lists left (is_inner d) p behind ns op st (Calls sub stack) is does
+    mean-goes lists left (is_inner d) p behind ns op st (Calls sub stack) moves.spelled moves.does
     ∙ ap (with_phrase (by op p)) (called-means lists left d h room sub (stacked stack st) (after_call (is_inner d) behind go)
     (record { answers = inner; trace = inner_trace; end = Returned back }) (λ l e. sound lists means l e))
     ∙ ap (λ (r : Run). with_phrase (by op p) (record { answers = inner ++ r.answers; trace = inner_trace ++ r.trace; end = r.end })) (sound lists later left h)
-sound lists (rules.calls_to_stop d p behind ns op st sub stack inner inner_trace end is does room means stops) left h =
+sound lists (rules.calls_to_stop d p behind ns op st sub stack inner inner_trace end moves room means stops) left h =
     let go : State → Run = λ st'. mean lists left (is_inner d) behind st' in
-    mean-goes lists left (is_inner d) p behind ns op st (Calls sub stack) is does
+    mean-goes lists left (is_inner d) p behind ns op st (Calls sub stack) moves.spelled moves.does
     ∙ ap (with_phrase (by op p)) (called-means lists left d h room sub (stacked stack st) (after_call (is_inner d) behind go)
     (record { answers = inner; trace = inner_trace; end = end }) (λ l e. sound lists means l e))
     ∙ ap (with_phrase (by op p)) (followed-by inner inner_trace end (is_inner d) behind go end (after-stop (is_inner d) behind go end stops))
-sound lists (rules.calls_to_finish d p behind ns op st sub stack inner inner_trace width end is does room means closes) left h =
+sound lists (rules.calls_to_finish d p behind ns op st sub stack inner inner_trace width end moves room means closes) left h =
     let go : State → Run = λ st'. mean lists left (is_inner d) behind st' in
-    mean-goes lists left (is_inner d) p behind ns op st (Calls sub stack) is does
+    mean-goes lists left (is_inner d) p behind ns op st (Calls sub stack) moves.spelled moves.does
     ∙ ap (with_phrase (by op p)) (called-means lists left d h room sub (stacked stack st) (after_call (is_inner d) behind go)
     (record { answers = inner; trace = inner_trace; end = Finished width }) (λ l e. sound lists means l e))
     ∙ ap (with_phrase (by op p)) (followed-by inner inner_trace (Finished width) (is_inner d) behind go end (ap at_end (finish-closes width d behind end closes)))
-sound lists (rules.returns d p behind ns op st is does within) left h =
-    mean-goes lists left (is_inner d) p behind ns op st Returns is does
+sound lists (rules.returns d p behind ns op st moves within) left h =
+    mean-goes lists left (is_inner d) p behind ns op st Returns moves.spelled moves.does
     ∙ ap (λ b. with_phrase (by op p) (at_end (if b then Returned (pushed ns st) else Fault return_without_caller))) (inner-open d within)
-sound lists (rules.returns_nowhere p behind ns op st is does) left h = mean-goes lists left false p behind ns op st Returns is does
-sound lists (rules.finishes d p behind ns op st width end is does closes) left h =
-    mean-goes lists left (is_inner d) p behind ns op st (Ends width) is does ∙ ap (λ e. with_phrase (by op p) (at_end e)) (finish-closes width d behind end closes)
+sound lists (rules.returns_nowhere p behind ns op st moves) left h = mean-goes lists left false p behind ns op st Returns moves.spelled moves.does
+sound lists (rules.finishes d p behind ns op st width end moves closes) left h =
+    mean-goes lists left (is_inner d) p behind ns op st (Ends width) moves.spelled moves.does ∙ ap (λ e. with_phrase (by op p) (at_end e)) (finish-closes width d behind end closes)
 
 -- the bytes of a mask follow its operator
 abbrev MaskFits : (after : List ℕ) → Move → Type 0
@@ -242,23 +244,23 @@ called-goes : (lists : Lists) (left d : ℕ) (p behind : List ℕ) (ns : List �
     (with_phrase (by op p) (followed (record { answers = xs; trace = ts; end = end }) (after_call (is_inner d) behind (λ st'. mean lists left (is_inner d) behind st'))))
 called-goes lists left d p behind ns op st sub stack is does room ih xs ts UsedUp means =
     subst (λ run. MeansRun lists d (p ++ behind) st (with_phrase (by op p) run)) (sym (followed-ends xs ts UsedUp UsedUp))
-    (rules.calls_to_stop d p behind ns op st sub stack xs ts UsedUp is does room means rules.at_used_up)
+    (rules.calls_to_stop d p behind ns op st sub stack xs ts UsedUp (record { spelled = is; does = does }) room means rules.at_used_up)
 called-goes lists left d p behind ns op st sub stack is does room ih xs ts (Fault e) means =
     subst (λ run. MeansRun lists d (p ++ behind) st (with_phrase (by op p) run)) (sym (followed-ends xs ts (Fault e) (Fault e)))
-    (rules.calls_to_stop d p behind ns op st sub stack xs ts (Fault e) is does room means (rules.at_fault e))
+    (rules.calls_to_stop d p behind ns op st sub stack xs ts (Fault e) (record { spelled = is; does = does }) room means (rules.at_fault e))
 called-goes lists left d p behind ns op st sub stack is does room ih xs ts (Returned back) means =
-    rules.calls d p behind ns op st sub stack xs ts back _ _ _ is does room means (ih back)
+    rules.calls d p behind ns op st sub stack xs ts back _ _ _ (record { spelled = is; does = does }) room means (ih back)
 called-goes lists left d p behind ns op st sub stack is does room ih xs ts (Finished width) means =
     let end = finish (is_inner d) behind width in
     subst (λ run. MeansRun lists d (p ++ behind) st (with_phrase (by op p) run)) (sym (followed-ends xs ts (Finished width) end))
-    (rules.calls_to_finish d p behind ns op st sub stack xs ts width end is does room means (closes-finish d behind width))
+    (rules.calls_to_finish d p behind ns op st sub stack xs ts width end (record { spelled = is; does = does }) room means (closes-finish d behind width))
 
 -- a phrase, by its operator's move
 goes-means : (lists : Lists) (left d : ℕ) → left + d ≡ 10 → SubsMean lists left d → (p behind : List ℕ) (ns : List ℤ) (op : Operator) (st : State) → IsPhrase p ns op →
     ((rest : List ℕ) (st' : State) → length rest ≤ length behind → MeansRun lists d rest st' (mean lists left (is_inner d) rest st')) →
     (m : Move) → effect lists op behind (pushed ns st) ≡ m → MeansRun lists d (p ++ behind) st (goes lists left (is_inner d) p behind op (pushed ns st) m)
 goes-means lists left d h subs p behind ns op st is ih (Keeps stack) does =
-    rules.keeps d p behind ns op st stack _ _ _ is does (ih behind (stacked stack st) (omega arith))
+    rules.keeps d p behind ns op st stack _ _ _ (record { spelled = is; does = does }) (ih behind (stacked stack st) (omega arith))
 goes-means lists left d h subs p behind ns op st is ih (Clears taken stems width mask) does =
     let q = take mask behind in
     let rest = drop mask behind in
@@ -269,15 +271,15 @@ goes-means lists left d h subs p behind ns op st is ih (Clears taken stems width
     let does' : effect lists op (q ++ rest) (pushed ns st) ≡ Clears taken stems width (length q) =
     ap (λ bytes. effect lists op bytes (pushed ns st)) whole ∙ does ∙ ap (Clears taken stems width) (sym long) in
     subst (λ bytes. MeansRun lists d (p ++ bytes) st (with_phrase (by op (p ++ q)) (with_answer (answer op taken width) (mean lists left (is_inner d) rest (cleared stems width))))) whole
-    (rules.clears d p q rest ns op st taken stems width _ _ _ is does' (ih rest (cleared stems width) (omega (arith, fewer))))
-goes-means lists zero d h subs p behind ns op st is ih (Calls sub stack) does = rules.calls_too_deep d p behind ns op st sub stack is does (omega (arith, h))
+    (rules.clears d p q rest ns op st taken stems width _ _ _ (record { spelled = is; does = does' }) (ih rest (cleared stems width) (omega (arith, fewer))))
+goes-means lists zero d h subs p behind ns op st is ih (Calls sub stack) does = rules.calls_too_deep d p behind ns op st sub stack (record { spelled = is; does = does }) (omega (arith, h))
 goes-means lists (suc left) d h subs p behind ns op st is ih (Calls sub stack) does =
     called-goes lists (suc left) d p behind ns op st sub stack is does (omega (arith, h)) (λ st'. ih behind st' (omega arith)) _ _ _ (subs sub (stacked stack st))
-goes-means lists left zero h subs p behind ns op st is ih Returns does = rules.returns_nowhere p behind ns op st is does
-goes-means lists left (suc d) h subs p behind ns op st is ih Returns does = rules.returns (suc d) p behind ns op st is does (omega arith)
+goes-means lists left zero h subs p behind ns op st is ih Returns does = rules.returns_nowhere p behind ns op st (record { spelled = is; does = does })
+goes-means lists left (suc d) h subs p behind ns op st is ih Returns does = rules.returns (suc d) p behind ns op st (record { spelled = is; does = does }) (omega arith)
 goes-means lists left d h subs p behind ns op st is ih (Ends width) does =
-    rules.finishes d p behind ns op st width (finish (is_inner d) behind width) is does (closes-finish d behind width)
-goes-means lists left d h subs p behind ns op st is ih (Refuses e) does = rules.refused d p behind ns op st e is does
+    rules.finishes d p behind ns op st width (finish (is_inner d) behind width) (record { spelled = is; does = does }) (closes-finish d behind width)
+goes-means lists left d h subs p behind ns op st is ih (Refuses e) does = rules.refused d p behind ns op st e (record { spelled = is; does = does })
 
 rest-means : (lists : Lists) (n left d : ℕ) → left + d ≡ 10 → SubsMean lists left d → (rest : List ℕ) (st : State) → length rest ≤ n →
     MeansRun lists d rest st (mean lists left (is_inner d) rest st)

@@ -3,18 +3,18 @@ use Rattle.std.proofs.Common.{◌≡◌, ◌≢◌, refl, ap, sym, subst, ◌∙
 use Rattle.std.proofs.lemmas.Bool.Decides.{nat_tests}
 use Rattle.std.proofs.lemmas.List.{append-nil, drop-drop}
 use Rattle.std.specs.Option.{ok_or}
-use Rattle.postscript_base.specs.Tape.Outcome.{Outcome, Got, Fault, Past}
 use Rattle.postscript_base.specs.declared.error.Error.{Error}
 use Rattle.postscript_base.specs.declared.error.Error.TheVariants.{UnknownOperator}
+use Rattle.postscript_base.specs.Tape.Outcome.{Outcome, Got, Fault, Past}
+use Rattle.postscript_base.specs.Refusal.{Refusal, refusal_of}
 use Rattle.postscript_type2.specs.declared.operation.Operator.{Operator}
 use Rattle.postscript_type2.specs.Number.{number, spelled}
 use Rattle.postscript_type2.specs.Operators.{operator_of}
 use Rattle.postscript_type2.specs.Parsing.{Phrase, Complete, NoPhrase, is_number, numbered, phrase_after, phrase, ending, escaped, with_operator, fronted}
-use Rattle.postscript_base.specs.Refusal.{Refusal, refusal_of}
 use Rattle.postscript_type2.specs.Tokens.{ReadsOperator, ReadsPhrase, ending_of}
 use Rattle.postscript_type2.proofs.Bytes.{number-front, got-later}
-use Rattle.postscript_type2.proofs.Places.{later, spelled-local}
 use Rattle.postscript_type2.proofs.Fronts.{front-number_at}
+use Rattle.postscript_type2.proofs.Places.{later, spelled-local}
 
 with-operator : (old new : List ℕ) (more : ℕ) (o : Option Operator) (r : Result Operator Error) → ending_of old ≡ with_operator more o → new ≡ drop (more + 1) old →
     r ≡ ok_or o UnknownOperator → ReadsOperator old r new

@@ -1,8 +1,8 @@
 -- Numbers at a place of a list are those at the front of what stands there.
 use Rattle.std.proofs.Common.{◌≡◌, refl, ap, sym, ◌∙◌, ℕ, ◌+◌, ◌-◌, Bool, true, false, nat_lt, if◌then◌else◌, ◌==◌, List, length, take, drop, ℤ, pos, ◌-ℤ◌, add-zero, length-drop, arith}
-use Rattle.postscript_base.specs.Refusal.{malformed_number}
-use Rattle.postscript_base.specs.Tape.Outcome.{Outcome, Got, Fault, Past, end, after, Reading, ◌>>=◌, pure, fault}
 use Rattle.postscript_base.specs.Numbers.{slice, number, big_endian, two_sided, above, below}
+use Rattle.postscript_base.specs.Tape.Outcome.{Outcome, Got, Fault, Past, end, after, Reading, ◌>>=◌, pure, fault}
+use Rattle.postscript_base.specs.Refusal.{malformed_number}
 use Rattle.postscript_type2.specs.Number.{spelled, whole}
 
 -- the same, so many places on

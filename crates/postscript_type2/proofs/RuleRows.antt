@@ -1,10 +1,11 @@
 -- Runs shown rule by rule, without the functions that compute them.
 use Rattle.std.proofs.Common.{refl, ℕ, List, [], ◌∷◌, None, pos, neg_ℤ, lit<, lit≤}
 use Rattle.postscript_type2.specs.declared.operation.Operator.TheVariants.{CallSubr, Return, EndChar, HMoveTo}
-use Rattle.postscript_type2.specs.Effects.{Lists, start, cleared}
+use Rattle.postscript_type2.specs.Effects.{start, cleared}
 use Rattle.postscript_type2.specs.Meaning.{by, answer, in_outermost, IsRunOf, clears, calls, returns, finishes}
 use Rattle.postscript_type2.specs.Number.{whole}
 use Rattle.postscript_type2.specs.Phrases.{small, operator, after_number}
+use Rattle.postscript_type2.specs.Routines.{Lists}
 use Rattle.postscript_type2.specs.Runs.{Finished}
 
 abbrev no_lists : Lists
@@ -12,7 +13,7 @@ no_lists = record { global = []; local = [] }
 
 -- the end of the glyph alone
 end_alone : IsRunOf no_lists (0x0e ∷ []) (record { answers = []; trace = by EndChar (0x0e ∷ []) ∷ []; end = Finished None })
-end_alone = finishes 0 (0x0e ∷ []) [] [] EndChar start None (Finished None) (operator 0x0e EndChar (lit< tt) refl) refl (in_outermost [])
+end_alone = finishes 0 (0x0e ∷ []) [] [] EndChar start None (Finished None) (record { spelled = operator 0x0e EndChar (lit< tt) refl; does = refl }) (in_outermost [])
 
 -- a subroutine that moves by one and returns
 abbrev moving : List ℕ
@@ -26,10 +27,9 @@ call_and_end : IsRunOf (record { global = []; local = moving ∷ [] }) (0x20 ∷
 })
 call_and_end =
     calls 0 (0x20 ∷ 0x0a ∷ []) (0x0e ∷ []) (whole (neg_ℤ (pos 107)) ∷ []) CallSubr start moving [] _ _ (cleared 0 None) _ _ _
-    (after_number (0x20 ∷ []) (0x0a ∷ []) (whole (neg_ℤ (pos 107))) [] CallSubr (small 0x20 (lit≤ tt) (lit< tt)) (operator 0x0a CallSubr (lit< tt) refl))
-    refl (lit< tt)
+    (record { spelled = after_number (0x20 ∷ []) (0x0a ∷ []) (whole (neg_ℤ (pos 107))) [] CallSubr (small 0x20 (lit≤ tt) (lit< tt)) (operator 0x0a CallSubr (lit< tt) refl); does = refl })
+    (lit< tt)
     (clears 1 (0x8c ∷ 0x16 ∷ []) [] (0x0b ∷ []) (whole (pos 1) ∷ []) HMoveTo start (whole (pos 1) ∷ []) 0 None _ _ _
-    (after_number (0x8c ∷ []) (0x16 ∷ []) (whole (pos 1)) [] HMoveTo (small 0x8c (lit≤ tt) (lit< tt)) (operator 0x16 HMoveTo (lit< tt) refl))
-    refl
-    (returns 1 (0x0b ∷ []) [] [] Return (cleared 0 None) (operator 0x0b Return (lit< tt) refl) refl (lit< tt)))
-    (finishes 0 (0x0e ∷ []) [] [] EndChar (cleared 0 None) None (Finished None) (operator 0x0e EndChar (lit< tt) refl) refl (in_outermost []))
+    (record { spelled = after_number (0x8c ∷ []) (0x16 ∷ []) (whole (pos 1)) [] HMoveTo (small 0x8c (lit≤ tt) (lit< tt)) (operator 0x16 HMoveTo (lit< tt) refl); does = refl })
+    (returns 1 (0x0b ∷ []) [] [] Return (cleared 0 None) (record { spelled = operator 0x0b Return (lit< tt) refl; does = refl }) (lit< tt)))
+    (finishes 0 (0x0e ∷ []) [] [] EndChar (cleared 0 None) None (Finished None) (record { spelled = operator 0x0e EndChar (lit< tt) refl; does = refl }) (in_outermost []))

@@ -1,14 +1,14 @@
 -- Runs of programs with subroutines, masks and arithmetic by the rules, as they are computed.
 use Rattle.std.proofs.Common.{◌≡◌, refl, ap, arith, ◌*◌, ℕ, List, [], ◌∷◌, Some, None, ℤ, pos}
 use Rattle.postscript_base.specs.Numbers.{slice, number}
-use Rattle.postscript_type2.specs.declared.operation.Operator.TheVariants.{HStem, HintMask, RMoveTo, HMoveTo, HLineTo, HVCurveTo}
-use Rattle.postscript_type2.specs.Number.{whole}
-use Rattle.postscript_type2.specs.Evaluation.{run_of}
-use Rattle.postscript_type2.proofs.Roots.{whole_root-is}
-use Rattle.postscript_type2.specs.Flat.{flat_text}
 use Rattle.postscript_base.specs.Refusal.{unexpected_eof, malformed_operands, expected_operand, expected_integer, expected_more_operands, invalid_operand, missing_subroutine, return_without_caller, trailing_data, too_deep, overflow, zero_divisor, negative_root}
-use Rattle.postscript_type2.specs.Effects.{Lists}
+use Rattle.postscript_type2.specs.declared.operation.Operator.TheVariants.{HStem, HintMask, RMoveTo, HMoveTo, HLineTo, HVCurveTo}
+use Rattle.postscript_type2.specs.Evaluation.{run_of}
+use Rattle.postscript_type2.specs.Flat.{flat_text}
+use Rattle.postscript_type2.specs.Number.{whole}
+use Rattle.postscript_type2.specs.Routines.{Lists}
 use Rattle.postscript_type2.proofs.Meant.{Told, Tells as TellsIn, meant}
+use Rattle.postscript_type2.proofs.Roots.{whole_root-is}
 
 abbrev with_local : List (List ℕ) → Lists
 with_local local = record { global = []; local = local }

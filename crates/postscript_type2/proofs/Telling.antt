@@ -1,15 +1,17 @@
 -- What a run tells, from what its program still answers.
 use Rattle.std.proofs.Common.{◌≡◌, arith, Result, Ok, Err, IfOk, IfSome, MatchResult}
-use Rattle.postscript_base.specs.Error.{code as number, IsOneOf}
+use Rattle.std.proofs.Common.{ℕ, List}
 use Rattle.postscript_base.specs.declared.error.Error.{Error}
 use Rattle.postscript_base.specs.declared.error.Error.TheVariants.{Memory}
-use Rattle.std.proofs.Common.{ℕ, List}
+use Rattle.postscript_base.specs.Error.{code as number, IsOneOf}
 use Rattle.postscript_type2.specs.declared.program.Answers.{Answers}
-use Rattle.postscript_type2.specs.Effects.{Lists, start}
+use Rattle.postscript_type2.specs.Effects.{start}
 use Rattle.postscript_type2.specs.Endings.{run_refusals}
 use Rattle.postscript_type2.specs.Evaluation.{run_of}
+use Rattle.postscript_type2.specs.Flat.{flat_text}
 use Rattle.postscript_type2.specs.Meaning.{IsRunOf}
 use Rattle.postscript_type2.specs.Programs.{begun}
+use Rattle.postscript_type2.specs.Routines.{Lists}
 use Rattle.postscript_type2.specs.Runs.{Run}
 use Rattle.postscript_type2.specs.Whole.{Tells, TellsPending}
 use Rattle.postscript_type2.proofs.EndingLaws.{law, told-listed}
@@ -31,3 +33,9 @@ pub tells-listed : (lists : Lists) (code : List ℕ) (r : Result Answers Error) 
     IfOk r (λ told. IfSome told.fault (λ e. IsOneOf run_refusals (number e)))
 tells-listed lists code (Ok told) h = told-listed told.fault (run_of lists code).end (law lists code) h.fault
 tells-listed lists code (Err e) h = tt
+
+-- the flat text of a run by the rules
+pub text-meant : {V E : Type 0} (items : V → List ℕ) (lists : Lists) (code : List ℕ) (r : Result V E) → IfOk r (λ flat. items flat ≡ flat_text (run_of lists code).trace) →
+    IfOk r (λ flat. (run : Run) × IsRunOf lists code run × (items flat ≡ flat_text run.trace))
+text-meant items lists code (Ok flat) text = (run_of lists code, complete lists 10 0 (omega arith) code start, text)
+text-meant items lists code (Err e) text = tt

@@ -2,12 +2,13 @@
 use Rattle.std.specs.Prelude.{◌≡◌, ◌↔◌, ℕ, zero, suc, ◌+◌, ◌-◌, ◌≤◌, ℤ, int_div, Bool, true, false, List, ◌++◌, length}
 use Rattle.postscript_base.specs.Refusal.{Refusal}
 use Rattle.postscript_type2.specs.declared.operation.Operator.{Operator}
-use Rattle.postscript_type2.specs.Effects.{Lists, State}
+use Rattle.postscript_type2.specs.Effects.{State}
 use Rattle.postscript_type2.specs.Evaluation.{mean, run_of}
 use Rattle.postscript_type2.specs.FixedPoint.{cut}
 use Rattle.postscript_type2.specs.Meaning.{MeansRun, IsRunOf}
 use Rattle.postscript_type2.specs.Parsing.{Complete, NoPhrase, phrase}
 use Rattle.postscript_type2.specs.Phrases.{IsPhrase, HasNoPhrase}
+use Rattle.postscript_type2.specs.Routines.{Lists}
 use Rattle.postscript_type2.specs.Runs.{Run}
 use Rattle.postscript_type2.specs.Stacks.{IsRolled, rolled}
 

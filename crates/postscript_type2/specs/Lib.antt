@@ -7,6 +7,8 @@ pub mod Lengths
 pub mod FixedPoint
 pub mod Works
 pub mod Stacks
+pub mod Routines
+pub mod Kinds
 pub mod Effects
 pub mod Runs
 pub mod Meaning
@@ -16,7 +18,6 @@ pub mod Flat
 pub mod Inlining
 pub mod Tokens
 pub mod Working
-pub mod Routines
 pub mod Machines
 pub mod Programs
 pub mod Views

@@ -2,14 +2,14 @@
 use Rattle.std.specs.Prelude.{◌≡◌, ◌⊎◌, ◌+◌, ℤ, [], length, Option, Some, Result, Ok, Err}
 use Rattle.postscript_base.specs.declared.error.Error.{Error}
 use Rattle.postscript_base.specs.declared.error.Error.TheVariants.{Memory}
+use Rattle.postscript_base.specs.Refusal.{refusal_of}
 use Rattle.postscript_type2.specs.declared.program.machine.Event.{Event}
 use Rattle.postscript_type2.specs.declared.program.machine.Event.TheVariants as events
 use Rattle.postscript_type2.specs.declared.program.machine.Machine.{Machine}
 use Rattle.postscript_type2.specs.declared.program.machine.Said as code
 use Rattle.postscript_type2.specs.Callers.{rests}
-use Rattle.postscript_type2.specs.Runs.{Said, UsedUp, Finished, Fault, Run}
 use Rattle.postscript_type2.specs.Evaluation.{at_end, with_phrase, with_answer}
-use Rattle.postscript_base.specs.Refusal.{refusal_of}
+use Rattle.postscript_type2.specs.Runs.{Said, UsedUp, Finished, Fault, Run}
 use Rattle.postscript_type2.specs.Still.{still}
 use Rattle.postscript_type2.specs.Working.{lists_of, state_of, settled_width}
 

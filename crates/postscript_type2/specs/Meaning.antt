@@ -1,11 +1,12 @@
 -- What a program means, one case for each rule (Technical Note 5177, "Type 2 Charstring Organization", "Subroutine
 -- Operators", "Operator for Finishing a Path"; Appendix B for the ten calls that may nest).
 use Rattle.std.specs.Prelude.{◌≡◌, ◌≢◌, ℕ, suc, ◌<◌, ◌≤◌, ℤ, List, [], ◌∷◌, ◌++◌, length, Option}
-use Rattle.postscript_type2.specs.declared.operation.Operator.{Operator}
-use Rattle.postscript_type2.specs.Effects.{Lists, State, start, Keeps, Clears, Calls, Returns, Ends, Refuses, effect, pushed, stacked, cleared}
-use Rattle.postscript_type2.specs.Runs.{Answer, Said, End, UsedUp, Returned, Finished, Fault, Run}
 use Rattle.postscript_base.specs.Refusal.{Refusal, return_without_caller, trailing_data, too_deep}
+use Rattle.postscript_type2.specs.declared.operation.Operator.{Operator}
+use Rattle.postscript_type2.specs.Effects.{State, start, Move, Keeps, Clears, Calls, Returns, Ends, Refuses, effect, pushed, stacked, cleared}
 use Rattle.postscript_type2.specs.Phrases.{IsPhrase, HasNoPhrase}
+use Rattle.postscript_type2.specs.Routines.{Lists}
+use Rattle.postscript_type2.specs.Runs.{Answer, Said, End, UsedUp, Returned, Finished, Fault, Run}
 
 -- a phrase that is told: its operator and its bytes
 abbrev pub by : Operator → (bytes : List ℕ) → Said
@@ -26,9 +27,13 @@ pub data Stops : End → Type 0 where
   at_used_up : Stops UsedUp
   at_fault : (e : Refusal) → Stops (Fault e)
 
+-- A phrase stands before these bytes, and from this state, with its numbers pushed, its operator makes this move.
+pub record Moves (lists : Lists) (st : State) (phrase : List ℕ) (numbers : List ℤ) (op : Operator) (behind : List ℕ) (move : Move) : Type 0 where
+  pub spelled : IsPhrase phrase numbers op
+  pub does : effect lists op behind (pushed numbers st) ≡ move
+
 -- What the rest of a routine means, from a state: its answers, its trace of phrases and its end. depth: how many calls are
--- open, none in the outermost code. A phrase stands at the front, before the bytes behind it; its numbers are pushed, and its
--- operator's move decides the rule.
+-- open, none in the outermost code. The move of the phrase at the front decides the rule.
 pub data Means (lists : Lists) : (depth : ℕ) → (rest : List ℕ) → State → List Answer → List Said → End → Type 0 where
   -- the routine is used up
   used_up : (depth : ℕ) (st : State) → Means lists depth [] st [] [] UsedUp
@@ -36,55 +41,55 @@ pub data Means (lists : Lists) : (depth : ℕ) → (rest : List ℕ) → State �
   unread : (depth : ℕ) (rest : List ℕ) (st : State) (e : Refusal) → rest ≢ [] → HasNoPhrase rest e → Means lists depth rest st [] [] (Fault e)
   -- the operator is refused
   refused : (depth : ℕ) (phrase behind : List ℕ) (numbers : List ℤ) (op : Operator) (st : State) (e : Refusal) →
-      IsPhrase phrase numbers op → effect lists op behind (pushed numbers st) ≡ Refuses e →
+      Moves lists st phrase numbers op behind (Refuses e) →
       Means lists depth (phrase ++ behind) st [] [] (Fault e)
   -- the operator leaves a stack, and what follows it goes on with that
   keeps : (depth : ℕ) (phrase behind : List ℕ) (numbers : List ℤ) (op : Operator) (st : State) (stack : List ℤ)
       (answers : List Answer) (trace : List Said) (end : End) →
-      IsPhrase phrase numbers op → effect lists op behind (pushed numbers st) ≡ Keeps stack →
+      Moves lists st phrase numbers op behind (Keeps stack) →
       Means lists depth behind (stacked stack st) answers trace end →
       Means lists depth (phrase ++ behind) st answers (by op phrase ∷ trace) end
   -- the operator clears the stack and is answered, the bytes of a mask are its own, and what follows them goes on
   clears : (depth : ℕ) (phrase mask behind : List ℕ) (numbers : List ℤ) (op : Operator) (st : State)
       (taken : List ℤ) (stems : ℕ) (width : Option ℤ) (answers : List Answer) (trace : List Said) (end : End) →
-      IsPhrase phrase numbers op → effect lists op (mask ++ behind) (pushed numbers st) ≡ Clears taken stems width (length mask) →
+      Moves lists st phrase numbers op (mask ++ behind) (Clears taken stems width (length mask)) →
       Means lists depth behind (cleared stems width) answers trace end →
       Means lists depth (phrase ++ (mask ++ behind)) st (answer op taken width ∷ answers) (by op (phrase ++ mask) ∷ trace) end
   -- a call where ten are open
   calls_too_deep : (depth : ℕ) (phrase behind : List ℕ) (numbers : List ℤ) (op : Operator) (st : State)
       (subroutine : List ℕ) (stack : List ℤ) →
-      IsPhrase phrase numbers op → effect lists op behind (pushed numbers st) ≡ Calls subroutine stack → 10 ≤ depth →
+      Moves lists st phrase numbers op behind (Calls subroutine stack) → 10 ≤ depth →
       Means lists depth (phrase ++ behind) st [] (by op phrase ∷ []) (Fault too_deep)
   -- a call that returns, and what follows it goes on with the state that comes back
   calls : (depth : ℕ) (phrase behind : List ℕ) (numbers : List ℤ) (op : Operator) (st : State)
       (subroutine : List ℕ) (stack : List ℤ) (inner : List Answer) (inner_trace : List Said) (back : State)
       (answers : List Answer) (trace : List Said) (end : End) →
-      IsPhrase phrase numbers op → effect lists op behind (pushed numbers st) ≡ Calls subroutine stack → depth < 10 →
+      Moves lists st phrase numbers op behind (Calls subroutine stack) → depth < 10 →
       Means lists (suc depth) subroutine (stacked stack st) inner inner_trace (Returned back) →
       Means lists depth behind back answers trace end →
       Means lists depth (phrase ++ behind) st (inner ++ answers) (by op phrase ∷ (inner_trace ++ trace)) end
   -- a call whose subroutine is used up or refused: so ends the run
   calls_to_stop : (depth : ℕ) (phrase behind : List ℕ) (numbers : List ℤ) (op : Operator) (st : State)
       (subroutine : List ℕ) (stack : List ℤ) (inner : List Answer) (inner_trace : List Said) (end : End) →
-      IsPhrase phrase numbers op → effect lists op behind (pushed numbers st) ≡ Calls subroutine stack → depth < 10 →
+      Moves lists st phrase numbers op behind (Calls subroutine stack) → depth < 10 →
       Means lists (suc depth) subroutine (stacked stack st) inner inner_trace end → Stops end →
       Means lists depth (phrase ++ behind) st inner (by op phrase ∷ inner_trace) end
   -- a call whose subroutine finishes the glyph
   calls_to_finish : (depth : ℕ) (phrase behind : List ℕ) (numbers : List ℤ) (op : Operator) (st : State)
       (subroutine : List ℕ) (stack : List ℤ) (inner : List Answer) (inner_trace : List Said) (width : Option ℤ) (end : End) →
-      IsPhrase phrase numbers op → effect lists op behind (pushed numbers st) ≡ Calls subroutine stack → depth < 10 →
+      Moves lists st phrase numbers op behind (Calls subroutine stack) → depth < 10 →
       Means lists (suc depth) subroutine (stacked stack st) inner inner_trace (Finished width) → Closes width depth behind end →
       Means lists depth (phrase ++ behind) st inner (by op phrase ∷ inner_trace) end
   -- a return, in a subroutine and in the outermost code
   returns : (depth : ℕ) (phrase behind : List ℕ) (numbers : List ℤ) (op : Operator) (st : State) →
-      IsPhrase phrase numbers op → effect lists op behind (pushed numbers st) ≡ Returns → 0 < depth →
+      Moves lists st phrase numbers op behind Returns → 0 < depth →
       Means lists depth (phrase ++ behind) st [] (by op phrase ∷ []) (Returned (pushed numbers st))
   returns_nowhere : (phrase behind : List ℕ) (numbers : List ℤ) (op : Operator) (st : State) →
-      IsPhrase phrase numbers op → effect lists op behind (pushed numbers st) ≡ Returns →
+      Moves lists st phrase numbers op behind Returns →
       Means lists 0 (phrase ++ behind) st [] (by op phrase ∷ []) (Fault return_without_caller)
   -- the end of the glyph
   finishes : (depth : ℕ) (phrase behind : List ℕ) (numbers : List ℤ) (op : Operator) (st : State) (width : Option ℤ) (end : End) →
-      IsPhrase phrase numbers op → effect lists op behind (pushed numbers st) ≡ Ends width → Closes width depth behind end →
+      Moves lists st phrase numbers op behind (Ends width) → Closes width depth behind end →
       Means lists depth (phrase ++ behind) st [] (by op phrase ∷ []) end
 
 -- the same of a run, and of the run of a code

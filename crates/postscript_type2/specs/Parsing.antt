@@ -1,10 +1,10 @@
 -- Phrases, read off the front of bytes.
 use Rattle.std.specs.Prelude.{ℕ, zero, suc, ◌+◌, ℤ, Bool, nat_lt, ◌==◌, ◌||◌, List, [], ◌∷◌, ◌++◌, Option, Some, None, if◌then◌else◌}
 use Rattle.postscript_base.specs.Tape.Outcome.{Outcome, Got, Fault, Past}
+use Rattle.postscript_base.specs.Refusal.{Refusal, unexpected_eof, unknown_operator}
 use Rattle.postscript_type2.specs.declared.operation.Operator.{Operator}
 use Rattle.postscript_type2.specs.Number.{spelled}
 use Rattle.postscript_type2.specs.Operators.{operator_of}
-use Rattle.postscript_base.specs.Refusal.{Refusal, unexpected_eof, unknown_operator}
 
 -- Complete: the numbers, the operator, and how many bytes the phrase has after its first. NoPhrase: why there is none.
 pub data Phrase : Type 0 where

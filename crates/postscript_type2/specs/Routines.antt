@@ -1,7 +1,11 @@
 -- Lists of subroutines as bytes.
 use Rattle.std.specs.Prelude.{ℕ, List, map, Vec}
 use Rattle.std.specs.declared.alloc.Global.{Global}
-use Rattle.postscript_type2.specs.Effects.{Lists}
+
+-- the subroutines of a font set and those of one font
+pub record Lists : Type 0 where
+  pub global : List (List ℕ)
+  pub local : List (List ℕ)
 
 -- the bytes of each subroutine
 abbrev pub texts : List (Vec ℕ Global) → List (List ℕ)

@@ -1,12 +1,12 @@
 -- Phrases in pieces, as they are read off the front of a routine.
 use Rattle.std.specs.Prelude.{◌≡◌, ◌⊎◌, ℕ, ◌+◌, ℤ, List, [], ◌∷◌, drop, Option, Some, None, Result, Ok, Err}
-use Rattle.postscript_base.specs.Tape.Outcome.{Got, Fault}
 use Rattle.postscript_base.specs.declared.error.Error.{Error}
 use Rattle.postscript_base.specs.declared.error.Error.TheVariants.{Memory, UnexpectedEof}
+use Rattle.postscript_base.specs.Tape.Outcome.{Got, Fault}
+use Rattle.postscript_base.specs.Refusal.{refusal_of}
 use Rattle.postscript_type2.specs.declared.operation.Operator.{Operator}
 use Rattle.postscript_type2.specs.Number.{number}
 use Rattle.postscript_type2.specs.Parsing.{Phrase, Complete, NoPhrase, phrase, ending, fronted}
-use Rattle.postscript_base.specs.Refusal.{refusal_of}
 
 -- the byte at the front
 abbrev pub LooksAt : List ℕ → Option ℕ → Type 0

@@ -2,13 +2,13 @@
 use Rattle.std.specs.Prelude.{◌≡◌, ◌⊎◌, ℕ, ℤ, Option, Some, None, Result, Ok, Err}
 use Rattle.postscript_base.specs.declared.error.Error.{Error}
 use Rattle.postscript_base.specs.declared.error.Error.TheVariants.{Memory}
+use Rattle.postscript_base.specs.Refusal.{refusal_of}
 use Rattle.postscript_type2.specs.declared.program.state.Effect.{Effect}
 use Rattle.postscript_type2.specs.declared.program.state.Effect.TheVariants as effects
 use Rattle.postscript_type2.specs.declared.program.state.State as code
 use Rattle.postscript_type2.specs.declared.program.subroutines.Subroutines as code_lists
-use Rattle.postscript_type2.specs.Effects.{Lists, State, Move, Keeps, Clears, Calls, Returns, Ends, Refuses, stacked, cleared}
-use Rattle.postscript_base.specs.Refusal.{refusal_of}
-use Rattle.postscript_type2.specs.Routines.{texts}
+use Rattle.postscript_type2.specs.Effects.{State, Move, Keeps, Clears, Calls, Returns, Ends, Refuses, stacked, cleared}
+use Rattle.postscript_type2.specs.Routines.{Lists, texts}
 
 -- the code's subroutines and state
 abbrev pub lists_of : code_lists.Subroutines → Lists

@@ -1,8 +1,8 @@
 -- Works on a stack of operands, whose top is written last.
 use Rattle.std.specs.Option.{ok_or}
 use Rattle.std.specs.Prelude.{ℕ, ◌-◌, ℤ, nat_lt, List, [], ◌∷◌, ◌++◌, length, take, slice_get, Option, Some, None, Result, Ok, Err, if◌then◌else◌}
-use Rattle.postscript_type2.specs.Number.{to_int}
 use Rattle.postscript_base.specs.Refusal.{Refusal, expected_operand, expected_integer, expected_more_operands}
+use Rattle.postscript_type2.specs.Number.{to_int}
 
 -- what a work gives and the stack that it leaves, or a refusal
 abbrev pub Work : Type 0 → Type 0

@@ -1,16 +1,15 @@
 //! The programs.
 ghost use Rattle.std.specs.Prelude.{◌≡◌, ◌⊎◌, MatchResult, OnOk, IfOk, IfErr, IfSome};
 ghost use Rattle.postscript_base.specs.Error.{code as number, IsOneOf, IsListed};
-ghost use Rattle.postscript_type2.specs.Effects.{Lists};
+ghost use Rattle.postscript_base.specs.Refusal.{refusal_of};
 ghost use Rattle.postscript_type2.specs.Endings.{run_refusals, flatten_refusals, next_refusals};
+ghost use Rattle.postscript_type2.specs.Evaluation.{run_of};
 ghost use Rattle.postscript_type2.specs.Flat.{flat_text};
 ghost use Rattle.postscript_type2.specs.Inlining.{KeepsMeaning, FlatTextKeepsMeaning};
-ghost use Rattle.postscript_base.specs.Refusal.{refusal_of};
-ghost use Rattle.postscript_type2.specs.Runs.{Run, fault_of};
-ghost use Rattle.postscript_type2.specs.Evaluation.{run_of};
 ghost use Rattle.postscript_type2.specs.Meaning.{IsRunOf};
 ghost use Rattle.postscript_type2.specs.Programs.{begun, Next, ended, failed};
-ghost use Rattle.postscript_type2.specs.Routines.{subroutines};
+ghost use Rattle.postscript_type2.specs.Routines.{Lists, subroutines};
+ghost use Rattle.postscript_type2.specs.Runs.{Run, fault_of};
 ghost use Rattle.postscript_type2.specs.Whole.{Tells, TellsPending};
 
 mod arithmetic;
@@ -128,6 +127,7 @@ impl<'l> Program<'l> {
             OnOk result (fault_of run.end ≡ None) }
         ensures text { let run = run_of (subroutines global.now local.now) code.now in
             IfOk result (λ flat. flat.items ≡ flat_text run.trace) }
+        ensures meant { IfOk result (λ flat. (run : Run) × IsRunOf (subroutines global.now local.now) code.now run × (flat.items ≡ flat_text run.trace)) }
         ensures keeps { let run = run_of (subroutines global.now local.now) code.now in
             IfOk result (λ flat. (other : Lists) → KeepsMeaning other flat.items run) }
         ensures refused { let run = run_of (subroutines global.now local.now) code.now in

@@ -1,7 +1,7 @@
 use Rattle.std.proofs.Common.{refl, subst, Some, Result}
 use Rattle.std.proofs.lemmas.Result.{err_from_is_err_and}
 use Rattle.postscript_base.specs.declared.error.Error.{Error}
-use Rattle.postscript_type2.specs.Effects.{kind}
+use Rattle.postscript_type2.specs.Kinds.{kind}
 use Rattle.postscript_type2.specs.Performing.{PerformsKind}
 use Rattle.postscript_type2.specs.Working.{state_of}
 use Rattle.postscript_type2.proofs.Performed.{work-refused}
