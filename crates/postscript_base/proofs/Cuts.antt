@@ -1,9 +1,10 @@
 -- What the end cuts, and what stands behind operands: an operand more, an operator, or neither.
-use Rattle.std.proofs.Common.{◌≡◌, refl, sym, ap, subst, ◌∙◌, ℕ, ◌+◌, ◌-◌, ◌/◌, ◌≤◌, Bool, true, false, ◌&&◌, ◌||◌, List, [], ◌∷◌, ◌++◌, length, take, drop, ◌==◌, nat_lt, not, cond, Option, Some, None, arith, if◌then◌else◌, length-drop}
+use Rattle.std.proofs.Common.{◌≡◌, refl, sym, ap, subst, ◌∙◌, ℕ, ◌+◌, ◌-◌, ◌/◌, Bool, true, false, ◌&&◌, List, [], ◌∷◌, ◌++◌, length, take, drop, ◌==◌, nat_lt, not, Option, Some, None, arith, if◌then◌else◌, length-drop}
 use Rattle.std.specs.Prelude.{flat_map, nat_eq}
 use Rattle.std.specs.List.{prefix_len}
 use Rattle.std.specs.Map.{lookup}
 use Rattle.std.proofs.lemmas.List.{drop-drop}
+use Rattle.std.proofs.lemmas.List.Sums.{prefix_len-le-length}
 use Rattle.std.proofs.lemmas.Bool.Decides.{nat_tests}
 use Rattle.postscript_base.specs.Refusal.{Refusal, Numbered, OfPart, OfMalformed, OfMissing, malformed_number, unexpected_eof, unknown_operator}
 use Rattle.postscript_base.specs.Tape.Outcome.{Outcome, Got, Fault, Past, Reading, after, end, ◌>>=◌, pure}
@@ -37,36 +38,17 @@ wants_if false x y bytes place s t h g = g
 
 wants_number : (size : ℕ) (bytes : List ℕ) (place : ℕ) → wants (unsigned size bytes place) ≡ nat_lt (length (drop place bytes)) size
 unfolding unsigned slice
-wants_number size bytes place = wants_after (slice size bytes place) _ (λ value next. refl) ∙ rw (length-drop place bytes) (by (nat_lt (length bytes - place) size))
-  where
-    by : (b : Bool) → wants (if b then end else Got (take size (drop place bytes)) (place + size)) ≡ b
-    by true = refl
-    by false = refl
+wants_number size bytes place = wants_after (slice size bytes place) _ (λ value next. refl) ∙ rw (length-drop place bytes) (grind (arith, nat_tests))
 
 wants_of : {A : Type 0} (size : ℕ) (f : ℕ → A) (bytes : List ℕ) (place : ℕ) → wants ((unsigned size >>= λ n. pure (f n)) bytes place) ≡ nat_lt (length (drop place bytes)) size
 wants_of size f bytes place = wants_after (unsigned size bytes place) _ (λ value next. refl) ∙ wants_number size bytes place
 
-prefix_within : (p : ℕ → Bool) (xs : List ℕ) → prefix_len p xs ≤ length xs
-prefix_within p [] = omega arith
-prefix_within p (x ∷ xs) = by (p x) (prefix_within p xs)
-  where
-    by : (b : Bool) → prefix_len p xs ≤ length xs → (if b then 1 + prefix_len p xs else 0) ≤ length (x ∷ xs)
-    by true less = omega arith
-    by false less = omega arith
-
 wants_ended : (all rest text : List ℕ) (next : ℕ) → drop (prefix_len is_in_text all) all ≡ rest → wants (ended_by rest text next) ≡ is_open all
-wants_ended all [] text next e =
-    let within = prefix_within is_in_text all in
-    let none : length all - prefix_len is_in_text all ≡ 0 = sym (length-drop (prefix_len is_in_text all) all) ∙ ap length e in
-    grind (arith, nat_tests)
-wants_ended all (nibble ∷ rest) text next e =
-    let some : length all - prefix_len is_in_text all ≡ length (nibble ∷ rest) = sym (length-drop (prefix_len is_in_text all) all) ∙ ap length e in
-    let differs : is_open all ≡ false = grind (arith, nat_tests) in
-    by (nibble == 15) ∙ sym differs
+wants_ended all rest text next e = by rest (sym (length-drop (prefix_len is_in_text all) all) ∙ ap length e)
   where
-    by : (b : Bool) → wants (if b then Got text next else Fault malformed_number) ≡ false
-    by true = refl
-    by false = refl
+    by : (rest : List ℕ) → length all - prefix_len is_in_text all ≡ length rest → wants (ended_by rest text next) ≡ is_open all
+    by [] left = let within = prefix_len-le-length is_in_text all in grind (arith, nat_tests)
+    by (nibble ∷ rest) left = grind (arith, nat_tests)
 
 wants_text : (bytes : List ℕ) (place : ℕ) → wants (text_of_real bytes place) ≡ is_open (nibbles (drop place bytes))
 unfolding text_of_real
@@ -87,33 +69,6 @@ wants_real : (bytes : List ℕ) (place : ℕ) → wants (real bytes place) ≡ i
 unfolding real
 wants_real bytes place = wants_after (text_of_real bytes place) _ (λ value next. wants_valued (real_of value) bytes next) ∙ wants_text bytes place
 
--- the tests of an operand's first byte, in the order of its reading
-abbrev chain : ℕ → List ℕ → Bool
-chain first rest =
-    if first == 0x1c then nat_lt (length rest) 2
-    else if first == 0x1d then nat_lt (length rest) 4
-    else if first == 0x1e then is_open (nibbles rest)
-    else if nat_lt first 0x20 then false
-    else if nat_lt first 0xf7 then false
-    else if nat_lt first 0xfb then nat_lt (length rest) 1
-    else if nat_lt first 0xff then nat_lt (length rest) 1
-    else false
-
-chain_is : (first : ℕ) (rest : List ℕ) → chain first rest ≡ is_cut_operand first rest
-chain_is first rest = by (first == 0x1c) (first == 0x1d) (first == 0x1e) (nat_lt first 0x20) refl (nat_lt first 0xf7) refl (nat_lt first 0xfb) refl (nat_lt first 0xff) refl
-  where
-    by : (a b c d : Bool) → nat_lt first 0x20 ≡ d → (e : Bool) → nat_lt first 0xf7 ≡ e → (f : Bool) → nat_lt first 0xfb ≡ f → (g : Bool) → nat_lt first 0xff ≡ g →
-        (if a then nat_lt (length rest) 2 else if b then nat_lt (length rest) 4 else if c then is_open (nibbles rest) else if d then false else if e then false else if f then nat_lt (length rest) 1 else if g then nat_lt (length rest) 1 else false)
-        ≡ (if a then nat_lt (length rest) 2 else if b then nat_lt (length rest) 4 else if c then is_open (nibbles rest) else if e then false else if g then nat_lt (length rest) 1 else false)
-    by true b c d p e q f r g s = refl
-    by false true c d p e q f r g s = refl
-    by false false true d p e q f r g s = refl
-    by false false false d p true q f r g s = elim d as (λ d. (if d then false else false) ≡ false) [ true ↦ refl | false ↦ refl ]
-    by false false false true p false q f r g s = absurd (grind (arith, nat_tests))
-    by false false false false p false q true r true s = refl
-    by false false false false p false q true r false s = absurd (grind (arith, nat_tests))
-    by false false false false p false q false r g s = refl
-
 wants_begun : (first : ℕ) (bytes : List ℕ) (place : ℕ) → wants (begun first bytes place) ≡ is_cut_operand first (drop place bytes)
 wants_begun first bytes place =
     wants_if (first == 0x1c) _ _ bytes place _ _ (wants_of 2 (λ n. whole (two_sided 0x8000 n)) bytes place)
@@ -123,47 +78,21 @@ wants_begun first bytes place =
     (wants_if (nat_lt first 0xf7) _ _ bytes place _ _ refl
     (wants_if (nat_lt first 0xfb) _ _ bytes place _ _ (wants_of 1 (λ n. whole (above first n)) bytes place)
     (wants_if (nat_lt first 0xff) _ _ bytes place _ _ (wants_of 1 (λ n. whole (below first n)) bytes place) refl))))))
-    ∙ chain_is first (drop place bytes)
+    ∙ grind (arith, nat_tests)
 
 -- another first byte begins no operand
 begins_none : (first : ℕ) (bytes : List ℕ) (place : ℕ) → begins_operand first ≡ false → begun first bytes place ≡ Fault malformed_number
-begins_none first bytes place h =
-    let a : (first == 0x1c) ≡ false = grind (arith, nat_tests) in
-    let b : (first == 0x1d) ≡ false = grind (arith, nat_tests) in
-    let c : (first == 0x1e) ≡ false = grind (arith, nat_tests) in
-    by a b c (nat_lt first 0x20) refl
-  where
-    by : (first == 0x1c) ≡ false → (first == 0x1d) ≡ false → (first == 0x1e) ≡ false → (d : Bool) → nat_lt first 0x20 ≡ d → begun first bytes place ≡ Fault malformed_number
-    by a b c true p = rw (a, b, c, p) refl
-    by a b c false p =
-        let e : nat_lt first 0xf7 ≡ false = grind (arith, nat_tests) in
-        let f : nat_lt first 0xfb ≡ false = grind (arith, nat_tests) in
-        let g : nat_lt first 0xff ≡ false = grind (arith, nat_tests) in
-        rw (a, b, c, p, e, f, g) refl
+begins_none first bytes place h = grind (arith, nat_tests)
 
 -- no operator has the code of an operand's first byte
 no_operand : List (ℕ × Operator) → Bool
 no_operand [] = true
 no_operand (entry ∷ entries) = not (begins_operand entry.0) && no_operand entries
 
-both : (a b : Bool) → (a && b) ≡ true → (a ≡ true) × (b ≡ true)
-both true b h = (refl, h)
-both false b h = absurd (cc)
-
 no_entry : (n : ℕ) (entries : List (ℕ × Operator)) → no_operand entries ≡ true → begins_operand n ≡ true → lookup (nat_eq n) entries ≡ None
 unfolding no_operand
 no_entry n [] p h = refl
-no_entry n (entry ∷ entries) p h = by (nat_eq n entry.0) refl (no_entry n entries parts.1 h)
-  where
-    parts : (not (begins_operand entry.0) ≡ true) × (no_operand entries ≡ true)
-    parts = both (not (begins_operand entry.0)) (no_operand entries) p
-
-    by : (b : Bool) → nat_eq n entry.0 ≡ b → lookup (nat_eq n) entries ≡ None → cond b (Some entry.1) (lookup (nat_eq n) entries) ≡ None
-    by true f rest =
-        let is : n ≡ entry.0 = grind (arith, nat_tests) in
-        let not_one : not (begins_operand n) ≡ true = subst (λ m. not (begins_operand m) ≡ true) (sym is) parts.0 in
-        let never : not true ≡ true = subst (λ b. not b ≡ true) h not_one in absurd (cc)
-    by false f rest = rest
+no_entry n (entry ∷ entries) p h = let rest = no_entry n entries in grind (arith, nat_tests, rest)
 
 unknown : (first : ℕ) → begins_operand first ≡ true → operator_of first ≡ None
 unfolding operator_of no_operand
@@ -198,9 +127,12 @@ pub data Stands (bytes : List ℕ) (place : ℕ) : Type 0 where
   an_operator : (refusal : Refusal) → begins (drop place bytes) ≡ false → ((operands : List Decimal) → step operands bytes place ≡ after (operator bytes place) (found_operator operands))
       → wants (operator bytes place) ≡ is_cut (drop place bytes) → number bytes place ≡ Fault refusal → Stands bytes place
 
-or_false : (b : Bool) → (b || false) ≡ b
-or_false true = refl
-or_false false = refl
+-- where an operand begins only it is cut, and elsewhere only an operator
+cut_operand : (first : ℕ) (rest : List ℕ) → begins_operand first ≡ true → is_cut_operand first rest ≡ is_cut (first ∷ rest)
+cut_operand first rest h = grind (arith, nat_tests)
+
+cut_operator : (first : ℕ) (rest : List ℕ) → begins_operand first ≡ false → ((first == 0x0c) && nat_lt (length rest) 1) ≡ is_cut (first ∷ rest)
+cut_operator first rest h = grind (arith, nat_tests)
 
 at_byte : (bytes rest : List ℕ) (place first : ℕ) → first ∷ rest ≡ drop place bytes → Stands bytes place
 unfolding step number
@@ -219,17 +151,11 @@ at_byte bytes rest place first e = by (begins_operand first) refl
     operator_is = ap (λ o. after o (λ first at. operator_begun first bytes at)) got
 
     by : (b : Bool) → begins_operand first ≡ b → Stands bytes place
-    by true h =
-        let other : (first == 0x0c) ≡ false = grind (arith, nat_tests) in
-        a_number (ap begins (sym e) ∙ h) (λ operands. rw (got, h) refl)
-        (ap wants number_is ∙ wants_begun first bytes (place + 1) ∙ ap (is_cut_operand first) there
-        ∙ sym (ap (λ c. is_cut_operand first rest || (c && nat_lt (length rest) 1)) other ∙ or_false (is_cut_operand first rest)) ∙ ap is_cut e)
+    by true h = a_number (ap begins (sym e) ∙ h) (λ operands. rw (got, h) refl)
+        (ap wants number_is ∙ wants_begun first bytes (place + 1) ∙ ap (is_cut_operand first) there ∙ cut_operand first rest h ∙ ap is_cut e)
         (operator_is ∙ operator_none first bytes (place + 1) h)
-    by false h =
-        let none : is_cut_operand first rest ≡ false = sym (ap (is_cut_operand first) there) ∙ sym (wants_begun first bytes (place + 1)) ∙ ap wants (begins_none first bytes (place + 1) h) in
-        an_operator malformed_number (ap begins (sym e) ∙ h) (λ operands. rw (got, h) refl)
-        (ap wants operator_is ∙ wants_operator first bytes (place + 1) ∙ ap (λ rest. (first == 0x0c) && nat_lt (length rest) 1) there
-        ∙ sym (ap (λ c. c || ((first == 0x0c) && nat_lt (length rest) 1)) none) ∙ ap is_cut e)
+    by false h = an_operator malformed_number (ap begins (sym e) ∙ h) (λ operands. rw (got, h) refl)
+        (ap wants operator_is ∙ wants_operator first bytes (place + 1) ∙ ap (λ rest. (first == 0x0c) && nat_lt (length rest) 1) there ∙ cut_operator first rest h ∙ ap is_cut e)
         (number_is ∙ begins_none first bytes (place + 1) h)
 
 pub stands : (bytes : List ℕ) (place : ℕ) → Stands bytes place
