@@ -1,5 +1,6 @@
 //! The numbers and the texts of refusals.
 use postscript::Error;
+use postscript::compact1::Operator;
 use postscript::error::Part;
 use std::alloc::AllocError;
 use std::io;
@@ -16,10 +17,21 @@ fn refusals(rt: HostRuntime) -> Result<(), Fail> {
             "found a fault of the tape",
         ),
         (Error::Memory, 3, "failed to find memory"),
+        (Error::TapeStuck, 4, "found a tape that stands still"),
         (Error::MalformedOffset, 5, "found a malformed offset"),
         (Error::MalformedNumber, 7, "found a malformed number"),
         (Error::OutOfRangeNumber, 8, "found a number out of range"),
         (Error::UnknownOperator, 9, "found an unknown operator"),
+        (
+            Error::MalformedOperation(Operator::Private),
+            13,
+            "found a malformed operation with operator Private",
+        ),
+        (
+            Error::MissingOperation(Operator::CharStrings),
+            14,
+            "failed to find an operation with operator CharStrings",
+        ),
         (
             Error::Unsupported(Part::Random),
             16,

@@ -45,7 +45,7 @@ pub trait Linked: Sized {
     /// What a reading gives, by what it is given, the bytes and the place.
     ghost reading: { Self.Given → Reading Shown };
 
-    /// The numbers of the refusals that a reading may answer. Without 3 it takes no memory.
+    /// The numbers of the refusals that a reading may answer. Without 3 a reading never answers `Memory`.
     ghost refusals: { List ℕ };
 
     /// What a value leaves of what it was given.
@@ -183,7 +183,7 @@ pub trait Source {
     /// What a reading gives, by what it is given, the source, the bytes and the place.
     ghost reading: { Self.Given → Seen → Reading Shown };
 
-    /// The numbers of the refusals that a reading may answer. Without 3 it takes no memory.
+    /// The numbers of the refusals that a reading may answer. Without 3 a reading never answers `Memory`.
     ghost refusals: { List ℕ };
 
     /// Reads the value for this source.
