@@ -6,10 +6,10 @@ use Rattle.std.proofs.Common.{◌≡◌, refl, ap, sym, subst, ◌∙◌, ℕ, s
 use Rattle.std.specs.Option.{ok_or}
 use Rattle.postscript_base.specs.Refusal.{Refusal, unexpected_eof, expected_operand, expected_integer, missing_subroutine, too_many_stems}
 use Rattle.postscript_type2.specs.declared.operation.Operator.{Operator}
-use Rattle.postscript_type2.specs.declared.operation.Operator.TheVariants.{CallSubr, CallGSubr, Return, Drop}
+use Rattle.postscript_type2.specs.declared.operation.Operator.TheVariants.{Drop}
 use Rattle.postscript_type2.specs.Effects.{State, Move, Keeps, Clears, Calls, Returns, Ends, Refuses, clearing, stems_after, with_stems, mask_len, mask_clearing, work_move, named, subroutine, call_move, end_move, effect_of, effect, pushed, stacked, cleared}
 use Rattle.postscript_type2.specs.Evaluation.{with_phrase, with_answer, with_any_answer, at_end, Stride, On, Into, Back, Over, Faults, said, moved, stride_by, stride, mean}
-use Rattle.postscript_type2.specs.Flat.{without_operator, dropping, flat_by, flat_said}
+use Rattle.postscript_type2.specs.Flat.{without_operator, dropping, flat_of, flat_by, flat_said}
 use Rattle.postscript_type2.specs.Kinds.{Kind, Draws, DeclaresStems, Masks, Works, CallsFrom, GoesBack, EndsGlyph, IsRefused, kind, taken}
 use Rattle.postscript_type2.specs.Number.{to_int}
 use Rattle.postscript_type2.specs.Parsing.{Phrase, Complete, NoPhrase, phrase, fronted}
@@ -96,24 +96,11 @@ phrase-in other left bytes st ns op more move own reads does long = by_move move
     by_move (Ends width) own l is = λ x. is x ∙ cut (λ t d. with_phrase (record { operator = op; bytes = t }) (at_end (Finished width))) bytes x (more + 1) l
     by_move (Refuses e) own l is = tt
 
--- a phrase in flat code, by the kind of its operator
-flat_kind : Kind → Operator → List ℕ → Said
-flat_kind (CallsFrom routines) op bytes = dropping (without_operator bytes)
-flat_kind GoesBack op bytes = dropping (without_operator bytes ++ 0x8b ∷ [])
-flat_kind k op bytes = record { operator = op; bytes = bytes }
-
-flat-by : (op : Operator) (bytes : List ℕ) → flat_by op bytes ≡ flat_kind (kind op) op bytes
-unfolding flat_kind
-flat-by CallSubr bytes = refl
-flat-by CallGSubr bytes = refl
-flat-by Return bytes = refl
-flat-by op bytes = refl
-
+-- an operator that stands in flat code as it is
 flat-own : (op : Operator) (bytes : List ℕ) (k : Kind) → kind op ≡ k → stands_flat k ≡ true → flat_by op bytes ≡ record { operator = op; bytes = bytes }
-unfolding flat_kind
-flat-own op bytes k is own = flat-by op bytes ∙ ap (λ k. flat_kind k op bytes) is ∙ by_kind k own
+flat-own op bytes k is own = ap (λ k. flat_of k op bytes) is ∙ by_kind k own
   where
-    by_kind : (k : Kind) → stands_flat k ≡ true → flat_kind k op bytes ≡ record { operator = op; bytes = bytes }
+    by_kind : (k : Kind) → stands_flat k ≡ true → flat_of k op bytes ≡ record { operator = op; bytes = bytes }
     by_kind (CallsFrom routines) own = absurd (cc)
     by_kind GoesBack own = absurd (cc)
     by_kind k own = refl
@@ -213,12 +200,11 @@ drop-in other left b r st ns op more l short extra zs reads rest removes =
 call-in : (other : Lists) (left : ℕ) (b : ℕ) (r : List ℕ) (st : State) (ns : List ℤ) (op : Operator) (more : ℕ) → IsLocal 0 (b ∷ r) ns op more →
     (routines : Lists → List (List ℕ)) → kind op ≡ CallsFrom routines → (lists : Lists) (result : Result (List ℕ × List ℤ) Refusal) →
     subroutine (routines lists) (st.stack ++ ns) ≡ result → InFlat other left st (moved op more (b ∷ r) (pushed ns st) (call_move result))
-unfolding flat_kind
 call-in other left b r st ns op more l routines is lists (Err e) does = tt
 call-in other left b r st ns op more l routines is lists (Ok done) does =
     let numbers : List ℕ = take more (b ∷ r) in
     let flat : flat_by op (take (more + 1) (b ∷ r)) ≡ dropping (numbers ++ []) =
-    flat-by op (take (more + 1) (b ∷ r)) ∙ ap (λ k. flat_kind k op (take (more + 1) (b ∷ r))) is
+    ap (λ k. flat_of k op (take (more + 1) (b ∷ r))) is
     ∙ ap dropping (numbers-of more (b ∷ r) l.room ∙ sym (append-nil numbers)) in
     let removes : removal (st.stack ++ (ns ++ [])) ≡ Ok (tt, done.1) =
     ap (λ xs. removal (st.stack ++ xs)) (append-nil ns) ∙ dropped (routines lists) (st.stack ++ ns) done does in
@@ -227,10 +213,9 @@ call-in other left b r st ns op more l routines is lists (Ok done) does =
 
 return-in : (other : Lists) (left : ℕ) (b : ℕ) (r : List ℕ) (st : State) (ns : List ℤ) (op : Operator) (more : ℕ) → IsLocal 0 (b ∷ r) ns op more →
     kind op ≡ GoesBack → InFlat other left st (Back (said op more (b ∷ r)) (pushed ns st))
-unfolding flat_kind
 return-in other left b r st ns op more l is =
     let flat : flat_by op (take (more + 1) (b ∷ r)) ≡ dropping (take more (b ∷ r) ++ 0x8b ∷ []) =
-    flat-by op (take (more + 1) (b ∷ r)) ∙ ap (λ k. flat_kind k op (take (more + 1) (b ∷ r))) is
+    ap (λ k. flat_of k op (take (more + 1) (b ∷ r))) is
     ∙ ap (λ xs. dropping (xs ++ 0x8b ∷ [])) (numbers-of more (b ∷ r) l.room) in
     let removes : removal (st.stack ++ (ns ++ pos 0 ∷ [])) ≡ Ok (tt, st.stack ++ ns) =
     ap removal (sym (append_assoc st.stack ns (pos 0 ∷ []))) ∙ removal-top (st.stack ++ ns) (pos 0) in

@@ -10,11 +10,11 @@ use Rattle.postscript_type2.specs.Effects.{State, start, Move, Keeps, Clears, Ca
 use Rattle.postscript_type2.specs.Evaluation.{at_end, with_phrase, with_answer, with_any_answer, followed, finish, after_call, Stride, On, Into, Back, Over, Faults, moved, stride_by, stride, called, paced, routine, callee, mean}
 use Rattle.postscript_type2.specs.Kinds.{Kind, Draws, DeclaresStems, Masks, Works, CallsFrom, GoesBack, EndsGlyph, IsRefused, kind, taken}
 use Rattle.postscript_type2.specs.Meaning as rules
-use Rattle.postscript_type2.specs.Meaning.{by, answer, Closes, Stops, Means, MeansRun}
+use Rattle.postscript_type2.specs.Meaning.{answer, Closes, Stops, Means, MeansRun}
 use Rattle.postscript_type2.specs.Parsing.{Phrase, Complete, NoPhrase, phrase}
 use Rattle.postscript_type2.specs.Phrases.{IsPhrase}
 use Rattle.postscript_type2.specs.Routines.{Lists}
-use Rattle.postscript_type2.specs.Runs.{Answer, Said, End, UsedUp, Returned, Finished, Fault, Run}
+use Rattle.postscript_type2.specs.Runs.{Answer, Said, by, End, UsedUp, Returned, Finished, Fault, Run}
 use Rattle.postscript_type2.proofs.Inlining.{followed-ends}
 use Rattle.postscript_type2.proofs.PhraseLaws.{reads-phrase, phrase-spelled, reads-no_phrase, no_phrase-spelled}
 use Rattle.postscript_type2.proofs.Still.{routine-from, behind-call}

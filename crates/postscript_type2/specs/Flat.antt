@@ -2,8 +2,9 @@
 use Rattle.std.specs.List.{flat_map}
 use Rattle.std.specs.Prelude.{ℕ, ◌-◌, List, [], ◌∷◌, ◌++◌, take, length}
 use Rattle.postscript_type2.specs.declared.operation.Operator.{Operator}
-use Rattle.postscript_type2.specs.declared.operation.Operator.TheVariants.{CallSubr, CallGSubr, Return, Drop}
-use Rattle.postscript_type2.specs.Runs.{Said}
+use Rattle.postscript_type2.specs.declared.operation.Operator.TheVariants.{Drop}
+use Rattle.postscript_type2.specs.Kinds.{Kind, Draws, DeclaresStems, Masks, Works, CallsFrom, GoesBack, EndsGlyph, IsRefused, kind}
+use Rattle.postscript_type2.specs.Runs.{Said, by}
 
 -- a phrase without its operator, which has one byte
 abbrev pub without_operator : List ℕ → List ℕ
@@ -13,12 +14,19 @@ without_operator bytes = take (length bytes - 1) bytes
 abbrev pub dropping : List ℕ → Said
 dropping numbers = record { operator = Drop; bytes = numbers ++ 0x0c ∷ 0x12 ∷ [] }
 
--- a phrase in flat code: a call drops its number, and a return drops a zero that it pushes
+-- a phrase in flat code: a call drops its number, a return drops a zero that it pushes, and any other stands as it is
+abbrev pub flat_of : Kind → Operator → List ℕ → Said
+flat_of (CallsFrom routines) op bytes = dropping (without_operator bytes)
+flat_of GoesBack op bytes = dropping (without_operator bytes ++ 0x8b ∷ [])
+flat_of (Draws takes) op bytes = by op bytes
+flat_of (DeclaresStems takes) op bytes = by op bytes
+flat_of (Masks takes) op bytes = by op bytes
+flat_of (Works work) op bytes = by op bytes
+flat_of EndsGlyph op bytes = by op bytes
+flat_of (IsRefused part) op bytes = by op bytes
+
 abbrev pub flat_by : Operator → List ℕ → Said
-flat_by CallSubr bytes = dropping (without_operator bytes)
-flat_by CallGSubr bytes = dropping (without_operator bytes)
-flat_by Return bytes = dropping (without_operator bytes ++ 0x8b ∷ [])
-flat_by op bytes = record { operator = op; bytes = bytes }
+flat_by op bytes = flat_of (kind op) op bytes
 
 abbrev pub flat_said : Said → Said
 flat_said said = flat_by said.operator said.bytes

@@ -6,11 +6,7 @@ use Rattle.postscript_type2.specs.declared.operation.Operator.{Operator}
 use Rattle.postscript_type2.specs.Effects.{State, start, Move, Keeps, Clears, Calls, Returns, Ends, Refuses, effect, pushed, stacked, cleared}
 use Rattle.postscript_type2.specs.Phrases.{IsPhrase, HasNoPhrase}
 use Rattle.postscript_type2.specs.Routines.{Lists}
-use Rattle.postscript_type2.specs.Runs.{Answer, Said, End, UsedUp, Returned, Finished, Fault, Run}
-
--- a phrase that is told: its operator and its bytes
-abbrev pub by : Operator → (bytes : List ℕ) → Said
-by op bytes = record { operator = op; bytes = bytes }
+use Rattle.postscript_type2.specs.Runs.{Answer, Said, by, End, UsedUp, Returned, Finished, Fault, Run}
 
 -- the answer of a clearing operator
 abbrev pub answer : Operator → (taken : List ℤ) → (width : Option ℤ) → Answer

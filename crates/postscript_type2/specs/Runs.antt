@@ -15,6 +15,9 @@ pub record Said : Type 0 where
   pub operator : Operator
   pub bytes : List ℕ
 
+abbrev pub by : Operator → (bytes : List ℕ) → Said
+by op bytes = record { operator = op; bytes = bytes }
+
 -- a routine was used up; it returned; EndChar came; or something was refused
 pub data End : Type 0 where
   UsedUp : End
