@@ -7,6 +7,7 @@ pub use postscript_type2 as type2;
 /// Tapes, and what is read from them.
 pub mod tape {
     pub use postscript_base::tape::{
-        Linked, Opaque, ReadSeek, Source, Tape, Value, Walue, bytes_at, fixed, read_chain, read_each, read_many,
+        Linked, Opaque, ReadSeek, Source, Tape, Value, Walue, bytes_at, fixed, read_chain,
+        read_each, read_many,
     };
 }

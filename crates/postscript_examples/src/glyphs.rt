@@ -1,10 +1,10 @@
 //! Glyphs from their charstrings.
 ghost use Rattle.std.specs.Prelude.{◌≡◌, ◌⊎◌, None, Some, map, IfOk, IfErr};
-ghost use Rattle.postscript_type2.specs.Evaluation.{run_of};
-ghost use Rattle.postscript_type2.specs.Runs.{operation, fault_of, width_of};
+ghost use Rattle.postscript_type2.specs.Program.Evaluation.{run_of};
+ghost use Rattle.postscript_type2.specs.Program.Runs.{operation, fault_of, width_of};
 ghost use Rattle.postscript_base.specs.Refusal.{refusal_of};
-ghost use Rattle.postscript_type2.specs.Routines.{subroutines};
-ghost use Rattle.postscript_type2.specs.Whole.{operation_of};
+ghost use Rattle.postscript_type2.specs.Program.Routines.{subroutines};
+ghost use Rattle.postscript_type2.specs.Program.Whole.{operation_of};
 
 use postscript::type2::{self, Operand, Operations, Program};
 use postscript::{Error, Result};

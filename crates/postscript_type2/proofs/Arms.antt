@@ -7,12 +7,12 @@ use Rattle.postscript_base.specs.declared.error.Error.{Error}
 use Rattle.postscript_base.specs.declared.error.Error.TheVariants.{Memory}
 use Rattle.postscript_base.specs.Refusal.{Refusal, refusal_of, return_without_caller, trailing_data, too_deep}
 use Rattle.postscript_type2.specs.declared.operation.Operator.{Operator}
-use Rattle.postscript_type2.specs.Effects.{State, Move, Keeps, Clears, Calls, Returns, Ends, Refuses, effect, stacked, cleared}
-use Rattle.postscript_type2.specs.Evaluation.{with_phrase, with_answer, at_end, said, moved, stride}
-use Rattle.postscript_type2.specs.Parsing.{Complete, NoPhrase, phrase, fronted}
-use Rattle.postscript_type2.specs.Routines.{Lists}
-use Rattle.postscript_type2.specs.Runs.{Answer, Said, UsedUp, Finished, Fault}
-use Rattle.postscript_type2.specs.Still.{still, next_still, are_used_up}
+use Rattle.postscript_type2.specs.Program.Effects.{State, Move, Keeps, Clears, Calls, Returns, Ends, Refuses, effect, stacked, cleared}
+use Rattle.postscript_type2.specs.Program.Evaluation.{with_phrase, with_answer, at_end, said, moved, stride}
+use Rattle.postscript_type2.specs.Program.Parsing.{Complete, NoPhrase, phrase, fronted}
+use Rattle.postscript_type2.specs.Program.Routines.{Lists}
+use Rattle.postscript_type2.specs.Program.Runs.{Answer, Said, UsedUp, Finished, Fault}
+use Rattle.postscript_type2.specs.Program.Still.{still, next_still, are_used_up}
 use Rattle.postscript_type2.proofs.Still.{still_end}
 use Rattle.postscript_type2.proofs.Strides.{still_step-at, stride-is, stop-is}
 

@@ -9,7 +9,7 @@ use Rattle.postscript_base.specs.Numbers.{slice, number as unsigned, big_endian,
 use Rattle.postscript_base.specs.Tape.Outcome.{Outcome, Got, Fault, Past, Reading, after, ◌>>=◌, pure, fault, Answers, RefusedAs}
 use Rattle.postscript_base.specs.Refusal.{refusal_of, number_of, unexpected_eof, malformed_number}
 use Rattle.postscript_type2.specs.Number.{number, spelled, whole}
-use Rattle.postscript_type2.specs.Tokens.{ReadsByte, ReadsNumber}
+use Rattle.postscript_type2.specs.Program.Tokens.{ReadsByte, ReadsNumber}
 use Rattle.postscript_type2.proofs.Places.{later, IsLocal, number-local as unsigned-local, spelled-local}
 
 -- an outcome that sought no place past the end

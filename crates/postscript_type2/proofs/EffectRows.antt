@@ -3,14 +3,14 @@ use Rattle.std.proofs.Common.{◌≡◌, refl, ℕ, Bool, true, false, List, [],
 use Rattle.postscript_base.specs.Refusal.{unexpected_eof, malformed_operands, expected_operand, expected_integer, expected_more_operands, invalid_operand, missing_subroutine, trailing_data, too_deep, overflow, zero_divisor, negative_root, too_many_stems}
 use Rattle.postscript_type2.specs.declared.operation.Operator.{Operator}
 use Rattle.postscript_type2.specs.declared.operation.Operator.TheVariants.{HStem, RLineTo, RRCurveTo, CallSubr, Return, EndChar, HintMask, CntrMask, RCurveLine, RLineCurve, HHCurveTo, CallGSubr, HVCurveTo, And, Or, Not, Abs, Add, Sub, Div, Neg, Eq, Drop, IfElse, Mul, Sqrt, Dup, Exch, Index, Roll, Flex}
-use Rattle.postscript_type2.specs.Effects.{State, start, Move, Keeps, Clears, Calls, Refuses, bias, effect}
-use Rattle.postscript_type2.specs.Evaluation.{Back, called, callee, after_call, mean, moved, said}
-use Rattle.postscript_type2.specs.Flat.{flat_text}
-use Rattle.postscript_type2.specs.Kinds.{taken}
+use Rattle.postscript_type2.specs.Program.Effects.{State, start, Move, Keeps, Clears, Calls, Refuses, bias, effect}
+use Rattle.postscript_type2.specs.Program.Evaluation.{Back, called, callee, after_call, mean, moved, said}
+use Rattle.postscript_type2.specs.Program.Flat.{flat_text}
+use Rattle.postscript_type2.specs.Operation.Kinds.{taken}
 use Rattle.postscript_type2.specs.Number.{whole}
-use Rattle.postscript_type2.specs.Routines.{Lists}
-use Rattle.postscript_type2.specs.Runs.{End, UsedUp, Finished, Fault}
-use Rattle.postscript_type2.specs.Still.{still}
+use Rattle.postscript_type2.specs.Program.Routines.{Lists}
+use Rattle.postscript_type2.specs.Program.Runs.{End, UsedUp, Finished, Fault}
+use Rattle.postscript_type2.specs.Program.Still.{still}
 
 abbrev no_lists : Lists
 no_lists = record { global = []; local = [] }

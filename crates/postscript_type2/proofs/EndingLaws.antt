@@ -12,22 +12,22 @@ use Rattle.postscript_base.specs.Refusal.{Refusal, refusal_of, number_of, unexpe
 use Rattle.postscript_type2.specs.declared.operation.Operator.{Operator}
 use Rattle.postscript_type2.specs.declared.operation.Operator.TheVariants.{And, Or, Not, Abs, Add, Sub, Div, Neg, Eq, Drop, IfElse, Mul, Sqrt, Dup, Exch, Index, Roll}
 use Rattle.postscript_type2.specs.declared.program.machine.Machine.{Machine}
-use Rattle.postscript_type2.specs.Callers.{rests}
-use Rattle.postscript_type2.specs.Effects.{State, start, Move, Keeps, Clears, Calls, Returns, Ends, Refuses, clearing, stems_after, mask_len, mask_clearing, work_move, named, subroutine, call_move, effect_of, effect, pushed}
-use Rattle.postscript_type2.specs.Endings.{run_refusals, flatten_refusals, next_refusals, IsRunsEnd, RunsEndSo}
-use Rattle.postscript_type2.specs.Evaluation.{with_any_answer, is_empty, after_call, Stride, On, Into, Back, Over, Faults, moved, stride_by, stride, Callee, called, paced, routine, callee, mean, run_of}
-use Rattle.postscript_type2.specs.FixedPoint.{cut, fit, absolute_value, opposite, root, sum, difference, product, quotient, both, either, denial, same_bits}
-use Rattle.postscript_type2.specs.Kinds.{Kind, Draws, DeclaresStems, Masks, Works, CallsFrom, GoesBack, EndsGlyph, IsRefused, kind, taken}
-use Rattle.postscript_type2.specs.Machines.{still_of}
+use Rattle.postscript_type2.specs.Program.Callers.{rests}
+use Rattle.postscript_type2.specs.Program.Effects.{State, start, Move, Keeps, Clears, Calls, Returns, Ends, Refuses, clearing, stems_after, mask_len, mask_clearing, work_move, named, subroutine, call_move, effect_of, effect, pushed}
+use Rattle.postscript_type2.specs.Program.Endings.{run_refusals, flatten_refusals, next_refusals, IsRunsEnd, RunsEndSo}
+use Rattle.postscript_type2.specs.Program.Evaluation.{with_any_answer, is_empty, after_call, Stride, On, Into, Back, Over, Faults, moved, stride_by, stride, Callee, called, paced, routine, callee, mean, run_of}
+use Rattle.postscript_type2.specs.Program.FixedPoint.{cut, fit, absolute_value, opposite, root, sum, difference, product, quotient, both, either, denial, same_bits}
+use Rattle.postscript_type2.specs.Operation.Kinds.{Kind, Draws, DeclaresStems, Masks, Works, CallsFrom, GoesBack, EndsGlyph, IsRefused, kind, taken}
+use Rattle.postscript_type2.specs.Program.Machines.{still_of}
 use Rattle.postscript_type2.specs.Number.{to_int, spelled, whole}
-use Rattle.postscript_type2.specs.Operators.{operator_of}
-use Rattle.postscript_type2.specs.Parsing.{Phrase, Complete, NoPhrase, is_number, passed, with_number, numbered, with_operator, escaped, ending, phrase_after, phrase}
-use Rattle.postscript_type2.specs.Routines.{Lists}
-use Rattle.postscript_type2.specs.Runs.{Answer, End, UsedUp, Returned, Finished, Fault, Run, fault_of}
-use Rattle.postscript_type2.specs.Stacks.{one_to_one, two_to_one, depth, roll_by}
-use Rattle.postscript_type2.specs.Still.{through, still}
-use Rattle.postscript_type2.specs.Working.{lists_of, state_of}
-use Rattle.postscript_type2.specs.Works.{Work, ◌>>=◌, given, after, top_of, pop, operand, whole_operand, operand_below, push}
+use Rattle.postscript_type2.specs.Operation.Operators.{operator_of}
+use Rattle.postscript_type2.specs.Program.Parsing.{Phrase, Complete, NoPhrase, is_number, passed, with_number, numbered, with_operator, escaped, ending, phrase_after, phrase}
+use Rattle.postscript_type2.specs.Program.Routines.{Lists}
+use Rattle.postscript_type2.specs.Program.Runs.{Answer, End, UsedUp, Returned, Finished, Fault, Run, fault_of}
+use Rattle.postscript_type2.specs.Program.Stacks.{one_to_one, two_to_one, depth, roll_by}
+use Rattle.postscript_type2.specs.Program.Still.{through, still}
+use Rattle.postscript_type2.specs.Program.Working.{lists_of, state_of}
+use Rattle.postscript_type2.specs.Program.Works.{Work, ◌>>=◌, given, after, top_of, pop, operand, whole_operand, operand_below, push}
 
 abbrev Listed : Refusal → Type 0
 Listed e = IsOneOf run_refusals (number_of e)

@@ -4,7 +4,7 @@ use Rattle.std.proofs.lemmas.Bool.Decides.{nat_tests}
 use Rattle.std.proofs.lemmas.Int.{fits_signed_mul}
 use Rattle.std.proofs.Common.{◌≡◌, ap, ℕ, ◌^◌, ◌<◌, ◌≤◌, Bool, true, false, cond, ℤ, pos, negsuc, nat_le, ◌⊎◌, inl, inr, ◌||◌, Ok, Err, FitsSigned, w32, w64, ◌*ℤ◌, unsigned_abs, arith}
 use Rattle.postscript_base.specs.Refusal.{overflow}
-use Rattle.postscript_type2.specs.FixedPoint.{fit}
+use Rattle.postscript_type2.specs.Program.FixedPoint.{fit}
 
 natural : (a : ℕ) (b : Bool) → nat_le (2 ^ 31) a ≡ b → fit (pos a) ≡ cond b (Err overflow) (Ok (pos a))
 natural a b is = ap (λ b. cond b (Err overflow) (Ok (pos a))) is

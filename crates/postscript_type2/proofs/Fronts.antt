@@ -4,7 +4,7 @@ use Rattle.std.proofs.lemmas.List.{drop-drop}
 use Rattle.std.proofs.Common.{◌≡◌, refl, ap, sym, ◌∙◌, ℕ, zero, suc, ◌+◌, ◌<◌, true, false, cond, List, [], ◌∷◌, ◌++◌, drop, length, get_or, ℤ, append_assoc, zero-add, add-one, arith}
 use Rattle.postscript_base.specs.Tape.Outcome.{Outcome, Got}
 use Rattle.postscript_type2.specs.Number.{spelled}
-use Rattle.postscript_type2.specs.Parsing.{is_number, Phrase, Complete, NoPhrase, passed, with_number, numbered, ending, phrase_after, phrase, fronted}
+use Rattle.postscript_type2.specs.Program.Parsing.{is_number, Phrase, Complete, NoPhrase, passed, with_number, numbered, ending, phrase_after, phrase, fronted}
 use Rattle.postscript_type2.proofs.Places.{later, spelled-local}
 
 pub fronted-zero : (p : Phrase) → fronted [] 0 p ≡ p

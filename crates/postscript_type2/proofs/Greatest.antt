@@ -1,6 +1,6 @@
 -- The greatest number that passes a test.
 use Rattle.std.proofs.Common.{◌≡◌, ap, ◌∙◌, ℕ, zero, suc, ◌+◌, ◌-◌, ◌<◌, ◌≤◌, Bool, true, false, cond, Some, None, add-zero, arith}
-use Rattle.postscript_type2.specs.Lengths.{greatest}
+use Rattle.postscript_type2.specs.Operation.Lengths.{greatest}
 
 pub greatest-at : (test : ℕ → Bool) (n : ℕ) → test n ≡ true → greatest test n ≡ Some n
 greatest-at test zero passes = ap (λ b. cond b (Some 0) None) passes

@@ -4,7 +4,7 @@ use Rattle.std.proofs.lemmas.Bool.{cases_lt}
 use Rattle.std.proofs.lemmas.Nat.{mod_below}
 use Rattle.std.proofs.Math.Nat.{mul-mod_right, div-add-mod}
 use Rattle.std.proofs.Common.{mul-le-mul_left, mod-eq_of_lt, mul-add, mul-one, inl, inr, ◌≡◌, ap, ◌∙◌, ℕ, ◌+◌, ◌-◌, ◌*◌, ◌/◌, ◌%◌, ◌<◌, ◌≤◌, ◌≢◌, false, Some, None, refl, arith}
-use Rattle.postscript_type2.specs.Lengths.{groups_and, greatest}
+use Rattle.postscript_type2.specs.Operation.Lengths.{groups_and, greatest}
 use Rattle.postscript_type2.proofs.Greatest.{greatest-is, greatest-none}
 
 pub never-taken : (n : ℕ) → greatest (λ k. false) n ≡ None

@@ -7,17 +7,17 @@ use Rattle.std.specs.Option.{ok_or}
 use Rattle.postscript_base.specs.Refusal.{Refusal, unexpected_eof, expected_operand, expected_integer, missing_subroutine, too_many_stems}
 use Rattle.postscript_type2.specs.declared.operation.Operator.{Operator}
 use Rattle.postscript_type2.specs.declared.operation.Operator.TheVariants.{Drop}
-use Rattle.postscript_type2.specs.Effects.{State, Move, Keeps, Clears, Calls, Returns, Ends, Refuses, clearing, stems_after, with_stems, mask_len, mask_clearing, work_move, named, subroutine, call_move, end_move, effect_of, effect, pushed, stacked, cleared}
-use Rattle.postscript_type2.specs.Evaluation.{with_phrase, with_answer, with_any_answer, at_end, Stride, On, Into, Back, Over, Faults, said, moved, stride_by, stride, mean}
-use Rattle.postscript_type2.specs.Flat.{without_operator, dropping, flat_of, flat_by, flat_said}
-use Rattle.postscript_type2.specs.Kinds.{Kind, Draws, DeclaresStems, Masks, Works, CallsFrom, GoesBack, EndsGlyph, IsRefused, kind, taken}
+use Rattle.postscript_type2.specs.Program.Effects.{State, Move, Keeps, Clears, Calls, Returns, Ends, Refuses, clearing, stems_after, with_stems, mask_len, mask_clearing, work_move, named, subroutine, call_move, end_move, effect_of, effect, pushed, stacked, cleared}
+use Rattle.postscript_type2.specs.Program.Evaluation.{with_phrase, with_answer, with_any_answer, at_end, Stride, On, Into, Back, Over, Faults, said, moved, stride_by, stride, mean}
+use Rattle.postscript_type2.specs.Program.Flat.{without_operator, dropping, flat_of, flat_by, flat_said}
+use Rattle.postscript_type2.specs.Operation.Kinds.{Kind, Draws, DeclaresStems, Masks, Works, CallsFrom, GoesBack, EndsGlyph, IsRefused, kind, taken}
 use Rattle.postscript_type2.specs.Number.{to_int}
-use Rattle.postscript_type2.specs.Parsing.{Phrase, Complete, NoPhrase, phrase, fronted}
-use Rattle.postscript_type2.specs.Routines.{Lists}
-use Rattle.postscript_type2.specs.Runs.{Said, Finished, Run}
-use Rattle.postscript_type2.specs.Stacks.{removal}
-use Rattle.postscript_type2.specs.Still.{next_still}
-use Rattle.postscript_type2.specs.Works.{after, given, top_of}
+use Rattle.postscript_type2.specs.Program.Parsing.{Phrase, Complete, NoPhrase, phrase, fronted}
+use Rattle.postscript_type2.specs.Program.Routines.{Lists}
+use Rattle.postscript_type2.specs.Program.Runs.{Said, Finished, Run}
+use Rattle.postscript_type2.specs.Program.Stacks.{removal}
+use Rattle.postscript_type2.specs.Program.Still.{next_still}
+use Rattle.postscript_type2.specs.Program.Works.{after, given, top_of}
 use Rattle.postscript_type2.proofs.Locals.{stands_flat, IsLocal, Local, local}
 use Rattle.postscript_type2.proofs.Strides.{still_step-at}
 

@@ -7,12 +7,12 @@ use Rattle.std.specs.List.{AllPass}
 use Rattle.postscript_base.specs.Refusal.{trailing_data}
 use Rattle.postscript_type2.specs.declared.operation.Operator.{Operator}
 use Rattle.postscript_type2.specs.declared.operation.Operator.TheVariants.{CallSubr, CallGSubr, Return}
-use Rattle.postscript_type2.specs.Effects.{State, start}
-use Rattle.postscript_type2.specs.Evaluation.{at_end, with_phrase, with_answer, followed, is_empty, after_call, Stride, On, Into, Back, Over, Faults, stride, Callee, paced, routine, callee, mean, run_of}
-use Rattle.postscript_type2.specs.Flat.{flat_by, flat_said, flat_bytes, flat_text}
-use Rattle.postscript_type2.specs.Inlining.{is_flat, KeepsMeaning, FlatTextKeepsMeaning}
-use Rattle.postscript_type2.specs.Routines.{Lists}
-use Rattle.postscript_type2.specs.Runs.{Answer, Said, End, UsedUp, Returned, Finished, Fault, Run, fault_of, width_by, width_of}
+use Rattle.postscript_type2.specs.Program.Effects.{State, start}
+use Rattle.postscript_type2.specs.Program.Evaluation.{at_end, with_phrase, with_answer, followed, is_empty, after_call, Stride, On, Into, Back, Over, Faults, stride, Callee, paced, routine, callee, mean, run_of}
+use Rattle.postscript_type2.specs.Program.Flat.{flat_by, flat_said, flat_bytes, flat_text}
+use Rattle.postscript_type2.specs.Program.Inlining.{is_flat, KeepsMeaning, FlatTextKeepsMeaning}
+use Rattle.postscript_type2.specs.Program.Routines.{Lists}
+use Rattle.postscript_type2.specs.Program.Runs.{Answer, Said, End, UsedUp, Returned, Finished, Fault, Run, fault_of, width_by, width_of}
 use Rattle.postscript_type2.proofs.InFlat.{InFlat, in-flat}
 
 -- no fault, and where the run was used up nothing follows

@@ -2,10 +2,10 @@
 use Rattle.std.proofs.Common.{◌≡◌, refl, ℕ, List, [], ◌∷◌, Some, None, ℤ, pos}
 use Rattle.postscript_base.specs.Refusal.{missing_subroutine}
 use Rattle.postscript_type2.specs.declared.operation.Operator.TheVariants.{HStem, HintMask, HMoveTo, RLineTo}
-use Rattle.postscript_type2.specs.Evaluation.{run_of}
-use Rattle.postscript_type2.specs.Flat.{flat_text}
+use Rattle.postscript_type2.specs.Program.Evaluation.{run_of}
+use Rattle.postscript_type2.specs.Program.Flat.{flat_text}
 use Rattle.postscript_type2.specs.Number.{whole}
-use Rattle.postscript_type2.specs.Routines.{Lists}
+use Rattle.postscript_type2.specs.Program.Routines.{Lists}
 use Rattle.postscript_type2.proofs.Meant.{Tells, meant}
 
 -- The local subroutine has a mask, moves by a number of its own, leaves an operand and returns; the global one ends the glyph.

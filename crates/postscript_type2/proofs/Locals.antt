@@ -6,10 +6,10 @@ use Rattle.postscript_base.specs.Numbers.{slice, number, big_endian, two_sided, 
 use Rattle.postscript_base.specs.Tape.Outcome.{Outcome, Got, Fault, Past, end, after, Reading, ◌>>=◌, pure, fault}
 use Rattle.postscript_base.specs.Refusal.{malformed_number}
 use Rattle.postscript_type2.specs.declared.operation.Operator.{Operator}
-use Rattle.postscript_type2.specs.Kinds.{Kind, CallsFrom, GoesBack, kind}
+use Rattle.postscript_type2.specs.Operation.Kinds.{Kind, CallsFrom, GoesBack, kind}
 use Rattle.postscript_type2.specs.Number.{spelled, whole}
-use Rattle.postscript_type2.specs.Operators.{operators, lookup, operator_of}
-use Rattle.postscript_type2.specs.Parsing.{is_number, Phrase, Complete, NoPhrase, passed, with_number, with_operator, numbered, escaped, ending, phrase_after, phrase, fronted}
+use Rattle.postscript_type2.specs.Operation.Operators.{operators, lookup, operator_of}
+use Rattle.postscript_type2.specs.Program.Parsing.{is_number, Phrase, Complete, NoPhrase, passed, with_number, with_operator, numbered, escaped, ending, phrase_after, phrase, fronted}
 use Rattle.postscript_type2.proofs.Fronts.{fronted-zero, passed-fronted, number-first}
 
 -- a reading that looks at no byte past its next place

@@ -5,16 +5,16 @@ use Rattle.std.proofs.Common.{◌≡◌, ◌≢◌, refl, ap, sym, subst, ◌∙
 use Rattle.std.proofs.lemmas.Bool.Decides.{nat_tests}
 use Rattle.postscript_base.specs.Refusal.{Refusal, unexpected_eof, return_without_caller, trailing_data, too_deep}
 use Rattle.postscript_type2.specs.declared.operation.Operator.{Operator}
-use Rattle.postscript_type2.specs.Computed.{is_inner, MeaningIsComputed, RunIsMeant}
-use Rattle.postscript_type2.specs.Effects.{State, start, Move, Keeps, Clears, Calls, Returns, Ends, Refuses, clearing, stems_after, mask_len, mask_clearing, work_move, subroutine, call_move, effect_of, effect, pushed, stacked, cleared}
-use Rattle.postscript_type2.specs.Evaluation.{at_end, with_phrase, with_answer, with_any_answer, followed, finish, after_call, Stride, On, Into, Back, Over, Faults, moved, stride_by, stride, called, paced, routine, callee, mean}
-use Rattle.postscript_type2.specs.Kinds.{Kind, Draws, DeclaresStems, Masks, Works, CallsFrom, GoesBack, EndsGlyph, IsRefused, kind, taken}
-use Rattle.postscript_type2.specs.Meaning as rules
-use Rattle.postscript_type2.specs.Meaning.{answer, Closes, Stops, Means, MeansRun}
-use Rattle.postscript_type2.specs.Parsing.{Phrase, Complete, NoPhrase, phrase}
-use Rattle.postscript_type2.specs.Phrases.{IsPhrase}
-use Rattle.postscript_type2.specs.Routines.{Lists}
-use Rattle.postscript_type2.specs.Runs.{Answer, Said, by, End, UsedUp, Returned, Finished, Fault, Run}
+use Rattle.postscript_type2.specs.Program.Computed.{is_inner, MeaningIsComputed, RunIsMeant}
+use Rattle.postscript_type2.specs.Program.Effects.{State, start, Move, Keeps, Clears, Calls, Returns, Ends, Refuses, clearing, stems_after, mask_len, mask_clearing, work_move, subroutine, call_move, effect_of, effect, pushed, stacked, cleared}
+use Rattle.postscript_type2.specs.Program.Evaluation.{at_end, with_phrase, with_answer, with_any_answer, followed, finish, after_call, Stride, On, Into, Back, Over, Faults, moved, stride_by, stride, called, paced, routine, callee, mean}
+use Rattle.postscript_type2.specs.Operation.Kinds.{Kind, Draws, DeclaresStems, Masks, Works, CallsFrom, GoesBack, EndsGlyph, IsRefused, kind, taken}
+use Rattle.postscript_type2.specs.Program.Meaning as rules
+use Rattle.postscript_type2.specs.Program.Meaning.{answer, Closes, Stops, Means, MeansRun}
+use Rattle.postscript_type2.specs.Program.Parsing.{Phrase, Complete, NoPhrase, phrase}
+use Rattle.postscript_type2.specs.Program.Phrases.{IsPhrase}
+use Rattle.postscript_type2.specs.Program.Routines.{Lists}
+use Rattle.postscript_type2.specs.Program.Runs.{Answer, Said, by, End, UsedUp, Returned, Finished, Fault, Run}
 use Rattle.postscript_type2.proofs.Inlining.{followed-ends}
 use Rattle.postscript_type2.proofs.PhraseLaws.{reads-phrase, phrase-spelled, reads-no_phrase, no_phrase-spelled}
 use Rattle.postscript_type2.proofs.Still.{routine-from, behind-call}

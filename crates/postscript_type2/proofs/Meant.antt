@@ -2,11 +2,11 @@
 use Rattle.std.proofs.Common.{◌≡◌, ℕ, ℤ, List, map, Option, arith}
 use Rattle.postscript_base.specs.Refusal.{Refusal}
 use Rattle.postscript_type2.specs.declared.operation.Operator.{Operator}
-use Rattle.postscript_type2.specs.Effects.{start}
-use Rattle.postscript_type2.specs.Evaluation.{run_of}
-use Rattle.postscript_type2.specs.Meaning.{IsRunOf}
-use Rattle.postscript_type2.specs.Routines.{Lists}
-use Rattle.postscript_type2.specs.Runs.{Run, operation, fault_of, width_of}
+use Rattle.postscript_type2.specs.Program.Effects.{start}
+use Rattle.postscript_type2.specs.Program.Evaluation.{run_of}
+use Rattle.postscript_type2.specs.Program.Meaning.{IsRunOf}
+use Rattle.postscript_type2.specs.Program.Routines.{Lists}
+use Rattle.postscript_type2.specs.Program.Runs.{Run, operation, fault_of, width_of}
 use Rattle.postscript_type2.proofs.MeaningLaws.{complete}
 
 -- operations, a fault and a width

@@ -4,10 +4,10 @@ use Rattle.postscript_base.specs.declared.error.Error.{Error}
 use Rattle.postscript_base.specs.declared.error.Error.TheVariants.{Memory}
 use Rattle.postscript_base.specs.Refusal.{refusal_of}
 use Rattle.postscript_type2.specs.declared.operation.Operator.{Operator}
-use Rattle.postscript_type2.specs.Effects.{State, Refuses, work_move, effect_of}
-use Rattle.postscript_type2.specs.Kinds.{Kind, Draws, DeclaresStems, Masks, Works, CallsFrom, GoesBack, EndsGlyph, IsRefused}
-use Rattle.postscript_type2.specs.Performing.{PerformsKind}
-use Rattle.postscript_type2.specs.Routines.{Lists}
+use Rattle.postscript_type2.specs.Program.Effects.{State, Refuses, work_move, effect_of}
+use Rattle.postscript_type2.specs.Operation.Kinds.{Kind, Draws, DeclaresStems, Masks, Works, CallsFrom, GoesBack, EndsGlyph, IsRefused}
+use Rattle.postscript_type2.specs.Program.Performing.{PerformsKind}
+use Rattle.postscript_type2.specs.Program.Routines.{Lists}
 
 -- a work that is refused
 pub work-refused : (k : Kind) (lists : Lists) (op : Operator) (bytes : List ℕ) (st : State) (stack : List ℤ) (e : Error) → PerformsKind k st.stack (Some (Err e)) stack →

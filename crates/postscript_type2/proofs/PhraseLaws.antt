@@ -7,12 +7,12 @@ use Rattle.postscript_base.specs.Numbers.{slice, number as unsigned, big_endian,
 use Rattle.postscript_base.specs.Tape.Outcome.{Got, Fault, end, Reading, after, ◌>>=◌, pure, fault}
 use Rattle.postscript_base.specs.Refusal.{Refusal, unexpected_eof, malformed_number}
 use Rattle.postscript_type2.specs.declared.operation.Operator.{Operator}
-use Rattle.postscript_type2.specs.Computed.{PhraseIsRead, NoPhraseIsRefused}
+use Rattle.postscript_type2.specs.Program.Computed.{PhraseIsRead, NoPhraseIsRefused}
 use Rattle.postscript_type2.specs.Number.{spelled, whole}
-use Rattle.postscript_type2.specs.Operators.{operator_of}
-use Rattle.postscript_type2.specs.Parsing.{Phrase, Complete, NoPhrase, is_number, with_number, numbered, with_operator, escaped, ending, phrase_after, phrase, fronted}
-use Rattle.postscript_type2.specs.Phrases as spellings
-use Rattle.postscript_type2.specs.Phrases.{IsNumber, IsPhrase, HasNoPhrase}
+use Rattle.postscript_type2.specs.Operation.Operators.{operator_of}
+use Rattle.postscript_type2.specs.Program.Parsing.{Phrase, Complete, NoPhrase, is_number, with_number, numbered, with_operator, escaped, ending, phrase_after, phrase, fronted}
+use Rattle.postscript_type2.specs.Program.Phrases as spellings
+use Rattle.postscript_type2.specs.Program.Phrases.{IsNumber, IsPhrase, HasNoPhrase}
 use Rattle.postscript_type2.proofs.Fronts.{number-first, phrase-from}
 
 -- which reading a first byte begins

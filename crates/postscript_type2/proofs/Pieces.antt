@@ -9,9 +9,9 @@ use Rattle.postscript_base.specs.Tape.Outcome.{Outcome, Got, Fault, Past}
 use Rattle.postscript_base.specs.Refusal.{Refusal, refusal_of}
 use Rattle.postscript_type2.specs.declared.operation.Operator.{Operator}
 use Rattle.postscript_type2.specs.Number.{number, spelled}
-use Rattle.postscript_type2.specs.Operators.{operator_of}
-use Rattle.postscript_type2.specs.Parsing.{Phrase, Complete, NoPhrase, is_number, numbered, phrase_after, phrase, ending, escaped, with_operator, fronted}
-use Rattle.postscript_type2.specs.Tokens.{ReadsOperator, ReadsPhrase, ending_of}
+use Rattle.postscript_type2.specs.Operation.Operators.{operator_of}
+use Rattle.postscript_type2.specs.Program.Parsing.{Phrase, Complete, NoPhrase, is_number, numbered, phrase_after, phrase, ending, escaped, with_operator, fronted}
+use Rattle.postscript_type2.specs.Program.Tokens.{ReadsOperator, ReadsPhrase, ending_of}
 use Rattle.postscript_type2.proofs.Bytes.{number-front, got-later}
 use Rattle.postscript_type2.proofs.Fronts.{front-number_at}
 use Rattle.postscript_type2.proofs.Places.{later, spelled-local}

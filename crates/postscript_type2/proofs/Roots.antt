@@ -6,8 +6,8 @@ use Rattle.std.proofs.lemmas.Int.{to_z_pos}
 use Rattle.std.proofs.Common.{◌≡◌, ap, ℕ, zero, suc, ◌+◌, ◌*◌, ◌<◌, ◌≤◌, ◌^◌, ◌⊎◌, inl, inr, nat_le, None, Ok, [], ◌∷◌, pos, w32, to_z, sym, ◌∙◌, arith}
 use Rattle.std.specs.Option.{unwrap_or}
 use Rattle.postscript_type2.specs.declared.operation.Operator.TheVariants.{Sqrt}
-use Rattle.postscript_type2.specs.Effects.{Keeps, effect}
-use Rattle.postscript_type2.specs.FixedPoint.{whole_root, root}
+use Rattle.postscript_type2.specs.Program.Effects.{Keeps, effect}
+use Rattle.postscript_type2.specs.Program.FixedPoint.{whole_root, root}
 use Rattle.postscript_type2.specs.Number.{whole}
 use Rattle.postscript_type2.proofs.Greatest.{greatest-is}
 

@@ -4,9 +4,9 @@ use Rattle.postscript_base.specs.declared.error.Part.TheVariants as parts
 use Rattle.postscript_base.specs.Numbers.{slice, number}
 use Rattle.postscript_base.specs.Refusal.{OfPart, unexpected_eof, unknown_operator, malformed_operands}
 use Rattle.postscript_type2.specs.declared.operation.Operator.TheVariants.{HStem, VMoveTo, RLineTo, HLineTo, VLineTo, HintMask, CntrMask, RMoveTo, HMoveTo, HVCurveTo}
-use Rattle.postscript_type2.specs.Evaluation.{run_of}
+use Rattle.postscript_type2.specs.Program.Evaluation.{run_of}
 use Rattle.postscript_type2.specs.Number.{whole}
-use Rattle.postscript_type2.specs.Routines.{Lists}
+use Rattle.postscript_type2.specs.Program.Routines.{Lists}
 use Rattle.postscript_type2.proofs.Meant.{Told, Tells as TellsIn, meant}
 
 abbrev no_lists : Lists

@@ -2,11 +2,11 @@
 use Rattle.std.proofs.Math.Path.{fun_ext}
 use Rattle.std.proofs.Common.{◌≡◌, refl, ap, ◌∙◌, ℕ, zero, suc, ℤ, Bool, true, not, List, [], ◌∷◌, drop, Option, Some, None, if◌then◌else◌}
 use Rattle.postscript_base.specs.Refusal.{Refusal, trailing_data, too_deep}
-use Rattle.postscript_type2.specs.Effects.{State}
-use Rattle.postscript_type2.specs.Evaluation.{with_phrase, with_answer, with_any_answer, at_end, is_empty, finish, after_call, followed, Stride, On, Into, Back, Over, Faults, stride, Callee, routine, paced, callee, mean}
-use Rattle.postscript_type2.specs.Routines.{Lists}
-use Rattle.postscript_type2.specs.Runs.{Answer, Said, UsedUp, Finished, Fault, Run}
-use Rattle.postscript_type2.specs.Still.{through, still, are_used_up, next_still}
+use Rattle.postscript_type2.specs.Program.Effects.{State}
+use Rattle.postscript_type2.specs.Program.Evaluation.{with_phrase, with_answer, with_any_answer, at_end, is_empty, finish, after_call, followed, Stride, On, Into, Back, Over, Faults, stride, Callee, routine, paced, callee, mean}
+use Rattle.postscript_type2.specs.Program.Routines.{Lists}
+use Rattle.postscript_type2.specs.Program.Runs.{Answer, Said, UsedUp, Finished, Fault, Run}
+use Rattle.postscript_type2.specs.Program.Still.{through, still, are_used_up, next_still}
 
 -- a routine past k bytes is the routine from there
 pub routine-from : (lists : Lists) (callee : Callee) (inner : Bool) (k : ℕ) (r : List ℕ) (st : State) →

@@ -4,11 +4,11 @@ use Rattle.std.proofs.lemmas.List.{drop-drop}
 use Rattle.std.proofs.Common.{◌≡◌, ap, sym, ◌∙◌, ℕ, ◌+◌, ◌-◌, ◌<◌, List, [], ◌∷◌, ◌++◌, drop, length, ℤ, arith}
 use Rattle.postscript_base.specs.Refusal.{Refusal}
 use Rattle.postscript_type2.specs.declared.operation.Operator.{Operator}
-use Rattle.postscript_type2.specs.Effects.{State, effect, stacked}
-use Rattle.postscript_type2.specs.Evaluation.{Faults, moved, stride, stride_by}
-use Rattle.postscript_type2.specs.Parsing.{Phrase, Complete, NoPhrase, phrase, fronted}
-use Rattle.postscript_type2.specs.Routines.{Lists}
-use Rattle.postscript_type2.specs.Still.{still, next_still}
+use Rattle.postscript_type2.specs.Program.Effects.{State, effect, stacked}
+use Rattle.postscript_type2.specs.Program.Evaluation.{Faults, moved, stride, stride_by}
+use Rattle.postscript_type2.specs.Program.Parsing.{Phrase, Complete, NoPhrase, phrase, fronted}
+use Rattle.postscript_type2.specs.Program.Routines.{Lists}
+use Rattle.postscript_type2.specs.Program.Still.{still, next_still}
 use Rattle.postscript_type2.proofs.Still.{still_step}
 
 -- the step, by places of the bytes themselves

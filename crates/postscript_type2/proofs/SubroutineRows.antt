@@ -3,10 +3,10 @@ use Rattle.std.proofs.Common.{◌≡◌, refl, ap, arith, ◌*◌, ℕ, List, []
 use Rattle.postscript_base.specs.Numbers.{slice, number}
 use Rattle.postscript_base.specs.Refusal.{unexpected_eof, malformed_operands, expected_operand, expected_integer, expected_more_operands, invalid_operand, missing_subroutine, return_without_caller, trailing_data, too_deep, overflow, zero_divisor, negative_root}
 use Rattle.postscript_type2.specs.declared.operation.Operator.TheVariants.{HStem, HintMask, RMoveTo, HMoveTo, HLineTo, HVCurveTo}
-use Rattle.postscript_type2.specs.Evaluation.{run_of}
-use Rattle.postscript_type2.specs.Flat.{flat_text}
+use Rattle.postscript_type2.specs.Program.Evaluation.{run_of}
+use Rattle.postscript_type2.specs.Program.Flat.{flat_text}
 use Rattle.postscript_type2.specs.Number.{whole}
-use Rattle.postscript_type2.specs.Routines.{Lists}
+use Rattle.postscript_type2.specs.Program.Routines.{Lists}
 use Rattle.postscript_type2.proofs.Meant.{Told, Tells as TellsIn, meant}
 use Rattle.postscript_type2.proofs.Roots.{whole_root-is}
 

@@ -1,7 +1,7 @@
 -- How many operands each form of lengths takes.
 use Rattle.std.proofs.lemmas.Bool.Decides.{nat_tests}
 use Rattle.std.proofs.Common.{◌≡◌, ℕ, ◌-◌, ◌%◌, ◌<◌, ◌≤◌, Some, None, arith}
-use Rattle.postscript_type2.specs.Lengths.{exactly, pairs, curves_of_four, greatest}
+use Rattle.postscript_type2.specs.Operation.Lengths.{exactly, pairs, curves_of_four, greatest}
 use Rattle.postscript_type2.proofs.Greatest.{greatest-is, greatest-none}
 
 pub exactly-taken : (m n : ℕ) → m ≤ n → greatest (exactly m) n ≡ Some m

@@ -5,15 +5,15 @@ use Rattle.postscript_base.specs.declared.error.Error.{Error}
 use Rattle.postscript_base.specs.declared.error.Error.TheVariants.{Memory}
 use Rattle.postscript_base.specs.Error.{code as number, IsOneOf}
 use Rattle.postscript_type2.specs.declared.program.Answers.{Answers}
-use Rattle.postscript_type2.specs.Effects.{start}
-use Rattle.postscript_type2.specs.Endings.{run_refusals}
-use Rattle.postscript_type2.specs.Evaluation.{run_of}
-use Rattle.postscript_type2.specs.Flat.{flat_text}
-use Rattle.postscript_type2.specs.Meaning.{IsRunOf}
-use Rattle.postscript_type2.specs.Programs.{begun}
-use Rattle.postscript_type2.specs.Routines.{Lists}
-use Rattle.postscript_type2.specs.Runs.{Run}
-use Rattle.postscript_type2.specs.Whole.{Tells, TellsPending}
+use Rattle.postscript_type2.specs.Program.Effects.{start}
+use Rattle.postscript_type2.specs.Program.Endings.{run_refusals}
+use Rattle.postscript_type2.specs.Program.Evaluation.{run_of}
+use Rattle.postscript_type2.specs.Program.Flat.{flat_text}
+use Rattle.postscript_type2.specs.Program.Meaning.{IsRunOf}
+use Rattle.postscript_type2.specs.Program.Programs.{begun}
+use Rattle.postscript_type2.specs.Program.Routines.{Lists}
+use Rattle.postscript_type2.specs.Program.Runs.{Run}
+use Rattle.postscript_type2.specs.Program.Whole.{Tells, TellsPending}
 use Rattle.postscript_type2.proofs.EndingLaws.{law, told-listed}
 use Rattle.postscript_type2.proofs.MeaningLaws.{complete}
 

@@ -2,11 +2,11 @@
 ghost use Rattle.std.specs.Prelude.{◌≡◌, ◌<◌, ◌≤◌, ℤ, Some, IfSome};
 ghost use Rattle.std.specs.Option.{ok_or};
 ghost use Rattle.postscript_base.specs.declared.error.Error.TheVariants as errors;
-ghost use Rattle.postscript_type2.specs.Kinds.{taken as the_taken};
-ghost use Rattle.postscript_type2.specs.Lengths.{exactly as the_exactly, some, pairs as the_pairs, groups_and as the_groups_and, curves_of_four as the_curves_of_four, greatest};
+ghost use Rattle.postscript_type2.specs.Operation.Kinds.{taken as the_taken};
+ghost use Rattle.postscript_type2.specs.Operation.Lengths.{exactly as the_exactly, some, pairs as the_pairs, groups_and as the_groups_and, curves_of_four as the_curves_of_four, greatest};
 ghost use Rattle.postscript_type2.specs.Number.{whole, to_int};
-ghost use Rattle.postscript_type2.specs.Operators.{operator_of, name_of};
-ghost use Rattle.postscript_type2.specs.Texts.{text};
+ghost use Rattle.postscript_type2.specs.Operation.Operators.{operator_of, name_of};
+ghost use Rattle.postscript_type2.specs.Operation.Texts.{text};
 
 use postscript_base::{Error, Result};
 use std::fmt;

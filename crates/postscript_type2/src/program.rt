@@ -2,15 +2,15 @@
 ghost use Rattle.std.specs.Prelude.{◌≡◌, ◌⊎◌, MatchResult, OnOk, IfOk, IfErr, IfSome};
 ghost use Rattle.postscript_base.specs.Error.{code as number, IsOneOf, IsListed};
 ghost use Rattle.postscript_base.specs.Refusal.{refusal_of};
-ghost use Rattle.postscript_type2.specs.Endings.{run_refusals, flatten_refusals, next_refusals};
-ghost use Rattle.postscript_type2.specs.Evaluation.{run_of};
-ghost use Rattle.postscript_type2.specs.Flat.{flat_text};
-ghost use Rattle.postscript_type2.specs.Inlining.{KeepsMeaning, FlatTextKeepsMeaning};
-ghost use Rattle.postscript_type2.specs.Meaning.{IsRunOf};
-ghost use Rattle.postscript_type2.specs.Programs.{begun, Next, ended, failed};
-ghost use Rattle.postscript_type2.specs.Routines.{Lists, subroutines};
-ghost use Rattle.postscript_type2.specs.Runs.{Run, fault_of};
-ghost use Rattle.postscript_type2.specs.Whole.{Tells, TellsPending};
+ghost use Rattle.postscript_type2.specs.Program.Endings.{run_refusals, flatten_refusals, next_refusals};
+ghost use Rattle.postscript_type2.specs.Program.Evaluation.{run_of};
+ghost use Rattle.postscript_type2.specs.Program.Flat.{flat_text};
+ghost use Rattle.postscript_type2.specs.Program.Inlining.{KeepsMeaning, FlatTextKeepsMeaning};
+ghost use Rattle.postscript_type2.specs.Program.Meaning.{IsRunOf};
+ghost use Rattle.postscript_type2.specs.Program.Programs.{begun, Next, ended, failed};
+ghost use Rattle.postscript_type2.specs.Program.Routines.{Lists, subroutines};
+ghost use Rattle.postscript_type2.specs.Program.Runs.{Run, fault_of};
+ghost use Rattle.postscript_type2.specs.Program.Whole.{Tells, TellsPending};
 
 mod arithmetic;
 mod callers;
@@ -45,16 +45,16 @@ pub struct Program<'l> {
 }
 
 impl<'l> Model for Program<'l> {
-    ghost use Rattle.postscript_type2.specs.Programs.{Pending};
+    ghost use Rattle.postscript_type2.specs.Program.Programs.{Pending};
 
     ghost Value = { Pending };
 
-    ghost use Rattle.postscript_type2.specs.Views.{pending_of};
+    ghost use Rattle.postscript_type2.specs.Program.Views.{pending_of};
 
     ghost view = { λ program. pending_of program.phase program.machine };
 
     ghost use Rattle.std.specs.Prelude.{◌≡◌};
-    ghost use Rattle.postscript_type2.specs.Machines.{IsNested};
+    ghost use Rattle.postscript_type2.specs.Program.Machines.{IsNested};
     ghost use Rattle.postscript_type2.specs.declared.program.Phase.TheVariants as phases;
 
     ghost invariant = { λ program. program.phase ≡ phases.Running → IsNested program.machine };

@@ -1,8 +1,8 @@
 //! The chain of callers.
 ghost use Rattle.std.specs.Prelude.{◌≡◌, ◌∷◌, [], OnOk, IfErr, MatchOption};
 ghost use Rattle.postscript_base.specs.declared.error.Error.TheVariants as errors;
-ghost use Rattle.postscript_type2.specs.Callers.{rests};
-ghost use Rattle.postscript_type2.specs.Still.{are_used_up as the_are_used_up};
+ghost use Rattle.postscript_type2.specs.Program.Callers.{rests};
+ghost use Rattle.postscript_type2.specs.Program.Still.{are_used_up as the_are_used_up};
 
 use super::routine::Routine;
 use postscript_base::Result;

@@ -2,9 +2,9 @@
 ghost use Rattle.std.specs.Prelude.{◌≡◌, ◌⊎◌, ◌++◌, OnOk, IfOk, IfErr};
 ghost use Rattle.postscript_base.specs.declared.error.Error.TheVariants as errors;
 ghost use Rattle.postscript_base.specs.Refusal.{refusal_of};
-ghost use Rattle.postscript_type2.specs.Flat.{flat_bytes, flat_text};
-ghost use Rattle.postscript_type2.specs.Machines.{IsNested, said_of, still_of};
-ghost use Rattle.postscript_type2.specs.Runs.{fault_of};
+ghost use Rattle.postscript_type2.specs.Program.Flat.{flat_bytes, flat_text};
+ghost use Rattle.postscript_type2.specs.Program.Machines.{IsNested, said_of, still_of};
+ghost use Rattle.postscript_type2.specs.Program.Runs.{fault_of};
 
 use super::machine::{Event, Machine, Said};
 use crate::operation::Operator;

@@ -1,8 +1,8 @@
 //! Operators that declare stems, and masks.
 ghost use Rattle.std.specs.Prelude.{◌≡◌, ◌≤◌, ◌^◌, ℕ, List, length, nat_lt, IfOk, Ok, Err, if◌then◌else◌};
 ghost use Rattle.postscript_base.specs.declared.error.Error.TheVariants as errors;
-ghost use Rattle.postscript_type2.specs.Effects.{stem_move, mask_move, stems_after as the_stems_after};
-ghost use Rattle.postscript_type2.specs.Working.{state_of, mask_of, Does};
+ghost use Rattle.postscript_type2.specs.Program.Effects.{stem_move, mask_move, stems_after as the_stems_after};
+ghost use Rattle.postscript_type2.specs.Program.Working.{state_of, mask_of, Does};
 
 use super::state::{Effect, State};
 use crate::operation::Operator;

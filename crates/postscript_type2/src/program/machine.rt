@@ -1,8 +1,8 @@
 //! The machine of a program: one phrase at a time.
 ghost use Rattle.std.specs.Prelude.{◌≡◌, IfOk};
-ghost use Rattle.postscript_type2.specs.Evaluation.{run_of};
-ghost use Rattle.postscript_type2.specs.Machines.{IsNested, still_of, Advances};
-ghost use Rattle.postscript_type2.specs.Routines.{subroutines};
+ghost use Rattle.postscript_type2.specs.Program.Evaluation.{run_of};
+ghost use Rattle.postscript_type2.specs.Program.Machines.{IsNested, still_of, Advances};
+ghost use Rattle.postscript_type2.specs.Program.Routines.{subroutines};
 
 use super::callers::{Callers, are_used_up};
 use super::routine::Routine;

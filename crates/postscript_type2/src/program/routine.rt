@@ -1,8 +1,8 @@
 //! A routine: code, and the place that is reached in it.
 ghost use Rattle.std.specs.Prelude.{◌≡◌, ◌-◌, ◌≤◌, length, take, drop};
-ghost use Rattle.postscript_type2.specs.Evaluation.{is_empty};
-ghost use Rattle.postscript_type2.specs.Parsing.{is_number};
-ghost use Rattle.postscript_type2.specs.Tokens.{LooksAt, ReadsByte, ReadsNumber, ReadsOperator, ReadsPhrase};
+ghost use Rattle.postscript_type2.specs.Program.Evaluation.{is_empty};
+ghost use Rattle.postscript_type2.specs.Program.Parsing.{is_number};
+ghost use Rattle.postscript_type2.specs.Program.Tokens.{LooksAt, ReadsByte, ReadsNumber, ReadsOperator, ReadsPhrase};
 
 use crate::number;
 use crate::operation::{Operand, Operator};

@@ -1,10 +1,10 @@
 //! The operators that work on the stack alone (Technical Note 5177, "Arithmetic Operators" and "Conditional Operators").
 ghost use Rattle.std.specs.Prelude.{◌≡◌, length, pos};
-ghost use Rattle.postscript_type2.specs.FixedPoint.{absolute_value, opposite, root, sum, difference, product, quotient, both, either, denial, same_bits};
-ghost use Rattle.postscript_type2.specs.Kinds.{kind};
-ghost use Rattle.postscript_type2.specs.Performing.{Performs, PerformsKind};
-ghost use Rattle.postscript_type2.specs.Stacks.{one_to_one, two_to_one, choice, removal, exchange, duplication, copy, depth as the_depth, rolled, roll_by as the_roll_by, roll as the_roll};
-ghost use Rattle.postscript_type2.specs.Works.{operand as the_operand, whole_operand as the_whole_operand, operand_below as the_operand_below, push as the_push};
+ghost use Rattle.postscript_type2.specs.Program.FixedPoint.{absolute_value, opposite, root, sum, difference, product, quotient, both, either, denial, same_bits};
+ghost use Rattle.postscript_type2.specs.Operation.Kinds.{kind};
+ghost use Rattle.postscript_type2.specs.Program.Performing.{Performs, PerformsKind};
+ghost use Rattle.postscript_type2.specs.Program.Stacks.{one_to_one, two_to_one, choice, removal, exchange, duplication, copy, depth as the_depth, rolled, roll_by as the_roll_by, roll as the_roll};
+ghost use Rattle.postscript_type2.specs.Program.Works.{operand as the_operand, whole_operand as the_whole_operand, operand_below as the_operand_below, push as the_push};
 
 use super::arithmetic;
 use crate::operation::{Operand, Operator};

@@ -1,11 +1,11 @@
 //! What an operator does with the stack.
 ghost use Rattle.std.specs.Prelude.{◌≡◌, ◌≤◌, ℕ, List, [], length, Some, OnErr, IfOk, IfErr};
 ghost use Rattle.postscript_base.specs.declared.error.Error.TheVariants.{Memory};
-ghost use Rattle.postscript_type2.specs.Effects.{settled as the_settled, path_move, last_of, effect, subroutine, call_move};
-ghost use Rattle.postscript_type2.specs.Kinds.{kind};
-ghost use Rattle.postscript_type2.specs.Performing.{WorksOrDraws};
-ghost use Rattle.postscript_type2.specs.Routines.{Lists, texts};
-ghost use Rattle.postscript_type2.specs.Working.{lists_of, state_of, mask_of, Does};
+ghost use Rattle.postscript_type2.specs.Program.Effects.{settled as the_settled, path_move, last_of, effect, subroutine, call_move};
+ghost use Rattle.postscript_type2.specs.Operation.Kinds.{kind};
+ghost use Rattle.postscript_type2.specs.Program.Performing.{WorksOrDraws};
+ghost use Rattle.postscript_type2.specs.Program.Routines.{Lists, texts};
+ghost use Rattle.postscript_type2.specs.Program.Working.{lists_of, state_of, mask_of, Does};
 
 use super::stack::{perform, whole_operand};
 use super::subroutines::{Subroutines, named};

@@ -1,7 +1,7 @@
 //! Subroutines, by their numbers.
 ghost use Rattle.std.specs.Prelude.{◌≡◌, option_map};
-ghost use Rattle.postscript_type2.specs.Effects.{bias as the_bias, named as the_named};
-ghost use Rattle.postscript_type2.specs.Routines.{texts};
+ghost use Rattle.postscript_type2.specs.Program.Effects.{bias as the_bias, named as the_named};
+ghost use Rattle.postscript_type2.specs.Program.Routines.{texts};
 
 /// The subroutines of a font set and those of one font.
 #[derive(Clone, Copy)]

@@ -1,8 +1,8 @@
 use Rattle.std.proofs.Common.{◌≡◌, subst, MatchResult}
 use Rattle.postscript_base.specs.declared.error.Error.TheVariants.{Memory}
-use Rattle.postscript_type2.specs.Evaluation.{run_of}
-use Rattle.postscript_type2.specs.Routines.{subroutines}
-use Rattle.postscript_type2.specs.Whole.{Tells, TellsPending}
+use Rattle.postscript_type2.specs.Program.Evaluation.{run_of}
+use Rattle.postscript_type2.specs.Program.Routines.{subroutines}
+use Rattle.postscript_type2.specs.Program.Whole.{Tells, TellsPending}
 use Rattle.postscript_type2.proofs.Telling.{tells-whole, tells-meant, tells-listed}
 use Rattle.postscript_type2.proofs.program.run.Goals.{After-all_answers}
 use Rattle.postscript_type2.proofs.program.run.Goals as goal

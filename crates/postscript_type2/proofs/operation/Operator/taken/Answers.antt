@@ -1,7 +1,7 @@
 use Rattle.std.proofs.Common.{◌≡◌, ◌≢◌, ℕ, None, refl, sym}
 use Rattle.postscript_type2.specs.declared.operation.Operator.{Operator}
 use Rattle.postscript_type2.specs.declared.operation.Operator.TheVariants.{HStem, VStem, VMoveTo, RLineTo, HLineTo, VLineTo, RRCurveTo, HStemHM, HintMask, CntrMask, RMoveTo, HMoveTo, VStemHM, RCurveLine, RLineCurve, VVCurveTo, HHCurveTo, VHCurveTo, HVCurveTo, HFlex, Flex, HFlex1, Flex1}
-use Rattle.postscript_type2.specs.Kinds.{taken as the_taken}
+use Rattle.postscript_type2.specs.Operation.Kinds.{taken as the_taken}
 use Rattle.postscript_type2.proofs.Groups.{never-taken}
 use Rattle.postscript_type2.proofs.operation.Operator.taken.Goals as goal
 

@@ -1,7 +1,7 @@
 use Rattle.std.proofs.Common.{◌≡◌, sym, arith}
 use Rattle.std.proofs.lemmas.Grind.{common_steps}
 use Rattle.std.specs.Prelude.{int_div}
-use Rattle.postscript_type2.specs.FixedPoint.{cut}
+use Rattle.postscript_type2.specs.Program.FixedPoint.{cut}
 use Rattle.postscript_type2.proofs.RollingLaws.{cut-law}
 use Rattle.postscript_type2.proofs.program.arithmetic.cut.Goals as goal
 

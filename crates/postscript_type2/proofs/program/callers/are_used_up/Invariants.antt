@@ -1,6 +1,6 @@
 use Rattle.std.proofs.Common.{◌≡◌}
-use Rattle.postscript_type2.specs.Callers.{rests}
-use Rattle.postscript_type2.specs.Still.{are_used_up as the_are_used_up}
+use Rattle.postscript_type2.specs.Program.Callers.{rests}
+use Rattle.postscript_type2.specs.Program.Still.{are_used_up as the_are_used_up}
 use Rattle.postscript_type2.proofs.program.callers.are_used_up.Given as goal
 
 -- the rest of the chain decides

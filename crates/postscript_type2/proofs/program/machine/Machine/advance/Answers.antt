@@ -1,9 +1,9 @@
 use Rattle.std.proofs.Common.{◌≡◌, ◌∙◌, ◌+◌, ◌-◌, ◌<◌, suc, ap, sym, refl, ℕ, ℤ, List, ◌∷◌, take, length, inr, add-one, arith}
 use Rattle.std.proofs.lemmas.Result.{err_from_is_err_and}
-use Rattle.postscript_type2.specs.Callers.{rests}
-use Rattle.postscript_type2.specs.Effects.{State, Keeps, Clears, Calls, Returns, Ends, effect, cleared, stacked}
-use Rattle.postscript_type2.specs.Routines.{Lists}
-use Rattle.postscript_type2.specs.Working.{lists_of, state_of, settled_width, move_of, after_move}
+use Rattle.postscript_type2.specs.Program.Callers.{rests}
+use Rattle.postscript_type2.specs.Program.Effects.{State, Keeps, Clears, Calls, Returns, Ends, effect, cleared, stacked}
+use Rattle.postscript_type2.specs.Program.Routines.{Lists}
+use Rattle.postscript_type2.specs.Program.Working.{lists_of, state_of, settled_width, move_of, after_move}
 use Rattle.postscript_type2.proofs.Arms.{IsRead, some-of, none-of, front-of, used-up, kept, answered, entered, too-deep-call, returned, no-caller, finished, trailing, refused-or-memory, unread-or-memory}
 use Rattle.postscript_type2.proofs.program.machine.Machine.advance.Goals as goal
 

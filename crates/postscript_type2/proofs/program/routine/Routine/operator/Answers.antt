@@ -1,7 +1,7 @@
 use Rattle.std.proofs.Common.{◌≡◌, ◌+◌}
 use Rattle.std.specs.Option.{ok_or}
 use Rattle.postscript_base.specs.declared.error.Error.TheVariants.{UnknownOperator}
-use Rattle.postscript_type2.specs.Operators.{operator_of}
+use Rattle.postscript_type2.specs.Operation.Operators.{operator_of}
 use Rattle.postscript_type2.proofs.Pieces.{operator-one, operator-two}
 use Rattle.postscript_type2.proofs.program.routine.Routine.operator.Goals as goal
 

@@ -1,5 +1,5 @@
 use Rattle.std.proofs.Common.{◌≡◌, ℕ, drop, length}
-use Rattle.postscript_type2.specs.Parsing.{phrase, fronted}
+use Rattle.postscript_type2.specs.Program.Parsing.{phrase, fronted}
 use Rattle.postscript_type2.proofs.program.routine.Routine.phrase.Given as goal
 
 -- so many bytes are read, and their numbers are on the stack

@@ -1,9 +1,9 @@
 use Rattle.std.proofs.Common.{refl, subst, Some, Result}
 use Rattle.std.proofs.lemmas.Result.{err_from_is_err_and}
 use Rattle.postscript_base.specs.declared.error.Error.{Error}
-use Rattle.postscript_type2.specs.Kinds.{kind}
-use Rattle.postscript_type2.specs.Performing.{PerformsKind}
-use Rattle.postscript_type2.specs.Working.{state_of}
+use Rattle.postscript_type2.specs.Operation.Kinds.{kind}
+use Rattle.postscript_type2.specs.Program.Performing.{PerformsKind}
+use Rattle.postscript_type2.specs.Program.Working.{state_of}
 use Rattle.postscript_type2.proofs.Performed.{work-refused}
 use Rattle.postscript_type2.proofs.program.state.State.work.Goals as goal
 

@@ -2,15 +2,15 @@
 use Rattle.std.specs.Prelude.{◌≡◌, ◌↔◌, ℕ, zero, suc, ◌+◌, ◌-◌, ◌≤◌, ℤ, int_div, Bool, true, false, List, ◌++◌, length}
 use Rattle.postscript_base.specs.Refusal.{Refusal}
 use Rattle.postscript_type2.specs.declared.operation.Operator.{Operator}
-use Rattle.postscript_type2.specs.Effects.{State}
-use Rattle.postscript_type2.specs.Evaluation.{mean, run_of}
-use Rattle.postscript_type2.specs.FixedPoint.{cut}
-use Rattle.postscript_type2.specs.Meaning.{MeansRun, IsRunOf}
-use Rattle.postscript_type2.specs.Parsing.{Complete, NoPhrase, phrase}
-use Rattle.postscript_type2.specs.Phrases.{IsPhrase, HasNoPhrase}
-use Rattle.postscript_type2.specs.Routines.{Lists}
-use Rattle.postscript_type2.specs.Runs.{Run}
-use Rattle.postscript_type2.specs.Stacks.{IsRolled, rolled}
+use Rattle.postscript_type2.specs.Program.Effects.{State}
+use Rattle.postscript_type2.specs.Program.Evaluation.{mean, run_of}
+use Rattle.postscript_type2.specs.Program.FixedPoint.{cut}
+use Rattle.postscript_type2.specs.Program.Meaning.{MeansRun, IsRunOf}
+use Rattle.postscript_type2.specs.Program.Parsing.{Complete, NoPhrase, phrase}
+use Rattle.postscript_type2.specs.Program.Phrases.{IsPhrase, HasNoPhrase}
+use Rattle.postscript_type2.specs.Program.Routines.{Lists}
+use Rattle.postscript_type2.specs.Program.Runs.{Run}
+use Rattle.postscript_type2.specs.Program.Stacks.{IsRolled, rolled}
 
 -- A law of the definitions: a phrase is read exactly where one stands at the front, and it is that one.
 abbrev pub PhraseIsRead : Type 0

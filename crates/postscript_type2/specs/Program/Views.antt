@@ -3,9 +3,9 @@ use Rattle.std.specs.Prelude.{false}
 use Rattle.postscript_type2.specs.declared.program.Phase.{Phase}
 use Rattle.postscript_type2.specs.declared.program.Phase.TheVariants as phases
 use Rattle.postscript_type2.specs.declared.program.machine.Machine.{Machine}
-use Rattle.postscript_type2.specs.Machines.{still_of}
-use Rattle.postscript_type2.specs.Programs.{Pending, ended, failed}
-use Rattle.postscript_type2.specs.Working.{settled_width}
+use Rattle.postscript_type2.specs.Program.Machines.{still_of}
+use Rattle.postscript_type2.specs.Program.Programs.{Pending, ended, failed}
+use Rattle.postscript_type2.specs.Program.Working.{settled_width}
 
 abbrev pub pending_of : Phase → Machine → Pending
 pending_of phases.Running machine =

@@ -5,8 +5,8 @@ use Rattle.std.specs.declared.alloc.Global.{Global}
 use Rattle.postscript_base.specs.Refusal.{refusal_of}
 use Rattle.postscript_type2.specs.declared.operation.Operator.{Operator}
 use Rattle.postscript_type2.specs.declared.program.Answers.{Answers}
-use Rattle.postscript_type2.specs.Programs.{Pending}
-use Rattle.postscript_type2.specs.Runs.{Run, operation, fault_of, width_by, width_of}
+use Rattle.postscript_type2.specs.Program.Programs.{Pending}
+use Rattle.postscript_type2.specs.Program.Runs.{Run, operation, fault_of, width_by, width_of}
 
 abbrev pub operation_of : Operator × Vec ℤ Global → Operator × List ℤ
 operation_of x = (x.0, x.1.items)

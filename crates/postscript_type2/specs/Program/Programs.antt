@@ -5,7 +5,7 @@ use Rattle.postscript_base.specs.declared.error.Error.{Error}
 use Rattle.postscript_base.specs.declared.error.Error.TheVariants.{Memory, AlreadyFailed}
 use Rattle.postscript_base.specs.Refusal.{refusal_of}
 use Rattle.postscript_type2.specs.declared.operation.Operator.{Operator}
-use Rattle.postscript_type2.specs.Runs.{Answer, End, UsedUp, Returned, Finished, Fault, Run}
+use Rattle.postscript_type2.specs.Program.Runs.{Answer, End, UsedUp, Returned, Finished, Fault, Run}
 
 -- the answers that are left, the end behind them, the width so far, and whether the end has been told
 pub record Pending : Type 0 where

@@ -2,10 +2,10 @@
 use Rattle.std.specs.Prelude.{ℕ, zero, suc, ◌+◌, ℤ, Bool, true, false, ◌&&◌, not, List, [], ◌∷◌, ◌++◌, take, drop, Option, Some, None, if◌then◌else◌}
 use Rattle.postscript_base.specs.Refusal.{Refusal, return_without_caller, trailing_data, too_deep}
 use Rattle.postscript_type2.specs.declared.operation.Operator.{Operator}
-use Rattle.postscript_type2.specs.Effects.{State, start, Move, Keeps, Clears, Calls, Returns, Ends, Refuses, pushed, stacked, cleared, effect}
-use Rattle.postscript_type2.specs.Parsing.{Phrase, Complete, NoPhrase, phrase}
-use Rattle.postscript_type2.specs.Routines.{Lists}
-use Rattle.postscript_type2.specs.Runs.{Answer, Said, End, UsedUp, Returned, Finished, Fault, Run}
+use Rattle.postscript_type2.specs.Program.Effects.{State, start, Move, Keeps, Clears, Calls, Returns, Ends, Refuses, pushed, stacked, cleared, effect}
+use Rattle.postscript_type2.specs.Program.Parsing.{Phrase, Complete, NoPhrase, phrase}
+use Rattle.postscript_type2.specs.Program.Routines.{Lists}
+use Rattle.postscript_type2.specs.Program.Runs.{Answer, Said, End, UsedUp, Returned, Finished, Fault, Run}
 
 -- runs, one thing after another
 abbrev pub at_end : End → Run

@@ -7,8 +7,8 @@ use Rattle.postscript_type2.specs.declared.program.state.Effect.{Effect}
 use Rattle.postscript_type2.specs.declared.program.state.Effect.TheVariants as effects
 use Rattle.postscript_type2.specs.declared.program.state.State as code
 use Rattle.postscript_type2.specs.declared.program.subroutines.Subroutines as code_lists
-use Rattle.postscript_type2.specs.Effects.{State, Move, Keeps, Clears, Calls, Returns, Ends, Refuses, stacked, cleared}
-use Rattle.postscript_type2.specs.Routines.{Lists, texts}
+use Rattle.postscript_type2.specs.Program.Effects.{State, Move, Keeps, Clears, Calls, Returns, Ends, Refuses, stacked, cleared}
+use Rattle.postscript_type2.specs.Program.Routines.{Lists, texts}
 
 -- the code's subroutines and state
 abbrev pub lists_of : code_lists.Subroutines → Lists

@@ -6,7 +6,7 @@ use Rattle.postscript_base.specs.Tape.Outcome.{Got, Fault}
 use Rattle.postscript_base.specs.Refusal.{refusal_of}
 use Rattle.postscript_type2.specs.declared.operation.Operator.{Operator}
 use Rattle.postscript_type2.specs.Number.{number}
-use Rattle.postscript_type2.specs.Parsing.{Phrase, Complete, NoPhrase, phrase, ending, fronted}
+use Rattle.postscript_type2.specs.Program.Parsing.{Phrase, Complete, NoPhrase, phrase, ending, fronted}
 
 -- the byte at the front
 abbrev pub LooksAt : List ℕ → Option ℕ → Type 0

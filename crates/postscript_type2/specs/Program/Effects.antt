@@ -3,9 +3,9 @@ use Rattle.std.specs.Option.{ok_or}
 use Rattle.std.specs.Prelude.{ℕ, ◌+◌, ◌-◌, ◌/◌, ◌^◌, ℤ, pos, negsuc, ◌+ℤ◌, nat_lt, ◌==◌, List, [], ◌++◌, drop, length, slice_get, Option, Some, None, Result, Ok, Err, if◌then◌else◌}
 use Rattle.postscript_base.specs.Refusal.{Refusal, OfPart, unexpected_eof, malformed_operands, missing_subroutine, too_many_stems}
 use Rattle.postscript_type2.specs.declared.operation.Operator.{Operator}
-use Rattle.postscript_type2.specs.Kinds.{Kind, Draws, DeclaresStems, Masks, Works, CallsFrom, GoesBack, EndsGlyph, IsRefused, kind, taken}
-use Rattle.postscript_type2.specs.Routines.{Lists}
-use Rattle.postscript_type2.specs.Works.{Work, ◌>>=◌, given, whole_operand}
+use Rattle.postscript_type2.specs.Operation.Kinds.{Kind, Draws, DeclaresStems, Masks, Works, CallsFrom, GoesBack, EndsGlyph, IsRefused, kind, taken}
+use Rattle.postscript_type2.specs.Program.Routines.{Lists}
+use Rattle.postscript_type2.specs.Program.Works.{Work, ◌>>=◌, given, whole_operand}
 
 -- the operands, the top last; the stems so far; and the width, once it is settled
 pub record State : Type 0 where

@@ -4,7 +4,7 @@ use Rattle.postscript_base.specs.Numbers.{big_endian, two_sided, above, below}
 use Rattle.postscript_base.specs.Refusal.{Refusal, unexpected_eof, unknown_operator}
 use Rattle.postscript_type2.specs.declared.operation.Operator.{Operator}
 use Rattle.postscript_type2.specs.Number.{whole}
-use Rattle.postscript_type2.specs.Operators.{operator_of}
+use Rattle.postscript_type2.specs.Operation.Operators.{operator_of}
 
 -- The bytes of a number, over its bits.
 pub data IsNumber : List ℕ → ℤ → Type 0 where

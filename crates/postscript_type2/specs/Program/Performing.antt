@@ -3,8 +3,8 @@ use Rattle.std.specs.Prelude.{◌≡◌, ◌⊎◌, ℤ, List, Option, Some, Non
 use Rattle.postscript_base.specs.declared.error.Error.{Error}
 use Rattle.postscript_base.specs.declared.error.Error.TheVariants.{Memory}
 use Rattle.postscript_base.specs.Refusal.{Refusal, refusal_of}
-use Rattle.postscript_type2.specs.Kinds.{Kind, Draws, Works}
-use Rattle.postscript_type2.specs.Works.{Work}
+use Rattle.postscript_type2.specs.Operation.Kinds.{Kind, Draws, Works}
+use Rattle.postscript_type2.specs.Program.Works.{Work}
 
 -- From the old stack to the new one the code does a work and gives its value, or it refuses what the work refuses.
 -- Want of memory may come in place of either.

@@ -7,11 +7,11 @@ use Rattle.postscript_type2.specs.declared.program.machine.Event.{Event}
 use Rattle.postscript_type2.specs.declared.program.machine.Event.TheVariants as events
 use Rattle.postscript_type2.specs.declared.program.machine.Machine.{Machine}
 use Rattle.postscript_type2.specs.declared.program.machine.Said as code
-use Rattle.postscript_type2.specs.Callers.{rests}
-use Rattle.postscript_type2.specs.Evaluation.{at_end, with_phrase, with_answer}
-use Rattle.postscript_type2.specs.Runs.{Said, UsedUp, Finished, Fault, Run}
-use Rattle.postscript_type2.specs.Still.{still}
-use Rattle.postscript_type2.specs.Working.{lists_of, state_of, settled_width}
+use Rattle.postscript_type2.specs.Program.Callers.{rests}
+use Rattle.postscript_type2.specs.Program.Evaluation.{at_end, with_phrase, with_answer}
+use Rattle.postscript_type2.specs.Program.Runs.{Said, UsedUp, Finished, Fault, Run}
+use Rattle.postscript_type2.specs.Program.Still.{still}
+use Rattle.postscript_type2.specs.Program.Working.{lists_of, state_of, settled_width}
 
 -- ten calls may nest, and those that do are the callers
 abbrev pub IsNested : Machine → Type 0

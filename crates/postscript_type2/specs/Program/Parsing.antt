@@ -4,7 +4,7 @@ use Rattle.postscript_base.specs.Tape.Outcome.{Outcome, Got, Fault, Past}
 use Rattle.postscript_base.specs.Refusal.{Refusal, unexpected_eof, unknown_operator}
 use Rattle.postscript_type2.specs.declared.operation.Operator.{Operator}
 use Rattle.postscript_type2.specs.Number.{spelled}
-use Rattle.postscript_type2.specs.Operators.{operator_of}
+use Rattle.postscript_type2.specs.Operation.Operators.{operator_of}
 
 -- Complete: the numbers, the operator, and how many bytes the phrase has after its first. NoPhrase: why there is none.
 pub data Phrase : Type 0 where

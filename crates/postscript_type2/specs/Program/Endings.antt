@@ -2,9 +2,9 @@
 use Rattle.std.specs.Prelude.{ℕ, List, [], ◌∷◌}
 use Rattle.postscript_base.specs.Error.{IsOneOf}
 use Rattle.postscript_base.specs.Refusal.{number_of}
-use Rattle.postscript_type2.specs.Evaluation.{run_of}
-use Rattle.postscript_type2.specs.Routines.{Lists}
-use Rattle.postscript_type2.specs.Runs.{End, UsedUp, Returned, Finished, Fault}
+use Rattle.postscript_type2.specs.Program.Evaluation.{run_of}
+use Rattle.postscript_type2.specs.Program.Routines.{Lists}
+use Rattle.postscript_type2.specs.Program.Runs.{End, UsedUp, Returned, Finished, Fault}
 
 -- the refusals that end a run, by their numbers: bytes are wanting, no such operator, and those of the operators
 abbrev pub run_refusals : List ℕ

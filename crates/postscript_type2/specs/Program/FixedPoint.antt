@@ -4,7 +4,7 @@ use Rattle.std.specs.Option.{unwrap_or}
 use Rattle.std.specs.Ordering.{int_eq}
 use Rattle.std.specs.Prelude.{ℕ, ◌*◌, ◌/◌, ◌^◌, ℤ, pos, neg_ℤ, nat_abs, ◌+ℤ◌, ◌-ℤ◌, ◌*ℤ◌, int_lt, int_le, nat_le, Bool, not, ◌&&◌, ◌||◌, Result, Ok, Err, if◌then◌else◌}
 use Rattle.postscript_base.specs.Refusal.{Refusal, overflow, zero_divisor, negative_root}
-use Rattle.postscript_type2.specs.Lengths.{greatest}
+use Rattle.postscript_type2.specs.Operation.Lengths.{greatest}
 use Rattle.postscript_type2.specs.Number.{whole}
 
 -- whether exactly one of two numbers is below zero

@@ -1,0 +1,5 @@
+-- Operators and operands of charstrings (Technical Note 5177).
+pub mod Operators
+pub mod Texts
+pub mod Lengths
+pub mod Kinds

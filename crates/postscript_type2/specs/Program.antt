@@ -1,0 +1,24 @@
+-- Charstrings that are run (Technical Note 5177).
+pub mod Phrases
+pub mod Parsing
+pub mod FixedPoint
+pub mod Works
+pub mod Stacks
+pub mod Routines
+pub mod Effects
+pub mod Runs
+pub mod Meaning
+pub mod Evaluation
+pub mod Still
+pub mod Flat
+pub mod Inlining
+pub mod Tokens
+pub mod Working
+pub mod Machines
+pub mod Programs
+pub mod Views
+pub mod Whole
+pub mod Performing
+pub mod Callers
+pub mod Computed
+pub mod Endings
