@@ -191,8 +191,8 @@ line_curve = refl
 flex : taken Flex 14 ≡ Some 13
 flex = refl
 
-mask_takes_pairs : taken CntrMask 5 ≡ Some 4
-mask_takes_pairs = refl
+mask_takes_none : taken CntrMask 5 ≡ Some 0
+mask_takes_none = refl
 
 end_takes_nothing : taken EndChar 5 ≡ None
 end_takes_nothing = refl

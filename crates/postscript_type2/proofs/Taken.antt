@@ -1,7 +1,7 @@
 -- How many operands each form of lengths takes.
 use Rattle.std.proofs.lemmas.Bool.Decides.{nat_tests}
 use Rattle.std.proofs.Common.{◌≡◌, ℕ, ◌-◌, ◌%◌, ◌<◌, ◌≤◌, Some, None, arith}
-use Rattle.postscript_type2.specs.Operation.Lengths.{exactly, pairs, curves_of_four, greatest}
+use Rattle.postscript_type2.specs.Operation.Lengths.{exactly, curves_of_four, greatest}
 use Rattle.postscript_type2.proofs.Greatest.{greatest-is, greatest-none}
 
 pub exactly-taken : (m n : ℕ) → m ≤ n → greatest (exactly m) n ≡ Some m
@@ -14,7 +14,3 @@ exactly-none m n h = greatest-none (exactly m) n (λ j below. grind (arith, nat_
 pub fours-taken : (n : ℕ) → 4 ≤ n → greatest curves_of_four n ≡ Some (n - (n % 4 - 1))
 fours-taken n h =
     greatest-is curves_of_four n (n - (n % 4 - 1)) (omega arith) (grind (arith, nat_tests)) (λ j above below. grind (arith, nat_tests))
-
--- all but an odd one
-pub pairs-taken : (n : ℕ) → greatest pairs n ≡ Some (n - n % 2)
-pairs-taken n = greatest-is pairs n (n - n % 2) (omega arith) (grind (arith, nat_tests)) (λ j above below. grind (arith, nat_tests))

@@ -3,7 +3,7 @@ ghost use Rattle.std.specs.Prelude.{◌≡◌, ◌<◌, ◌≤◌, ℤ, Some, If
 ghost use Rattle.std.specs.Option.{ok_or};
 ghost use Rattle.postscript_base.specs.declared.error.Error.TheVariants as errors;
 ghost use Rattle.postscript_type2.specs.Operation.Kinds.{taken as the_taken};
-ghost use Rattle.postscript_type2.specs.Operation.Lengths.{exactly as the_exactly, some, pairs as the_pairs, groups_and as the_groups_and, curves_of_four as the_curves_of_four, greatest};
+ghost use Rattle.postscript_type2.specs.Operation.Lengths.{exactly as the_exactly, some, groups_and as the_groups_and, curves_of_four as the_curves_of_four, greatest};
 ghost use Rattle.postscript_type2.specs.Number.{whole, to_int};
 ghost use Rattle.postscript_type2.specs.Operation.Operators.{operator_of, name_of};
 ghost use Rattle.postscript_type2.specs.Operation.Texts.{text};
@@ -322,7 +322,7 @@ impl Operator {
             Operator::Flex1 => exactly(11, length),
             Operator::HFlex => exactly(7, length),
             Operator::HFlex1 => exactly(9, length),
-            Operator::HintMask | Operator::CntrMask => pairs(length),
+            Operator::HintMask | Operator::CntrMask => exactly(0, length),
             _ => None,
         }
     }
@@ -342,14 +342,6 @@ fn any(length: usize) -> Option<usize>
     ensures room { IfSome result (λ n. n ≤ length) }
 {
     if length == 0 { None } else { Some(length) }
-}
-
-/// All operands, but for an odd one.
-fn pairs(length: usize) -> Option<usize>
-    ensures value { result ≡ greatest the_pairs length }
-    ensures room { IfSome result (λ n. n ≤ length) }
-{
-    Some(length - length % 2)
 }
 
 /// `k` or `2 k` or `3 k` and so on, and `m` more.

@@ -6,7 +6,7 @@ use Rattle.postscript_base.specs.declared.error.Part.TheVariants as parts
 use Rattle.postscript_type2.specs.declared.operation.Operator.{Operator}
 use Rattle.postscript_type2.specs.declared.operation.Operator.TheVariants.{HStem, VStem, VMoveTo, RLineTo, HLineTo, VLineTo, RRCurveTo, CallSubr, Return, EndChar, HStemHM, HintMask, CntrMask, RMoveTo, HMoveTo, VStemHM, RCurveLine, RLineCurve, VVCurveTo, HHCurveTo, CallGSubr, VHCurveTo, HVCurveTo, And, Or, Not, Abs, Add, Sub, Div, Neg, Eq, Drop, Put, Get, IfElse, Random, Mul, Sqrt, Dup, Exch, Index, Roll, HFlex, Flex, HFlex1, Flex1}
 use Rattle.postscript_type2.specs.Program.FixedPoint.{absolute_value, opposite, root, sum, difference, product, quotient, both, either, denial, same_bits}
-use Rattle.postscript_type2.specs.Operation.Lengths.{exactly, some, groups_and, groups, curves_of_four, pairs, greatest}
+use Rattle.postscript_type2.specs.Operation.Lengths.{exactly, some, groups_and, groups, curves_of_four, greatest}
 use Rattle.postscript_type2.specs.Program.Routines.{Lists}
 use Rattle.postscript_type2.specs.Program.Stacks.{one_to_one, two_to_one, choice, removal, exchange, duplication, copy, roll}
 use Rattle.postscript_type2.specs.Program.Works.{Work}
@@ -64,9 +64,9 @@ kind HStemHM = DeclaresStems (groups 2)
 -- x dx {dxa dxb}*
 kind VStem = DeclaresStems (groups 2)
 kind VStemHM = DeclaresStems (groups 2)
--- {x dx}*, stems that no operator declared
-kind HintMask = Masks pairs
-kind CntrMask = Masks pairs
+-- no operands: what stands on the stack are stems that no operator declared
+kind HintMask = Masks (exactly 0)
+kind CntrMask = Masks (exactly 0)
 kind CallSubr = CallsFrom (λ lists. lists.local)
 kind CallGSubr = CallsFrom (λ lists. lists.global)
 kind Return = GoesBack

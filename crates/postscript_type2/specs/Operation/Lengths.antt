@@ -9,10 +9,6 @@ exactly m n = n == m
 abbrev pub some : ℕ → Bool
 some n = nat_lt 0 n
 
--- none, two, four and so on
-abbrev pub pairs : ℕ → Bool
-pairs n = n % 2 == 0
-
 -- k or 2 k or 3 k and so on, and m more
 abbrev pub groups_and : (k m : ℕ) → ℕ → Bool
 groups_and k m n = nat_lt m n && ((n - m) % k == 0)

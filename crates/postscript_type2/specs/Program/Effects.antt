@@ -1,6 +1,6 @@
 -- What each operator does.
 use Rattle.std.specs.Option.{ok_or}
-use Rattle.std.specs.Prelude.{ℕ, ◌+◌, ◌-◌, ◌/◌, ◌^◌, ℤ, pos, negsuc, ◌+ℤ◌, nat_lt, ◌==◌, List, [], ◌++◌, drop, length, slice_get, Option, Some, None, Result, Ok, Err, if◌then◌else◌}
+use Rattle.std.specs.Prelude.{ℕ, ◌+◌, ◌-◌, ◌/◌, ◌%◌, ◌^◌, ℤ, pos, negsuc, ◌+ℤ◌, nat_lt, ◌==◌, List, [], ◌++◌, drop, length, slice_get, Option, Some, None, Result, Ok, Err, if◌then◌else◌}
 use Rattle.postscript_base.specs.Refusal.{Refusal, OfPart, unexpected_eof, malformed_operands, missing_subroutine, too_many_stems}
 use Rattle.postscript_type2.specs.declared.operation.Operator.{Operator}
 use Rattle.postscript_type2.specs.Operation.Kinds.{Kind, Draws, DeclaresStems, Masks, Works, CallsFrom, GoesBack, EndsGlyph, IsRefused, kind, taken}
@@ -63,9 +63,14 @@ with_stems stems move = if nat_lt stems (2 ^ 32) then move else Refuses too_many
 abbrev pub mask_len : (stems : ℕ) → ℕ
 mask_len stems = (stems + 7) / 8
 
--- the operands taken declare stems and are not answered; the one beneath them is the width
+-- None, two, four and so on, as many as there are: these are stems that no operator declared, and for the width they
+-- count as taken by the mask.
+abbrev pub implied : List ℤ → ℕ
+implied stack = length stack - length stack % 2
+
+-- a mask is answered with the operands taken, and the width is beneath the stems that it implies
 abbrev pub mask_clearing : State → (stems : ℕ) → (taken : Option ℕ) → Move
-mask_clearing st stems (Some n) = Clears [] stems (settled st.width st.stack n) (mask_len stems)
+mask_clearing st stems (Some n) = Clears (last_of st.stack n) stems (settled st.width st.stack (implied st.stack)) (mask_len stems)
 mask_clearing st stems None = Refuses malformed_operands
 
 -- an operator that works on the stack alone

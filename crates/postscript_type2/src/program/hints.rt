@@ -52,10 +52,11 @@ impl State {
         if after < mask {
             return Err(Error::UnexpectedEof);
         }
-        let Some(counted) = operator.taken(self.stack.len()) else {
+        let Some(taken) = operator.taken(self.stack.len()) else {
             return Err(Error::MalformedOperands);
         };
-        let operands = self.clear(alloc, 0, counted)?;
+        let implied = self.stack.len() - self.stack.len() % 2;
+        let operands = self.clear(alloc, taken, implied)?;
         self.stems = stems;
         Ok(Effect::Clears(operands, mask))
     }
