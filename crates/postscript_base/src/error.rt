@@ -8,7 +8,7 @@ use std::alloc::{AllocError, AllocFailed};
 use std::io;
 use thiserror::Error;
 
-/// A result.
+/// What a call answers, or the error that it is refused with.
 pub type Result<T> = std::result::Result<T, Error>;
 
 /// A refusal.

@@ -1,4 +1,4 @@
-//! The operations.
+//! The operators of charstrings, and their operands.
 ghost use Rattle.std.specs.Prelude.{◌≡◌, ◌<◌, ◌≤◌, ℤ, Some, IfSome};
 ghost use Rattle.std.specs.Option.{ok_or};
 ghost use Rattle.postscript_base.specs.declared.error.Error.TheVariants as errors;
@@ -77,10 +77,10 @@ impl fmt::Display for Operand {
     }
 }
 
-/// An operation.
+/// An operator with the operands that it is answered with.
 pub type Operation = (Operator, Vec<Operand>);
 
-/// A collection of operations.
+/// Operations in the order of the run.
 pub type Operations = Vec<Operation>;
 
 /// An operator, with the operands before it and the code behind its name (Technical Note 5177, Appendix A).

@@ -27,7 +27,7 @@ pub(crate) enum Event<'l> {
     UsedUp,
     /// The run goes on.
     Went(Said<'l>),
-    /// An operation.
+    /// An operator that clears the stack was answered.
     Answered(Said<'l>, Vec<Operand>),
     /// EndChar: the end, without fault.
     Over(Said<'l>),
