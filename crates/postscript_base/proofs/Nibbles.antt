@@ -1,6 +1,6 @@
 -- Texts of reals, nibble by nibble.
 use Rattle.std.proofs.lemmas.List.{append-nil, drop-drop}
-use Rattle.std.proofs.Common.{◌≡◌, ◌≢◌, refl, sym, ap, subst, ◌∙◌, ℕ, suc, ◌+◌, ◌-◌, ◌/◌, ◌%◌, ◌≤◌, Bool, true, false, List, [], ◌∷◌, ◌++◌, length, take, drop, ◌==◌, Option, Some, None, append_assoc, length-drop, arith, if◌then◌else◌}
+use Rattle.std.proofs.Common.{◌≡◌, ◌≢◌, refl, sym, ap, subst, ◌∙◌, ℕ, suc, ◌+◌, ◌-◌, ◌/◌, ◌%◌, Bool, true, false, List, [], ◌∷◌, ◌++◌, length, take, drop, ◌==◌, Option, Some, None, append_assoc, length-drop, arith, if◌then◌else◌}
 use Rattle.std.specs.Prelude.{flat_map}
 use Rattle.std.specs.List.{prefix_len}
 use Rattle.std.proofs.lemmas.Grind.{common_steps}
@@ -9,7 +9,7 @@ use Rattle.postscript_base.specs.Refusal.{unexpected_eof, malformed_number}
 use Rattle.postscript_base.specs.declared.error.Error.{Error}
 use Rattle.postscript_base.specs.declared.error.Error.TheVariants.{Memory}
 use Rattle.postscript_base.proofs.Outcomes.{refused_after}
-use Rattle.postscript_base.specs.Tape.Outcome.{Outcome, Got, Fault, Past, after, end, RefusedAs}
+use Rattle.postscript_base.specs.Tape.Outcome.{Outcome, Got, Fault, after, end, RefusedAs}
 use Rattle.postscript_base.specs.Numbers.{slice, number}
 use Rattle.postscript_base.specs.Compact1.Nibbles.{one_byte, one_nibble, step, step_of, then_low}
 use Rattle.postscript_base.specs.Compact1.Reals.{ended_by, is_in_text, nibbles, symbols, text_of_real}

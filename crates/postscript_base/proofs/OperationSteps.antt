@@ -1,6 +1,6 @@
 -- The steps of an operation.
-use Rattle.std.proofs.Common.{◌≡◌, refl, sym, ap, subst, ◌∙◌, ℕ, zero, suc, ◌+◌, ◌-◌, ◌≤◌, ◌<◌, Bool, true, false, List, [], ◌∷◌, ◌++◌, length, ◌==◌, Option, Some, None, arith, inl, inr, if◌then◌else◌}
-use Rattle.postscript_base.specs.Tape.Outcome.{Outcome, Got, Fault, Past, Reading, RefusedAs, after, end, ◌>>=◌, pure}
+use Rattle.std.proofs.Common.{◌≡◌, refl, sym, ap, subst, ◌∙◌, ℕ, zero, suc, ◌+◌, ◌-◌, ◌≤◌, Bool, true, false, List, [], ◌∷◌, ◌++◌, length, ◌==◌, Option, Some, None, arith, inl, inr, if◌then◌else◌}
+use Rattle.postscript_base.specs.Tape.Outcome.{Outcome, Got, Reading, RefusedAs, after, ◌>>=◌, pure}
 use Rattle.postscript_base.specs.Tape.Onward.{TakesBytes}
 use Rattle.postscript_base.specs.Numbers.{number}
 use Rattle.postscript_base.specs.Compact1.Decimal.{Decimal}
@@ -9,7 +9,7 @@ use Rattle.postscript_base.specs.Compact1.Operation.{Operation, begins_operand, 
 use Rattle.postscript_base.specs.Compact1.Operators.{operator_of}
 use Rattle.postscript_base.specs.declared.compact1.operator.Operator.{Operator}
 use Rattle.postscript_base.specs.declared.error.Error.{Error}
-use Rattle.postscript_base.proofs.Onward.{Goes, goes_after, goes_later, goes_moves, number_goes, begun_goes, byte_then_goes}
+use Rattle.postscript_base.proofs.Onward.{Goes, goes_after, goes_later, goes_moves, begun_goes, byte_then_goes}
 use Rattle.postscript_base.proofs.Outcomes.{refused_after}
 
 known_goes : (o : Option Operator) (bytes : List ℕ) (place : ℕ) → place ≤ length bytes → Goes place (length bytes) (known o bytes place)

@@ -1,5 +1,5 @@
 -- Numbers of dictionaries: integers and reals (Technical Note 5176, "DICT Data", Table 3).
-use Rattle.std.specs.Prelude.{◌≢◌, ℕ, ◌*◌, ℤ, pos, ◌+ℤ◌, ◌-ℤ◌, ◌*ℤ◌, [], ◌∷◌, take, drop, ◌==◌, nat_lt, if◌then◌else◌}
+use Rattle.std.specs.Prelude.{◌≢◌, ℕ, ℤ, pos, [], ◌∷◌, take, drop, ◌==◌, nat_lt, if◌then◌else◌}
 use Rattle.postscript_base.specs.Refusal.{malformed_number}
 use Rattle.postscript_base.specs.Tape.Outcome.{Reading, ◌>>=◌, pure, fault}
 use Rattle.postscript_base.specs.Numbers.{number as unsigned, two_sided, small, above, below}

@@ -1,4 +1,4 @@
-use Rattle.std.proofs.Common.{◌≡◌, List, map, drop}
+use Rattle.std.proofs.Common.{◌≡◌, map, drop}
 use Rattle.postscript_base.specs.Tape.{IsHonest, Kept}
 use Rattle.postscript_base.specs.Tape.Loops.{each}
 use Rattle.postscript_base.proofs.Repeats.{with_front}

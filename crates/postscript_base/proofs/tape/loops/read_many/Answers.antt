@@ -1,4 +1,4 @@
-use Rattle.std.proofs.Common.{◌≡◌, ◌∙◌, ◌++◌, ◌∷◌, []}
+use Rattle.std.proofs.Common.{◌∙◌}
 use Rattle.std.proofs.lemmas.Result.{err_from_is_err_and}
 use Rattle.postscript_base.proofs.Repeats.{goes_on, ends, is_done, views_push, many_more, many_done}
 use Rattle.postscript_base.proofs.tape.loops.read_many.Goals as goal

@@ -1,4 +1,4 @@
-use Rattle.std.proofs.Common.{◌≡◌, ◌∙◌, refl, sym, ap, ◌++◌, ◌∷◌, []}
+use Rattle.std.proofs.Common.{◌∙◌, refl, sym}
 use Rattle.std.proofs.lemmas.Result.{err_from_is_err_and}
 use Rattle.postscript_base.proofs.Repeats.{views_push, views_none, until_starts, until_goes_on, until_refused, until_done}
 use Rattle.postscript_base.proofs.tape.loops.read_until.Goals as goal
