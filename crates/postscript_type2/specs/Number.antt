@@ -1,6 +1,6 @@
 -- Numbers of charstrings, and the 16.16 numbers that they stand for (Technical Note 5177, "Charstring Number Encoding").
 use Rattle.std.specs.Ordering.{int_eq}
-use Rattle.std.specs.Prelude.{ℕ, ◌*◌, ℤ, pos, ◌+ℤ◌, ◌-ℤ◌, ◌*ℤ◌, int_div, int_rem, Option, Some, None, ◌==◌, nat_lt, if◌then◌else◌}
+use Rattle.std.specs.Prelude.{ℕ, ℤ, pos, ◌*ℤ◌, int_div, int_rem, Option, Some, None, ◌==◌, nat_lt, if◌then◌else◌}
 use Rattle.postscript_base.specs.Numbers.{number as unsigned, two_sided, small, above, below}
 use Rattle.postscript_base.specs.Tape.Outcome.{Reading, ◌>>=◌, pure, fault}
 use Rattle.postscript_base.specs.Refusal.{malformed_number}
