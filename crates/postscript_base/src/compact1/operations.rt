@@ -36,6 +36,14 @@ impl Operations {
         Operations(HashMap::new(alloc))
     }
 
+    /// No operations, with room for so many.
+    fn with_capacity(alloc: Global, capacity: usize) -> Result<Self>
+        ensures empty { IfOk result (λ operations. operations ≡ map.empty) }
+        ensures listed { IsListed (3 ∷ []) result }
+    {
+        Ok(Operations(HashMap::with_capacity(alloc, capacity)?))
+    }
+
     /// The operands of an operator, else its defaults.
     pub fn get(&self, operator: Operator) -> Option<Operands<'_>>
         ensures { result ≡ look self.now operator }
@@ -124,7 +132,7 @@ fn of_all(alloc: Global, all: Vec<Operation>) -> Result<Operations>
     ensures dictionary { IfOk result (λ operations. operations ≡ dictionary_of (map (λ operation. (operation.0, operation.1.items)) all.items)) }
     ensures listed { IsListed (3 ∷ []) result }
 {
-    let mut operations = Operations::empty(alloc);
+    let mut operations = Operations::with_capacity(alloc, all.len())?;
     for operation in all {
         operations.put(operation)?;
     }

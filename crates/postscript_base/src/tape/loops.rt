@@ -11,6 +11,9 @@ use crate::error::{Error, Result};
 use std::alloc::Global;
 use std::io::SeekFrom;
 
+/// For how many values there is room at first, up to the end of a tape: dictionaries mostly have fewer operations.
+const ROOM: usize = 16;
+
 /// Reads so many values, one after the other. The list grows as they come.
 pub fn read_many<V: Value + Drop, T: Tape>(
     alloc: Global,
@@ -124,7 +127,7 @@ pub fn read_to_end<V: Value + Drop, T: Tape>(alloc: Global, tape: &mut T) -> Res
         (to_end V.reading) }
     ensures listed { IsListed (1 ∷ 2 ∷ 3 ∷ 4 ∷ V.refusals) result }
 {
-    let mut values = Vec::new(alloc);
+    let mut values = Vec::with_capacity(alloc, ROOM)?;
     let mut place = tape.position()?;
     'values: while let Some(value) = next::<V, T>(alloc, tape)? {
         values.push(value)?;

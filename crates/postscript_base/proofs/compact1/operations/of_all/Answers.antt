@@ -8,7 +8,7 @@ use Rattle.postscript_base.specs.Compact1.Dictionary.{dictionary_of, put}
 use Rattle.postscript_base.proofs.compact1.operations.of_all.Goals as goal
 
 pub loop-operation-init : goal.loop-operation-init
-loop-operation-init c = c.empty-operations.ensures
+loop-operation-init c = c.in_ok-operations.ensures.empty
 
 pub loop-operation-preserved : goal.loop-operation-preserved
 loop-operation-preserved c =

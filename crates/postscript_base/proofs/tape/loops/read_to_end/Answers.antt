@@ -9,7 +9,7 @@ pub values-init : goal.values-init
 values-init g c = λ honest.
     let place = c.in_ok-place.ensures.exact honest in
     let at = asked _ _ _ place.1 in
-    (place.0, at.1 ∙ sym at.0, rw at.1 (end_starts _ _ _ _ (views_none g.V.Value.view g.V.Value.views g.met.V.Value.views_each _ c.new-values.ensures.items)))
+    (place.0, at.1 ∙ sym at.0, rw at.1 (end_starts _ _ _ _ (views_none g.V.Value.view g.V.Value.views g.met.V.Value.views_each _ c.in_ok-values.ensures.items)))
 
 pub returns-in_err-value-clause-exact : goal.returns-in_err-value-clause-exact
 returns-in_err-value-clause-exact g c = λ honest.
