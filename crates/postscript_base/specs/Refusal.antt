@@ -33,6 +33,10 @@ tape_stuck = Numbered 4
 abbrev pub malformed_offset : Refusal
 malformed_offset = Numbered 5
 
+-- the offsets of an INDEX do not begin with 1, or do not rise
+abbrev pub malformed_index : Refusal
+malformed_index = Numbered 6
+
 -- the bytes spell no number
 abbrev pub malformed_number : Refusal
 malformed_number = Numbered 7
@@ -44,6 +48,18 @@ out_of_range_number = Numbered 8
 -- the code names no operator
 abbrev pub unknown_operator : Refusal
 unknown_operator = Numbered 9
+
+-- a char set of another format, or whose ranges do not meet the number of glyphs
+abbrev pub malformed_char_set : Refusal
+malformed_char_set = Numbered 10
+
+-- no char set has the format
+abbrev pub unknown_char_set_format : Refusal
+unknown_char_set_format = Numbered 11
+
+-- char strings of another type than 2
+abbrev pub unknown_char_string_format : Refusal
+unknown_char_string_format = Numbered 12
 
 -- a pop of an empty stack
 abbrev pub expected_operand : Refusal
@@ -108,9 +124,13 @@ refusal_of (errors.Io fault) = io
 refusal_of errors.Memory = memory
 refusal_of errors.TapeStuck = tape_stuck
 refusal_of errors.MalformedOffset = malformed_offset
+refusal_of errors.MalformedIndex = malformed_index
 refusal_of errors.MalformedNumber = malformed_number
 refusal_of errors.OutOfRangeNumber = out_of_range_number
 refusal_of errors.UnknownOperator = unknown_operator
+refusal_of errors.MalformedCharSet = malformed_char_set
+refusal_of errors.UnknownCharSetFormat = unknown_char_set_format
+refusal_of errors.UnknownCharStringFormat = unknown_char_string_format
 refusal_of (errors.MalformedOperation operator) = OfMalformed operator
 refusal_of (errors.MissingOperation operator) = OfMissing operator
 refusal_of (errors.Unsupported part) = OfPart part

@@ -29,6 +29,9 @@ pub enum Error {
     /// An offset has no such size.
     #[error("found a malformed offset")]
     MalformedOffset,
+    /// The offsets of an INDEX do not begin with 1, or do not rise.
+    #[error("found a malformed index")]
+    MalformedIndex,
     /// The bytes spell no number.
     #[error("found a malformed number")]
     MalformedNumber,
@@ -38,6 +41,15 @@ pub enum Error {
     /// The code names no operator.
     #[error("found an unknown operator")]
     UnknownOperator,
+    /// A char set is of another format, or its ranges do not meet the number of glyphs.
+    #[error("found a malformed char set")]
+    MalformedCharSet,
+    /// No char set has the format.
+    #[error("found an unknown char-set format")]
+    UnknownCharSetFormat,
+    /// Char strings of another type than 2.
+    #[error("found an unknown char-string format")]
+    UnknownCharStringFormat,
     /// An operand of this operator is no whole number in the range of `i32`.
     #[error("found a malformed operation with operator {}", .0.name())]
     MalformedOperation(Operator),
@@ -94,6 +106,8 @@ pub enum Error {
 /// A part of the formats that is refused.
 #[derive(Clone, Copy, Debug, PartialEq, Eq)]
 pub enum Part {
+    /// A char set of format 2.
+    CharSetFormat2,
     /// The charstring operator `random`.
     Random,
     /// The charstring operator `put`.
@@ -113,9 +127,13 @@ impl Error {
             Error::Memory => 3,
             Error::TapeStuck => 4,
             Error::MalformedOffset => 5,
+            Error::MalformedIndex => 6,
             Error::MalformedNumber => 7,
             Error::OutOfRangeNumber => 8,
             Error::UnknownOperator => 9,
+            Error::MalformedCharSet => 10,
+            Error::UnknownCharSetFormat => 11,
+            Error::UnknownCharStringFormat => 12,
             Error::MalformedOperation(_) => 13,
             Error::MissingOperation(_) => 14,
             Error::Unsupported(_) => 16,

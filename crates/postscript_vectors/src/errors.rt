@@ -19,9 +19,21 @@ fn refusals(rt: HostRuntime) -> Result<(), Fail> {
         (Error::Memory, 3, "failed to find memory"),
         (Error::TapeStuck, 4, "found a tape that stands still"),
         (Error::MalformedOffset, 5, "found a malformed offset"),
+        (Error::MalformedIndex, 6, "found a malformed index"),
         (Error::MalformedNumber, 7, "found a malformed number"),
         (Error::OutOfRangeNumber, 8, "found a number out of range"),
         (Error::UnknownOperator, 9, "found an unknown operator"),
+        (Error::MalformedCharSet, 10, "found a malformed char set"),
+        (
+            Error::UnknownCharSetFormat,
+            11,
+            "found an unknown char-set format",
+        ),
+        (
+            Error::UnknownCharStringFormat,
+            12,
+            "found an unknown char-string format",
+        ),
         (
             Error::MalformedOperation(Operator::Private),
             13,
@@ -31,6 +43,11 @@ fn refusals(rt: HostRuntime) -> Result<(), Fail> {
             Error::MissingOperation(Operator::CharStrings),
             14,
             "failed to find an operation with operator CharStrings",
+        ),
+        (
+            Error::Unsupported(Part::CharSetFormat2),
+            16,
+            "found an unsupported part",
         ),
         (
             Error::Unsupported(Part::Random),

@@ -1,0 +1,7 @@
+//! The Compact Font Format (Adobe Technical Note 5176): indices, char sets and encodings.
+#![tactic(auto)]
+
+pub mod char_set;
+pub mod encoding;
+pub mod index;
+mod standard_strings;
