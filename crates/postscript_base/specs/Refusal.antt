@@ -61,6 +61,10 @@ unknown_char_set_format = Numbered 11
 abbrev pub unknown_char_string_format : Refusal
 unknown_char_string_format = Numbered 12
 
+-- an offset that is negative, or a place that 64 bits do not count
+abbrev pub out_of_range_offset : Refusal
+out_of_range_offset = Numbered 15
+
 -- a pop of an empty stack
 abbrev pub expected_operand : Refusal
 expected_operand = Numbered 17
@@ -133,6 +137,7 @@ refusal_of errors.UnknownCharSetFormat = unknown_char_set_format
 refusal_of errors.UnknownCharStringFormat = unknown_char_string_format
 refusal_of (errors.MalformedOperation operator) = OfMalformed operator
 refusal_of (errors.MissingOperation operator) = OfMissing operator
+refusal_of errors.OutOfRangeOffset = out_of_range_offset
 refusal_of (errors.Unsupported part) = OfPart part
 refusal_of errors.ExpectedOperand = expected_operand
 refusal_of errors.ExpectedInteger = expected_integer

@@ -56,6 +56,9 @@ pub enum Error {
     /// This operator is missing, or has too few operands.
     #[error("failed to find an operation with operator {}", .0.name())]
     MissingOperation(Operator),
+    /// An offset is negative, or 64 bits do not count the place.
+    #[error("found an offset out of range")]
+    OutOfRangeOffset,
     /// A part of the format that this library does not follow.
     #[error("found an unsupported part")]
     Unsupported(Part),
@@ -106,6 +109,8 @@ pub enum Error {
 /// A part of the formats that is refused.
 #[derive(Clone, Copy, Debug, PartialEq, Eq)]
 pub enum Part {
+    /// An encoding other than Standard and Expert.
+    CustomEncoding,
     /// A char set of format 2.
     CharSetFormat2,
     /// The charstring operator `random`.
@@ -136,6 +141,7 @@ impl Error {
             Error::UnknownCharStringFormat => 12,
             Error::MalformedOperation(_) => 13,
             Error::MissingOperation(_) => 14,
+            Error::OutOfRangeOffset => 15,
             Error::Unsupported(_) => 16,
             Error::ExpectedOperand => 17,
             Error::ExpectedInteger => 18,

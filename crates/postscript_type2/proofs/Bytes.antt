@@ -3,7 +3,7 @@ use Rattle.std.proofs.lemmas.List.{drop-drop}
 use Rattle.std.proofs.Common.{◌≡◌, ◌≢◌, refl, ap, sym, subst, ◌∙◌, ℕ, ◌+◌, ◌-◌, inl, inr, Bool, true, false, List, [], ◌∷◌, length, take, drop, nat_lt, ℤ, pos, ◌-ℤ◌, ◌==◌, Result, Ok, Err, arith, if◌then◌else◌}
 use Rattle.std.proofs.lemmas.Grind.{common_steps}
 use Rattle.postscript_base.specs.declared.error.Error.{Error}
-use Rattle.postscript_base.specs.declared.error.Error.TheVariants.{UnexpectedEof, Io, Memory, MalformedOffset, MalformedIndex, MalformedNumber, OutOfRangeNumber, TapeStuck, MalformedOperation, MissingOperation, UnknownOperator, MalformedCharSet, UnknownCharSetFormat, UnknownCharStringFormat, Unsupported, ExpectedOperand, ExpectedInteger, ExpectedMoreOperands, MalformedOperands, InvalidOperand, MissingSubroutine, ReturnWithoutCaller, TrailingData, TooDeep, Overflow, ZeroDivisor, NegativeRoot, TooManyStems, AlreadyFailed}
+use Rattle.postscript_base.specs.declared.error.Error.TheVariants.{UnexpectedEof, Io, Memory, MalformedOffset, MalformedIndex, MalformedNumber, OutOfRangeNumber, TapeStuck, MalformedOperation, MissingOperation, OutOfRangeOffset, UnknownOperator, MalformedCharSet, UnknownCharSetFormat, UnknownCharStringFormat, Unsupported, ExpectedOperand, ExpectedInteger, ExpectedMoreOperands, MalformedOperands, InvalidOperand, MissingSubroutine, ReturnWithoutCaller, TrailingData, TooDeep, Overflow, ZeroDivisor, NegativeRoot, TooManyStems, AlreadyFailed}
 use Rattle.postscript_base.specs.Error.{code, IsOneOf, IsListed}
 use Rattle.postscript_base.specs.Numbers.{slice, number as unsigned, big_endian, two_sided, above, below}
 use Rattle.postscript_base.specs.Tape.Outcome.{Outcome, Got, Fault, Past, Reading, after, ◌>>=◌, pure, fault, Answers, RefusedAs}
@@ -79,6 +79,7 @@ eof-by Memory h = absurd (omega arith)
 eof-by MalformedOffset h = absurd (omega arith)
 eof-by TapeStuck h = absurd (omega arith)
 eof-by MalformedIndex h = absurd (omega arith)
+eof-by OutOfRangeOffset h = absurd (omega arith)
 eof-by MalformedCharSet h = absurd (omega arith)
 eof-by UnknownCharSetFormat h = absurd (omega arith)
 eof-by UnknownCharStringFormat h = absurd (omega arith)

@@ -45,6 +45,16 @@ fn refusals(rt: HostRuntime) -> Result<(), Fail> {
             "failed to find an operation with operator CharStrings",
         ),
         (
+            Error::OutOfRangeOffset,
+            15,
+            "found an offset out of range",
+        ),
+        (
+            Error::Unsupported(Part::CustomEncoding),
+            16,
+            "found an unsupported part",
+        ),
+        (
             Error::Unsupported(Part::CharSetFormat2),
             16,
             "found an unsupported part",

@@ -1,0 +1,70 @@
+-- What the operands of a dictionary say of a font: whole numbers, and places that count from the font's start
+-- (Technical Note 5176, "Top DICT Data", "Private DICT Data").
+use Rattle.std.specs.Prelude.{ℕ, ◌+◌, ◌^◌, ℤ, pos, negsuc, ◌+ℤ◌, ◌==◌, nat_lt, Option, Some, None, if◌then◌else◌}
+use Rattle.postscript_base.specs.Refusal.{OfMalformed, OfMissing, unknown_char_string_format, out_of_range_offset}
+use Rattle.postscript_base.specs.Tape.Outcome.{Reading, ◌>>=◌, pure, fault}
+use Rattle.postscript_base.specs.Compact1.Decimal.{Decimal, to_i32}
+use Rattle.postscript_base.specs.Compact1.Defaults.{look, first_of, first_two_of}
+use Rattle.postscript_base.specs.Compact1.Dictionary.{Dictionary}
+use Rattle.postscript_base.specs.declared.compact1.operator.Operator.{Operator}
+use Rattle.postscript_base.specs.declared.compact1.operator.Operator.TheVariants.{CharStringType, Private}
+
+-- an operand as a whole number of 32 bits
+abbrev pub number_of : Operator → Option ℤ → Reading ℤ
+number_of operator None = fault (OfMalformed operator)
+number_of operator (Some n) = pure n
+
+-- the first operand of an operator
+abbrev pub number_of_first : Operator → Option Decimal → Reading ℤ
+number_of_first operator None = fault (OfMissing operator)
+number_of_first operator (Some x) = number_of operator (to_i32 x)
+
+unfoldable pub first : Dictionary → Operator → Reading ℤ
+first map operator = number_of_first operator (first_of (look map operator))
+
+-- the first two, both of which are there before either is a number
+abbrev pub numbers_of_two : Operator → Option (Decimal × Decimal) → Reading (ℤ × ℤ)
+numbers_of_two operator None = fault (OfMissing operator)
+numbers_of_two operator (Some p) = do
+  x ← number_of operator (to_i32 p.0)
+  y ← number_of operator (to_i32 p.1)
+  pure (x, y)
+
+unfoldable pub two : Dictionary → Operator → Reading (ℤ × ℤ)
+two map operator = numbers_of_two operator (first_two_of (look map operator))
+
+-- a number of bytes
+abbrev pub size_of : ℤ → Reading ℕ
+size_of (pos n) = pure n
+size_of (negsuc n) = fault out_of_range_offset
+
+-- a place that 64 bits count
+abbrev pub in_range : ℕ → Reading ℕ
+in_range place = if nat_lt place (2 ^ 64) then pure place else fault out_of_range_offset
+
+-- the place so many bytes behind the font's start
+abbrev pub place_of : ℕ → ℤ → Reading ℕ
+place_of start offset = size_of offset >>= λ n. in_range (start + n)
+
+-- the place whose offset is a base and the first operand of an operator
+unfoldable pub place_at : ℕ → ℕ → Dictionary → Operator → Reading ℕ
+place_at start base map operator = first map operator >>= λ z. place_of start (pos base +ℤ z)
+
+-- char strings are of Type 2
+abbrev pub only_two : ℤ → Reading (Unit {0})
+only_two (pos n) = if n == 2 then pure tt else fault unknown_char_string_format
+only_two (negsuc n) = fault unknown_char_string_format
+
+unfoldable pub type_two : Dictionary → Reading (Unit {0})
+type_two map = first map CharStringType >>= only_two
+
+-- the size of the private dictionary, its offset and its place
+abbrev pub bounded : ℕ → ℤ × ℤ → Reading (ℕ × ℕ × ℕ)
+bounded start p = do
+  size ← size_of p.0
+  offset ← size_of p.1
+  place ← in_range (start + offset)
+  pure (size, offset, place)
+
+unfoldable pub bounds : ℕ → Dictionary → Reading (ℕ × ℕ × ℕ)
+bounds start map = two map Private >>= bounded start
