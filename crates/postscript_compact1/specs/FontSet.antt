@@ -1,0 +1,2 @@
+-- Fonts (Technical Note 5176).
+pub mod Operands

@@ -1,0 +1,2 @@
+//! Fonts.
+mod operands;
