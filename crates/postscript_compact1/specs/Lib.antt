@@ -1,0 +1,3 @@
+pub mod Index
+pub mod IndexLaw
+pub mod Kinds
