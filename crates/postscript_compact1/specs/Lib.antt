@@ -1,2 +1,5 @@
 pub mod StandardStrings
 pub mod FontSet
+pub mod Index
+pub mod IndexLaw
+pub mod Kinds

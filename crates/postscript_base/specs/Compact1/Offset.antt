@@ -1,9 +1,22 @@
 -- An offset: a number of one to four bytes (Technical Note 5176, "Data Types").
-use Rattle.std.specs.Prelude.{ℕ, nat_lt, ◌==◌, ◌||◌, if◌then◌else◌}
-use Rattle.postscript_base.specs.Refusal.{malformed_offset}
-use Rattle.postscript_base.specs.Tape.Outcome.{Reading, fault}
+use Rattle.std.specs.Prelude.{ℕ, Bool, Option, Some, None, nat_lt, ◌==◌, ◌||◌, if◌then◌else◌}
+use Rattle.postscript_base.specs.Refusal.{malformed_offset, malformed_index}
+use Rattle.postscript_base.specs.Tape.Outcome.{Reading, ◌>>=◌, pure, fault}
 use Rattle.postscript_base.specs.Numbers.{number}
 
 -- another size is malformed, and nothing is read for it
 unfoldable pub offset : (size : ℕ) → Reading ℕ
 offset size = if (size == 0) || nat_lt 4 size then fault malformed_offset else number size
+
+-- Of the offsets of an INDEX the first is 1, and each next greater than the last (Technical Note 5176, "INDEX Data").
+abbrev pub rises : Option ℕ → ℕ → Bool
+rises None next = next == 1
+rises (Some last) next = nat_lt last next
+
+-- Such an offset, given the number of bytes and the last one. Another is refused as soon as it is read.
+unfoldable pub rising : ℕ × Option ℕ → Reading ℕ
+rising given = offset given.0 >>= λ next. if rises given.1 next then pure next else fault malformed_index
+
+-- what the next one is given
+abbrev pub behind : ℕ × Option ℕ → ℕ → ℕ × Option ℕ
+behind given next = (given.0, Some next)

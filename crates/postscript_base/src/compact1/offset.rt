@@ -2,13 +2,13 @@
 ghost use Rattle.std.specs.Prelude.{◌≡◌, ℕ, List, [], ◌∷◌};
 ghost use Rattle.postscript_base.specs.Error.{IsListed};
 ghost use Rattle.postscript_base.specs.Numbers.{number};
-ghost use Rattle.postscript_base.specs.Compact1.Offset.{offset};
+ghost use Rattle.postscript_base.specs.Compact1.Offset.{offset, rising, behind, rises as the_test};
 ghost use Rattle.postscript_base.specs.Tape.Outcome.{same};
 ghost use Rattle.postscript_base.specs.Tape.Seen.{each_as_it_is};
 ghost use Rattle.postscript_base.specs.Tape.{Reads};
 
 use crate::error::{Error, Result};
-use crate::tape::{Tape, Value, Walue};
+use crate::tape::{Linked, Tape, Value, Walue};
 use std::alloc::Global;
 use std::marker::Model;
 
@@ -63,6 +63,54 @@ impl Walue for Offset {
             4 => Ok(Offset(u32::read(alloc, tape)?)),
             _ => Err(Error::MalformedOffset),
         }
+    }
+}
+
+/// An offset of an INDEX (Technical Note 5176, "INDEX Data"). It is given the number of bytes, from 1 to 4, and the last
+/// offset, where one was read.
+///
+/// Refused: `MalformedOffset` for another number of bytes, before any is read, `MalformedIndex` where the first offset
+/// is not 1 or a next one is not greater than the last, `UnexpectedEof`, `Io`.
+#[tactic(auto, unfolding(crate::specs::Compact1::Offset::rising))]
+impl Linked for Offset {
+    type Given = (OffsetSize, Option<Offset>);
+
+    ghost Shown = { ℕ };
+
+    ghost view = { same };
+
+    ghost views = { same };
+
+    ghost views_each = { each_as_it_is };
+
+    ghost reading = { rising };
+
+    ghost refusals = { 1 ∷ 2 ∷ 5 ∷ 6 ∷ [] };
+
+    ghost left = { behind };
+
+    fn read<T: Tape>(alloc: Global, tape: &mut T, given: Self::Given) -> Result<Offset> {
+        let (size, last) = given;
+        let next = <Offset as Walue>::read(alloc, tape, size)?;
+        if rises(last, next) {
+            Ok(next)
+        } else {
+            Err(Error::MalformedIndex)
+        }
+    }
+
+    fn left(&self, given: Self::Given) -> Self::Given {
+        (given.0, Some(*self))
+    }
+}
+
+/// Whether an offset may follow the last one.
+fn rises(last: Option<Offset>, next: Offset) -> bool
+    ensures { result ≡ the_test last next }
+{
+    match last {
+        None => next.0 == 1,
+        Some(last) => last.0 < next.0,
     }
 }
 
