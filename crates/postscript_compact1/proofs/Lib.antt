@@ -1,1 +1,2 @@
 pub mod StandardStringRows
+pub mod EncodingRows

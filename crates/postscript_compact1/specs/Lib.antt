@@ -1,1 +1,2 @@
 pub mod StandardStrings
+pub mod Encodings
