@@ -1,2 +1,3 @@
 pub mod StandardStringRows
 pub mod IndexRows
+pub mod EncodingRows

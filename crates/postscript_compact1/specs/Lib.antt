@@ -3,3 +3,4 @@ pub mod FontSet
 pub mod Index
 pub mod IndexLaw
 pub mod Kinds
+pub mod Encodings
