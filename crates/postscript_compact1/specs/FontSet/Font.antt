@@ -1,0 +1,47 @@
+-- A font, as it is seen, and what it has for each of its dictionaries (Technical Note 5176, "CFF Data Layout").
+use Rattle.std.specs.Prelude.{ℕ, List, map}
+use Rattle.postscript_base.specs.Compact1.Dictionary.{Dictionary}
+use Rattle.postscript_base.specs.declared.compact1.header.Header.{Header}
+use Rattle.postscript_compact1.specs.Index.{Index}
+use Rattle.postscript_compact1.specs.declared.char_set.CharSet.{CharSet}
+use Rattle.postscript_compact1.specs.declared.encoding.Encoding.{Encoding}
+
+pub record Part : Type 0 where
+  pub encoding : Encoding
+  pub char_strings : Index
+  pub char_set : CharSet
+  pub local_dictionary : Dictionary
+  pub local_subroutines : Index
+
+-- what stands in front of the parts, one behind the other
+pub record Tables : Type 0 where
+  pub names : List (List ℕ)
+  pub dictionaries : List Dictionary
+  pub strings : Index
+  pub subroutines : Index
+
+pub record Font : Type 0 where
+  pub header : Header
+  pub names : List (List ℕ)
+  pub strings : Index
+  pub encodings : List Encoding
+  pub char_sets : List CharSet
+  pub char_strings : List Index
+  pub global_dictionaries : List Dictionary
+  pub global_subroutines : Index
+  pub local_dictionaries : List Dictionary
+  pub local_subroutines : List Index
+
+abbrev pub font_of : Header → Tables → List Part → Font
+font_of header tables parts = record {
+  header = header;
+  names = tables.names;
+  strings = tables.strings;
+  encodings = map (λ p. p.encoding) parts;
+  char_sets = map (λ p. p.char_set) parts;
+  char_strings = map (λ p. p.char_strings) parts;
+  global_dictionaries = tables.dictionaries;
+  global_subroutines = tables.subroutines;
+  local_dictionaries = map (λ p. p.local_dictionary) parts;
+  local_subroutines = map (λ p. p.local_subroutines) parts;
+}

@@ -1,0 +1,125 @@
+-- Where the parts of a font stand (Technical Note 5176, "CFF Data Layout"). Offsets count from the font's start.
+use Rattle.std.specs.Prelude.{◌≡◌, ◌↔◌, ◌⊎◌, ℕ, ◌+◌, ◌^◌, ◌<◌, ◌≤◌, ℤ, pos, ◌+ℤ◌, List, [], ◌∷◌, length, take, drop, Some, map}
+use Rattle.postscript_base.specs.Tape.Outcome.{Got, Reading}
+use Rattle.postscript_base.specs.Compact1.Decimal.{Decimal, to_i32}
+use Rattle.postscript_base.specs.Compact1.Defaults.{look, first_of, first_two_of}
+use Rattle.postscript_base.specs.Compact1.Dictionary.{Dictionary}
+use Rattle.postscript_base.specs.Compact1.DictionaryLaw.{IsDictionary}
+use Rattle.postscript_base.specs.Compact1.Header.{header}
+use Rattle.postscript_base.specs.declared.compact1.operator.Operator.{Operator}
+use Rattle.postscript_base.specs.declared.compact1.operator.Operator.TheVariants as operators
+use Rattle.postscript_compact1.specs.Index.{Index}
+use Rattle.postscript_compact1.specs.IndexLaw.{IsIndex}
+use Rattle.postscript_compact1.specs.Texts.{text}
+use Rattle.postscript_compact1.specs.CharSets.{char_set}
+use Rattle.postscript_compact1.specs.declared.char_set.CharSet.{CharSet}
+use Rattle.postscript_compact1.specs.declared.char_set.CharSet.TheVariants as sets
+use Rattle.postscript_compact1.specs.declared.encoding.Encoding.{Encoding}
+use Rattle.postscript_compact1.specs.declared.encoding.Encoding.TheVariants as encodings
+use Rattle.postscript_compact1.specs.FontSet.Font.{Part, Tables, Font, font_of}
+use Rattle.postscript_compact1.specs.FontSet.Order.{font}
+
+-- the first operand of an operator, or those of the first two, with the defaults, as whole numbers of 32 bits
+abbrev pub HasFirst : Dictionary → Operator → ℤ → Type 0
+HasFirst map operator n = (x : Decimal) × (first_of (look map operator) ≡ Some x) × (to_i32 x ≡ Some n)
+
+abbrev pub HasTwo : Dictionary → Operator → ℤ → ℤ → Type 0
+HasTwo map operator m n = (x : Decimal) × (y : Decimal) × (first_two_of (look map operator) ≡ Some (x, y)) × (to_i32 x ≡ Some m) × (to_i32 y ≡ Some n)
+
+-- a value stands at a place of bytes, and the next place is behind it
+abbrev pub Stands : {A : Type 0} → Reading A → List ℕ → ℕ → A → ℕ → Type 0
+Stands reading bytes place value next = reading bytes place ≡ Got value next
+
+-- Bytes are the slice of so many at a place. The slice of none stands anywhere.
+abbrev pub IsSlice : List ℕ → ℕ → ℕ → List ℕ → Type 0
+IsSlice bytes place size slice = (0 < size → place + size ≤ length bytes) × (slice ≡ take size (drop place bytes))
+
+-- a place that 64 bits count
+abbrev pub IsPlace : ℕ → Type 0
+IsPlace place = place < 2 ^ 64
+
+-- the encoding is 0 or 1
+abbrev pub HasEncoding : Dictionary → Encoding → Type 0
+HasEncoding map encoding =
+    (HasFirst map operators.Encoding (pos 0) × (encoding ≡ encodings.Standard)) ⊎ (HasFirst map operators.Encoding (pos 1) × (encoding ≡ encodings.Expert))
+
+-- the char strings of a dictionary, which are of Type 2
+abbrev pub HasCharStrings : List ℕ → ℕ → Dictionary → Index → ℕ → Type 0
+HasCharStrings bytes start map char_strings next =
+    (offset : ℕ) × HasFirst map operators.CharStrings (pos offset) × HasFirst map operators.CharStringType (pos 2) × IsPlace (start + offset)
+    × IsIndex bytes (start + offset) char_strings next
+
+-- The char set of a dictionary, for so many glyphs: 0, 1 and 2 name the predefined ones. The place behind it is that
+-- behind what was read before, where none is read.
+pub data HasCharSet (bytes : List ℕ) (start glyphs : ℕ) (map : Dictionary) : CharSet → Type 0 where
+  ISOAdobe : HasFirst map operators.CharSet (pos 0) → HasCharSet bytes start glyphs map sets.ISOAdobe
+  Expert : HasFirst map operators.CharSet (pos 1) → HasCharSet bytes start glyphs map sets.Expert
+  ExpertSubset : HasFirst map operators.CharSet (pos 2) → HasCharSet bytes start glyphs map sets.ExpertSubset
+  AtPlace : (offset : ℕ) (set : CharSet) (next : ℕ) → HasFirst map operators.CharSet (pos offset) → 3 ≤ offset → IsPlace (start + offset) → Stands (char_set glyphs) bytes (start + offset) set next → HasCharSet bytes start glyphs map set
+
+-- the private dictionary at an offset
+abbrev pub HasPrivate : List ℕ → ℕ → Dictionary → ℕ → Dictionary → Type 0
+HasPrivate bytes start map offset local =
+    (size : ℕ) × (slice : List ℕ) × HasTwo map operators.Private (pos size) (pos offset) × IsPlace (start + offset)
+    × IsSlice bytes (start + offset) size slice × IsDictionary slice 0 local
+
+-- the local subroutines, and the place behind them: their offset counts from the private dictionary, and may be negative
+abbrev pub HasSubroutines : List ℕ → ℕ → ℕ → Dictionary → Index → ℕ → Type 0
+HasSubroutines bytes start base local subroutines next =
+    (z : ℤ) × (offset : ℕ) × HasFirst local operators.Subrs z × (pos base +ℤ z ≡ pos offset) × IsPlace (start + offset)
+    × IsIndex bytes (start + offset) subroutines next
+
+-- what a font has for one dictionary, and the place behind its local subroutines
+pub record IsPart (bytes : List ℕ) (start : ℕ) (map : Dictionary) (part : Part) (next : ℕ) : Type 0 where
+  pub char_strings_next : ℕ
+  pub private_offset : ℕ
+  pub encoding : HasEncoding map part.encoding
+  pub char_strings : HasCharStrings bytes start map part.char_strings char_strings_next
+  pub char_set : HasCharSet bytes start part.char_strings.count map part.char_set
+  pub private : HasPrivate bytes start map private_offset part.local_dictionary
+  pub local_subroutines : HasSubroutines bytes start private_offset part.local_dictionary part.local_subroutines next
+
+-- a part for each dictionary, and the place behind the last, or this place where there are none
+abbrev pub AreParts : List ℕ → ℕ → List Dictionary → List Part → ℕ → ℕ → Type 0
+AreParts bytes start [] [] place next = place ≡ next
+AreParts bytes start (m ∷ ms) (p ∷ ps) place next = (behind : ℕ) × IsPart bytes start m p behind × AreParts bytes start ms ps behind next
+AreParts bytes start [] (p ∷ ps) place next = ⊥
+AreParts bytes start (m ∷ ms) [] place next = ⊥
+
+-- each item is a dictionary
+abbrev pub AreDictionaries : List (List ℕ) → List Dictionary → Type 0
+AreDictionaries [] [] = Unit {0}
+AreDictionaries (item ∷ items) (map ∷ maps) = IsDictionary item 0 map × AreDictionaries items maps
+AreDictionaries [] (map ∷ maps) = ⊥
+AreDictionaries (item ∷ items) [] = ⊥
+
+-- at a place stand names, dictionaries, strings and global subroutines, one behind the other
+pub record AreTables (bytes : List ℕ) (place : ℕ) (tables : Tables) (next : ℕ) : Type 0 where
+  pub names : Index
+  pub names_next : ℕ
+  pub dictionaries : Index
+  pub dictionaries_next : ℕ
+  pub strings_next : ℕ
+  pub are_names : IsIndex bytes place names names_next
+  pub texts : tables.names ≡ map text names.items
+  pub are_items : IsIndex bytes names_next dictionaries dictionaries_next
+  pub are_dictionaries : AreDictionaries dictionaries.items tables.dictionaries
+  pub are_strings : IsIndex bytes dictionaries_next tables.strings strings_next
+  pub are_subroutines : IsIndex bytes strings_next tables.subroutines next
+
+-- a font stands at a place, and the next place is behind it
+pub record IsFont (bytes : List ℕ) (start : ℕ) (font : Font) (next : ℕ) : Type 0 where
+  pub header_next : ℕ
+  pub tables : Tables
+  pub behind : ℕ
+  pub parts : List Part
+  pub header : Stands header bytes start font.header header_next
+  pub place : IsPlace (start + font.header.header_size)
+  pub are_tables : AreTables bytes (start + font.header.header_size) tables behind
+  pub are_parts : AreParts bytes start tables.dictionaries parts behind next
+  pub made_of : font ≡ font_of font.header tables parts
+
+-- a reading gives a font exactly where one stands, and no other stands there
+pub record ReadsLayout : Type 0 where
+  pub both_ways : (bytes : List ℕ) (start : ℕ) (f : Font) (next : ℕ) → (font bytes start ≡ Got f next) ↔ IsFont bytes start f next
+  pub alone : (bytes : List ℕ) (start : ℕ) (f g : Font) (next other : ℕ) → IsFont bytes start f next → IsFont bytes start g other → (f ≡ g) × (next ≡ other)

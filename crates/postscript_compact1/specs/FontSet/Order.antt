@@ -1,0 +1,105 @@
+-- The order in which a font is read (Technical Note 5176, "CFF Data Layout"). Offsets count from the font's start.
+use Rattle.std.specs.Prelude.{ℕ, ◌+◌, ℤ, pos, negsuc, List, map, ◌==◌, if◌then◌else◌}
+use Rattle.postscript_base.specs.Refusal.{OfPart, out_of_range_offset}
+use Rattle.postscript_base.specs.Tape.Outcome.{Outcome, Got, Reading, after, pure, fault, position, ◌>>=◌}
+use Rattle.postscript_base.specs.Tape.At.{at, bytes_at}
+use Rattle.postscript_base.specs.Tape.Loops.{each}
+use Rattle.postscript_base.specs.Compact1.Dictionary.{Dictionary, dictionary}
+use Rattle.postscript_base.specs.Compact1.Header.{header}
+use Rattle.postscript_base.specs.declared.compact1.operator.Operator.TheVariants as operators
+use Rattle.postscript_base.specs.declared.error.Part.TheVariants as unsupported
+use Rattle.postscript_compact1.specs.Index.{Index, index}
+use Rattle.postscript_compact1.specs.Texts.{text}
+use Rattle.postscript_compact1.specs.CharSets.{char_set as the_set}
+use Rattle.postscript_compact1.specs.declared.char_set.CharSet.{CharSet}
+use Rattle.postscript_compact1.specs.declared.char_set.CharSet.TheVariants as sets
+use Rattle.postscript_compact1.specs.declared.encoding.Encoding.{Encoding}
+use Rattle.postscript_compact1.specs.declared.encoding.Encoding.TheVariants as encodings
+use Rattle.postscript_compact1.specs.FontSet.Operands.{first, size_of, in_range, place_of, place_at, type_two, bounds}
+use Rattle.postscript_compact1.specs.FontSet.Font.{Part, Tables, Font, font_of}
+
+-- the encoding of a dictionary: 0 and 1 name the predefined ones
+abbrev pub encoding_of : ℤ → Reading Encoding
+encoding_of (pos n) = if n == 0 then pure encodings.Standard else if n == 1 then pure encodings.Expert else fault (OfPart unsupported.CustomEncoding)
+encoding_of (negsuc n) = fault (OfPart unsupported.CustomEncoding)
+
+unfoldable pub encoding : Dictionary → Reading Encoding
+encoding map = first map operators.Encoding >>= encoding_of
+
+-- the char strings: their place, then their type, then what stands there
+unfoldable pub char_strings : ℕ → Dictionary → Reading Index
+char_strings start map = do
+  place ← place_at start 0 map operators.CharStrings
+  _ ← type_two map
+  at place index
+
+-- the char set of an offset, for so many glyphs: 0, 1 and 2 name the predefined ones
+abbrev pub char_set_of : ℕ → ℕ → ℕ → Reading CharSet
+char_set_of start glyphs offset =
+    if offset == 0 then pure sets.ISOAdobe
+    else if offset == 1 then pure sets.Expert
+    else if offset == 2 then pure sets.ExpertSubset
+    else in_range (start + offset) >>= λ place. at place (the_set glyphs)
+
+unfoldable pub char_set : ℕ → ℕ → Dictionary → Reading CharSet
+char_set start glyphs map = do
+  number ← first map operators.CharSet
+  offset ← size_of number
+  char_set_of start glyphs offset
+
+-- the dictionary that bytes hold
+abbrev pub held : Outcome Dictionary → Reading Dictionary
+held outcome bytes place = after outcome (λ map _. Got map place)
+
+unfoldable pub dictionary_in : List ℕ → Reading Dictionary
+dictionary_in text = held (dictionary text 0)
+
+-- the offset of the private dictionary, and the dictionary
+unfoldable pub private : ℕ → Dictionary → Reading (ℕ × Dictionary)
+private start map = do
+  bounds ← bounds start map
+  text ← bytes_at bounds.2 bounds.0
+  local_dictionary ← dictionary_in text
+  pure (bounds.1, local_dictionary)
+
+-- the local subroutines, whose offset counts from the private dictionary
+unfoldable pub subroutines : ℕ → ℕ → Dictionary → Reading Index
+subroutines start offset local_dictionary = do
+  place ← place_at start offset local_dictionary operators.Subrs
+  at place index
+
+-- what a font has for one dictionary
+unfoldable pub part : ℕ → Dictionary → Reading Part
+part start map = do
+  encoding ← encoding map
+  char_strings ← char_strings start map
+  char_set ← char_set start char_strings.count map
+  private ← private start map
+  local_subroutines ← subroutines start private.0 private.1
+  pure (record { encoding = encoding; char_strings = char_strings; char_set = char_set; local_dictionary = private.1; local_subroutines = local_subroutines })
+
+-- the names, each a text
+unfoldable pub names : Reading (List (List ℕ))
+names = index >>= λ i. pure (map text i.items)
+
+-- the dictionaries that the items of an INDEX hold
+unfoldable pub dictionaries : Reading (List Dictionary)
+dictionaries = index >>= λ i. each dictionary_in i.items
+
+-- behind the header: names, dictionaries, strings and global subroutines, one behind the other
+unfoldable pub tables : ℕ → Reading Tables
+tables place = do
+  names ← at place names
+  dictionaries ← dictionaries
+  strings ← index
+  subroutines ← index
+  pure (record { names = names; dictionaries = dictionaries; strings = strings; subroutines = subroutines })
+
+unfoldable pub font : Reading Font
+font = do
+  start ← position
+  header ← header
+  place ← in_range (start + header.header_size)
+  tables ← tables place
+  parts ← each (part start) tables.dictionaries
+  pure (font_of header tables parts)
