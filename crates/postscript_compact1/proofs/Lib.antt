@@ -1,1 +1,2 @@
 pub mod IndexRows
+pub mod Clones
