@@ -8,12 +8,23 @@ ghost use Rattle.postscript_base.specs.Tape.Outcome.{same};
 ghost use Rattle.postscript_base.specs.Tape.Seen.{each_as_it_is};
 ghost use Rattle.postscript_compact1.specs.Index.{empty as no_items, filled, lengths, lengths_from, offsets as the_offsets};
 
+mod char_strings;
+mod dictionaries;
+mod names;
+mod strings;
+mod subroutines;
+
+pub use char_strings::CharStrings;
+pub use dictionaries::Dictionaries;
+pub use names::Names;
 use postscript_base::compact1::{Offset, OffsetSize};
 use postscript_base::tape::{Source, read_chain, read_each};
 use postscript_base::{Result, Tape, Value, Walue};
 use std::alloc::Global;
 use std::marker::Model;
 use std::slice::Iter;
+pub use strings::Strings;
+pub use subroutines::Subroutines;
 
 /// An INDEX.
 #[derive(Debug, Drop)]
