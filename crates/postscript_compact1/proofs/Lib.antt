@@ -1,3 +1,4 @@
 pub mod StandardStringRows
 pub mod IndexRows
 pub mod EncodingRows
+pub mod Clones

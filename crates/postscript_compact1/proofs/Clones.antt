@@ -1,0 +1,10 @@
+-- Clones of lists of bytes.
+use Rattle.std.proofs.Common.{◌≡◌, refl, sym, ap, ◌∙◌, ℕ, List, [], ◌∷◌, map, Vec, Global, vec_len}
+use Rattle.std.specs.List.{AllZip, each_same}
+
+-- the clones have the bytes of what they are clones of
+pub same_bytes : (xs ys : List (Vec ℕ Global)) → AllZip (λ v w. AllZip (λ x y. y ≡ x) v.items w.items × (vec_len w ≡ vec_len v)) xs ys → map (λ v. v.items) ys ≡ map (λ v. v.items) xs
+same_bytes [] [] h = refl
+same_bytes [] (y ∷ ys) h = absurd h
+same_bytes (x ∷ xs) [] h = absurd h
+same_bytes (x ∷ xs) (y ∷ ys) h = let first = each_same x.items y.items h.0.0 in let rest = same_bytes xs ys h.1 in rw (first, rest) refl

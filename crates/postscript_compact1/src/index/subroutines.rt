@@ -1,0 +1,65 @@
+//! Subroutines of charstrings.
+ghost use Rattle.std.specs.Prelude.{◌≡◌, [], ◌∷◌, IfOk};
+ghost use Rattle.postscript_base.specs.Error.{IsListed};
+
+use super::Index;
+use postscript_base::{Result, Tape, Value};
+use std::alloc::Global;
+use std::marker::Model;
+use std::ops::Deref;
+
+/// An INDEX of subroutines of charstrings.
+#[derive(Debug, Drop)]
+pub struct Subroutines(pub Index);
+
+impl Model for Subroutines {
+    ghost use Rattle.postscript_compact1.specs.Index.{Index};
+
+    ghost Value = { Index };
+
+    ghost view = { λ subroutines. subroutines.0 };
+}
+
+impl Deref for Subroutines {
+    type Target = Index;
+
+    ghost deref_gives = { λ subroutines index. index ≡ subroutines };
+
+    fn deref(&self) -> &Index {
+        &self.0
+    }
+}
+
+impl Subroutines {
+    /// Equal subroutines.
+    pub fn clone(&self) -> Result<Self>
+        ensures equal { IfOk result (λ subroutines. subroutines ≡ self.now) }
+        ensures listed { IsListed (3 ∷ []) result }
+    {
+        Ok(Subroutines(self.0.clone()?))
+    }
+}
+
+/// Refused as an `Index` is.
+impl Value for Subroutines {
+    ghost use Rattle.std.specs.Prelude.{[], ◌∷◌};
+    ghost use Rattle.postscript_base.specs.Tape.Outcome.{same};
+    ghost use Rattle.postscript_base.specs.Tape.Seen.{each_as_it_is};
+    ghost use Rattle.postscript_compact1.specs.Index.{Index, index};
+
+    ghost Shown = { Index };
+
+    ghost view = { same };
+
+    ghost views = { same };
+
+    ghost views_each = { each_as_it_is };
+
+    ghost reading = { index };
+
+    ghost refusals = { 1 ∷ 2 ∷ 3 ∷ 5 ∷ 6 ∷ [] };
+
+    fn read<T: Tape>(alloc: Global, tape: &mut T) -> Result<Subroutines> {
+        Ok(Subroutines(Index::read(alloc, tape)?))
+    }
+}
