@@ -1,2 +1,5 @@
 -- Fonts (Technical Note 5176).
 pub mod Operands
+pub mod Font
+pub mod Order
+pub mod Layout

@@ -1,2 +1,100 @@
-//! Fonts.
+//! Fonts (Technical Note 5176).
+ghost use Rattle.std.specs.Prelude.{◌≡◌, [], ◌∷◌, map, IfOk, OnOk};
+ghost use Rattle.postscript_base.specs.Error.{IsListed};
+ghost use Rattle.postscript_base.specs.Tape.{Reads};
+ghost use Rattle.postscript_base.specs.Tape.Outcome.{same};
+ghost use Rattle.postscript_base.specs.Tape.Seen.{each_as_it_is};
+ghost use Rattle.postscript_compact1.specs.FontSet.Font.{font_of};
+ghost use Rattle.postscript_compact1.specs.FontSet.Order.{font};
+
 mod operands;
+mod parts;
+mod tables;
+
+use crate::char_set::CharSet;
+use crate::encoding::Encoding;
+use crate::index::{CharStrings, Strings, Subroutines};
+use parts::{Parts, read_parts};
+use postscript_base::compact1::{Header, Operations};
+use postscript_base::{Error, Result, Tape, Value};
+use std::alloc::Global;
+use std::marker::Model;
+use tables::{Tables, read_tables};
+
+/// A font set: what a file of the Compact Font Format holds.
+#[derive(Drop)]
+pub struct FontSet {
+    pub header: Header,
+    /// The names of the fonts.
+    pub names: Vec<String>,
+    /// The strings behind the standard ones.
+    pub strings: Strings,
+    /// The encoding of each dictionary.
+    pub encodings: Vec<Encoding>,
+    /// The char set of each dictionary.
+    pub char_sets: Vec<CharSet>,
+    /// The char strings of each dictionary.
+    pub char_strings: Vec<CharStrings>,
+    /// The dictionaries of the fonts.
+    pub global_dictionaries: Vec<Operations>,
+    /// The subroutines that all char strings share.
+    pub global_subroutines: Subroutines,
+    /// The private dictionary of each dictionary.
+    pub local_dictionaries: Vec<Operations>,
+    /// The local subroutines of each dictionary.
+    pub local_subroutines: Vec<Subroutines>,
+}
+
+impl Model for FontSet {
+    ghost use Rattle.std.specs.Prelude.{map, string_bytes};
+    ghost use Rattle.postscript_compact1.specs.FontSet.Font.{Font};
+
+    ghost Value = { Font };
+
+    ghost view = { λ font. record {
+        header = font.header;
+        names = map string_bytes font.names.items;
+        strings = font.strings;
+        encodings = font.encodings.items;
+        char_sets = font.char_sets.items;
+        char_strings = font.char_strings.items;
+        global_dictionaries = font.global_dictionaries.items;
+        global_subroutines = font.global_subroutines;
+        local_dictionaries = font.local_dictionaries.items;
+        local_subroutines = font.local_subroutines.items;
+    } };
+}
+
+/// Reads a font.
+#[tactic(auto, unfolding(crate::specs::FontSet::Order::font))]
+fn read_font<T: Tape>(alloc: Global, tape: &mut T) -> Result<FontSet>
+    ensures exact { Reads same (T.state tape.old) result (T.state tape.new) font }
+    ensures listed { IsListed (1 ∷ 2 ∷ 3 ∷ 5 ∷ 6 ∷ 7 ∷ 8 ∷ 9 ∷ 10 ∷ 11 ∷ 12 ∷ 13 ∷ 14 ∷ 15 ∷ 16 ∷ []) result }
+{
+    let start = tape.position()?;
+    let header = Header::read(alloc, tape)?;
+    let Some(place) = start.checked_add(u64::from(header.header_size)) else {
+        return Err(Error::OutOfRangeOffset);
+    };
+    let tables = read_tables(alloc, tape, place)?;
+    let parts = read_parts(alloc, tape, start, &tables.dictionaries)?;
+    Ok(of_parts(header, tables, parts))
+}
+
+/// The font of its header, of what stands behind it, and of its parts.
+fn of_parts(header: Header, tables: Tables, parts: Parts) -> FontSet
+    ensures { result ≡ font_of header tables parts }
+{
+    FontSet {
+        header,
+        names: tables.names,
+        strings: tables.strings,
+        encodings: parts.encodings,
+        char_sets: parts.char_sets,
+        char_strings: parts.char_strings,
+        global_dictionaries: tables.dictionaries,
+        global_subroutines: tables.subroutines,
+        local_dictionaries: parts.local_dictionaries,
+        local_subroutines: parts.local_subroutines,
+    }
+}

@@ -1,5 +1,5 @@
 -- A font, as it is seen, and what it has for each of its dictionaries (Technical Note 5176, "CFF Data Layout").
-use Rattle.std.specs.Prelude.{ℕ, List, map}
+use Rattle.std.specs.Prelude.{ℕ, List, [], ◌∷◌, ◌++◌, map}
 use Rattle.postscript_base.specs.Compact1.Dictionary.{Dictionary}
 use Rattle.postscript_base.specs.declared.compact1.header.Header.{Header}
 use Rattle.postscript_compact1.specs.Index.{Index}
@@ -32,16 +32,43 @@ pub record Font : Type 0 where
   pub local_dictionaries : List Dictionary
   pub local_subroutines : List Index
 
-abbrev pub font_of : Header → Tables → List Part → Font
-font_of header tables parts = record {
-  header = header;
-  names = tables.names;
-  strings = tables.strings;
+-- the parts of all dictionaries, kind by kind
+pub record Columns : Type 0 where
+  pub encodings : List Encoding
+  pub char_sets : List CharSet
+  pub char_strings : List Index
+  pub local_dictionaries : List Dictionary
+  pub local_subroutines : List Index
+
+abbrev pub columns : List Part → Columns
+columns parts = record {
   encodings = map (λ p. p.encoding) parts;
   char_sets = map (λ p. p.char_set) parts;
   char_strings = map (λ p. p.char_strings) parts;
-  global_dictionaries = tables.dictionaries;
-  global_subroutines = tables.subroutines;
   local_dictionaries = map (λ p. p.local_dictionary) parts;
   local_subroutines = map (λ p. p.local_subroutines) parts;
+}
+
+-- one part more
+abbrev pub more : Columns → Part → Columns
+more c p = record {
+  encodings = c.encodings ++ p.encoding ∷ [];
+  char_sets = c.char_sets ++ p.char_set ∷ [];
+  char_strings = c.char_strings ++ p.char_strings ∷ [];
+  local_dictionaries = c.local_dictionaries ++ p.local_dictionary ∷ [];
+  local_subroutines = c.local_subroutines ++ p.local_subroutines ∷ [];
+}
+
+abbrev pub font_of : Header → Tables → Columns → Font
+font_of header tables c = record {
+  header = header;
+  names = tables.names;
+  strings = tables.strings;
+  encodings = c.encodings;
+  char_sets = c.char_sets;
+  char_strings = c.char_strings;
+  global_dictionaries = tables.dictionaries;
+  global_subroutines = tables.subroutines;
+  local_dictionaries = c.local_dictionaries;
+  local_subroutines = c.local_subroutines;
 }

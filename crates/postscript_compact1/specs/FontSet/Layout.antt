@@ -16,7 +16,7 @@ use Rattle.postscript_compact1.specs.declared.char_set.CharSet.{CharSet}
 use Rattle.postscript_compact1.specs.declared.char_set.CharSet.TheVariants as sets
 use Rattle.postscript_compact1.specs.declared.encoding.Encoding.{Encoding}
 use Rattle.postscript_compact1.specs.declared.encoding.Encoding.TheVariants as encodings
-use Rattle.postscript_compact1.specs.FontSet.Font.{Part, Tables, Font, font_of}
+use Rattle.postscript_compact1.specs.FontSet.Font.{Part, Tables, Font, columns, font_of}
 use Rattle.postscript_compact1.specs.FontSet.Order.{font}
 
 -- the first operand of an operator, or those of the first two, with the defaults, as whole numbers of 32 bits
@@ -117,7 +117,7 @@ pub record IsFont (bytes : List ℕ) (start : ℕ) (font : Font) (next : ℕ) : 
   pub place : IsPlace (start + font.header.header_size)
   pub are_tables : AreTables bytes (start + font.header.header_size) tables behind
   pub are_parts : AreParts bytes start tables.dictionaries parts behind next
-  pub made_of : font ≡ font_of font.header tables parts
+  pub made_of : font ≡ font_of font.header tables (columns parts)
 
 -- a reading gives a font exactly where one stands, and no other stands there
 pub record ReadsLayout : Type 0 where

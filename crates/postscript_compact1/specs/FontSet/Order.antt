@@ -1,22 +1,23 @@
 -- The order in which a font is read (Technical Note 5176, "CFF Data Layout"). Offsets count from the font's start.
 use Rattle.std.specs.Prelude.{ℕ, ◌+◌, ℤ, pos, negsuc, List, map, ◌==◌, if◌then◌else◌}
-use Rattle.postscript_base.specs.Refusal.{OfPart, out_of_range_offset}
-use Rattle.postscript_base.specs.Tape.Outcome.{Outcome, Got, Reading, after, pure, fault, position, ◌>>=◌}
+use Rattle.postscript_base.specs.Refusal.{OfPart}
+use Rattle.postscript_base.specs.Tape.Outcome.{Reading, pure, fault, position, ◌>>=◌}
 use Rattle.postscript_base.specs.Tape.At.{at, bytes_at}
 use Rattle.postscript_base.specs.Tape.Loops.{each}
-use Rattle.postscript_base.specs.Compact1.Dictionary.{Dictionary, dictionary}
+use Rattle.postscript_base.specs.Compact1.Dictionary.{Dictionary}
 use Rattle.postscript_base.specs.Compact1.Header.{header}
 use Rattle.postscript_base.specs.declared.compact1.operator.Operator.TheVariants as operators
 use Rattle.postscript_base.specs.declared.error.Part.TheVariants as unsupported
 use Rattle.postscript_compact1.specs.Index.{Index, index}
+use Rattle.postscript_compact1.specs.Kinds.{map_of, maps_of}
 use Rattle.postscript_compact1.specs.Texts.{text}
 use Rattle.postscript_compact1.specs.CharSets.{char_set as the_set}
 use Rattle.postscript_compact1.specs.declared.char_set.CharSet.{CharSet}
 use Rattle.postscript_compact1.specs.declared.char_set.CharSet.TheVariants as sets
 use Rattle.postscript_compact1.specs.declared.encoding.Encoding.{Encoding}
 use Rattle.postscript_compact1.specs.declared.encoding.Encoding.TheVariants as encodings
-use Rattle.postscript_compact1.specs.FontSet.Operands.{first, size_of, in_range, place_of, place_at, type_two, bounds}
-use Rattle.postscript_compact1.specs.FontSet.Font.{Part, Tables, Font, font_of}
+use Rattle.postscript_compact1.specs.FontSet.Operands.{first, size_of, in_range, place_at, type_two, bounds}
+use Rattle.postscript_compact1.specs.FontSet.Font.{Part, Tables, Columns, Font, columns, font_of}
 
 -- the encoding of a dictionary: 0 and 1 name the predefined ones
 abbrev pub encoding_of : ℤ → Reading Encoding
@@ -33,33 +34,30 @@ char_strings start map = do
   _ ← type_two map
   at place index
 
--- the char set of an offset, for so many glyphs: 0, 1 and 2 name the predefined ones
+-- the char set at an offset, for so many glyphs
+unfoldable pub own_char_set : ℕ → ℕ → ℕ → Reading CharSet
+own_char_set start glyphs offset = in_range (start + offset) >>= λ place. at place (the_set glyphs)
+
+-- the char set of an offset: 0, 1 and 2 name the predefined ones
 abbrev pub char_set_of : ℕ → ℕ → ℕ → Reading CharSet
 char_set_of start glyphs offset =
     if offset == 0 then pure sets.ISOAdobe
     else if offset == 1 then pure sets.Expert
     else if offset == 2 then pure sets.ExpertSubset
-    else in_range (start + offset) >>= λ place. at place (the_set glyphs)
+    else own_char_set start glyphs offset
+
+unfoldable pub char_set_offset : Dictionary → Reading ℕ
+char_set_offset map = first map operators.CharSet >>= size_of
 
 unfoldable pub char_set : ℕ → ℕ → Dictionary → Reading CharSet
-char_set start glyphs map = do
-  number ← first map operators.CharSet
-  offset ← size_of number
-  char_set_of start glyphs offset
-
--- the dictionary that bytes hold
-abbrev pub held : Outcome Dictionary → Reading Dictionary
-held outcome bytes place = after outcome (λ map _. Got map place)
-
-unfoldable pub dictionary_in : List ℕ → Reading Dictionary
-dictionary_in text = held (dictionary text 0)
+char_set start glyphs map = char_set_offset map >>= char_set_of start glyphs
 
 -- the offset of the private dictionary, and the dictionary
 unfoldable pub private : ℕ → Dictionary → Reading (ℕ × Dictionary)
 private start map = do
   bounds ← bounds start map
   text ← bytes_at bounds.2 bounds.0
-  local_dictionary ← dictionary_in text
+  local_dictionary ← map_of text
   pure (bounds.1, local_dictionary)
 
 -- the local subroutines, whose offset counts from the private dictionary
@@ -78,22 +76,26 @@ part start map = do
   local_subroutines ← subroutines start private.0 private.1
   pure (record { encoding = encoding; char_strings = char_strings; char_set = char_set; local_dictionary = private.1; local_subroutines = local_subroutines })
 
--- the names, each a text
-unfoldable pub names : Reading (List (List ℕ))
-names = index >>= λ i. pure (map text i.items)
+-- the names at a place, each a text
+unfoldable pub names : ℕ → Reading (List (List ℕ))
+names place = at place index >>= λ i. pure (map text i.items)
 
--- the dictionaries that the items of an INDEX hold
+-- the dictionaries that the items of an INDEX are
 unfoldable pub dictionaries : Reading (List Dictionary)
-dictionaries = index >>= λ i. each dictionary_in i.items
+dictionaries = index >>= λ i. maps_of i.items
 
 -- behind the header: names, dictionaries, strings and global subroutines, one behind the other
 unfoldable pub tables : ℕ → Reading Tables
 tables place = do
-  names ← at place names
+  names ← names place
   dictionaries ← dictionaries
   strings ← index
   subroutines ← index
   pure (record { names = names; dictionaries = dictionaries; strings = strings; subroutines = subroutines })
+
+-- the parts of all dictionaries, one after the other
+unfoldable pub parts : ℕ → List Dictionary → Reading Columns
+parts start maps = each (part start) maps >>= λ ps. pure (columns ps)
 
 unfoldable pub font : Reading Font
 font = do
@@ -101,5 +103,5 @@ font = do
   header ← header
   place ← in_range (start + header.header_size)
   tables ← tables place
-  parts ← each (part start) tables.dictionaries
-  pure (font_of header tables parts)
+  columns ← parts start tables.dictionaries
+  pure (font_of header tables columns)

@@ -1,0 +1,245 @@
+//! What a font has for one of its dictionaries.
+ghost use Rattle.std.specs.Prelude.{◌≡◌, ℕ, List, [], ◌∷◌, OnOk};
+ghost use Rattle.postscript_base.specs.Error.{IsListed};
+ghost use Rattle.postscript_base.specs.Tape.{Reads};
+ghost use Rattle.postscript_base.specs.Tape.Outcome.{Answers, same};
+ghost use Rattle.postscript_compact1.specs.FontSet.Order.{encoding as the_encoding, char_strings as the_char_strings, char_set as the_char_set, char_set_offset as the_char_set_offset, own_char_set as the_own_char_set, private as the_private, subroutines as the_subroutines, part, parts};
+ghost use Rattle.postscript_compact1.specs.FontSet.Font.{columns, more};
+
+use super::operands::{bounds, first, place_at, type_two};
+use crate::char_set::CharSet;
+use crate::encoding::Encoding;
+use crate::index::{CharStrings, Subroutines, operations_of};
+use postscript_base::compact1::{Operations, Operator};
+use postscript_base::error::Part as Unsupported;
+use postscript_base::tape::{bytes_at, read_at, read_given_at};
+use postscript_base::{Error, Result, Tape};
+use std::alloc::Global;
+use std::marker::Model;
+
+/// What a font has for one of its dictionaries.
+#[derive(Drop)]
+pub(super) struct Part {
+    pub(super) encoding: Encoding,
+    pub(super) char_strings: CharStrings,
+    pub(super) char_set: CharSet,
+    pub(super) local_dictionary: Operations,
+    pub(super) local_subroutines: Subroutines,
+}
+
+impl Model for Part {
+    ghost use Rattle.postscript_compact1.specs.FontSet.Font.{Part};
+
+    ghost Value = { Part };
+
+    ghost view = { λ part. record { encoding = part.encoding; char_strings = part.char_strings; char_set = part.char_set; local_dictionary = part.local_dictionary; local_subroutines = part.local_subroutines } };
+}
+
+/// Reads what a font has for one of its dictionaries.
+#[tactic(auto, unfolding(crate::specs::FontSet::Order::part))]
+pub(super) fn read_part<T: Tape>(
+    alloc: Global,
+    tape: &mut T,
+    start: u64,
+    dictionary: &Operations,
+) -> Result<Part>
+    ensures exact { Reads same (T.state tape.old) result (T.state tape.new) (part start dictionary.now) }
+    ensures listed { IsListed (1 ∷ 2 ∷ 3 ∷ 5 ∷ 6 ∷ 7 ∷ 8 ∷ 9 ∷ 10 ∷ 11 ∷ 12 ∷ 13 ∷ 14 ∷ 15 ∷ 16 ∷ []) result }
+{
+    let encoding = encoding(dictionary)?;
+    let char_strings = char_strings(alloc, tape, start, dictionary)?;
+    let char_set = char_set(alloc, tape, start, char_strings.len(), dictionary)?;
+    let (offset, local_dictionary) = private(alloc, tape, start, dictionary)?;
+    let local_subroutines = subroutines(alloc, tape, start, offset, &local_dictionary)?;
+    Ok(Part {
+        encoding,
+        char_strings,
+        char_set,
+        local_dictionary,
+        local_subroutines,
+    })
+}
+
+/// The encoding of a dictionary.
+///
+/// Refused: `MissingOperation`, `MalformedOperation`, `Unsupported` for another than Standard and Expert.
+#[tactic(auto, unfolding(crate::specs::FontSet::Order::encoding))]
+fn encoding(dictionary: &Operations) -> Result<Encoding>
+    ensures exact { (bytes : List ℕ) (place : ℕ) → Answers same result place (the_encoding dictionary.now bytes place) }
+    ensures listed { IsListed (13 ∷ 14 ∷ 16 ∷ []) result }
+{
+    match first(dictionary, Operator::Encoding)? {
+        0 => Ok(Encoding::Standard),
+        1 => Ok(Encoding::Expert),
+        _ => Err(Error::Unsupported(Unsupported::CustomEncoding)),
+    }
+}
+
+/// The char strings of a dictionary.
+#[tactic(auto, using(crate::proofs::Needs::char_strings_needs), unfolding(crate::specs::FontSet::Order::char_strings, crate::specs::Kinds::char_strings))]
+fn char_strings<T: Tape>(
+    alloc: Global,
+    tape: &mut T,
+    start: u64,
+    dictionary: &Operations,
+) -> Result<CharStrings>
+    ensures exact { Reads same (T.state tape.old) result (T.state tape.new) (the_char_strings start dictionary.now) }
+    ensures listed { IsListed (1 ∷ 2 ∷ 3 ∷ 5 ∷ 6 ∷ 12 ∷ 13 ∷ 14 ∷ 15 ∷ []) result }
+{
+    let place = place_at(start, 0, dictionary, Operator::CharStrings)?;
+    type_two(dictionary)?;
+    Ok(read_given_at::<CharStrings, T>(alloc, tape, place, 2)?)
+}
+
+/// The char set of a dictionary, for so many glyphs.
+///
+/// Refused: `MissingOperation`, `MalformedOperation`, `OutOfRangeOffset`, and as a `CharSet` is.
+#[tactic(auto, unfolding(crate::specs::FontSet::Order::char_set))]
+fn char_set<T: Tape>(
+    alloc: Global,
+    tape: &mut T,
+    start: u64,
+    glyphs: usize,
+    dictionary: &Operations,
+) -> Result<CharSet>
+    ensures exact { Reads same (T.state tape.old) result (T.state tape.new) (the_char_set start glyphs dictionary.now) }
+    ensures listed { IsListed (1 ∷ 2 ∷ 3 ∷ 10 ∷ 11 ∷ 13 ∷ 14 ∷ 15 ∷ 16 ∷ []) result }
+{
+    match char_set_offset(dictionary)? {
+        0 => Ok(CharSet::ISOAdobe),
+        1 => Ok(CharSet::Expert),
+        2 => Ok(CharSet::ExpertSubset),
+        offset => own_char_set(alloc, tape, start, offset, glyphs),
+    }
+}
+
+/// The offset of the char set, or the number of a predefined one.
+#[tactic(auto, unfolding(crate::specs::FontSet::Order::char_set_offset))]
+fn char_set_offset(dictionary: &Operations) -> Result<u32>
+    ensures exact { (bytes : List ℕ) (place : ℕ) → Answers same result place (the_char_set_offset dictionary.now bytes place) }
+    ensures listed { IsListed (13 ∷ 14 ∷ 15 ∷ []) result }
+{
+    let offset = first(dictionary, Operator::CharSet)?;
+    u32::try_from(offset).map_err(|_| Error::OutOfRangeOffset)
+}
+
+/// The char set at an offset, for so many glyphs.
+#[tactic(auto, using(crate::proofs::Needs::char_set_needs), unfolding(crate::specs::FontSet::Order::own_char_set))]
+fn own_char_set<T: Tape>(
+    alloc: Global,
+    tape: &mut T,
+    start: u64,
+    offset: u32,
+    glyphs: usize,
+) -> Result<CharSet>
+    ensures exact { Reads same (T.state tape.old) result (T.state tape.new) (the_own_char_set start glyphs offset) }
+    ensures listed { IsListed (1 ∷ 2 ∷ 3 ∷ 10 ∷ 11 ∷ 15 ∷ 16 ∷ []) result }
+{
+    let Some(place) = start.checked_add(u64::from(offset)) else {
+        return Err(Error::OutOfRangeOffset);
+    };
+    Ok(read_given_at::<CharSet, T>(alloc, tape, place, glyphs)?)
+}
+
+/// The private dictionary, and its offset.
+#[tactic(auto, unfolding(crate::specs::FontSet::Order::private))]
+fn private<T: Tape>(
+    alloc: Global,
+    tape: &mut T,
+    start: u64,
+    dictionary: &Operations,
+) -> Result<(u32, Operations)>
+    ensures exact { Reads (λ r. (r.0, r.1)) (T.state tape.old) result (T.state tape.new) (the_private start dictionary.now) }
+    ensures listed { IsListed (1 ∷ 2 ∷ 3 ∷ 7 ∷ 8 ∷ 9 ∷ 13 ∷ 14 ∷ 15 ∷ []) result }
+{
+    let (size, offset, place) = bounds(start, dictionary)?;
+    let text = bytes_at(alloc, tape, place, size)?;
+    let local_dictionary = operations_of(alloc, &text)?;
+    Ok((offset, local_dictionary))
+}
+
+/// The local subroutines of a private dictionary at an offset.
+#[tactic(auto, using(crate::proofs::Needs::index_needs), unfolding(crate::specs::FontSet::Order::subroutines))]
+fn subroutines<T: Tape>(
+    alloc: Global,
+    tape: &mut T,
+    start: u64,
+    offset: u32,
+    local_dictionary: &Operations,
+) -> Result<Subroutines>
+    ensures exact { Reads same (T.state tape.old) result (T.state tape.new) (the_subroutines start offset local_dictionary.now) }
+    ensures listed { IsListed (1 ∷ 2 ∷ 3 ∷ 5 ∷ 6 ∷ 13 ∷ 14 ∷ 15 ∷ []) result }
+{
+    let place = place_at(start, offset, local_dictionary, Operator::Subrs)?;
+    Ok(read_at::<Subroutines, T>(alloc, tape, place)?)
+}
+
+/// What a font has for each of its dictionaries, kind by kind.
+#[derive(Drop)]
+pub(super) struct Parts {
+    pub(super) encodings: Vec<Encoding>,
+    pub(super) char_sets: Vec<CharSet>,
+    pub(super) char_strings: Vec<CharStrings>,
+    pub(super) local_dictionaries: Vec<Operations>,
+    pub(super) local_subroutines: Vec<Subroutines>,
+}
+
+impl Model for Parts {
+    ghost use Rattle.postscript_compact1.specs.FontSet.Font.{Columns};
+
+    ghost Value = { Columns };
+
+    ghost view = { λ parts. record {
+        encodings = parts.encodings.items;
+        char_sets = parts.char_sets.items;
+        char_strings = parts.char_strings.items;
+        local_dictionaries = parts.local_dictionaries.items;
+        local_subroutines = parts.local_subroutines.items;
+    } };
+}
+
+impl Parts {
+    /// No parts.
+    fn empty(alloc: Global) -> Self
+        ensures { result ≡ columns [] }
+    {
+        Parts {
+            encodings: Vec::new(alloc),
+            char_sets: Vec::new(alloc),
+            char_strings: Vec::new(alloc),
+            local_dictionaries: Vec::new(alloc),
+            local_subroutines: Vec::new(alloc),
+        }
+    }
+
+    /// Takes one part more.
+    fn push(&mut self, part: Part) -> Result<()>
+        ensures ok { OnOk result (self.new ≡ more self.old part) }
+        ensures listed { IsListed (3 ∷ []) result }
+    {
+        self.encodings.push(part.encoding)?;
+        self.char_sets.push(part.char_set)?;
+        self.char_strings.push(part.char_strings)?;
+        self.local_dictionaries.push(part.local_dictionary)?;
+        self.local_subroutines.push(part.local_subroutines)?;
+        Ok(())
+    }
+}
+
+/// Reads what a font has for each of its dictionaries.
+pub(super) fn read_parts<T: Tape>(
+    alloc: Global,
+    tape: &mut T,
+    start: u64,
+    dictionaries: &[Operations],
+) -> Result<Parts>
+    ensures exact { Reads same (T.state tape.old) result (T.state tape.new) (parts start dictionaries.now) }
+    ensures listed { IsListed (1 ∷ 2 ∷ 3 ∷ 5 ∷ 6 ∷ 7 ∷ 8 ∷ 9 ∷ 10 ∷ 11 ∷ 12 ∷ 13 ∷ 14 ∷ 15 ∷ 16 ∷ []) result }
+{
+    let mut parts = Parts::empty(alloc);
+    for dictionary in dictionaries {
+        let part = read_part(alloc, tape, start, dictionary)?;
+        parts.push(part)?;
+    }
+    Ok(parts)
+}

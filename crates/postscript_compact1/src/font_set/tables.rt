@@ -1,0 +1,69 @@
+//! What stands behind the header of a font.
+ghost use Rattle.std.specs.Prelude.{[], ◌∷◌, map, string_bytes};
+ghost use Rattle.postscript_base.specs.Error.{IsListed};
+ghost use Rattle.postscript_base.specs.Tape.{Reads};
+ghost use Rattle.postscript_base.specs.Tape.Outcome.{same};
+ghost use Rattle.postscript_compact1.specs.FontSet.Order.{names as the_names, dictionaries as the_dictionaries, tables};
+
+use crate::index::{Dictionaries, Names, Strings, Subroutines};
+use postscript_base::compact1::Operations;
+use postscript_base::tape::read_at;
+use postscript_base::{Result, Tape, Value};
+use std::alloc::Global;
+use std::marker::Model;
+
+/// What stands behind the header of a font.
+#[derive(Drop)]
+pub(super) struct Tables {
+    pub(super) names: Vec<String>,
+    pub(super) dictionaries: Vec<Operations>,
+    pub(super) strings: Strings,
+    pub(super) subroutines: Subroutines,
+}
+
+impl Model for Tables {
+    ghost use Rattle.std.specs.Prelude.{map, string_bytes};
+    ghost use Rattle.postscript_compact1.specs.FontSet.Font.{Tables};
+
+    ghost Value = { Tables };
+
+    ghost view = { λ tables. record { names = map string_bytes tables.names.items; dictionaries = tables.dictionaries.items; strings = tables.strings; subroutines = tables.subroutines } };
+}
+
+/// Reads names, dictionaries, strings and global subroutines, one behind the other.
+#[tactic(auto, unfolding(crate::specs::FontSet::Order::tables))]
+pub(super) fn read_tables<T: Tape>(alloc: Global, tape: &mut T, place: u64) -> Result<Tables>
+    ensures exact { Reads same (T.state tape.old) result (T.state tape.new) (tables place) }
+    ensures listed { IsListed (1 ∷ 2 ∷ 3 ∷ 5 ∷ 6 ∷ 7 ∷ 8 ∷ 9 ∷ []) result }
+{
+    let names = read_names(alloc, tape, place)?;
+    let dictionaries = read_dictionaries(alloc, tape)?;
+    let strings = Strings::read(alloc, tape)?;
+    let subroutines = Subroutines::read(alloc, tape)?;
+    Ok(Tables {
+        names,
+        dictionaries,
+        strings,
+        subroutines,
+    })
+}
+
+/// Reads the names, each as a text.
+#[tactic(auto, using(crate::proofs::Needs::index_needs), unfolding(crate::specs::FontSet::Order::names))]
+fn read_names<T: Tape>(alloc: Global, tape: &mut T, place: u64) -> Result<Vec<String>>
+    ensures exact { Reads (λ names. map string_bytes names.items) (T.state tape.old) result (T.state tape.new) (the_names place) }
+    ensures listed { IsListed (1 ∷ 2 ∷ 3 ∷ 5 ∷ 6 ∷ []) result }
+{
+    let names = read_at::<Names, T>(alloc, tape, place)?;
+    names.into(alloc)
+}
+
+/// Reads the dictionaries.
+#[tactic(auto, unfolding(crate::specs::FontSet::Order::dictionaries))]
+fn read_dictionaries<T: Tape>(alloc: Global, tape: &mut T) -> Result<Vec<Operations>>
+    ensures exact { Reads (λ dictionaries. dictionaries.items) (T.state tape.old) result (T.state tape.new) the_dictionaries }
+    ensures listed { IsListed (1 ∷ 2 ∷ 3 ∷ 5 ∷ 6 ∷ 7 ∷ 8 ∷ 9 ∷ []) result }
+{
+    let dictionaries = Dictionaries::read(alloc, tape)?;
+    Ok(dictionaries.into(alloc)?)
+}
