@@ -1,2 +1,4 @@
 pub mod StandardStringRows
 pub mod EncodingRows
+pub mod CharSetRows
+pub mod Ranges

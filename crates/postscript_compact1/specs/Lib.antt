@@ -1,2 +1,3 @@
 pub mod StandardStrings
 pub mod Encodings
+pub mod CharSets
