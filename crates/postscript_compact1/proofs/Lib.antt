@@ -2,3 +2,5 @@ pub mod StandardStringRows
 pub mod IndexRows
 pub mod EncodingRows
 pub mod Clones
+pub mod CharSetRows
+pub mod Ranges

@@ -4,3 +4,4 @@ pub mod Index
 pub mod IndexLaw
 pub mod Kinds
 pub mod Encodings
+pub mod CharSets

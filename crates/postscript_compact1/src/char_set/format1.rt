@@ -1,0 +1,90 @@
+//! Char sets of format 1.
+ghost use Rattle.std.specs.Prelude.{◌≡◌, ℕ, List, [], ◌∷◌, IfOk};
+ghost use Rattle.postscript_base.specs.Error.{IsListed};
+ghost use Rattle.postscript_base.specs.Tape.{Reads};
+ghost use Rattle.postscript_base.specs.Tape.Outcome.{same};
+ghost use Rattle.postscript_base.specs.Tape.Seen.{each_as_it_is};
+ghost use Rattle.postscript_compact1.specs.CharSets.{char_set_1, covered as the_covered};
+ghost use Rattle.postscript_compact1.specs.CharSets.Formats.{Covered};
+ghost use Rattle.postscript_compact1.specs.declared.char_set.range.Range1.{Range1};
+
+use super::range::Range1;
+use postscript_base::error::{Error, Result};
+use postscript_base::tape::read_until;
+use postscript_base::{Tape, Value, Walue};
+use std::alloc::Global;
+use std::marker::Model;
+
+/// A char set of ranges (Technical Note 5176, "Charsets", Table 18).
+#[derive(Debug, Drop)]
+pub struct CharSet1 {
+    /// The format, which is 1.
+    pub format: u8,
+    /// The ranges that cover the glyphs from 1.
+    pub ranges: Vec<Range1>,
+}
+
+impl Model for CharSet1 {
+    ghost use Rattle.postscript_compact1.specs.CharSets.Formats.{Covered};
+    ghost use Rattle.postscript_compact1.specs.declared.char_set.range.Range1.{Range1};
+
+    ghost Value = { Covered Range1 };
+
+    ghost view = { λ set. record { format = set.format; ranges = set.ranges.items } };
+}
+
+impl CharSet1 {
+    /// An equal char set.
+    pub fn clone(&self) -> Result<Self>
+        ensures equal { IfOk result (λ set. set ≡ self.now) }
+        ensures listed { IsListed (3 ∷ []) result }
+    {
+        Ok(CharSet1 {
+            format: self.format,
+            ranges: self.ranges.clone()?,
+        })
+    }
+}
+
+/// The parameter is the number of glyphs.
+///
+/// Refused: `MalformedCharSet` for another first byte than 1 and for no glyphs, behind the first byte, and where the
+/// ranges cover more glyphs than there are, `UnexpectedEof`, `Io`, `Memory`.
+#[tactic(auto, unfolding(crate::specs::CharSets::char_set_1))]
+impl Walue for CharSet1 {
+    type Parameter = usize;
+
+    ghost Shown = { Covered Range1 };
+
+    ghost view = { same };
+
+    ghost views = { same };
+
+    ghost views_each = { each_as_it_is };
+
+    ghost reading = { char_set_1 };
+
+    ghost refusals = { 1 ∷ 2 ∷ 3 ∷ 10 ∷ [] };
+
+    fn read<T: Tape>(alloc: Global, tape: &mut T, glyphs: usize) -> Result<CharSet1> {
+        match u8::read(alloc, tape)? {
+            1 => covered(alloc, tape, glyphs),
+            _ => Err(Error::MalformedCharSet),
+        }
+    }
+}
+
+/// What follows the byte of the format.
+#[tactic(auto, using(crate::proofs::Ranges::ranges_take), unfolding(crate::specs::CharSets::covered))]
+pub(super) fn covered<T: Tape>(alloc: Global, tape: &mut T, glyphs: usize) -> Result<CharSet1>
+    ensures exact { Reads same (T.state tape.old) result (T.state tape.new) (the_covered glyphs) }
+    ensures listed { IsListed (1 ∷ 2 ∷ 3 ∷ 10 ∷ []) result }
+{
+    if glyphs == 0 {
+        return Err(Error::MalformedCharSet);
+    }
+    Ok(CharSet1 {
+        format: 1,
+        ranges: read_until(alloc, tape, glyphs - 1)?,
+    })
+}
