@@ -1,2 +1,4 @@
+pub mod StandardStringRows
+pub mod EncodingRows
 pub mod IndexRows
 pub mod Clones

@@ -1,3 +1,6 @@
+pub mod StandardStrings
+pub mod Encodings
 pub mod Index
 pub mod IndexLaw
 pub mod Kinds
+pub mod Texts
