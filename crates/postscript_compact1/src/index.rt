@@ -17,6 +17,7 @@ mod subroutines;
 pub use char_strings::CharStrings;
 pub use dictionaries::Dictionaries;
 pub use names::Names;
+pub use crate::standard_strings::get_standard_string;
 use postscript_base::compact1::{Offset, OffsetSize};
 use postscript_base::tape::{Source, read_chain, read_each};
 use postscript_base::{Result, Tape, Value, Walue};

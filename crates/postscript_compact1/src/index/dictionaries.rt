@@ -1,10 +1,14 @@
 //! Dictionaries.
-ghost use Rattle.std.specs.Prelude.{◌≡◌, [], ◌∷◌, IfOk};
+ghost use Rattle.std.specs.Prelude.{◌≡◌, ℕ, List, [], ◌∷◌, IfOk, slice_get};
 ghost use Rattle.postscript_base.specs.Error.{IsListed};
+ghost use Rattle.postscript_base.specs.Tape.Outcome.{Answers, same};
+ghost use Rattle.postscript_compact1.specs.Kinds.{map_of, map_if, maps_of};
 
 use super::Index;
+use postscript_base::compact1::Operations;
 use postscript_base::{Result, Tape, Value};
 use std::alloc::Global;
+use std::io::Cursor;
 use std::marker::Model;
 use std::ops::Deref;
 
@@ -38,6 +42,37 @@ impl Dictionaries {
     {
         Ok(Dictionaries(self.0.clone()?))
     }
+
+    /// The dictionary at a place, counted from 0.
+    ///
+    /// Refused: `MalformedNumber`, `OutOfRangeNumber`, `UnknownOperator`, `Memory`.
+    pub fn operations(&self, alloc: Global, i: usize) -> Result<Option<Operations>>
+        ensures exact { (bytes : List ℕ) (place : ℕ) → Answers same result place (map_if (slice_get self.now.items i) bytes place) }
+        ensures listed { IsListed (3 ∷ 7 ∷ 8 ∷ 9 ∷ []) result }
+    {
+        match self.item(i) {
+            None => Ok(None),
+            Some(item) => Ok(Some(operations_of(alloc, item)?)),
+        }
+    }
+
+    /// The dictionaries, in order.
+    ///
+    /// Refused as the first dictionary that is refused is: `MalformedNumber`, `OutOfRangeNumber`, `UnknownOperator`,
+    /// `Memory`.
+    #[tactic(auto, unfolding(crate::specs::Kinds::maps_of))]
+    pub fn into(self, alloc: Global) -> Result<Vec<Operations>>
+        ensures exact { (bytes : List ℕ) (place : ℕ) → Answers (λ maps. maps.items) result place (maps_of self.items bytes place) }
+        ensures listed { IsListed (3 ∷ 7 ∷ 8 ∷ 9 ∷ []) result }
+    {
+        let mut maps = Vec::new(alloc);
+        for i in 0..self.len() {
+            if let Some(map) = self.operations(alloc, i)? {
+                maps.push(map)?;
+            }
+        }
+        Ok(maps)
+    }
 }
 
 /// Refused as an `Index` is.
@@ -62,4 +97,13 @@ impl Value for Dictionaries {
     fn read<T: Tape>(alloc: Global, tape: &mut T) -> Result<Dictionaries> {
         Ok(Dictionaries(Index::read(alloc, tape)?))
     }
+}
+
+/// The dictionary that the bytes of an item are.
+#[tactic(auto, unfolding(crate::specs::Kinds::map_of))]
+fn operations_of(alloc: Global, item: &[u8]) -> Result<Operations>
+    ensures exact { (bytes : List ℕ) (place : ℕ) → Answers same result place (map_of item.now bytes place) }
+    ensures listed { IsListed (3 ∷ 7 ∷ 8 ∷ 9 ∷ []) result }
+{
+    Operations::read(alloc, &mut Cursor::new(item))
 }

@@ -1,8 +1,10 @@
 //! The names of fonts.
-ghost use Rattle.std.specs.Prelude.{◌≡◌, [], ◌∷◌, IfOk};
+ghost use Rattle.std.specs.Prelude.{◌≡◌, [], ◌∷◌, IfOk, map, string_bytes};
 ghost use Rattle.postscript_base.specs.Error.{IsListed};
+ghost use Rattle.postscript_compact1.specs.Texts.{text};
 
 use super::Index;
+use bstr::ByteVec;
 use postscript_base::{Result, Tape, Value};
 use std::alloc::Global;
 use std::marker::Model;
@@ -37,6 +39,19 @@ impl Names {
         ensures listed { IsListed (3 ∷ []) result }
     {
         Ok(Names(self.0.clone()?))
+    }
+
+    /// The names as texts. Bytes that are not UTF-8 are read as `bstr` does, with U+FFFD for what is no character.
+    #[tactic(auto, unfolding(crate::specs::Texts::text))]
+    pub fn into(self, alloc: Global) -> Result<Vec<String>>
+        ensures texts { IfOk result (λ texts. map string_bytes texts.items ≡ map text self.items) }
+        ensures listed { IsListed (3 ∷ []) result }
+    {
+        let mut texts = Vec::new(alloc);
+        for item in self.0.items {
+            texts.push(item.into_string_lossy()?)?;
+        }
+        Ok(texts)
     }
 }
 

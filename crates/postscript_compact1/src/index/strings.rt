@@ -1,8 +1,11 @@
 //! Strings.
-ghost use Rattle.std.specs.Prelude.{◌≡◌, [], ◌∷◌, IfOk};
+ghost use Rattle.std.specs.Prelude.{◌≡◌, [], ◌∷◌, IfOk, string_bytes, option_map};
 ghost use Rattle.postscript_base.specs.Error.{IsListed};
+ghost use Rattle.postscript_compact1.specs.Texts.{string_of, text};
 
-use super::Index;
+use super::{Index, get_standard_string};
+use bstr::ByteSlice;
+use postscript_base::compact1::StringID;
 use postscript_base::{Result, Tape, Value};
 use std::alloc::Global;
 use std::marker::Model;
@@ -38,6 +41,22 @@ impl Strings {
     {
         Ok(Strings(self.0.clone()?))
     }
+
+    /// The string of an identifier: below 391 the standard string, from there on the text of item `sid - 391`. Bytes
+    /// that are not UTF-8 are read as `bstr` does, with U+FFFD for what is no character.
+    #[tactic(auto, unfolding(crate::specs::Texts::string_of))]
+    pub fn get(&self, alloc: Global, sid: StringID) -> Result<Option<String>>
+        ensures string { IfOk result (λ found. option_map string_bytes found ≡ string_of self.now.items sid) }
+        ensures listed { IsListed (3 ∷ []) result }
+    {
+        if let Some(standard) = get_standard_string(sid) {
+            return Ok(Some(String::from_str(alloc, standard)?));
+        }
+        match self.item(usize::from(sid) - 391) {
+            None => Ok(None),
+            Some(item) => Ok(Some(text_of(alloc, item)?)),
+        }
+    }
 }
 
 /// Refused as an `Index` is.
@@ -62,4 +81,15 @@ impl Value for Strings {
     fn read<T: Tape>(alloc: Global, tape: &mut T) -> Result<Strings> {
         Ok(Strings(Index::read(alloc, tape)?))
     }
+}
+
+/// The text that bytes are.
+#[tactic(auto, unfolding(crate::specs::Texts::text))]
+fn text_of(alloc: Global, item: &[u8]) -> Result<String>
+    ensures text { IfOk result (λ found. string_bytes found ≡ text item.now) }
+    ensures listed { IsListed (3 ∷ []) result }
+{
+    let mut found = String::new(alloc);
+    item.to_str_lossy_into(&mut found)?;
+    Ok(found)
 }

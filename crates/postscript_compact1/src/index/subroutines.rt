@@ -1,6 +1,7 @@
 //! Subroutines of charstrings.
 ghost use Rattle.std.specs.Prelude.{◌≡◌, [], ◌∷◌, IfOk};
 ghost use Rattle.postscript_base.specs.Error.{IsListed};
+ghost use Rattle.postscript_compact1.specs.Index.{empty};
 
 use super::Index;
 use postscript_base::{Result, Tape, Value};
@@ -31,6 +32,13 @@ impl Deref for Subroutines {
 }
 
 impl Subroutines {
+    /// No subroutines.
+    pub fn empty(alloc: Global) -> Self
+        ensures { result ≡ empty }
+    {
+        Subroutines(Index::empty(alloc))
+    }
+
     /// Equal subroutines.
     pub fn clone(&self) -> Result<Self>
         ensures equal { IfOk result (λ subroutines. subroutines ≡ self.now) }
