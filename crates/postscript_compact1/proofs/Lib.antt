@@ -4,3 +4,4 @@ pub mod EncodingRows
 pub mod Clones
 pub mod CharSetRows
 pub mod Ranges
+pub mod Needs

@@ -3,3 +3,4 @@ pub mod Operands
 pub mod Font
 pub mod Order
 pub mod Layout
+pub mod Shown

@@ -5,4 +5,3 @@ pub mod IndexLaw
 pub mod Kinds
 pub mod Encodings
 pub mod CharSets
-pub mod Texts

@@ -2,10 +2,9 @@
 ghost use Rattle.std.specs.Prelude.{◌≡◌, [], ◌∷◌, map, IfOk, OnOk};
 ghost use Rattle.postscript_base.specs.Error.{IsListed};
 ghost use Rattle.postscript_base.specs.Tape.{Reads};
-ghost use Rattle.postscript_base.specs.Tape.Outcome.{same};
-ghost use Rattle.postscript_base.specs.Tape.Seen.{each_as_it_is};
 ghost use Rattle.postscript_compact1.specs.FontSet.Font.{font_of};
 ghost use Rattle.postscript_compact1.specs.FontSet.Order.{font};
+ghost use Rattle.postscript_compact1.specs.FontSet.Shown.{font_shown, tables_shown, parts_shown};
 
 mod operands;
 mod parts;
@@ -18,7 +17,6 @@ use parts::{Parts, read_parts};
 use postscript_base::compact1::{Header, Operations};
 use postscript_base::{Error, Result, Tape, Value};
 use std::alloc::Global;
-use std::marker::Model;
 use tables::{Tables, read_tables};
 
 /// A font set: what a file of the Compact Font Format holds.
@@ -45,30 +43,10 @@ pub struct FontSet {
     pub local_subroutines: Vec<Subroutines>,
 }
 
-impl Model for FontSet {
-    ghost use Rattle.std.specs.Prelude.{map, string_bytes};
-    ghost use Rattle.postscript_compact1.specs.FontSet.Font.{Font};
-
-    ghost Value = { Font };
-
-    ghost view = { λ font. record {
-        header = font.header;
-        names = map string_bytes font.names.items;
-        strings = font.strings;
-        encodings = font.encodings.items;
-        char_sets = font.char_sets.items;
-        char_strings = font.char_strings.items;
-        global_dictionaries = font.global_dictionaries.items;
-        global_subroutines = font.global_subroutines;
-        local_dictionaries = font.local_dictionaries.items;
-        local_subroutines = font.local_subroutines.items;
-    } };
-}
-
 /// Reads a font.
 #[tactic(auto, unfolding(crate::specs::FontSet::Order::font))]
 fn read_font<T: Tape>(alloc: Global, tape: &mut T) -> Result<FontSet>
-    ensures exact { Reads same (T.state tape.old) result (T.state tape.new) font }
+    ensures exact { Reads font_shown (T.state tape.old) result (T.state tape.new) font }
     ensures listed { IsListed (1 ∷ 2 ∷ 3 ∷ 5 ∷ 6 ∷ 7 ∷ 8 ∷ 9 ∷ 10 ∷ 11 ∷ 12 ∷ 13 ∷ 14 ∷ 15 ∷ 16 ∷ []) result }
 {
     let start = tape.position()?;
@@ -83,7 +61,7 @@ fn read_font<T: Tape>(alloc: Global, tape: &mut T) -> Result<FontSet>
 
 /// The font of its header, of what stands behind it, and of its parts.
 fn of_parts(header: Header, tables: Tables, parts: Parts) -> FontSet
-    ensures { result ≡ font_of header tables parts }
+    ensures { font_shown result ≡ font_of header (tables_shown tables) (parts_shown parts) }
 {
     FontSet {
         header,

@@ -75,7 +75,7 @@ pub record IsPart (bytes : List ℕ) (start : ℕ) (map : Dictionary) (part : Pa
   pub private_offset : ℕ
   pub encoding : HasEncoding map part.encoding
   pub char_strings : HasCharStrings bytes start map part.char_strings char_strings_next
-  pub char_set : HasCharSet bytes start part.char_strings.count map part.char_set
+  pub char_set : HasCharSet bytes start (length part.char_strings.items) map part.char_set
   pub private : HasPrivate bytes start map private_offset part.local_dictionary
   pub local_subroutines : HasSubroutines bytes start private_offset part.local_dictionary part.local_subroutines next
 

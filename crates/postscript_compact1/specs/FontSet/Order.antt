@@ -1,5 +1,5 @@
 -- The order in which a font is read (Technical Note 5176, "CFF Data Layout"). Offsets count from the font's start.
-use Rattle.std.specs.Prelude.{ℕ, ◌+◌, ℤ, pos, negsuc, List, map, ◌==◌, if◌then◌else◌}
+use Rattle.std.specs.Prelude.{ℕ, ◌+◌, ℤ, pos, negsuc, List, length, map, ◌==◌, if◌then◌else◌}
 use Rattle.postscript_base.specs.Refusal.{OfPart}
 use Rattle.postscript_base.specs.Tape.Outcome.{Reading, pure, fault, position, ◌>>=◌}
 use Rattle.postscript_base.specs.Tape.At.{at, bytes_at}
@@ -71,7 +71,7 @@ unfoldable pub part : ℕ → Dictionary → Reading Part
 part start map = do
   encoding ← encoding map
   char_strings ← char_strings start map
-  char_set ← char_set start char_strings.count map
+  char_set ← char_set start (length char_strings.items) map
   private ← private start map
   local_subroutines ← subroutines start private.0 private.1
   pure (record { encoding = encoding; char_strings = char_strings; char_set = char_set; local_dictionary = private.1; local_subroutines = local_subroutines })

@@ -5,6 +5,7 @@ ghost use Rattle.postscript_base.specs.Tape.{Reads};
 ghost use Rattle.postscript_base.specs.Tape.Outcome.{Answers, same};
 ghost use Rattle.postscript_compact1.specs.FontSet.Order.{encoding as the_encoding, char_strings as the_char_strings, char_set as the_char_set, char_set_offset as the_char_set_offset, own_char_set as the_own_char_set, private as the_private, subroutines as the_subroutines, part, parts};
 ghost use Rattle.postscript_compact1.specs.FontSet.Font.{columns, more};
+ghost use Rattle.postscript_compact1.specs.FontSet.Shown.{part_shown, parts_shown};
 
 use super::operands::{bounds, first, place_at, type_two};
 use crate::char_set::CharSet;
@@ -15,7 +16,6 @@ use postscript_base::error::Part as Unsupported;
 use postscript_base::tape::{bytes_at, read_at, read_given_at};
 use postscript_base::{Error, Result, Tape};
 use std::alloc::Global;
-use std::marker::Model;
 
 /// What a font has for one of its dictionaries.
 #[derive(Drop)]
@@ -27,14 +27,6 @@ pub(super) struct Part {
     pub(super) local_subroutines: Subroutines,
 }
 
-impl Model for Part {
-    ghost use Rattle.postscript_compact1.specs.FontSet.Font.{Part};
-
-    ghost Value = { Part };
-
-    ghost view = { λ part. record { encoding = part.encoding; char_strings = part.char_strings; char_set = part.char_set; local_dictionary = part.local_dictionary; local_subroutines = part.local_subroutines } };
-}
-
 /// Reads what a font has for one of its dictionaries.
 #[tactic(auto, unfolding(crate::specs::FontSet::Order::part))]
 pub(super) fn read_part<T: Tape>(
@@ -43,7 +35,7 @@ pub(super) fn read_part<T: Tape>(
     start: u64,
     dictionary: &Operations,
 ) -> Result<Part>
-    ensures exact { Reads same (T.state tape.old) result (T.state tape.new) (part start dictionary.now) }
+    ensures exact { Reads part_shown (T.state tape.old) result (T.state tape.new) (part start dictionary.now) }
     ensures listed { IsListed (1 ∷ 2 ∷ 3 ∷ 5 ∷ 6 ∷ 7 ∷ 8 ∷ 9 ∷ 10 ∷ 11 ∷ 12 ∷ 13 ∷ 14 ∷ 15 ∷ 16 ∷ []) result }
 {
     let encoding = encoding(dictionary)?;
@@ -184,24 +176,10 @@ pub(super) struct Parts {
     pub(super) local_subroutines: Vec<Subroutines>,
 }
 
-impl Model for Parts {
-    ghost use Rattle.postscript_compact1.specs.FontSet.Font.{Columns};
-
-    ghost Value = { Columns };
-
-    ghost view = { λ parts. record {
-        encodings = parts.encodings.items;
-        char_sets = parts.char_sets.items;
-        char_strings = parts.char_strings.items;
-        local_dictionaries = parts.local_dictionaries.items;
-        local_subroutines = parts.local_subroutines.items;
-    } };
-}
-
 impl Parts {
     /// No parts.
     fn empty(alloc: Global) -> Self
-        ensures { result ≡ columns [] }
+        ensures { parts_shown result ≡ columns [] }
     {
         Parts {
             encodings: Vec::new(alloc),
@@ -214,7 +192,7 @@ impl Parts {
 
     /// Takes one part more.
     fn push(&mut self, part: Part) -> Result<()>
-        ensures ok { OnOk result (self.new ≡ more self.old part) }
+        ensures ok { OnOk result (parts_shown self.new ≡ more (parts_shown self.old) (part_shown part)) }
         ensures listed { IsListed (3 ∷ []) result }
     {
         self.encodings.push(part.encoding)?;
@@ -233,7 +211,7 @@ pub(super) fn read_parts<T: Tape>(
     start: u64,
     dictionaries: &[Operations],
 ) -> Result<Parts>
-    ensures exact { Reads same (T.state tape.old) result (T.state tape.new) (parts start dictionaries.now) }
+    ensures exact { Reads parts_shown (T.state tape.old) result (T.state tape.new) (parts start dictionaries.now) }
     ensures listed { IsListed (1 ∷ 2 ∷ 3 ∷ 5 ∷ 6 ∷ 7 ∷ 8 ∷ 9 ∷ 10 ∷ 11 ∷ 12 ∷ 13 ∷ 14 ∷ 15 ∷ 16 ∷ []) result }
 {
     let mut parts = Parts::empty(alloc);

@@ -2,15 +2,14 @@
 ghost use Rattle.std.specs.Prelude.{[], ◌∷◌, map, string_bytes};
 ghost use Rattle.postscript_base.specs.Error.{IsListed};
 ghost use Rattle.postscript_base.specs.Tape.{Reads};
-ghost use Rattle.postscript_base.specs.Tape.Outcome.{same};
 ghost use Rattle.postscript_compact1.specs.FontSet.Order.{names as the_names, dictionaries as the_dictionaries, tables};
+ghost use Rattle.postscript_compact1.specs.FontSet.Shown.{tables_shown};
 
 use crate::index::{Dictionaries, Names, Strings, Subroutines};
 use postscript_base::compact1::Operations;
 use postscript_base::tape::read_at;
 use postscript_base::{Result, Tape, Value};
 use std::alloc::Global;
-use std::marker::Model;
 
 /// What stands behind the header of a font.
 #[derive(Drop)]
@@ -21,19 +20,10 @@ pub(super) struct Tables {
     pub(super) subroutines: Subroutines,
 }
 
-impl Model for Tables {
-    ghost use Rattle.std.specs.Prelude.{map, string_bytes};
-    ghost use Rattle.postscript_compact1.specs.FontSet.Font.{Tables};
-
-    ghost Value = { Tables };
-
-    ghost view = { λ tables. record { names = map string_bytes tables.names.items; dictionaries = tables.dictionaries.items; strings = tables.strings; subroutines = tables.subroutines } };
-}
-
 /// Reads names, dictionaries, strings and global subroutines, one behind the other.
 #[tactic(auto, unfolding(crate::specs::FontSet::Order::tables))]
 pub(super) fn read_tables<T: Tape>(alloc: Global, tape: &mut T, place: u64) -> Result<Tables>
-    ensures exact { Reads same (T.state tape.old) result (T.state tape.new) (tables place) }
+    ensures exact { Reads tables_shown (T.state tape.old) result (T.state tape.new) (tables place) }
     ensures listed { IsListed (1 ∷ 2 ∷ 3 ∷ 5 ∷ 6 ∷ 7 ∷ 8 ∷ 9 ∷ []) result }
 {
     let names = read_names(alloc, tape, place)?;
