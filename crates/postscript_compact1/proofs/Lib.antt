@@ -2,3 +2,4 @@ pub mod StandardStringRows
 pub mod EncodingRows
 pub mod IndexRows
 pub mod Clones
+pub mod Maps

@@ -66,10 +66,8 @@ impl Dictionaries {
         ensures listed { IsListed (3 ∷ 7 ∷ 8 ∷ 9 ∷ []) result }
     {
         let mut maps = Vec::new(alloc);
-        for i in 0..self.len() {
-            if let Some(map) = self.operations(alloc, i)? {
-                maps.push(map)?;
-            }
+        'maps: while let Some(map) = self.operations(alloc, maps.len())? {
+            maps.push(map)?;
         }
         Ok(maps)
     }
