@@ -1,5 +1,5 @@
 -- Dictionaries of items, one after the other: those that are read stand in front, and the rest is still to be read.
-use Rattle.std.proofs.Common.{◌≡◌, refl, ap, ◌∙◌, ℕ, ◌+◌, ◌≤◌, ◌<◌, Option, Some, None, ◌++◌, List, [], ◌∷◌, length, drop, add-one, drop-cons, get_or, slice_get}
+use Rattle.std.proofs.Common.{◌≡◌, ◌≢◌, refl, ap, ◌∙◌, ℕ, ◌+◌, ◌≤◌, ◌<◌, Option, Some, None, ◌++◌, List, [], ◌∷◌, length, drop, add-one, drop-cons, get_or, slice_get, inl, inr}
 use Rattle.std.proofs.lemmas.List.{drop_all}
 use Rattle.std.proofs.lemmas.Option.{slice_get_within, get_or_from_slice_get, slice_get_cases}
 use Rattle.postscript_base.specs.Compact1.Dictionary.{Dictionary}
@@ -56,13 +56,14 @@ module _ (items : List (List ℕ)) (i : ℕ) (bytes : List ℕ) (place : ℕ) (f
       by (Some item) is refusal = ends front (map_of item bytes place) (λ _ next. each map_of (drop (i + 1) items) bytes next) e _ total (refused (map_of item bytes place) e refusal) (more item is) so_far
 
   -- none is left
-  pub maps_done : map_if (slice_get items i) bytes place ≡ Got None place → with_front front (each map_of (drop i items) bytes place) ≡ total → total ≡ Got front place
+  pub maps_done : (found : Option Dictionary) → ((map : Dictionary) → found ≢ Some map) → map_if (slice_get items i) bytes place ≡ Got found place → with_front front (each map_of (drop i items) bytes place) ≡ total → total ≡ Got front place
   unfolding each
-  maps_done none so_far = by (slice_get items i) refl none
+  maps_done (Some map) none got so_far = absurd (none map refl)
+  maps_done None none got so_far = by (slice_get items i) refl got
     where
       by : (o : Option (List ℕ)) → slice_get items i ≡ o → map_if o bytes place ≡ Got None place → total ≡ Got front place
-      by None is none = let empty : drop i items ≡ [] = drop_all i items (none_here items i is) in is_done front place _ total (rw empty refl) so_far
-      by (Some item) is none = absurd (not_none (map_of item bytes place) place none)
+      by None is got = let empty : drop i items ≡ [] = drop_all i items (none_here items i is) in is_done front place _ total (rw empty refl) so_far
+      by (Some item) is got = absurd (not_none (map_of item bytes place) place got)
 
 -- an item whose dictionary is read is there
 pub there : (items : List (List ℕ)) (i : ℕ) (bytes : List ℕ) (place : ℕ) (map : Dictionary) → map_if (slice_get items i) bytes place ≡ Got (Some map) place → i < length items
