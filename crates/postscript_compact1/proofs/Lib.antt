@@ -5,3 +5,4 @@ pub mod Clones
 pub mod CharSetRows
 pub mod Ranges
 pub mod Needs
+pub mod Maps

@@ -21,5 +21,5 @@ map_if None = pure None
 map_if (Some item) = map_of item >>= λ map. pure (Some map)
 
 -- the dictionaries that items are, up to the first that is refused
-unfoldable pub maps_of : List (List ℕ) → Reading (List Dictionary)
+abbrev pub maps_of : List (List ℕ) → Reading (List Dictionary)
 maps_of items = each map_of items

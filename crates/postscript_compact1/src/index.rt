@@ -1,9 +1,9 @@
 //! Indices: items with the offsets that bound them (Technical Note 5176, "INDEX Data").
-ghost use Rattle.std.specs.Prelude.{◌≡◌, ℕ, List, [], ◌∷◌, length, map, refl, IfOk, IfSome, IfNone, ◌+◌, ◌≤◌, slice_get};
+ghost use Rattle.std.specs.Prelude.{◌≡◌, ℕ, ◌+◌, List, [], ◌∷◌, length, map, refl, IfOk, slice_get};
+ghost use Rattle.std.specs.Option.{option_copied};
 ghost use Rattle.postscript_base.specs.Error.{IsListed};
 ghost use Rattle.postscript_base.specs.Numbers.{slice};
 ghost use Rattle.postscript_base.specs.Tape.{Reads};
-ghost use Rattle.postscript_base.specs.Tape.Loops.{each};
 ghost use Rattle.postscript_base.specs.Tape.Outcome.{same};
 ghost use Rattle.postscript_base.specs.Tape.Seen.{each_as_it_is};
 ghost use Rattle.postscript_compact1.specs.Index.{empty as no_items, filled, lengths, lengths_from, offsets as the_offsets};
@@ -78,8 +78,7 @@ impl Index {
 
     /// The item at a place, counted from 0.
     pub fn item(&self, i: usize) -> Option<&[u8]>
-        ensures some { IfSome result (λ item. slice_get self.now.items i ≡ Some item.now) }
-        ensures none { IfNone result (length self.now.items ≤ i) }
+        ensures { option_copied result ≡ slice_get self.now.items i }
     {
         Some(self.items.get(i)?.as_slice())
     }

@@ -60,16 +60,13 @@ impl Dictionaries {
     ///
     /// Refused as the first dictionary that is refused is: `MalformedNumber`, `OutOfRangeNumber`, `UnknownOperator`,
     /// `Memory`.
-    #[tactic(auto, unfolding(crate::specs::Kinds::maps_of))]
     pub fn into(self, alloc: Global) -> Result<Vec<Operations>>
         ensures exact { (bytes : List ℕ) (place : ℕ) → Answers (λ maps. maps.items) result place (maps_of self.items bytes place) }
         ensures listed { IsListed (3 ∷ 7 ∷ 8 ∷ 9 ∷ []) result }
     {
         let mut maps = Vec::new(alloc);
-        for i in 0..self.len() {
-            if let Some(map) = self.operations(alloc, i)? {
-                maps.push(map)?;
-            }
+        'maps: while let Some(map) = self.operations(alloc, maps.len())? {
+            maps.push(map)?;
         }
         Ok(maps)
     }

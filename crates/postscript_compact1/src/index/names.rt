@@ -48,7 +48,8 @@ impl Names {
         ensures listed { IsListed (3 ∷ []) result }
     {
         let mut texts = Vec::new(alloc);
-        for item in self.0.items {
+        let index = self.0;
+        for item in index.items {
             texts.push(item.into_string_lossy()?)?;
         }
         Ok(texts)

@@ -11,6 +11,9 @@ use std::alloc::Global;
 use std::marker::Model;
 use std::ops::Deref;
 
+/// How many standard strings there are.
+const STANDARD: usize = 391;
+
 /// An INDEX of strings.
 #[derive(Debug, Drop)]
 pub struct Strings(pub Index);
@@ -52,7 +55,7 @@ impl Strings {
         if let Some(standard) = get_standard_string(sid) {
             return Ok(Some(String::from_str(alloc, standard)?));
         }
-        match self.item(usize::from(sid) - 391) {
+        match self.item(usize::from(sid).saturating_sub(STANDARD)) {
             None => Ok(None),
             Some(item) => Ok(Some(text_of(alloc, item)?)),
         }
