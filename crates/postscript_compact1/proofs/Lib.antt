@@ -6,3 +6,5 @@ pub mod CharSetRows
 pub mod Ranges
 pub mod Needs
 pub mod Maps
+pub mod Outcomes
+pub mod EachPart

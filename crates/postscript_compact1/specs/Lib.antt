@@ -5,3 +5,4 @@ pub mod IndexLaw
 pub mod Kinds
 pub mod Encodings
 pub mod CharSets
+pub mod Texts

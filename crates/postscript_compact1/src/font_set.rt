@@ -15,9 +15,9 @@ use crate::encoding::Encoding;
 use crate::index::{CharStrings, Strings, Subroutines};
 use parts::{Parts, read_parts};
 use postscript_base::compact1::{Header, Operations};
-use postscript_base::{Error, Result, Tape, Value};
+use postscript_base::{Result, Tape, Value};
 use std::alloc::Global;
-use tables::{Tables, read_tables};
+use tables::{Tables, read_behind};
 
 /// A font set: what a file of the Compact Font Format holds.
 #[derive(Drop)]
@@ -44,17 +44,14 @@ pub struct FontSet {
 }
 
 /// Reads a font.
-#[tactic(auto, unfolding(crate::specs::FontSet::Order::font))]
+#[tactic(auto, using(crate::proofs::Outcomes::refused_after), unfolding(crate::specs::FontSet::Order::font))]
 fn read_font<T: Tape>(alloc: Global, tape: &mut T) -> Result<FontSet>
     ensures exact { Reads font_shown (T.state tape.old) result (T.state tape.new) font }
     ensures listed { IsListed (1 ∷ 2 ∷ 3 ∷ 5 ∷ 6 ∷ 7 ∷ 8 ∷ 9 ∷ 10 ∷ 11 ∷ 12 ∷ 13 ∷ 14 ∷ 15 ∷ 16 ∷ []) result }
 {
     let start = tape.position()?;
     let header = Header::read(alloc, tape)?;
-    let Some(place) = start.checked_add(u64::from(header.header_size)) else {
-        return Err(Error::OutOfRangeOffset);
-    };
-    let tables = read_tables(alloc, tape, place)?;
+    let tables = read_behind(alloc, tape, start, header)?;
     let parts = read_parts(alloc, tape, start, &tables.dictionaries)?;
     Ok(of_parts(header, tables, parts))
 }

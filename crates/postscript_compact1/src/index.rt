@@ -16,6 +16,7 @@ mod subroutines;
 
 pub use char_strings::CharStrings;
 pub use dictionaries::Dictionaries;
+pub(crate) use dictionaries::operations_of;
 pub use names::Names;
 pub use crate::standard_strings::get_standard_string;
 use postscript_base::compact1::{Offset, OffsetSize};

@@ -6,6 +6,7 @@ use Rattle.postscript_base.specs.Tape.At.{at, bytes_at}
 use Rattle.postscript_base.specs.Tape.Loops.{each}
 use Rattle.postscript_base.specs.Compact1.Dictionary.{Dictionary}
 use Rattle.postscript_base.specs.Compact1.Header.{header}
+use Rattle.postscript_base.specs.declared.compact1.header.Header.{Header}
 use Rattle.postscript_base.specs.declared.compact1.operator.Operator.TheVariants as operators
 use Rattle.postscript_base.specs.declared.error.Part.TheVariants as unsupported
 use Rattle.postscript_compact1.specs.Index.{Index, index}
@@ -66,15 +67,27 @@ subroutines start offset local_dictionary = do
   place ← place_at start offset local_dictionary operators.Subrs
   at place index
 
+-- the char strings, and the char set for as many glyphs
+unfoldable pub glyphs : ℕ → Dictionary → Reading (Index × CharSet)
+glyphs start map = do
+  char_strings ← char_strings start map
+  char_set ← char_set start (length char_strings.items) map
+  pure (char_strings, char_set)
+
+-- the private dictionary and its subroutines
+unfoldable pub locals : ℕ → Dictionary → Reading (Dictionary × Index)
+locals start map = do
+  private ← private start map
+  subroutines ← subroutines start private.0 private.1
+  pure (private.1, subroutines)
+
 -- what a font has for one dictionary
 unfoldable pub part : ℕ → Dictionary → Reading Part
 part start map = do
   encoding ← encoding map
-  char_strings ← char_strings start map
-  char_set ← char_set start (length char_strings.items) map
-  private ← private start map
-  local_subroutines ← subroutines start private.0 private.1
-  pure (record { encoding = encoding; char_strings = char_strings; char_set = char_set; local_dictionary = private.1; local_subroutines = local_subroutines })
+  glyphs ← glyphs start map
+  locals ← locals start map
+  pure (record { encoding = encoding; char_strings = glyphs.0; char_set = glyphs.1; local_dictionary = locals.0; local_subroutines = locals.1 })
 
 -- the names at a place, each a text
 unfoldable pub names : ℕ → Reading (List (List ℕ))
@@ -93,6 +106,10 @@ tables place = do
   subroutines ← index
   pure (record { names = names; dictionaries = dictionaries; strings = strings; subroutines = subroutines })
 
+-- what stands behind the header
+unfoldable pub behind : ℕ → Header → Reading Tables
+behind start header = in_range (start + header.header_size) >>= tables
+
 -- the parts of all dictionaries, one after the other
 unfoldable pub parts : ℕ → List Dictionary → Reading Columns
 parts start maps = each (part start) maps >>= λ ps. pure (columns ps)
@@ -101,7 +118,6 @@ unfoldable pub font : Reading Font
 font = do
   start ← position
   header ← header
-  place ← in_range (start + header.header_size)
-  tables ← tables place
+  tables ← behind start header
   columns ← parts start tables.dictionaries
   pure (font_of header tables columns)

@@ -1,9 +1,9 @@
 //! What a font has for one of its dictionaries.
-ghost use Rattle.std.specs.Prelude.{◌≡◌, ℕ, List, [], ◌∷◌, OnOk};
+ghost use Rattle.std.specs.Prelude.{◌≡◌, ℕ, List, [], ◌∷◌, IfErr, OnOk};
 ghost use Rattle.postscript_base.specs.Error.{IsListed};
 ghost use Rattle.postscript_base.specs.Tape.{Reads};
 ghost use Rattle.postscript_base.specs.Tape.Outcome.{Answers, same};
-ghost use Rattle.postscript_compact1.specs.FontSet.Order.{encoding as the_encoding, char_strings as the_char_strings, char_set as the_char_set, char_set_offset as the_char_set_offset, own_char_set as the_own_char_set, private as the_private, subroutines as the_subroutines, part, parts};
+ghost use Rattle.postscript_compact1.specs.FontSet.Order.{encoding as the_encoding, char_strings as the_char_strings, char_set as the_char_set, char_set_offset as the_char_set_offset, own_char_set as the_own_char_set, glyphs as the_glyphs, locals as the_locals, private as the_private, subroutines as the_subroutines, part, parts};
 ghost use Rattle.postscript_compact1.specs.FontSet.Font.{columns, more};
 ghost use Rattle.postscript_compact1.specs.FontSet.Shown.{part_shown, parts_shown};
 
@@ -28,7 +28,7 @@ pub(super) struct Part {
 }
 
 /// Reads what a font has for one of its dictionaries.
-#[tactic(auto, unfolding(crate::specs::FontSet::Order::part))]
+#[tactic(auto, using(crate::proofs::Outcomes::refused_after), unfolding(crate::specs::FontSet::Order::part))]
 pub(super) fn read_part<T: Tape>(
     alloc: Global,
     tape: &mut T,
@@ -39,10 +39,8 @@ pub(super) fn read_part<T: Tape>(
     ensures listed { IsListed (1 ∷ 2 ∷ 3 ∷ 5 ∷ 6 ∷ 7 ∷ 8 ∷ 9 ∷ 10 ∷ 11 ∷ 12 ∷ 13 ∷ 14 ∷ 15 ∷ 16 ∷ []) result }
 {
     let encoding = encoding(dictionary)?;
-    let char_strings = char_strings(alloc, tape, start, dictionary)?;
-    let char_set = char_set(alloc, tape, start, char_strings.len(), dictionary)?;
-    let (offset, local_dictionary) = private(alloc, tape, start, dictionary)?;
-    let local_subroutines = subroutines(alloc, tape, start, offset, &local_dictionary)?;
+    let (char_strings, char_set) = glyphs(alloc, tape, start, dictionary)?;
+    let (local_dictionary, local_subroutines) = locals(alloc, tape, start, dictionary)?;
     Ok(Part {
         encoding,
         char_strings,
@@ -65,6 +63,22 @@ fn encoding(dictionary: &Operations) -> Result<Encoding>
         1 => Ok(Encoding::Expert),
         _ => Err(Error::Unsupported(Unsupported::CustomEncoding)),
     }
+}
+
+/// The char strings of a dictionary, and its char set.
+#[tactic(auto, unfolding(crate::specs::FontSet::Order::glyphs))]
+fn glyphs<T: Tape>(
+    alloc: Global,
+    tape: &mut T,
+    start: u64,
+    dictionary: &Operations,
+) -> Result<(CharStrings, CharSet)>
+    ensures exact { Reads (λ r. (r.0, r.1)) (T.state tape.old) result (T.state tape.new) (the_glyphs start dictionary.now) }
+    ensures listed { IsListed (1 ∷ 2 ∷ 3 ∷ 5 ∷ 6 ∷ 10 ∷ 11 ∷ 12 ∷ 13 ∷ 14 ∷ 15 ∷ 16 ∷ []) result }
+{
+    let char_strings = char_strings(alloc, tape, start, dictionary)?;
+    let char_set = char_set(alloc, tape, start, char_strings.len(), dictionary)?;
+    Ok((char_strings, char_set))
 }
 
 /// The char strings of a dictionary.
@@ -133,6 +147,22 @@ fn own_char_set<T: Tape>(
     Ok(read_given_at::<CharSet, T>(alloc, tape, place, glyphs)?)
 }
 
+/// The private dictionary of a dictionary, and the local subroutines.
+#[tactic(auto, unfolding(crate::specs::FontSet::Order::locals))]
+fn locals<T: Tape>(
+    alloc: Global,
+    tape: &mut T,
+    start: u64,
+    dictionary: &Operations,
+) -> Result<(Operations, Subroutines)>
+    ensures exact { Reads (λ r. (r.0, r.1)) (T.state tape.old) result (T.state tape.new) (the_locals start dictionary.now) }
+    ensures listed { IsListed (1 ∷ 2 ∷ 3 ∷ 5 ∷ 6 ∷ 7 ∷ 8 ∷ 9 ∷ 13 ∷ 14 ∷ 15 ∷ []) result }
+{
+    let (offset, local_dictionary) = private(alloc, tape, start, dictionary)?;
+    let local_subroutines = subroutines(alloc, tape, start, offset, &local_dictionary)?;
+    Ok((local_dictionary, local_subroutines))
+}
+
 /// The private dictionary, and its offset.
 #[tactic(auto, unfolding(crate::specs::FontSet::Order::private))]
 fn private<T: Tape>(
@@ -193,6 +223,7 @@ impl Parts {
     /// Takes one part more.
     fn push(&mut self, part: Part) -> Result<()>
         ensures ok { OnOk result (parts_shown self.new ≡ more (parts_shown self.old) (part_shown part)) }
+        ensures memory { IfErr result (λ e. e ≡ Error.Memory) }
         ensures listed { IsListed (3 ∷ []) result }
     {
         self.encodings.push(part.encoding)?;

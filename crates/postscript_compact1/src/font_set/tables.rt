@@ -2,13 +2,13 @@
 ghost use Rattle.std.specs.Prelude.{[], ◌∷◌, map, string_bytes};
 ghost use Rattle.postscript_base.specs.Error.{IsListed};
 ghost use Rattle.postscript_base.specs.Tape.{Reads};
-ghost use Rattle.postscript_compact1.specs.FontSet.Order.{names as the_names, dictionaries as the_dictionaries, tables};
+ghost use Rattle.postscript_compact1.specs.FontSet.Order.{names as the_names, dictionaries as the_dictionaries, tables, behind};
 ghost use Rattle.postscript_compact1.specs.FontSet.Shown.{tables_shown};
 
 use crate::index::{Dictionaries, Names, Strings, Subroutines};
-use postscript_base::compact1::Operations;
+use postscript_base::compact1::{Header, Operations};
 use postscript_base::tape::read_at;
-use postscript_base::{Result, Tape, Value};
+use postscript_base::{Error, Result, Tape, Value};
 use std::alloc::Global;
 
 /// What stands behind the header of a font.
@@ -20,9 +20,26 @@ pub(super) struct Tables {
     pub(super) subroutines: Subroutines,
 }
 
+/// Reads what stands behind the header.
+#[tactic(auto, unfolding(crate::specs::FontSet::Order::behind))]
+pub(super) fn read_behind<T: Tape>(
+    alloc: Global,
+    tape: &mut T,
+    start: u64,
+    header: Header,
+) -> Result<Tables>
+    ensures exact { Reads tables_shown (T.state tape.old) result (T.state tape.new) (behind start header) }
+    ensures listed { IsListed (1 ∷ 2 ∷ 3 ∷ 5 ∷ 6 ∷ 7 ∷ 8 ∷ 9 ∷ 15 ∷ []) result }
+{
+    let Some(place) = start.checked_add(u64::from(header.header_size)) else {
+        return Err(Error::OutOfRangeOffset);
+    };
+    read_tables(alloc, tape, place)
+}
+
 /// Reads names, dictionaries, strings and global subroutines, one behind the other.
 #[tactic(auto, unfolding(crate::specs::FontSet::Order::tables))]
-pub(super) fn read_tables<T: Tape>(alloc: Global, tape: &mut T, place: u64) -> Result<Tables>
+fn read_tables<T: Tape>(alloc: Global, tape: &mut T, place: u64) -> Result<Tables>
     ensures exact { Reads tables_shown (T.state tape.old) result (T.state tape.new) (tables place) }
     ensures listed { IsListed (1 ∷ 2 ∷ 3 ∷ 5 ∷ 6 ∷ 7 ∷ 8 ∷ 9 ∷ []) result }
 {

@@ -98,7 +98,7 @@ impl Value for Dictionaries {
 
 /// The dictionary that the bytes of an item are.
 #[tactic(auto, unfolding(crate::specs::Kinds::map_of))]
-fn operations_of(alloc: Global, item: &[u8]) -> Result<Operations>
+pub(crate) fn operations_of(alloc: Global, item: &[u8]) -> Result<Operations>
     ensures exact { (bytes : List ℕ) (place : ℕ) → Answers same result place (map_of item.now bytes place) }
     ensures listed { IsListed (3 ∷ 7 ∷ 8 ∷ 9 ∷ []) result }
 {
