@@ -1,4 +1,6 @@
 pub mod StandardStringRows
 pub mod EncodingRows
 pub mod CharSetRows
+pub mod PredefinedRows
 pub mod Ranges
+pub mod GlyphRuns
