@@ -4,3 +4,4 @@ pub mod CharSetRows
 pub mod PredefinedRows
 pub mod Ranges
 pub mod GlyphRuns
+pub mod CharSetIs

@@ -1,3 +1,4 @@
 pub mod StandardStrings
 pub mod Encodings
 pub mod CharSets
+pub mod CharSetLaw

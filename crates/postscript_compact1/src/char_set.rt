@@ -12,6 +12,7 @@ ghost use Rattle.postscript_compact1.specs.declared.char_set.CharSet.TheVariants
 
 mod format0;
 mod format1;
+pub mod laws;
 mod predefined;
 mod range;
 
