@@ -10,6 +10,8 @@ pub mod compact1 {
         GlyphID, Header, Offset, OffsetSize, Operand, Operands, Operation, Operations, Operator,
         StringID, laws, number,
     };
+    pub use postscript_compact1::char_set::CharSet;
+    pub use postscript_compact1::encoding::Encoding;
     pub use postscript_compact1::{char_set, encoding, index};
 }
 

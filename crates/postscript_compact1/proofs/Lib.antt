@@ -3,8 +3,11 @@ pub mod IndexRows
 pub mod EncodingRows
 pub mod Clones
 pub mod CharSetRows
+pub mod PredefinedRows
 pub mod Ranges
 pub mod Needs
 pub mod Maps
 pub mod Outcomes
 pub mod EachPart
+pub mod GlyphRuns
+pub mod CharSetIs

@@ -1,5 +1,6 @@
 -- Char sets: which string names each glyph (Technical Note 5176, "Charsets").
 pub mod Formats
+pub mod Predefined
 use Rattle.std.specs.Prelude.{ℕ, ◌+◌, ◌-◌, List, [], ◌∷◌, ◌==◌, Bool, nat_lt, if◌then◌else◌}
 use Rattle.postscript_base.specs.Numbers.{number}
 use Rattle.postscript_base.specs.Refusal.{OfPart, malformed_char_set, unknown_char_set_format}

@@ -6,3 +6,4 @@ pub mod Kinds
 pub mod Encodings
 pub mod CharSets
 pub mod Texts
+pub mod CharSetLaw

@@ -1,21 +1,28 @@
 //! Char sets.
-ghost use Rattle.std.specs.Prelude.{◌≡◌, ℕ, List, [], ◌∷◌, IfOk};
+ghost use Rattle.std.specs.Prelude.{◌≡◌, ◌⊎◌, ◌<◌, ◌≤◌, [], ◌∷◌, IfOk, IsNone, IsTrue};
+ghost use Rattle.std.specs.Option.{option_copied};
 ghost use Rattle.postscript_base.specs.Error.{IsListed};
 ghost use Rattle.postscript_base.specs.Tape.{Reads};
 ghost use Rattle.postscript_base.specs.Tape.Outcome.{same};
 ghost use Rattle.postscript_base.specs.Tape.Seen.{each_as_it_is};
 ghost use Rattle.postscript_compact1.specs.CharSets.{char_set};
+ghost use Rattle.postscript_compact1.specs.CharSets.Predefined.{are_runs, is_predefined, name_of, name_of_glyph, runs_of};
+ghost use Rattle.postscript_compact1.specs.StandardStrings.{standard_string};
+ghost use Rattle.postscript_compact1.specs.declared.char_set.CharSet.TheVariants as sets;
 
 mod format0;
 mod format1;
+pub mod laws;
+mod predefined;
 mod range;
 
 pub use format0::CharSet0;
 pub use format1::CharSet1;
-pub use range::Range1;
-
+use postscript_base::compact1::GlyphID;
 use postscript_base::error::{Error, Part, Result};
 use postscript_base::{Tape, Value, Walue};
+use predefined::{EXPERT, EXPERT_SUBSET, ISO_ADOBE, Run, name};
+pub use range::Range1;
 use std::alloc::Global;
 
 /// A char set: which string names each glyph (Technical Note 5176, "Charsets").
@@ -34,6 +41,49 @@ pub enum CharSet {
 }
 
 impl CharSet {
+    /// Whether the set is one of the predefined ones.
+    pub fn is_predefined(&self) -> bool
+        ensures { result ≡ is_predefined self.now }
+    {
+        !matches!(self, CharSet::Format0(_) | CharSet::Format1(_))
+    }
+
+    /// The name of the case.
+    pub fn name(&self) -> &'static str
+        ensures { result.now ≡ name_of self.now }
+    {
+        match self {
+            CharSet::ISOAdobe => "ISOAdobe",
+            CharSet::Expert => "Expert",
+            CharSet::ExpertSubset => "ExpertSubset",
+            CharSet::Format0(_) => "Format0",
+            CharSet::Format1(_) => "Format1",
+        }
+    }
+
+    /// The string that names a glyph of a predefined set. Glyph 0, and a glyph past the set, is not named.
+    pub fn get(&self, gid: GlyphID) -> Option<&'static str>
+        requires { IsTrue (is_predefined self.now) }
+        ensures exact { option_copied result ≡ name_of_glyph self.now gid }
+        ensures iso_adobe { self.now ≡ sets.ISOAdobe → 0 < gid → gid ≤ 228 → option_copied result ≡ standard_string gid }
+        ensures iso_adobe_alone { self.now ≡ sets.ISOAdobe → (gid ≡ 0) ⊎ (228 < gid) → IsNone result }
+    {
+        name(self.runs(), gid)
+    }
+
+    /// The identifiers of a predefined set, by runs.
+    fn runs(&self) -> &'static [Run]
+        ensures exact { result.now ≡ runs_of self.now }
+        ensures runs { IsTrue (are_runs result.now) }
+    {
+        match self {
+            CharSet::ISOAdobe => &ISO_ADOBE,
+            CharSet::Expert => &EXPERT,
+            CharSet::ExpertSubset => &EXPERT_SUBSET,
+            CharSet::Format0(_) | CharSet::Format1(_) => &[],
+        }
+    }
+
     /// An equal char set.
     pub fn clone(&self) -> Result<Self>
         ensures equal { IfOk result (λ set. set ≡ self.now) }

@@ -1,0 +1,230 @@
+-- A char set is read where the bytes are one.
+use Rattle.std.proofs.Common.{◌≡◌, refl, sym, ap, subst, ◌∙◌, ℕ, zero, suc, ◌+◌, ◌-◌, ◌<◌, ◌≤◌, Bool, true, false, ◌==◌, nat_lt, List, [], ◌∷◌, length, arith, if◌then◌else◌}
+use Rattle.std.specs.Prelude.{sum_by}
+use Rattle.std.proofs.lemmas.Bool.Decides.{nat_tests}
+use Rattle.std.proofs.lemmas.List.Sums.{sum_by-cons}
+use Rattle.postscript_base.specs.Numbers.{number}
+use Rattle.postscript_base.specs.Refusal.{OfPart, malformed_char_set, unknown_char_set_format}
+use Rattle.postscript_base.specs.declared.error.Part.TheVariants.{CharSetFormat2}
+use Rattle.postscript_base.specs.Tape.At.{NeedsBytes}
+use Rattle.postscript_base.proofs.Onward.{needs_after, number_needs}
+use Rattle.postscript_base.specs.Tape.Loops.{many, until, until_from}
+use Rattle.postscript_base.specs.Tape.Onward.{MovesOn, TakesBytes}
+use Rattle.postscript_base.specs.Tape.Outcome.{Outcome, Got, Fault, Past, Reading, after, pure, fault}
+use Rattle.postscript_compact1.specs.CharSets.{char_set, char_set_0, char_set_1, covered, covering, glyphs_of, listed, none_wanting, range, ranges, uncovered}
+use Rattle.postscript_compact1.specs.CharSets.Formats.{Listed, Covered}
+use Rattle.postscript_compact1.specs.CharSetLaw.{CoversGlyphs, IsCharSet, ListsGlyphs, ReadsCharSets, StandAt}
+use Rattle.postscript_compact1.specs.declared.char_set.CharSet.{CharSet}
+use Rattle.postscript_compact1.specs.declared.char_set.CharSet.TheVariants.{ISOAdobe, Expert, ExpertSubset, Format0, Format1}
+use Rattle.postscript_compact1.specs.declared.char_set.range.Range1.{Range1}
+use Rattle.postscript_compact1.proofs.Ranges.{range_takes}
+
+-- what holds of a value, and of where it ends
+abbrev Gives : {A : Type 0} → (A → ℕ → Type 0) → Outcome A → Type 0
+Gives P (Got value next) = P value next
+Gives P (Fault refusal) = Unit {0}
+Gives P Past = Unit {0}
+
+gives_after : {A B : Type 0} (o : Outcome A) (f : A → ℕ → Outcome B) (P : B → ℕ → Type 0) → ((value : A) (next : ℕ) → o ≡ Got value next → Gives P (f value next)) → Gives P (after o f)
+gives_after {A = A} o f P each = by o refl
+  where
+    by : (p : Outcome A) → o ≡ p → Gives P (after p f)
+    by (Got value next) e = each value next e
+    by (Fault refusal) e = tt
+    by Past e = tt
+
+-- so many values
+many_gives : {A : Type 0} (one : Reading A) (count : ℕ) (bytes : List ℕ) (place : ℕ) → Gives (λ values next. StandAt one bytes place values next × (length values ≡ count)) (many one count bytes place)
+unfolding many
+many_gives one zero bytes place = (refl, refl)
+many_gives one (suc count) bytes place = gives_after (one bytes place) _ _ (λ value at e.
+    gives_after (many one count bytes at) _ _ (λ values next g.
+    let rest = subst (Gives (λ values next. StandAt one bytes at values next × (length values ≡ count))) g (many_gives one count bytes at) in
+    ((at, e, rest.0), ap suc rest.1)))
+
+many_all : {A : Type 0} (one : Reading A) (values : List A) (bytes : List ℕ) (place next : ℕ) → StandAt one bytes place values next → many one (length values) bytes place ≡ Got values next
+unfolding many
+many_all one [] bytes place next h = ap (Got []) (sym h)
+many_all one (value ∷ values) bytes place next h = rw (h.1, many_all one values bytes h.0 next h.2) refl
+
+module _ {A : Type 0} (size : A → ℕ) (one : Reading A) where
+  covering_gives : (wanting : ℕ) (bytes : List ℕ) (place : ℕ) → Gives (λ value next. (one bytes place ≡ Got value next) × (size value ≤ wanting)) (covering size one wanting bytes place)
+  unfolding covering
+  covering_gives wanting bytes place = gives_after (one bytes place) _ _ (λ value next e. by value next e (nat_lt wanting (size value)) refl)
+    where
+      by : (value : A) (next : ℕ) → one bytes place ≡ Got value next → (b : Bool) → nat_lt wanting (size value) ≡ b → Gives (λ value next. (one bytes place ≡ Got value next) × (size value ≤ wanting)) ((if b then fault malformed_char_set else pure value) bytes next)
+      by value next e true g = tt
+      by value next e false g = (e, grind (arith, nat_tests))
+
+  covering_all : (wanting : ℕ) (bytes : List ℕ) (place next : ℕ) (value : A) → one bytes place ≡ Got value next → size value ≤ wanting → covering size one wanting bytes place ≡ Got value next
+  unfolding covering
+  covering_all wanting bytes place next value e within = let no_more : nat_lt wanting (size value) ≡ false = grind (arith, nat_tests) in rw (e, no_more) refl
+
+  -- values until none is wanting
+  abbrev all_until : ℕ → ℕ → Reading (List A)
+  all_until most wanting = until_from none_wanting (covering size one) (uncovered size) most wanting
+
+  abbrev Covers : ℕ → List ℕ → ℕ → List A → ℕ → Type 0
+  Covers wanting bytes place values next = StandAt one bytes place values next × (sum_by size values ≡ wanting)
+
+  until_gives : (most wanting : ℕ) (bytes : List ℕ) (place : ℕ) → Gives (Covers wanting bytes place) (all_until most wanting bytes place)
+  unfolding until_from
+  until_gives zero wanting bytes place = tt
+  until_gives (suc most) wanting bytes place = by (none_wanting wanting) refl (λ less at. until_gives most less bytes at)
+    where
+      by : (b : Bool) → none_wanting wanting ≡ b → ((less at : ℕ) → Gives (Covers less bytes at) (all_until most less bytes at))
+          → Gives (Covers wanting bytes place) (if b then Got [] place else after (covering size one wanting bytes place) (λ value at. after (all_until most (uncovered size wanting value) bytes at) (λ values next. Got (value ∷ values) next)))
+      by true e later = (refl, grind (arith, nat_tests))
+      by false e later = gives_after (covering size one wanting bytes place) _ _ (λ value at g.
+          let first = subst (Gives (λ value next. (one bytes place ≡ Got value next) × (size value ≤ wanting))) g (covering_gives wanting bytes place) in
+          gives_after (all_until most (wanting - size value) bytes at) _ _ (λ values next g.
+          let rest = subst (Gives (Covers (wanting - size value) bytes at)) g (later (wanting - size value) at) in
+          let within = first.1 in
+          let sum : size value + sum_by size values ≡ wanting = omega (arith, rest.1) in
+          ((at, first.0, rest.0), sum_by-cons size value values ∙ sum)))
+
+  module _ (takes : TakesBytes one) (some : (value : A) → 0 < size value) where
+    until_all : (most wanting : ℕ) (bytes : List ℕ) (place : ℕ) (values : List A) (next : ℕ) → StandAt one bytes place values next → sum_by size values ≡ wanting → length bytes - place < most
+        → all_until most wanting bytes place ≡ Got values next
+    unfolding until_from
+    until_all zero wanting bytes place values next h is few = absurd (omega arith)
+    until_all (suc most) wanting bytes place [] next h is few = let none : none_wanting wanting ≡ true = rw (sym is) refl in rw none (ap (Got []) (sym h))
+    until_all (suc most) wanting bytes place (value ∷ values) next h is few =
+        let moved : (place < h.0) × (h.0 ≤ length bytes) = subst (MovesOn place (length bytes)) h.1 (takes bytes place) in
+        let up = moved.0 in
+        let within = moved.1 in
+        let one_more = some value in
+        let sum : size value + sum_by size values ≡ wanting = sym (sum_by-cons size value values) ∙ is in
+        let more : none_wanting wanting ≡ false = grind (arith, nat_tests) in
+        let rest : sum_by size values ≡ wanting - size value = omega arith in
+        rw (more, covering_all wanting bytes place h.0 value h.1 (omega arith), until_all most (wanting - size value) bytes h.0 values next h.2 rest (omega arith)) refl
+
+gives_more : {A : Type 0} (o : Outcome A) (P Q : A → ℕ → Type 0) → ((value : A) (next : ℕ) → P value next → Q value next) → Gives P o → Gives Q o
+gives_more (Got value next) P Q each h = each value next h
+gives_more (Fault refusal) P Q each h = tt
+gives_more Past P Q each h = tt
+
+-- what stands behind the byte of the format
+abbrev Lists : ℕ → List ℕ → ℕ → Listed → ℕ → Type 0
+Lists glyphs bytes place set next = (set.format ≡ 0) × StandAt (number 2) bytes place set.glyphs next × (1 + length set.glyphs ≡ glyphs)
+
+abbrev CoversAll : ℕ → List ℕ → ℕ → Covered Range1 → ℕ → Type 0
+CoversAll glyphs bytes place set next = (set.format ≡ 1) × StandAt range bytes place set.ranges next × (1 + sum_by glyphs_of set.ranges ≡ glyphs)
+
+one_more : (glyphs count : ℕ) → (glyphs == 0) ≡ false → count ≡ glyphs - 1 → 1 + count ≡ glyphs
+one_more glyphs count some e = let other : 0 < glyphs = grind (arith, nat_tests) in omega arith
+
+listed_gives : (glyphs : ℕ) (bytes : List ℕ) (place : ℕ) → Gives (Lists glyphs bytes place) (listed glyphs bytes place)
+unfolding listed
+listed_gives glyphs bytes place = by (glyphs == 0) refl
+  where
+    by : (b : Bool) → (glyphs == 0) ≡ b → Gives (Lists glyphs bytes place) ((if b then fault malformed_char_set else (λ bytes place. after (many (number 2) (glyphs - 1) bytes place) (λ identifiers next. Got (record { format = 0; glyphs = identifiers }) next))) bytes place)
+    by true e = tt
+    by false e = gives_after (many (number 2) (glyphs - 1) bytes place) _ _ (λ values next g.
+        let h = subst (Gives (λ values next. StandAt (number 2) bytes place values next × (length values ≡ glyphs - 1))) g (many_gives (number 2) (glyphs - 1) bytes place) in
+        (refl, h.0, one_more glyphs (length values) e h.1))
+
+covered_gives : (glyphs : ℕ) (bytes : List ℕ) (place : ℕ) → Gives (CoversAll glyphs bytes place) (covered glyphs bytes place)
+unfolding covered until
+covered_gives glyphs bytes place = by (glyphs == 0) refl
+  where
+    by : (b : Bool) → (glyphs == 0) ≡ b → Gives (CoversAll glyphs bytes place) ((if b then fault malformed_char_set else (λ bytes place. after (ranges glyphs_of range (glyphs - 1) bytes place) (λ ranges next. Got (record { format = 1; ranges = ranges }) next))) bytes place)
+    by true e = tt
+    by false e = gives_after (ranges glyphs_of range (glyphs - 1) bytes place) _ _ (λ values next g.
+        let h = subst (Gives (Covers glyphs_of range (glyphs - 1) bytes place)) g (until_gives glyphs_of range (suc (length bytes)) (glyphs - 1) bytes place) in
+        (refl, h.0, one_more glyphs (sum_by glyphs_of values) e h.1))
+
+listed_all : (glyphs : ℕ) (bytes : List ℕ) (place : ℕ) (set : Listed) (next : ℕ) → Lists glyphs bytes place set next → listed glyphs bytes place ≡ Got set next
+unfolding listed
+listed_all glyphs bytes place set next h =
+    let each = h.2 in
+    let some : (glyphs == 0) ≡ false = grind (arith, nat_tests) in
+    let count : glyphs - 1 ≡ length set.glyphs = omega arith in
+    rw (some, count, many_all (number 2) set.glyphs bytes place next h.1) (ap (λ format. Got (record { format = format; glyphs = set.glyphs }) next) (sym h.0))
+
+covers_some : (range : Range1) → 0 < glyphs_of range
+covers_some range = omega arith
+
+covered_all : (glyphs : ℕ) (bytes : List ℕ) (place : ℕ) (set : Covered Range1) (next : ℕ) → CoversAll glyphs bytes place set next → covered glyphs bytes place ≡ Got set next
+unfolding covered until
+covered_all glyphs bytes place set next h =
+    let each = h.2 in
+    let some : (glyphs == 0) ≡ false = grind (arith, nat_tests) in
+    let count : sum_by glyphs_of set.ranges ≡ glyphs - 1 = omega arith in
+    rw (some, until_all glyphs_of range range_takes covers_some (suc (length bytes)) (glyphs - 1) bytes place set.ranges next h.1 count (omega arith)) (ap (λ format. Got (record { format = format; ranges = set.ranges }) next) (sym h.0))
+
+-- behind the byte, what is read is told whole
+lists_whole : (bytes : List ℕ) (place glyphs format behind : ℕ) → number 1 bytes place ≡ Got format behind → format ≡ 0 → (set : Listed) (next : ℕ) → Lists glyphs bytes behind set next → ListsGlyphs bytes place glyphs set next
+lists_whole bytes place glyphs format behind e is set next h = record { format = h.0; behind = behind; byte = e ∙ ap (λ format. Got format behind) is; identifiers = h.1; each = h.2 }
+
+covers_whole : (bytes : List ℕ) (place glyphs format behind : ℕ) → number 1 bytes place ≡ Got format behind → format ≡ 1 → (set : Covered Range1) (next : ℕ) → CoversAll glyphs bytes behind set next → CoversGlyphs bytes place glyphs set next
+covers_whole bytes place glyphs format behind e is set next h = record { format = h.0; behind = behind; byte = e ∙ ap (λ format. Got format behind) is; ranges = h.1; each = h.2 }
+
+is_format : (format n : ℕ) → (format == n) ≡ true → format ≡ n
+is_format format n e = grind (arith, nat_tests)
+
+gives_0 : (glyphs : ℕ) (bytes : List ℕ) (place : ℕ) → Gives (ListsGlyphs bytes place glyphs) (char_set_0 glyphs bytes place)
+unfolding char_set_0
+gives_0 glyphs bytes place = gives_after (number 1 bytes place) _ _ (λ format behind e. by format behind e (format == 0) refl)
+  where
+    by : (format behind : ℕ) → number 1 bytes place ≡ Got format behind → (b : Bool) → (format == 0) ≡ b → Gives (ListsGlyphs bytes place glyphs) ((if b then listed glyphs else fault malformed_char_set) bytes behind)
+    by format behind e true is = gives_more (listed glyphs bytes behind) _ _ (lists_whole bytes place glyphs format behind e (is_format format 0 is)) (listed_gives glyphs bytes behind)
+    by format behind e false is = tt
+
+gives_1 : (glyphs : ℕ) (bytes : List ℕ) (place : ℕ) → Gives (CoversGlyphs bytes place glyphs) (char_set_1 glyphs bytes place)
+unfolding char_set_1
+gives_1 glyphs bytes place = gives_after (number 1 bytes place) _ _ (λ format behind e. by format behind e (format == 1) refl)
+  where
+    by : (format behind : ℕ) → number 1 bytes place ≡ Got format behind → (b : Bool) → (format == 1) ≡ b → Gives (CoversGlyphs bytes place glyphs) ((if b then covered glyphs else fault malformed_char_set) bytes behind)
+    by format behind e true is = gives_more (covered glyphs bytes behind) _ _ (covers_whole bytes place glyphs format behind e (is_format format 1 is)) (covered_gives glyphs bytes behind)
+    by format behind e false is = tt
+
+gives_any : (glyphs : ℕ) (bytes : List ℕ) (place : ℕ) → Gives (IsCharSet bytes place glyphs) (char_set glyphs bytes place)
+unfolding char_set
+gives_any glyphs bytes place = gives_after (number 1 bytes place) _ _ (λ format behind e. by format behind e (format == 0) (format == 1) (format == 2) refl refl)
+  where
+    by : (format behind : ℕ) → number 1 bytes place ≡ Got format behind → (zeroth first second : Bool) → (format == 0) ≡ zeroth → (format == 1) ≡ first
+        → Gives (IsCharSet bytes place glyphs) ((if zeroth then (λ bytes place. after (listed glyphs bytes place) (λ set next. Got (Format0 set) next)) else if first then (λ bytes place. after (covered glyphs bytes place) (λ set next. Got (Format1 set) next)) else if second then fault (OfPart CharSetFormat2) else fault unknown_char_set_format) bytes behind)
+    by format behind e true first second is other = gives_after (listed glyphs bytes behind) _ _ (λ set next g. lists_whole bytes place glyphs format behind e (is_format format 0 is) set next (subst (Gives (Lists glyphs bytes behind)) g (listed_gives glyphs bytes behind)))
+    by format behind e false true second other is = gives_after (covered glyphs bytes behind) _ _ (λ set next g. covers_whole bytes place glyphs format behind e (is_format format 1 is) set next (subst (Gives (CoversAll glyphs bytes behind)) g (covered_gives glyphs bytes behind)))
+    by format behind e false false true other is = tt
+    by format behind e false false false other is = tt
+
+all_0 : (glyphs : ℕ) (bytes : List ℕ) (place : ℕ) (set : Listed) (next : ℕ) → ListsGlyphs bytes place glyphs set next → char_set_0 glyphs bytes place ≡ Got set next
+unfolding char_set_0
+all_0 glyphs bytes place set next h = rw h.byte (listed_all glyphs bytes h.behind set next (h.format, h.identifiers, h.each))
+
+all_1 : (glyphs : ℕ) (bytes : List ℕ) (place : ℕ) (set : Covered Range1) (next : ℕ) → CoversGlyphs bytes place glyphs set next → char_set_1 glyphs bytes place ≡ Got set next
+unfolding char_set_1
+all_1 glyphs bytes place set next h = rw h.byte (covered_all glyphs bytes h.behind set next (h.format, h.ranges, h.each))
+
+all : (glyphs : ℕ) (bytes : List ℕ) (place : ℕ) (set : CharSet) (next : ℕ) → IsCharSet bytes place glyphs set next → char_set glyphs bytes place ≡ Got set next
+unfolding char_set
+all glyphs bytes place ISOAdobe next h = absurd h
+all glyphs bytes place Expert next h = absurd h
+all glyphs bytes place ExpertSubset next h = absurd h
+all glyphs bytes place (Format0 set) next h = rw (h.byte, listed_all glyphs bytes h.behind set next (h.format, h.identifiers, h.each)) refl
+all glyphs bytes place (Format1 set) next h = rw (h.byte, covered_all glyphs bytes h.behind set next (h.format, h.ranges, h.each)) refl
+
+pub reads_char_sets : ReadsCharSets
+reads_char_sets = record {
+  all = all;
+  only = λ glyphs bytes place set next e. subst (Gives (IsCharSet bytes place glyphs)) e (gives_any glyphs bytes place);
+  all_0 = all_0;
+  only_0 = λ glyphs bytes place set next e. subst (Gives (ListsGlyphs bytes place glyphs)) e (gives_0 glyphs bytes place);
+  all_1 = all_1;
+  only_1 = λ glyphs bytes place set next e. subst (Gives (CoversGlyphs bytes place glyphs)) e (gives_1 glyphs bytes place);
+}
+
+-- past the end the byte of the format is wanting
+pub char_set_needs : (glyphs : ℕ) → NeedsBytes (char_set glyphs)
+unfolding char_set
+char_set_needs glyphs = needs_after (number 1) _ (number_needs 1 (omega arith))
+
+pub char_set_0_needs : (glyphs : ℕ) → NeedsBytes (char_set_0 glyphs)
+unfolding char_set_0
+char_set_0_needs glyphs = needs_after (number 1) _ (number_needs 1 (omega arith))
+
+pub char_set_1_needs : (glyphs : ℕ) → NeedsBytes (char_set_1 glyphs)
+unfolding char_set_1
+char_set_1_needs glyphs = needs_after (number 1) _ (number_needs 1 (omega arith))

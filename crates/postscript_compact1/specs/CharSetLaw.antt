@@ -1,0 +1,49 @@
+-- A char set in its own words: identifiers, or ranges, one behind the other (Technical Note 5176, "Charsets").
+use Rattle.std.specs.Prelude.{◌≡◌, ℕ, ◌+◌, List, [], ◌∷◌, length, sum_by}
+use Rattle.postscript_base.specs.Numbers.{number}
+use Rattle.postscript_base.specs.Tape.Outcome.{Got, Reading}
+use Rattle.postscript_compact1.specs.CharSets.{char_set, char_set_0, char_set_1, glyphs_of, range}
+use Rattle.postscript_compact1.specs.CharSets.Formats.{Listed, Covered}
+use Rattle.postscript_compact1.specs.declared.char_set.CharSet.{CharSet}
+use Rattle.postscript_compact1.specs.declared.char_set.CharSet.TheVariants.{ISOAdobe, Expert, ExpertSubset, Format0, Format1}
+use Rattle.postscript_compact1.specs.declared.char_set.range.Range1.{Range1}
+
+-- values one behind the other, from a place to the next
+abbrev pub StandAt : {A : Type 0} → Reading A → List ℕ → ℕ → List A → ℕ → Type 0
+StandAt one bytes place [] next = next ≡ place
+StandAt one bytes place (value ∷ values) next = (at : ℕ) × (one bytes place ≡ Got value at) × StandAt one bytes at values next
+
+-- Behind the byte 0 an identifier of two bytes stands for each glyph but the first.
+pub record ListsGlyphs (bytes : List ℕ) (place glyphs : ℕ) (set : Listed) (next : ℕ) : Type 0 where
+  pub format : set.format ≡ 0
+  pub behind : ℕ
+  pub byte : number 1 bytes place ≡ Got 0 behind
+  pub identifiers : StandAt (number 2) bytes behind set.glyphs next
+  pub each : 1 + length set.glyphs ≡ glyphs
+
+-- Behind the byte 1 stand ranges that cover each glyph but the first, and no more. A range covers a glyph at least, so that
+-- no fewer ranges do.
+pub record CoversGlyphs (bytes : List ℕ) (place glyphs : ℕ) (set : Covered Range1) (next : ℕ) : Type 0 where
+  pub format : set.format ≡ 1
+  pub behind : ℕ
+  pub byte : number 1 bytes place ≡ Got 1 behind
+  pub ranges : StandAt range bytes behind set.ranges next
+  pub each : 1 + sum_by glyphs_of set.ranges ≡ glyphs
+
+-- at the place stands this char set for so many glyphs; the predefined sets stand nowhere
+abbrev pub IsCharSet : List ℕ → ℕ → ℕ → CharSet → ℕ → Type 0
+IsCharSet bytes place glyphs ISOAdobe next = ⊥
+IsCharSet bytes place glyphs Expert next = ⊥
+IsCharSet bytes place glyphs ExpertSubset next = ⊥
+IsCharSet bytes place glyphs (Format0 set) next = ListsGlyphs bytes place glyphs set next
+IsCharSet bytes place glyphs (Format1 set) next = CoversGlyphs bytes place glyphs set next
+
+-- What is read is the char set that stands there, with its next place, and every char set is read. Past the end bytes are
+-- wanting.
+pub record ReadsCharSets : Type 0 where
+  pub all : (glyphs : ℕ) (bytes : List ℕ) (place : ℕ) (set : CharSet) (next : ℕ) → IsCharSet bytes place glyphs set next → char_set glyphs bytes place ≡ Got set next
+  pub only : (glyphs : ℕ) (bytes : List ℕ) (place : ℕ) (set : CharSet) (next : ℕ) → char_set glyphs bytes place ≡ Got set next → IsCharSet bytes place glyphs set next
+  pub all_0 : (glyphs : ℕ) (bytes : List ℕ) (place : ℕ) (set : Listed) (next : ℕ) → ListsGlyphs bytes place glyphs set next → char_set_0 glyphs bytes place ≡ Got set next
+  pub only_0 : (glyphs : ℕ) (bytes : List ℕ) (place : ℕ) (set : Listed) (next : ℕ) → char_set_0 glyphs bytes place ≡ Got set next → ListsGlyphs bytes place glyphs set next
+  pub all_1 : (glyphs : ℕ) (bytes : List ℕ) (place : ℕ) (set : Covered Range1) (next : ℕ) → CoversGlyphs bytes place glyphs set next → char_set_1 glyphs bytes place ≡ Got set next
+  pub only_1 : (glyphs : ℕ) (bytes : List ℕ) (place : ℕ) (set : Covered Range1) (next : ℕ) → char_set_1 glyphs bytes place ≡ Got set next → CoversGlyphs bytes place glyphs set next

@@ -1,0 +1,21 @@
+//! What is told of the readings of char sets by themselves.
+ghost use Rattle.postscript_base.specs.Tape.At.{NeedsBytes};
+ghost use Rattle.postscript_compact1.specs.CharSetLaw.{ReadsCharSets};
+ghost use Rattle.postscript_compact1.specs.CharSets.{char_set, char_set_0, char_set_1};
+
+/// A char set is read where the bytes are one: behind the byte of the format identifiers stand, or ranges, for each glyph
+/// but the first.
+#[tactic(auto, using(crate::proofs::CharSetIs::reads_char_sets))]
+pub fn reads_char_sets()
+    ensures law { ReadsCharSets }
+{}
+
+/// Past the end bytes are wanting for a char set.
+#[tactic(auto, using(crate::proofs::CharSetIs::char_set_needs, crate::proofs::CharSetIs::char_set_0_needs, crate::proofs::CharSetIs::char_set_1_needs))]
+pub fn char_sets_need_bytes(glyphs: usize)
+    ensures any { NeedsBytes (char_set glyphs) }
+    ensures format_0 { NeedsBytes (char_set_0 glyphs) }
+    ensures format_1 { NeedsBytes (char_set_1 glyphs) }
+{
+    let _ = glyphs;
+}
