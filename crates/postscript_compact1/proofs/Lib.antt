@@ -3,3 +3,4 @@ pub mod EncodingRows
 pub mod IndexRows
 pub mod Clones
 pub mod Maps
+pub mod IndexIs
