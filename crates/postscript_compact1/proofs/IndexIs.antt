@@ -177,3 +177,158 @@ items_got before low (high ∷ os) bytes (item ∷ items) place up h at =
     let one = slice_got (high - low) bytes place (omega arith) in
     let rest = items_got before high os bytes items (place + (high - low)) up.1 h.2 (omega arith) in
     rw (one, rest) (ap (λ item. Got (item ∷ items) (before + last_of high os)) (ap (λ p. take (high - low) (drop p bytes)) at ∙ sym h.1))
+
+abbrev Is : List ℕ → ℕ → Outcome Index → Type 0
+Is bytes place (Got i next) = IsIndex bytes place i next
+Is bytes place (Fault refusal) = Refuses refusal
+Is bytes place Past = ⊥
+
+module _ (bytes : List ℕ) (place count : ℕ) where
+  abbrev made : ℕ → List ℕ → List (List ℕ) → Index
+  made size os items = record { count = count; offset_size = size; offsets = os; items = items }
+
+  is_filled : (at : ℕ) → 0 < count → NumberAt bytes place 2 count → at ≡ place + 2 → Is bytes place (filled count bytes at)
+  unfolding filled offsets
+  is_filled at some counted behind_count = sized (number 1 bytes at) (is_number 1 bytes at (omega arith))
+    where
+      found : (size mid first : ℕ) (rest : List ℕ) (begin : ℕ) (o : Outcome (List (List ℕ))) → IsNumber 1 bytes at (Got size mid) → IsChain (count + 1) size None bytes mid (Got (first ∷ rest) begin) → IsItems (place + 2 + (count + 1) * size) first rest bytes o
+          → Is bytes place (after o (λ items next. Got (made size (first ∷ rest) items) next))
+      found size mid first rest begin (Got items next) h g f =
+          let sized = g.4 (omega arith) in
+          let begins : mid ≡ place + 3 = h.1 ∙ (omega arith) in
+          inr (record {
+            some = some;
+            count = counted;
+            size = subst (λ p. NumberAt bytes p 1 size) behind_count h.0;
+            least = sized.0;
+            most = sized.1;
+            many = g.0;
+            offsets = subst (λ p. OffsetsAt bytes p size (first ∷ rest)) begins g.1;
+            rise = g.2;
+            items = f.0;
+            behind = f.1;
+          })
+      found size mid first rest begin (Fault refusal) h g f = f
+      found size mid first rest begin Past h g f = f
+
+      itemed : (size mid : ℕ) (os : List ℕ) (begin : ℕ) → IsNumber 1 bytes at (Got size mid) → IsChain (count + 1) size None bytes mid (Got os begin) → Is bytes place (after (each slice (lengths os) bytes begin) (λ items next. Got (made size os items) next))
+      itemed size mid [] begin h g = let none = g.0 in absurd (omega arith)
+      itemed size mid (first ∷ rest) begin h g =
+          let first_is = g.2.0 in
+          let begin_is = g.3 in
+          let mid_is = h.1 in
+          found size mid first rest begin (each slice (lengths_from first rest) bytes begin) h g (is_items (place + 2 + (count + 1) * size) first rest bytes begin g.2.1 (omega arith))
+
+      off : (size mid : ℕ) (o : Outcome (List ℕ)) → IsNumber 1 bytes at (Got size mid) → IsChain (count + 1) size None bytes mid o
+          → Is bytes place (after o (λ os begin. after (each slice (lengths os) bytes begin) (λ items next. Got (made size os items) next)))
+      off size mid (Got os begin) h g = itemed size mid os begin h g
+      off size mid (Fault refusal) h g = g
+      off size mid Past h g = g
+
+      sized : (o : Outcome ℕ) → IsNumber 1 bytes at o
+          → Is bytes place (after o (λ size mid. after (chain rising behind (size, None) (count + 1) bytes mid) (λ os begin. after (each slice (lengths os) bytes begin) (λ items next. Got (made size os items) next))))
+      sized (Got size mid) h = off size mid (chain rising behind (size, None) (count + 1) bytes mid) h (is_chain (count + 1) size None bytes mid)
+      sized (Fault refusal) h = h
+      sized Past h = h
+
+  offsets_got : (size : ℕ) (os : List ℕ) → IsSize size → length os ≡ count + 1 → OffsetsAt bytes (place + 3) size os → Follows None os → offsets size (count + 1) bytes (place + 2 + 1) ≡ Got os (place + 3 + (count + 1) * size)
+  unfolding offsets
+  offsets_got size os sized many h up =
+      let begins : place + 2 + 1 ≡ place + 3 = omega arith in
+      rw begins (subst (λ n. chain rising behind (size, None) n bytes (place + 3) ≡ Got os (place + 3 + n * size)) many (chain_got size None bytes (place + 3) os sized h up))
+
+  filled_got : (size : ℕ) (os : List ℕ) (items : List (List ℕ)) (next : ℕ) → IsFilledAt bytes place (made size os items) next → filled count bytes (place + 2) ≡ Got (made size os items) next
+  unfolding filled
+  filled_got size [] items next f = absurd f.rise
+  filled_got size (first ∷ rest) items next f =
+      let first_is = f.rise.0 in
+      let items_are = items_got (place + 2 + (count + 1) * size) first rest bytes items (place + 3 + (count + 1) * size) f.rise.1 f.items (omega arith) in
+      rw (number_got 1 bytes (place + 2) size f.size, offsets_got size (first ∷ rest) (f.least, f.most) f.many f.offsets f.rise, items_are) (ap (λ n. Got (made size (first ∷ rest) items) n) (sym f.behind))
+
+is_index : (bytes : List ℕ) (place : ℕ) → Is bytes place (index bytes place)
+unfolding index
+is_index bytes place = by (number 2 bytes place) (is_number 2 bytes place (omega arith))
+  where
+    tested : (count at : ℕ) (b : Bool) → (count == 0) ≡ b → IsNumber 2 bytes place (Got count at) → Is bytes place ((if b then pure empty else filled count) bytes at)
+    tested count at true e h = let none : count ≡ 0 = grind (arith, nat_tests) in inl ((h.0.0, sym none ∙ h.0.1), refl, h.1)
+    tested count at false e h = let some : 0 < count = grind (arith, nat_tests) in is_filled bytes place count at some h.0 h.1
+
+    by : (o : Outcome ℕ) → IsNumber 2 bytes place o → Is bytes place (after o (λ count at. (if count == 0 then pure empty else filled count) bytes at))
+    by (Got count at) h = tested count at (count == 0) refl h
+    by (Fault refusal) h = h
+    by Past h = h
+
+all : (bytes : List ℕ) (place : ℕ) (i : Index) (next : ℕ) → IsIndex bytes place i next → index bytes place ≡ Got i next
+unfolding index
+all bytes place i next (inl h) = rw (number_got 2 bytes place 0 h.0, h.1, h.2) refl
+all bytes place i next (inr f) =
+    let some = f.some in
+    let more : (i.count == 0) ≡ false = grind (arith, nat_tests) in
+    rw (number_got 2 bytes place i.count f.count, more) (filled_got bytes place i.count i.offset_size i.offsets i.items next f)
+
+only : (bytes : List ℕ) (place : ℕ) (i : Index) (next : ℕ) → index bytes place ≡ Got i next → IsIndex bytes place i next
+only bytes place i next e = subst (Is bytes place) e (is_index bytes place)
+
+-- as many items as there are offsets behind the first, and as long as the offsets say
+measured : (before low : ℕ) (os bytes : List ℕ) (items : List (List ℕ)) → RisesFrom low os → ItemsFrom bytes before low os items → (length items ≡ length os) × (map length items ≡ lengths_from low os) × (before + low ≤ length bytes → before + last_of low os ≤ length bytes) × (low ≤ last_of low os)
+measured before low [] bytes [] up h = (refl, refl, λ within. within, omega arith)
+measured before low [] bytes (item ∷ items) up h = absurd h
+measured before low (high ∷ os) bytes [] up h = absurd h
+measured before low (high ∷ os) bytes (item ∷ items) up h =
+    let more = up.0 in
+    let within = h.0 in
+    let rest = measured before high os bytes items up.1 h.2 in
+    let left = length-drop (before + low) bytes in
+    let taken = length-take (high - low) (drop (before + low) bytes) in
+    let long : length item ≡ high - low = ap length h.1 ∙ grind (arith) in
+    let later = rest.3 in
+    (ap suc rest.0, rw (long, rest.1) refl, λ _. rest.2 within, omega arith)
+
+whole : (bytes : List ℕ) (place : ℕ) (i : Index) (next : ℕ) → IsIndex bytes place i next → IsWhole i
+whole bytes place i next (inl h) = inl h.1
+whole bytes place i next (inr f) = inr (record { some = f.some; items = parts.0; offsets = f.many; rise = f.rise; lengths = parts.1 })
+  where
+    by : (os : List ℕ) → length os ≡ i.count + 1 → AreOffsets os → ItemsAt bytes (before_data place i) os i.items → (length i.items ≡ i.count) × (map length i.items ≡ lengths os)
+    by [] many up h = absurd up
+    by (first ∷ rest) many up h = let m = measured (before_data place i) first rest bytes i.items up.1 h in let n = m.0 in (omega arith, m.1)
+
+    parts : (length i.items ≡ i.count) × (map length i.items ≡ lengths i.offsets)
+    parts = by i.offsets f.many f.rise f.items
+
+moves : (bytes : List ℕ) (place : ℕ) (i : Index) (next : ℕ) → IsIndex bytes place i next → (place < next) × (next ≤ length bytes)
+moves bytes place i next (inl h) = let counted = h.0.0 in let behind = h.2 in (omega arith, omega arith)
+moves bytes place i next (inr f) = by i.offsets i.items f.many f.rise f.items f.behind
+  where
+    by : (os : List ℕ) (items : List (List ℕ)) → length os ≡ i.count + 1 → AreOffsets os → ItemsAt bytes (before_data place i) os items → next ≡ before_data place i + last_of 0 os → (place < next) × (next ≤ length bytes)
+    by [] items many up h behind = absurd up
+    by (first ∷ []) items many up h behind = let some = f.some in absurd (omega arith)
+    by (first ∷ high ∷ rest) [] many up h behind = absurd h
+    by (first ∷ high ∷ rest) (item ∷ items) many up h behind =
+        let m = measured (before_data place i) high rest bytes items up.1.1 h.2 in
+        let within = m.2 h.0 in
+        let least = m.3 in
+        let more = up.1.0 in
+        (omega arith, omega arith)
+
+takes : TakesBytes index
+takes bytes place = by (index bytes place) (is_index bytes place)
+  where
+    by : (o : Outcome Index) → Is bytes place o → MovesOn place (length bytes) o
+    by (Got i next) h = moves bytes place i next h
+    by (Fault refusal) h = tt
+    by Past h = h
+
+needs : NeedsBytes index
+unfolding index
+needs = needs_after (number 2) (λ count. if count == 0 then pure empty else filled count) (number_needs 2 (omega arith))
+
+-- what an INDEX is, and that it is read
+pub reads_indices : ReadsIndices
+reads_indices = record {
+  all = all;
+  only = only;
+  whole = λ bytes place i next e. whole bytes place i next (only bytes place i next e);
+  refusals = λ bytes place refusal e. subst (Is bytes place) e (is_index bytes place);
+  takes = takes;
+  needs = needs;
+}
