@@ -1,5 +1,5 @@
 -- An INDEX is read exactly where one stands.
-use Rattle.std.proofs.Common.{◌≡◌, refl, sym, ap, subst, ◌∙◌, ℕ, zero, suc, ◌+◌, ◌-◌, ◌*◌, ◌≤◌, ◌<◌, Bool, true, false, ◌||◌, ◌==◌, nat_lt, if◌then◌else◌, Option, Some, None, List, [], ◌∷◌, length, take, drop, map, length-take, length-drop, ◌⊎◌, inl, inr, arith}
+use Rattle.std.proofs.Common.{◌≡◌, pos, refl, sym, ap, subst, ◌∙◌, ℕ, zero, suc, ◌+◌, ◌-◌, ◌*◌, ◌≤◌, ◌<◌, Bool, true, false, ◌||◌, ◌==◌, nat_lt, if◌then◌else◌, Option, Some, None, List, [], ◌∷◌, length, take, drop, map, length-take, length-drop, ◌⊎◌, inl, inr, arith}
 use Rattle.std.proofs.lemmas.Bool.Decides.{nat_tests}
 use Rattle.postscript_base.specs.Compact1.Offset.{offset, rises, rising, behind}
 use Rattle.postscript_base.specs.Numbers.{big_endian, number, slice}
@@ -10,6 +10,7 @@ use Rattle.postscript_base.specs.Tape.Onward.{MovesOn, TakesBytes}
 use Rattle.postscript_base.specs.Tape.Outcome.{Outcome, Got, Fault, Past, Reading, after, end, fault, pure, ◌>>=◌}
 use Rattle.postscript_base.proofs.Onward.{needs_after, number_needs}
 use Rattle.postscript_compact1.specs.Index.{Index, empty, filled, index, lengths, lengths_from, offsets}
+use Rattle.postscript_compact1.specs.Kinds.{char_strings}
 use Rattle.postscript_compact1.specs.IndexLaw.{AreOffsets, IsEmptyAt, IsFilled, IsFilledAt, IsIndex, IsWhole, ItemsAt, ItemsFrom, NumberAt, OffsetsAt, ReadsIndices, RisesFrom, before_data, last_of}
 
 -- what refuses an INDEX: no place past the end is sought
@@ -332,3 +333,18 @@ reads_indices = record {
   takes = takes;
   needs = needs;
 }
+
+-- the reading of char strings of type 2 is that of an INDEX
+pub char_strings_need : NeedsBytes (char_strings (pos 2))
+unfolding char_strings
+char_strings_need = needs
+
+-- what is read behind a count is whole, and so is an INDEX without items
+pub empty_whole : IsWhole empty
+empty_whole = inl refl
+
+pub read_whole : (bytes : List ℕ) (place count at next : ℕ) (i : Index) → number 2 bytes place ≡ Got count at → 0 < count → filled count bytes at ≡ Got i next → IsWhole i
+unfolding index
+read_whole bytes place count at next i counted some e =
+    let more : (count == 0) ≡ false = grind (arith, nat_tests) in
+    whole bytes place i next (only bytes place i next (rw (counted, more) e))
