@@ -11,3 +11,4 @@ pub mod Outcomes
 pub mod EachPart
 pub mod GlyphRuns
 pub mod CharSetIs
+pub mod IndexIs

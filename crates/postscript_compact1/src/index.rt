@@ -3,13 +3,15 @@ ghost use Rattle.std.specs.Prelude.{◌≡◌, ℕ, ◌+◌, List, [], ◌∷◌
 ghost use Rattle.std.specs.Option.{option_copied};
 ghost use Rattle.postscript_base.specs.Error.{IsListed};
 ghost use Rattle.postscript_base.specs.Numbers.{slice};
-ghost use Rattle.postscript_base.specs.Tape.{Reads};
+ghost use Rattle.postscript_base.specs.Tape.{Reads, IsHonest};
 ghost use Rattle.postscript_base.specs.Tape.Outcome.{same};
 ghost use Rattle.postscript_base.specs.Tape.Seen.{each_as_it_is};
-ghost use Rattle.postscript_compact1.specs.Index.{empty as no_items, filled, lengths, lengths_from, offsets as the_offsets};
+ghost use Rattle.postscript_compact1.specs.IndexLaw.{IsWhole};
+ghost use Rattle.postscript_compact1.specs.Index.{empty as no_items, filled, index, lengths, lengths_from, offsets as the_offsets};
 
 mod char_strings;
 mod dictionaries;
+pub mod laws;
 mod names;
 mod strings;
 mod subroutines;
@@ -107,12 +109,17 @@ impl Index {
 
 /// Refused: `MalformedOffset` for offsets of no byte or of more than four, `MalformedIndex` where the first offset is not
 /// 1 or a next one is not greater than the last, `UnexpectedEof`, `Io`, `Memory`.
-#[tactic(auto, unfolding(crate::specs::Index::index))]
+///
+/// An `Index` that was read is empty or has as many items as it counts. Its offsets begin with 1 and rise, and item i is
+/// as long as offset i + 1 less offset i.
+#[tactic(auto, using(crate::proofs::IndexIs::read_whole, crate::proofs::IndexIs::empty_whole), unfolding(crate::specs::Index::index))]
 impl Value for Index {
     ghost use Rattle.std.specs.Prelude.{[], ◌∷◌};
     ghost use Rattle.postscript_base.specs.Tape.Outcome.{same};
     ghost use Rattle.postscript_base.specs.Tape.Seen.{each_as_it_is};
+    ghost use Rattle.postscript_base.specs.Tape.{Reads, IsHonest};
     ghost use Rattle.postscript_compact1.specs.Index.{Index, index};
+    ghost use Rattle.postscript_compact1.specs.IndexLaw.{IsWhole};
 
     ghost Shown = { Index };
 
@@ -126,7 +133,11 @@ impl Value for Index {
 
     ghost refusals = { 1 ∷ 2 ∷ 3 ∷ 5 ∷ 6 ∷ [] };
 
-    fn read<T: Tape>(alloc: Global, tape: &mut T) -> Result<Index> {
+    fn read<T: Tape>(alloc: Global, tape: &mut T) -> Result<Index>
+        ensures exact { Reads same (T.state tape.old) result (T.state tape.new) index }
+        ensures listed { IsListed (1 ∷ 2 ∷ 3 ∷ 5 ∷ 6 ∷ []) result }
+        ensures whole { IsHonest (T.state tape.old) → IfOk result IsWhole }
+    {
         let count = u16::read(alloc, tape)?;
         if count == 0 {
             return Ok(Index::empty(alloc));

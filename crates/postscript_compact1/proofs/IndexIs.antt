@@ -1,0 +1,350 @@
+-- An INDEX is read exactly where one stands.
+use Rattle.std.proofs.Common.{◌≡◌, pos, refl, sym, ap, subst, ◌∙◌, ℕ, zero, suc, ◌+◌, ◌-◌, ◌*◌, ◌≤◌, ◌<◌, Bool, true, false, ◌||◌, ◌==◌, nat_lt, if◌then◌else◌, Option, Some, None, List, [], ◌∷◌, length, take, drop, map, length-take, length-drop, ◌⊎◌, inl, inr, arith}
+use Rattle.std.proofs.lemmas.Bool.Decides.{nat_tests}
+use Rattle.postscript_base.specs.Compact1.Offset.{offset, rises, rising, behind}
+use Rattle.postscript_base.specs.Numbers.{big_endian, number, slice}
+use Rattle.postscript_base.specs.Refusal.{Refusal, malformed_index, malformed_offset, unexpected_eof}
+use Rattle.postscript_base.specs.Tape.At.{NeedsBytes}
+use Rattle.postscript_base.specs.Tape.Loops.{chain, each}
+use Rattle.postscript_base.specs.Tape.Onward.{MovesOn, TakesBytes}
+use Rattle.postscript_base.specs.Tape.Outcome.{Outcome, Got, Fault, Past, Reading, after, end, fault, pure, ◌>>=◌}
+use Rattle.postscript_base.proofs.Onward.{needs_after, number_needs}
+use Rattle.postscript_compact1.specs.Index.{Index, empty, filled, index, lengths, lengths_from, offsets}
+use Rattle.postscript_compact1.specs.Kinds.{char_strings}
+use Rattle.postscript_compact1.specs.IndexLaw.{AreOffsets, IsEmptyAt, IsFilled, IsFilledAt, IsIndex, IsWhole, ItemsAt, ItemsFrom, NumberAt, OffsetsAt, ReadsIndices, RisesFrom, before_data, last_of}
+
+-- what refuses an INDEX: no place past the end is sought
+abbrev Refuses : Refusal → Type 0
+Refuses refusal = (refusal ≡ unexpected_eof) ⊎ ((refusal ≡ malformed_offset) ⊎ (refusal ≡ malformed_index))
+
+-- a slice that stands there, and the place behind it
+abbrev IsSlice : ℕ → List ℕ → ℕ → Outcome (List ℕ) → Type 0
+IsSlice count bytes place (Got xs next) = (place + count ≤ length bytes) × (xs ≡ take count (drop place bytes)) × (next ≡ place + count)
+IsSlice count bytes place (Fault refusal) = Refuses refusal
+IsSlice count bytes place Past = ⊥
+
+is_slice : (count : ℕ) (bytes : List ℕ) (place : ℕ) → 0 < count → IsSlice count bytes place (slice count bytes place)
+unfolding slice
+is_slice count bytes place some = by (nat_lt (length bytes - place) count) refl
+  where
+    by : (b : Bool) → nat_lt (length bytes - place) count ≡ b → IsSlice count bytes place (if b then end else Got (take count (drop place bytes)) (place + count))
+    by true e = inl refl
+    by false e = (grind (arith, nat_tests), refl, refl)
+
+slice_got : (count : ℕ) (bytes : List ℕ) (place : ℕ) → place + count ≤ length bytes → slice count bytes place ≡ Got (take count (drop place bytes)) (place + count)
+unfolding slice
+slice_got count bytes place within = let enough : nat_lt (length bytes - place) count ≡ false = grind (arith, nat_tests) in rw enough refl
+
+-- a number that stands there
+abbrev IsNumber : ℕ → List ℕ → ℕ → Outcome ℕ → Type 0
+IsNumber size bytes place (Got n next) = NumberAt bytes place size n × (next ≡ place + size)
+IsNumber size bytes place (Fault refusal) = Refuses refusal
+IsNumber size bytes place Past = ⊥
+
+is_number : (size : ℕ) (bytes : List ℕ) (place : ℕ) → 0 < size → IsNumber size bytes place (number size bytes place)
+unfolding number
+is_number size bytes place some = by (slice size bytes place) (is_slice size bytes place some)
+  where
+    by : (o : Outcome (List ℕ)) → IsSlice size bytes place o → IsNumber size bytes place (after o (λ bytes next. Got (big_endian bytes) next))
+    by (Got xs next) h = ((h.0, ap big_endian h.1), h.2)
+    by (Fault refusal) h = h
+    by Past h = h
+
+number_got : (size : ℕ) (bytes : List ℕ) (place n : ℕ) → NumberAt bytes place size n → number size bytes place ≡ Got n (place + size)
+unfolding number
+number_got size bytes place n h = rw (slice_got size bytes place h.0) (ap (λ n. Got n (place + size)) (sym h.1))
+
+-- an offset that stands there and may follow the last one
+abbrev Follows : Option ℕ → List ℕ → Type 0
+Follows None [] = Unit {0}
+Follows None (first ∷ offsets) = (first ≡ 1) × RisesFrom first offsets
+Follows (Some last) offsets = RisesFrom last offsets
+
+abbrev IsSize : ℕ → Type 0
+IsSize size = (1 ≤ size) × (size ≤ 4)
+
+abbrev IsRising : ℕ → Option ℕ → List ℕ → ℕ → Outcome ℕ → Type 0
+IsRising size last bytes place (Got n next) = IsSize size × (NumberAt bytes place size n × (next ≡ place + size)) × (rises last n ≡ true)
+IsRising size last bytes place (Fault refusal) = Refuses refusal
+IsRising size last bytes place Past = ⊥
+
+sizes : (size : ℕ) → ((size == 0) || nat_lt 4 size) ≡ false → IsSize size
+sizes zero e = absurd (cc)
+sizes (suc size) e = (omega arith, grind (arith, nat_tests))
+
+is_rising : (size : ℕ) (last : Option ℕ) (bytes : List ℕ) (place : ℕ) → IsRising size last bytes place (rising (size, last) bytes place)
+unfolding rising offset
+is_rising size last bytes place = by ((size == 0) || nat_lt 4 size) refl
+  where
+    tested : (n next : ℕ) (b : Bool) → rises last n ≡ b → IsSize size → NumberAt bytes place size n × (next ≡ place + size) → IsRising size last bytes place ((if b then pure n else fault malformed_index) bytes next)
+    tested n next true e sized h = (sized, h, e)
+    tested n next false e sized h = inr (inr refl)
+
+    read : (o : Outcome ℕ) → IsSize size → IsNumber size bytes place o → IsRising size last bytes place (after o (λ n next. (if rises last n then pure n else fault malformed_index) bytes next))
+    read (Got n next) sized h = tested n next (rises last n) refl sized h
+    read (Fault refusal) sized h = h
+    read Past sized h = h
+
+    by : (b : Bool) → ((size == 0) || nat_lt 4 size) ≡ b → IsRising size last bytes place (after ((if b then fault malformed_offset else number size) bytes place) (λ n next. (if rises last n then pure n else fault malformed_index) bytes next))
+    by true e = inr (inl refl)
+    by false e = let sized = sizes size e in read (number size bytes place) sized (is_number size bytes place sized.0)
+
+rising_got : (size : ℕ) (last : Option ℕ) (bytes : List ℕ) (place n : ℕ) → IsSize size → NumberAt bytes place size n → rises last n ≡ true → rising (size, last) bytes place ≡ Got n (place + size)
+unfolding rising offset
+rising_got size last bytes place n sized h up =
+    let least = sized.0 in
+    let most = sized.1 in
+    let good : ((size == 0) || nat_lt 4 size) ≡ false = grind (arith, nat_tests) in
+    rw (good, number_got size bytes place n h, up) refl
+
+-- offsets one behind the other, of which the first may follow the last one
+abbrev IsChain : ℕ → ℕ → Option ℕ → List ℕ → ℕ → Outcome (List ℕ) → Type 0
+IsChain count size last bytes place (Got os next) = (length os ≡ count) × OffsetsAt bytes place size os × Follows last os × (next ≡ place + count * size) × (0 < count → IsSize size)
+IsChain count size last bytes place (Fault refusal) = Refuses refusal
+IsChain count size last bytes place Past = ⊥
+
+nothing_follows : (last : Option ℕ) → Follows last []
+nothing_follows None = tt
+nothing_follows (Some last) = tt
+
+follows_on : (last : Option ℕ) (n : ℕ) (os : List ℕ) → rises last n ≡ true → RisesFrom n os → Follows last (n ∷ os)
+follows_on None n os up rest = (grind (arith, nat_tests), rest)
+follows_on (Some last) n os up rest = (grind (arith, nat_tests), rest)
+
+is_chain : (count size : ℕ) (last : Option ℕ) (bytes : List ℕ) (place : ℕ) → IsChain count size last bytes place (chain rising behind (size, last) count bytes place)
+unfolding chain
+is_chain zero size last bytes place = (refl, tt, nothing_follows last, omega arith, λ none. absurd (omega arith))
+is_chain (suc count) size last bytes place = by (rising (size, last) bytes place) (is_rising size last bytes place) (λ n at. is_chain count size (Some n) bytes at)
+  where
+    rest : (n at : ℕ) (o : Outcome (List ℕ)) → IsRising size last bytes place (Got n at) → IsChain count size (Some n) bytes at o → IsChain (suc count) size last bytes place (after o (λ values next. Got (n ∷ values) next))
+    rest n at (Got os next) h g =
+        let here : OffsetsAt bytes (place + size) size os = subst (λ p. OffsetsAt bytes p size os) h.1.1 g.1 in
+        (ap suc g.0, (h.1.0, here), follows_on last n os h.2 g.2, g.3 ∙ ap (λ p. p + count * size) h.1.1 ∙ (omega arith), λ _. h.0)
+    rest n at (Fault refusal) h g = g
+    rest n at Past h g = g
+
+    by : (o : Outcome ℕ) → IsRising size last bytes place o → ((n at : ℕ) → IsChain count size (Some n) bytes at (chain rising behind (size, Some n) count bytes at))
+        → IsChain (suc count) size last bytes place (after o (λ n at. after (chain rising behind (size, Some n) count bytes at) (λ values next. Got (n ∷ values) next)))
+    by (Got n at) h later = rest n at (chain rising behind (size, Some n) count bytes at) h (later n at)
+    by (Fault refusal) h later = h
+    by Past h later = h
+
+up_by : (last : Option ℕ) (n : ℕ) (os : List ℕ) → Follows last (n ∷ os) → (rises last n ≡ true) × RisesFrom n os
+up_by None n os h = let first = h.0 in (grind (arith, nat_tests), h.1)
+up_by (Some last) n os h = let up = h.0 in (grind (arith, nat_tests), h.1)
+
+chain_got : (size : ℕ) (last : Option ℕ) (bytes : List ℕ) (place : ℕ) (os : List ℕ) → IsSize size → OffsetsAt bytes place size os → Follows last os → chain rising behind (size, last) (length os) bytes place ≡ Got os (place + length os * size)
+unfolding chain
+chain_got size last bytes place [] sized h up = ap (λ p. Got [] p) (omega arith)
+chain_got size last bytes place (n ∷ os) sized h up =
+    let rise = up_by last n os up in
+    rw (rising_got size last bytes place n sized h.0 rise.0, chain_got size (Some n) bytes (place + size) os sized h.1 rise.1) (ap (λ p. Got (n ∷ os) p) (omega arith))
+
+-- items one behind the other, each from its offset to the one behind it
+abbrev IsItems : ℕ → ℕ → List ℕ → List ℕ → Outcome (List (List ℕ)) → Type 0
+IsItems before low os bytes (Got items next) = ItemsFrom bytes before low os items × (next ≡ before + last_of low os)
+IsItems before low os bytes (Fault refusal) = Refuses refusal
+IsItems before low os bytes Past = ⊥
+
+is_items : (before low : ℕ) (os bytes : List ℕ) (place : ℕ) → RisesFrom low os → place ≡ before + low → IsItems before low os bytes (each slice (lengths_from low os) bytes place)
+unfolding each
+is_items before low [] bytes place up at = (tt, at)
+is_items before low (high ∷ os) bytes place up at =
+    let more = up.0 in
+    by (slice (high - low) bytes place) (is_slice (high - low) bytes place (omega arith)) (λ next e. is_items before high os bytes next up.1 e)
+  where
+    rest : (item : List ℕ) (next : ℕ) (o : Outcome (List (List ℕ))) → IsSlice (high - low) bytes place (Got item next) → IsItems before high os bytes o → IsItems before low (high ∷ os) bytes (after o (λ items last. Got (item ∷ items) last))
+    rest item next (Got items last) h g =
+        let more = up.0 in
+        let within = h.0 in
+        ((omega arith, h.1 ∙ ap (λ p. take (high - low) (drop p bytes)) at, g.0), g.1)
+    rest item next (Fault refusal) h g = g
+    rest item next Past h g = g
+
+    by : (o : Outcome (List ℕ)) → IsSlice (high - low) bytes place o → ((next : ℕ) → next ≡ before + high → IsItems before high os bytes (each slice (lengths_from high os) bytes next))
+        → IsItems before low (high ∷ os) bytes (after o (λ item next. after (each slice (lengths_from high os) bytes next) (λ items last. Got (item ∷ items) last)))
+    by (Got item next) h later = let more = up.0 in let behind = h.2 in rest item next (each slice (lengths_from high os) bytes next) h (later next (omega arith))
+    by (Fault refusal) h later = h
+    by Past h later = h
+
+items_got : (before low : ℕ) (os bytes : List ℕ) (items : List (List ℕ)) (place : ℕ) → RisesFrom low os → ItemsFrom bytes before low os items → place ≡ before + low → each slice (lengths_from low os) bytes place ≡ Got items (before + last_of low os)
+unfolding each
+items_got before low [] bytes [] place up h at = ap (λ p. Got [] p) at
+items_got before low [] bytes (item ∷ items) place up h at = absurd h
+items_got before low (high ∷ os) bytes [] place up h at = absurd h
+items_got before low (high ∷ os) bytes (item ∷ items) place up h at =
+    let more = up.0 in
+    let within = h.0 in
+    let one = slice_got (high - low) bytes place (omega arith) in
+    let rest = items_got before high os bytes items (place + (high - low)) up.1 h.2 (omega arith) in
+    rw (one, rest) (ap (λ item. Got (item ∷ items) (before + last_of high os)) (ap (λ p. take (high - low) (drop p bytes)) at ∙ sym h.1))
+
+abbrev Is : List ℕ → ℕ → Outcome Index → Type 0
+Is bytes place (Got i next) = IsIndex bytes place i next
+Is bytes place (Fault refusal) = Refuses refusal
+Is bytes place Past = ⊥
+
+module _ (bytes : List ℕ) (place count : ℕ) where
+  abbrev made : ℕ → List ℕ → List (List ℕ) → Index
+  made size os items = record { count = count; offset_size = size; offsets = os; items = items }
+
+  is_filled : (at : ℕ) → 0 < count → NumberAt bytes place 2 count → at ≡ place + 2 → Is bytes place (filled count bytes at)
+  unfolding filled offsets
+  is_filled at some counted behind_count = sized (number 1 bytes at) (is_number 1 bytes at (omega arith))
+    where
+      found : (size mid first : ℕ) (rest : List ℕ) (begin : ℕ) (o : Outcome (List (List ℕ))) → IsNumber 1 bytes at (Got size mid) → IsChain (count + 1) size None bytes mid (Got (first ∷ rest) begin) → IsItems (place + 2 + (count + 1) * size) first rest bytes o
+          → Is bytes place (after o (λ items next. Got (made size (first ∷ rest) items) next))
+      found size mid first rest begin (Got items next) h g f =
+          let sized = g.4 (omega arith) in
+          let begins : mid ≡ place + 3 = h.1 ∙ (omega arith) in
+          inr (record {
+            some = some;
+            count = counted;
+            size = subst (λ p. NumberAt bytes p 1 size) behind_count h.0;
+            least = sized.0;
+            most = sized.1;
+            many = g.0;
+            offsets = subst (λ p. OffsetsAt bytes p size (first ∷ rest)) begins g.1;
+            rise = g.2;
+            items = f.0;
+            behind = f.1;
+          })
+      found size mid first rest begin (Fault refusal) h g f = f
+      found size mid first rest begin Past h g f = f
+
+      itemed : (size mid : ℕ) (os : List ℕ) (begin : ℕ) → IsNumber 1 bytes at (Got size mid) → IsChain (count + 1) size None bytes mid (Got os begin) → Is bytes place (after (each slice (lengths os) bytes begin) (λ items next. Got (made size os items) next))
+      itemed size mid [] begin h g = let none = g.0 in absurd (omega arith)
+      itemed size mid (first ∷ rest) begin h g =
+          let first_is = g.2.0 in
+          let begin_is = g.3 in
+          let mid_is = h.1 in
+          found size mid first rest begin (each slice (lengths_from first rest) bytes begin) h g (is_items (place + 2 + (count + 1) * size) first rest bytes begin g.2.1 (omega arith))
+
+      off : (size mid : ℕ) (o : Outcome (List ℕ)) → IsNumber 1 bytes at (Got size mid) → IsChain (count + 1) size None bytes mid o
+          → Is bytes place (after o (λ os begin. after (each slice (lengths os) bytes begin) (λ items next. Got (made size os items) next)))
+      off size mid (Got os begin) h g = itemed size mid os begin h g
+      off size mid (Fault refusal) h g = g
+      off size mid Past h g = g
+
+      sized : (o : Outcome ℕ) → IsNumber 1 bytes at o
+          → Is bytes place (after o (λ size mid. after (chain rising behind (size, None) (count + 1) bytes mid) (λ os begin. after (each slice (lengths os) bytes begin) (λ items next. Got (made size os items) next))))
+      sized (Got size mid) h = off size mid (chain rising behind (size, None) (count + 1) bytes mid) h (is_chain (count + 1) size None bytes mid)
+      sized (Fault refusal) h = h
+      sized Past h = h
+
+  offsets_got : (size : ℕ) (os : List ℕ) → IsSize size → length os ≡ count + 1 → OffsetsAt bytes (place + 3) size os → Follows None os → offsets size (count + 1) bytes (place + 2 + 1) ≡ Got os (place + 3 + (count + 1) * size)
+  unfolding offsets
+  offsets_got size os sized many h up =
+      let begins : place + 2 + 1 ≡ place + 3 = omega arith in
+      rw begins (subst (λ n. chain rising behind (size, None) n bytes (place + 3) ≡ Got os (place + 3 + n * size)) many (chain_got size None bytes (place + 3) os sized h up))
+
+  filled_got : (size : ℕ) (os : List ℕ) (items : List (List ℕ)) (next : ℕ) → IsFilledAt bytes place (made size os items) next → filled count bytes (place + 2) ≡ Got (made size os items) next
+  unfolding filled
+  filled_got size [] items next f = absurd f.rise
+  filled_got size (first ∷ rest) items next f =
+      let first_is = f.rise.0 in
+      let items_are = items_got (place + 2 + (count + 1) * size) first rest bytes items (place + 3 + (count + 1) * size) f.rise.1 f.items (omega arith) in
+      rw (number_got 1 bytes (place + 2) size f.size, offsets_got size (first ∷ rest) (f.least, f.most) f.many f.offsets f.rise, items_are) (ap (λ n. Got (made size (first ∷ rest) items) n) (sym f.behind))
+
+is_index : (bytes : List ℕ) (place : ℕ) → Is bytes place (index bytes place)
+unfolding index
+is_index bytes place = by (number 2 bytes place) (is_number 2 bytes place (omega arith))
+  where
+    tested : (count at : ℕ) (b : Bool) → (count == 0) ≡ b → IsNumber 2 bytes place (Got count at) → Is bytes place ((if b then pure empty else filled count) bytes at)
+    tested count at true e h = let none : count ≡ 0 = grind (arith, nat_tests) in inl ((h.0.0, sym none ∙ h.0.1), refl, h.1)
+    tested count at false e h = let some : 0 < count = grind (arith, nat_tests) in is_filled bytes place count at some h.0 h.1
+
+    by : (o : Outcome ℕ) → IsNumber 2 bytes place o → Is bytes place (after o (λ count at. (if count == 0 then pure empty else filled count) bytes at))
+    by (Got count at) h = tested count at (count == 0) refl h
+    by (Fault refusal) h = h
+    by Past h = h
+
+all : (bytes : List ℕ) (place : ℕ) (i : Index) (next : ℕ) → IsIndex bytes place i next → index bytes place ≡ Got i next
+unfolding index
+all bytes place i next (inl h) = rw (number_got 2 bytes place 0 h.0, h.1, h.2) refl
+all bytes place i next (inr f) =
+    let some = f.some in
+    let more : (i.count == 0) ≡ false = grind (arith, nat_tests) in
+    rw (number_got 2 bytes place i.count f.count, more) (filled_got bytes place i.count i.offset_size i.offsets i.items next f)
+
+only : (bytes : List ℕ) (place : ℕ) (i : Index) (next : ℕ) → index bytes place ≡ Got i next → IsIndex bytes place i next
+only bytes place i next e = subst (Is bytes place) e (is_index bytes place)
+
+-- as many items as there are offsets behind the first, and as long as the offsets say
+measured : (before low : ℕ) (os bytes : List ℕ) (items : List (List ℕ)) → RisesFrom low os → ItemsFrom bytes before low os items → (length items ≡ length os) × (map length items ≡ lengths_from low os) × (before + low ≤ length bytes → before + last_of low os ≤ length bytes) × (low ≤ last_of low os)
+measured before low [] bytes [] up h = (refl, refl, λ within. within, omega arith)
+measured before low [] bytes (item ∷ items) up h = absurd h
+measured before low (high ∷ os) bytes [] up h = absurd h
+measured before low (high ∷ os) bytes (item ∷ items) up h =
+    let more = up.0 in
+    let within = h.0 in
+    let rest = measured before high os bytes items up.1 h.2 in
+    let left = length-drop (before + low) bytes in
+    let taken = length-take (high - low) (drop (before + low) bytes) in
+    let long : length item ≡ high - low = ap length h.1 ∙ grind (arith) in
+    let later = rest.3 in
+    (ap suc rest.0, rw (long, rest.1) refl, λ _. rest.2 within, omega arith)
+
+whole : (bytes : List ℕ) (place : ℕ) (i : Index) (next : ℕ) → IsIndex bytes place i next → IsWhole i
+whole bytes place i next (inl h) = inl h.1
+whole bytes place i next (inr f) = inr (record { some = f.some; items = parts.0; offsets = f.many; rise = f.rise; lengths = parts.1 })
+  where
+    by : (os : List ℕ) → length os ≡ i.count + 1 → AreOffsets os → ItemsAt bytes (before_data place i) os i.items → (length i.items ≡ i.count) × (map length i.items ≡ lengths os)
+    by [] many up h = absurd up
+    by (first ∷ rest) many up h = let m = measured (before_data place i) first rest bytes i.items up.1 h in let n = m.0 in (omega arith, m.1)
+
+    parts : (length i.items ≡ i.count) × (map length i.items ≡ lengths i.offsets)
+    parts = by i.offsets f.many f.rise f.items
+
+moves : (bytes : List ℕ) (place : ℕ) (i : Index) (next : ℕ) → IsIndex bytes place i next → (place < next) × (next ≤ length bytes)
+moves bytes place i next (inl h) = let counted = h.0.0 in let behind = h.2 in (omega arith, omega arith)
+moves bytes place i next (inr f) = by i.offsets i.items f.many f.rise f.items f.behind
+  where
+    by : (os : List ℕ) (items : List (List ℕ)) → length os ≡ i.count + 1 → AreOffsets os → ItemsAt bytes (before_data place i) os items → next ≡ before_data place i + last_of 0 os → (place < next) × (next ≤ length bytes)
+    by [] items many up h behind = absurd up
+    by (first ∷ []) items many up h behind = let some = f.some in absurd (omega arith)
+    by (first ∷ high ∷ rest) [] many up h behind = absurd h
+    by (first ∷ high ∷ rest) (item ∷ items) many up h behind =
+        let m = measured (before_data place i) high rest bytes items up.1.1 h.2 in
+        let within = m.2 h.0 in
+        let least = m.3 in
+        let more = up.1.0 in
+        (omega arith, omega arith)
+
+takes : TakesBytes index
+takes bytes place = by (index bytes place) (is_index bytes place)
+  where
+    by : (o : Outcome Index) → Is bytes place o → MovesOn place (length bytes) o
+    by (Got i next) h = moves bytes place i next h
+    by (Fault refusal) h = tt
+    by Past h = h
+
+needs : NeedsBytes index
+unfolding index
+needs = needs_after (number 2) (λ count. if count == 0 then pure empty else filled count) (number_needs 2 (omega arith))
+
+-- what an INDEX is, and that it is read
+pub reads_indices : ReadsIndices
+reads_indices = record {
+  all = all;
+  only = only;
+  whole = λ bytes place i next e. whole bytes place i next (only bytes place i next e);
+  refusals = λ bytes place refusal e. subst (Is bytes place) e (is_index bytes place);
+  takes = takes;
+  needs = needs;
+}
+
+-- the reading of char strings of type 2 is that of an INDEX
+pub char_strings_need : NeedsBytes (char_strings (pos 2))
+unfolding char_strings
+char_strings_need = needs
+
+-- what is read behind a count is whole, and so is an INDEX without items
+pub empty_whole : IsWhole empty
+empty_whole = inl refl
+
+pub read_whole : (bytes : List ℕ) (place count at next : ℕ) (i : Index) → number 2 bytes place ≡ Got count at → 0 < count → filled count bytes at ≡ Got i next → IsWhole i
+unfolding index
+read_whole bytes place count at next i counted some e =
+    let more : (count == 0) ≡ false = grind (arith, nat_tests) in
+    whole bytes place i next (only bytes place i next (rw (counted, more) e))

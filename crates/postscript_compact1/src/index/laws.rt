@@ -1,0 +1,17 @@
+//! What indices are.
+ghost use Rattle.std.specs.Prelude.{pos};
+ghost use Rattle.postscript_base.specs.Tape.At.{NeedsBytes};
+ghost use Rattle.postscript_base.specs.Tape.Onward.{TakesBytes};
+ghost use Rattle.postscript_compact1.specs.Index.{index};
+ghost use Rattle.postscript_compact1.specs.IndexLaw.{ReadsIndices};
+ghost use Rattle.postscript_compact1.specs.Kinds.{char_strings};
+
+/// An INDEX is read where the bytes at a place are one: a count, the size of the offsets, offsets that begin with 1 and
+/// rise, and the slices between them. Past the end bytes are wanting.
+#[tactic(auto, using(crate::proofs::IndexIs::reads_indices, crate::proofs::IndexIs::char_strings_need))]
+pub fn reads_indices()
+    ensures law { ReadsIndices }
+    ensures takes { TakesBytes index }
+    ensures needs { NeedsBytes index }
+    ensures char_strings { NeedsBytes (char_strings (pos 2)) }
+{}
