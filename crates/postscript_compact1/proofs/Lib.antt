@@ -12,3 +12,5 @@ pub mod EachPart
 pub mod GlyphRuns
 pub mod CharSetIs
 pub mod IndexIs
+pub mod Steps
+pub mod OperandLaws

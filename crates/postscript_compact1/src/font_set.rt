@@ -43,6 +43,34 @@ pub struct FontSet {
     pub local_subroutines: Vec<Subroutines>,
 }
 
+/// Refused: `OutOfRangeOffset` where an offset, a size or a sum of offsets is negative, or 64 bits do not count a place;
+/// `MissingOperation` and `MalformedOperation` with the operator that is missing, has too few operands, or has one that
+/// is no whole number of `i32`; `UnknownCharStringFormat` for char strings of another type than 2; `Unsupported` for
+/// another encoding than Standard and Expert and for a char set of format 2; as indices, dictionaries and char sets are;
+/// `UnexpectedEof`, `Io`, `Memory`.
+impl Value for FontSet {
+    ghost use Rattle.std.specs.Prelude.{[], ◌∷◌, map, refl};
+    ghost use Rattle.postscript_compact1.specs.FontSet.Font.{Font};
+    ghost use Rattle.postscript_compact1.specs.FontSet.Order.{font};
+    ghost use Rattle.postscript_compact1.specs.FontSet.Shown.{font_shown};
+
+    ghost Shown = { Font };
+
+    ghost view = { font_shown };
+
+    ghost views = { map font_shown };
+
+    ghost views_each = { λ _. refl };
+
+    ghost reading = { font };
+
+    ghost refusals = { 1 ∷ 2 ∷ 3 ∷ 5 ∷ 6 ∷ 7 ∷ 8 ∷ 9 ∷ 10 ∷ 11 ∷ 12 ∷ 13 ∷ 14 ∷ 15 ∷ 16 ∷ [] };
+
+    fn read<T: Tape>(alloc: Global, tape: &mut T) -> Result<FontSet> {
+        read_font(alloc, tape)
+    }
+}
+
 /// Reads a font.
 #[tactic(auto, using(crate::proofs::Outcomes::refused_after), unfolding(crate::specs::FontSet::Order::font))]
 fn read_font<T: Tape>(alloc: Global, tape: &mut T) -> Result<FontSet>

@@ -11,7 +11,7 @@ use Rattle.postscript_base.specs.declared.compact1.operator.Operator.TheVariants
 use Rattle.postscript_compact1.specs.Index.{Index}
 use Rattle.postscript_compact1.specs.IndexLaw.{IsIndex}
 use Rattle.postscript_compact1.specs.Texts.{text}
-use Rattle.postscript_compact1.specs.CharSets.{char_set}
+use Rattle.postscript_compact1.specs.CharSetLaw.{IsCharSet}
 use Rattle.postscript_compact1.specs.declared.char_set.CharSet.{CharSet}
 use Rattle.postscript_compact1.specs.declared.char_set.CharSet.TheVariants as sets
 use Rattle.postscript_compact1.specs.declared.encoding.Encoding.{Encoding}
@@ -49,13 +49,12 @@ HasCharStrings bytes start map char_strings next =
     (offset : ℕ) × HasFirst map operators.CharStrings (pos offset) × HasFirst map operators.CharStringType (pos 2) × IsPlace (start + offset)
     × IsIndex bytes (start + offset) char_strings next
 
--- The char set of a dictionary, for so many glyphs: 0, 1 and 2 name the predefined ones. The place behind it is that
--- behind what was read before, where none is read.
-pub data HasCharSet (bytes : List ℕ) (start glyphs : ℕ) (map : Dictionary) : CharSet → Type 0 where
-  ISOAdobe : HasFirst map operators.CharSet (pos 0) → HasCharSet bytes start glyphs map sets.ISOAdobe
-  Expert : HasFirst map operators.CharSet (pos 1) → HasCharSet bytes start glyphs map sets.Expert
-  ExpertSubset : HasFirst map operators.CharSet (pos 2) → HasCharSet bytes start glyphs map sets.ExpertSubset
-  AtPlace : (offset : ℕ) (set : CharSet) (next : ℕ) → HasFirst map operators.CharSet (pos offset) → 3 ≤ offset → IsPlace (start + offset) → Stands (char_set glyphs) bytes (start + offset) set next → HasCharSet bytes start glyphs map set
+-- the char set of a dictionary, for so many glyphs: 0, 1 and 2 name the predefined ones, and another stands at its place
+pub data HasCharSet (bytes : List ℕ) (start glyphs : ℕ) (map : Dictionary) (set : CharSet) : Type 0 where
+  Is_0 : HasFirst map operators.CharSet (pos 0) → set ≡ sets.ISOAdobe → HasCharSet bytes start glyphs map set
+  Is_1 : HasFirst map operators.CharSet (pos 1) → set ≡ sets.Expert → HasCharSet bytes start glyphs map set
+  Is_2 : HasFirst map operators.CharSet (pos 2) → set ≡ sets.ExpertSubset → HasCharSet bytes start glyphs map set
+  Own : (offset next : ℕ) → HasFirst map operators.CharSet (pos offset) → 3 ≤ offset → IsPlace (start + offset) → IsCharSet bytes (start + offset) glyphs set next → HasCharSet bytes start glyphs map set
 
 -- the private dictionary at an offset
 abbrev pub HasPrivate : List ℕ → ℕ → Dictionary → ℕ → Dictionary → Type 0
