@@ -14,3 +14,4 @@ pub mod CharSetIs
 pub mod IndexIs
 pub mod Steps
 pub mod OperandLaws
+pub mod FontLaws

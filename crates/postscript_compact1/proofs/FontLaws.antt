@@ -1,0 +1,399 @@
+-- The parts of a font are read exactly where they stand.
+use Rattle.std.proofs.Common.{◌≡◌, ◌⊎◌, inl, inr, ⊎_elim, ℕ, zero, suc, ◌+◌, ◌-◌, ◌<◌, ◌≤◌, Bool, true, false, ℤ, pos, negsuc, ◌+ℤ◌, List, [], ◌∷◌, length, take, drop, map, nat_lt, ◌==◌, if◌then◌else◌, refl, sym, ap, ◌∙◌, subst, arith}
+use Rattle.std.proofs.lemmas.Int.{ints}
+use Rattle.std.proofs.lemmas.Bool.Decides.{nat_tests}
+use Rattle.postscript_base.specs.Numbers.{slice}
+use Rattle.postscript_base.specs.Refusal.{Refusal, OfPart, out_of_range_offset, unexpected_eof}
+use Rattle.postscript_base.specs.Tape.At.{at, bytes_at, NeedsBytes}
+use Rattle.postscript_base.specs.Tape.Loops.{each}
+use Rattle.postscript_base.specs.Tape.Outcome.{Outcome, Got, Fault, Past, Reading, after, end, pure, fault, position}
+use Rattle.postscript_base.specs.Compact1.Dictionary.{Dictionary, dictionary}
+use Rattle.postscript_base.specs.Compact1.DictionaryLaw.{IsDictionary, ReadsDictionaries}
+use Rattle.postscript_base.specs.Compact1.Header.{header}
+use Rattle.postscript_base.specs.declared.compact1.header.Header.{Header}
+use Rattle.postscript_base.specs.declared.compact1.operator.Operator.TheVariants as operators
+use Rattle.postscript_base.specs.declared.error.Part.TheVariants as unsupported
+use Rattle.postscript_compact1.specs.Index.{Index, index}
+use Rattle.postscript_compact1.specs.IndexLaw.{IsIndex}
+use Rattle.postscript_compact1.specs.Kinds.{map_of, maps_of}
+use Rattle.postscript_compact1.specs.Texts.{text}
+use Rattle.postscript_compact1.specs.CharSets.{char_set as the_set}
+use Rattle.postscript_compact1.specs.CharSetLaw.{IsCharSet}
+use Rattle.postscript_compact1.specs.declared.char_set.CharSet.{CharSet}
+use Rattle.postscript_compact1.specs.declared.char_set.CharSet.TheVariants as sets
+use Rattle.postscript_compact1.specs.declared.encoding.Encoding.{Encoding}
+use Rattle.postscript_compact1.specs.declared.encoding.Encoding.TheVariants as encodings
+use Rattle.postscript_compact1.specs.FontSet.Operands.{first, size_of, in_range, place_at, type_two, bounds}
+use Rattle.postscript_compact1.specs.FontSet.Font.{Part, Tables, Columns, Font, columns, font_of}
+use Rattle.postscript_compact1.specs.FontSet.Order.{encoding_of, encoding, char_strings, own_char_set, char_set_of, char_set_offset, char_set, glyphs, private, subroutines, locals, part, names, dictionaries, tables, behind, parts, font}
+use Rattle.postscript_compact1.specs.FontSet.Layout.{HasFirst, HasTwo, Stands, IsSlice, IsPlace, HasEncoding, HasCharStrings, HasCharSet, Is_0, Is_1, Is_2, Own, HasPrivate, HasSubroutines, IsPart, AreParts, AreDictionaries, AreTables, IsFont, ReadsLayout}
+use Rattle.postscript_compact1.proofs.CharSetIs.{reads_char_sets, char_set_needs}
+use Rattle.postscript_compact1.proofs.IndexIs.{reads_indices}
+use Rattle.postscript_compact1.proofs.OperandLaws.{faulty, first_is, first_has, size_has, in_range_is, in_range_has, placed_is, placed_has, type_is, type_has, bounds_is, bounds_has}
+use Rattle.postscript_compact1.proofs.Outcomes.{got}
+use Rattle.postscript_compact1.proofs.Steps.{Steps, Done, Last, Step, accepted}
+
+-- ---- other places
+pub at_has : {A : Type 0} (there : ℕ) (reading : Reading A) (bytes : List ℕ) (place : ℕ) (x : A) (next : ℕ) → at there reading bytes place ≡ Got x next → reading bytes there ≡ Got x next
+unfolding at
+at_has there reading bytes place x next e = by (nat_lt (length bytes) there) e
+  where
+    by : (b : Bool) → (if b then Past else reading bytes there) ≡ Got x next → reading bytes there ≡ Got x next
+    by true e = absurd (cc)
+    by false e = e
+
+pub at_is : {A : Type 0} (there : ℕ) (reading : Reading A) (bytes : List ℕ) (place : ℕ) (x : A) (next : ℕ) → NeedsBytes reading → reading bytes there ≡ Got x next → at there reading bytes place ≡ Got x next
+unfolding at
+at_is there reading bytes place x next needs e = by (nat_lt (length bytes) there) refl
+  where
+    by : (b : Bool) → nat_lt (length bytes) there ≡ b → (if b then Past else reading bytes there) ≡ Got x next
+    by true t = let past : length bytes < there = grind (arith, nat_tests) in let is : Fault unexpected_eof ≡ Got x next = sym (needs bytes there past) ∙ e in absurd (cc)
+    by false t = e
+
+-- an INDEX at a place that is sought
+pub index_at_is : (there : ℕ) (bytes : List ℕ) (place : ℕ) (i : Index) (next : ℕ) → IsIndex bytes there i next → at there index bytes place ≡ Got i next
+index_at_is there bytes place i next h = at_is there index bytes place i next reads_indices.needs (reads_indices.all bytes there i next h)
+
+pub index_at_has : (there : ℕ) (bytes : List ℕ) (place : ℕ) (i : Index) (next : ℕ) → at there index bytes place ≡ Got i next → IsIndex bytes there i next
+index_at_has there bytes place i next e = reads_indices.only bytes there i next (at_has there index bytes place i next e)
+
+-- ---- slices
+pub slice_is : (size there : ℕ) (slice bytes : List ℕ) (place : ℕ) → IsSlice bytes there size slice → (next : ℕ) × (bytes_at there size bytes place ≡ Got slice next)
+unfolding bytes_at at slice
+slice_is size there held bytes place h = by (size == 0) refl
+  where
+    by : (b : Bool) → (size == 0) ≡ b → (next : ℕ) × ((if b then pure [] else at there (slice size)) bytes place ≡ Got held next)
+    by true t = let none : size ≡ 0 = grind (arith, nat_tests) in (place, rw (h.1, none) refl)
+    by false t =
+        let some : 0 < size = grind (arith, nat_tests) in
+        let within = h.0 some in
+        let here : nat_lt (length bytes) there ≡ false = grind (arith, nat_tests) in
+        let enough : nat_lt (length bytes - there) size ≡ false = grind (arith, nat_tests) in
+        (there + size, rw (here, enough, h.1) refl)
+
+pub slice_has : (size there : ℕ) (held bytes : List ℕ) (place next : ℕ) → bytes_at there size bytes place ≡ Got held next → IsSlice bytes there size held
+unfolding bytes_at at slice
+slice_has size there held bytes place next e = by (size == 0) refl e
+  where
+    cut : (b : Bool) → nat_lt (length bytes - there) size ≡ b → 0 < size → (if b then end else Got (take size (drop there bytes)) (there + size)) ≡ Got held next → IsSlice bytes there size held
+    cut true t some e = faulty held unexpected_eof next e
+    cut false t some e = (λ _. grind (arith, nat_tests), sym (got _ _ _ _ e).0)
+
+    by : (b : Bool) → (size == 0) ≡ b → (if b then pure [] else at there (slice size)) bytes place ≡ Got held next → IsSlice bytes there size held
+    by true t e =
+        let none : size ≡ 0 = grind (arith, nat_tests) in
+        let empty : [] ≡ held = (got _ _ _ _ e).0 in
+        (λ some. absurd (omega arith), rw none (sym empty))
+    by false t e = let some : 0 < size = grind (arith, nat_tests) in cut (nat_lt (length bytes - there) size) refl some (at_has there (slice size) bytes place held next e)
+
+-- ---- encodings
+pub encoding_is : (m : Dictionary) (e : Encoding) (bytes : List ℕ) (place : ℕ) → HasEncoding m e → encoding m bytes place ≡ Got e place
+unfolding encoding
+encoding_is m e bytes place (inl h) = rw (first_is m operators.Encoding (pos 0) bytes place h.0, h.1) refl
+encoding_is m e bytes place (inr h) = rw (first_is m operators.Encoding (pos 1) bytes place h.0, h.1) refl
+
+encoding_of_has : (m : Dictionary) (z : ℤ) (x : Encoding) (bytes : List ℕ) (place next : ℕ) → HasFirst m operators.Encoding z → encoding_of z bytes place ≡ Got x next → HasEncoding m x × (place ≡ next)
+encoding_of_has m (negsuc n) x bytes place next h e = faulty x (OfPart unsupported.CustomEncoding) next e
+encoding_of_has m (pos n) x bytes place next h e = by (n == 0) refl e
+  where
+    second : (b : Bool) → (n == 1) ≡ b → (if b then pure encodings.Expert else fault (OfPart unsupported.CustomEncoding)) bytes place ≡ Got x next → HasEncoding m x × (place ≡ next)
+    second true t e = let is : n ≡ 1 = grind (arith, nat_tests) in let same = got _ _ _ _ e in (inr (subst (λ k. HasFirst m operators.Encoding (pos k)) is h, sym same.0), same.1)
+    second false t e = faulty x (OfPart unsupported.CustomEncoding) next e
+
+    by : (b : Bool) → (n == 0) ≡ b → (if b then pure encodings.Standard else (if n == 1 then pure encodings.Expert else fault (OfPart unsupported.CustomEncoding))) bytes place ≡ Got x next → HasEncoding m x × (place ≡ next)
+    by true t e = let is : n ≡ 0 = grind (arith, nat_tests) in let same = got _ _ _ _ e in (inl (subst (λ k. HasFirst m operators.Encoding (pos k)) is h, sym same.0), same.1)
+    by false t e = second (n == 1) refl e
+
+pub encoding_has : (m : Dictionary) (x : Encoding) (bytes : List ℕ) (place next : ℕ) → encoding m bytes place ≡ Got x next → HasEncoding m x × (place ≡ next)
+unfolding encoding
+encoding_has m x bytes place next e =
+    let h = accepted (Step (first m operators.Encoding) (λ z. Last (encoding_of z))) bytes place x next e in
+    let one = first_has m operators.Encoding h.0 bytes place h.1 h.2 in
+    let all = encoding_of_has m h.0 x bytes h.1 next one.0 h.3 in
+    (all.0, one.1 ∙ all.1)
+
+-- ---- char strings
+pub char_strings_is : (start : ℕ) (m : Dictionary) (bytes : List ℕ) (i : Index) (place next : ℕ) → HasCharStrings bytes start m i next → char_strings start m bytes place ≡ Got i next
+unfolding char_strings
+char_strings_is start m bytes i place next h =
+    let sum : pos 0 +ℤ pos h.0 ≡ pos h.0 = omega (arith, ints) in
+    rw (placed_is start 0 m operators.CharStrings (pos h.0) h.0 bytes place h.1 sum h.3, type_is m bytes place h.2) (index_at_is (start + h.0) bytes place i next h.4)
+
+pub char_strings_has : (start : ℕ) (m : Dictionary) (bytes : List ℕ) (i : Index) (place next : ℕ) → char_strings start m bytes place ≡ Got i next → HasCharStrings bytes start m i next
+unfolding char_strings
+char_strings_has start m bytes i place next e =
+    let h = accepted (Step (place_at start 0 m operators.CharStrings) (λ there. Step (type_two m) (λ _. Last (at there index)))) bytes place i next e in
+    let p = placed_has start 0 m operators.CharStrings h.0 bytes place h.1 h.2 in
+    let is : p.0 ≡ pos p.1 = let sum : pos 0 +ℤ p.0 ≡ pos p.1 = p.3 in omega (arith, ints) in
+    let t = type_has m h.3.0 bytes h.1 h.3.1 h.3.2 in
+    (p.1, subst (HasFirst m operators.CharStrings) is p.2, t.0, p.5, subst (λ k. IsIndex bytes k i next) p.4 (index_at_has h.0 bytes h.3.1 i next h.3.3))
+
+-- ---- char sets
+own_is : (start glyphs offset : ℕ) (bytes : List ℕ) (set : CharSet) (place next : ℕ) → IsPlace (start + offset) → IsCharSet bytes (start + offset) glyphs set next → own_char_set start glyphs offset bytes place ≡ Got set next
+unfolding own_char_set
+own_is start glyphs offset bytes set place next fits h =
+    rw (in_range_is (start + offset) bytes place fits) (at_is (start + offset) (the_set glyphs) bytes place set next (char_set_needs glyphs) (reads_char_sets.all glyphs bytes (start + offset) set next h))
+
+own_has : (start glyphs offset : ℕ) (bytes : List ℕ) (set : CharSet) (place next : ℕ) → own_char_set start glyphs offset bytes place ≡ Got set next → IsPlace (start + offset) × IsCharSet bytes (start + offset) glyphs set next
+unfolding own_char_set
+own_has start glyphs offset bytes set place next e =
+    let h = accepted (Step (in_range (start + offset)) (λ there. Last (at there (the_set glyphs)))) bytes place set next e in
+    let r = in_range_has (start + offset) h.0 bytes place h.1 h.2 in
+    (r.1, subst (λ k. IsCharSet bytes k glyphs set next) (sym r.0) (reads_char_sets.only glyphs bytes h.0 set next (at_has h.0 (the_set glyphs) bytes h.1 set next h.3)))
+
+-- behind it the tape stands anywhere
+pub char_set_is : (start glyphs : ℕ) (m : Dictionary) (bytes : List ℕ) (set : CharSet) (place : ℕ) → HasCharSet bytes start glyphs m set → (next : ℕ) × (char_set start glyphs m bytes place ≡ Got set next)
+unfolding char_set char_set_offset
+char_set_is start glyphs m bytes set place (Is_0 h is) = (place, rw (first_is m operators.CharSet (pos 0) bytes place h, is) refl)
+char_set_is start glyphs m bytes set place (Is_1 h is) = (place, rw (first_is m operators.CharSet (pos 1) bytes place h, is) refl)
+char_set_is start glyphs m bytes set place (Is_2 h is) = (place, rw (first_is m operators.CharSet (pos 2) bytes place h, is) refl)
+char_set_is start glyphs m bytes set place (Own offset next h far fits stands) =
+    let a : (offset == 0) ≡ false = grind (arith, nat_tests) in
+    let b : (offset == 1) ≡ false = grind (arith, nat_tests) in
+    let c : (offset == 2) ≡ false = grind (arith, nat_tests) in
+    (next, rw (first_is m operators.CharSet (pos offset) bytes place h, a, b, c) (own_is start glyphs offset bytes set place next fits stands))
+
+pub char_set_has : (start glyphs : ℕ) (m : Dictionary) (bytes : List ℕ) (set : CharSet) (place next : ℕ) → char_set start glyphs m bytes place ≡ Got set next → HasCharSet bytes start glyphs m set
+unfolding char_set char_set_offset
+char_set_has start glyphs m bytes set place next e =
+    let h = accepted (Step (first m operators.CharSet) (λ z. Last (size_of z))) bytes place o.0 o.1 o.2 in
+    let one = first_has m operators.CharSet h.0 bytes place h.1 h.2 in
+    let size = size_has h.0 o.0 bytes h.1 o.1 h.3 in
+    by o.0 o.1 (subst (HasFirst m operators.CharSet) size.0 one.0) o.3
+  where
+    o : (offset : ℕ) × (at : ℕ) × (char_set_offset m bytes place ≡ Got offset at) × (char_set_of start glyphs offset bytes at ≡ Got set next)
+    o = accepted (Step (char_set_offset m) (λ offset. Last (char_set_of start glyphs offset))) bytes place set next e
+
+    by : (n from : ℕ) → HasFirst m operators.CharSet (pos n) → char_set_of start glyphs n bytes from ≡ Got set next → HasCharSet bytes start glyphs m set
+    by zero from h e = Is_0 h (sym (got _ _ _ _ e).0)
+    by (suc zero) from h e = Is_1 h (sym (got _ _ _ _ e).0)
+    by (suc (suc zero)) from h e = Is_2 h (sym (got _ _ _ _ e).0)
+    by (suc (suc (suc n))) from h e =
+        let k = suc (suc (suc n)) in
+        let no_0 : (k == 0) ≡ false = grind (arith, nat_tests) in
+        let no_1 : (k == 1) ≡ false = grind (arith, nat_tests) in
+        let no_2 : (k == 2) ≡ false = grind (arith, nat_tests) in
+        let own = own_has start glyphs k bytes set from next (rw (no_0, no_1, no_2) at e) in
+        Own k next h (omega arith) own.0 own.1
+
+-- ---- the local subroutines
+pub subroutines_is : (start base : ℕ) (local : Dictionary) (bytes : List ℕ) (s : Index) (place next : ℕ) → HasSubroutines bytes start base local s next → subroutines start base local bytes place ≡ Got s next
+unfolding subroutines
+subroutines_is start base local bytes s place next h =
+    rw (placed_is start base local operators.Subrs h.0 h.1 bytes place h.2 h.3 h.4) (index_at_is (start + h.1) bytes place s next h.5)
+
+pub subroutines_has : (start base : ℕ) (local : Dictionary) (bytes : List ℕ) (s : Index) (place next : ℕ) → subroutines start base local bytes place ≡ Got s next → HasSubroutines bytes start base local s next
+unfolding subroutines
+subroutines_has start base local bytes s place next e =
+    let h = accepted (Step (place_at start base local operators.Subrs) (λ there. Last (at there index))) bytes place s next e in
+    let p = placed_has start base local operators.Subrs h.0 bytes place h.1 h.2 in
+    (p.0, p.1, p.2, p.3, p.5, subst (λ k. IsIndex bytes k s next) p.4 (index_at_has h.0 bytes h.1 s next h.3))
+
+-- ---- dictionaries, the readings of which are what the law says
+module _ (d : ReadsDictionaries) where
+  map_is : (held : List ℕ) (m : Dictionary) (bytes : List ℕ) (place : ℕ) → IsDictionary held 0 m → map_of held bytes place ≡ Got m place
+  unfolding map_of
+  map_is held m bytes place h = rw (d.all held 0 m h) refl
+
+  map_has : (held : List ℕ) (m : Dictionary) (bytes : List ℕ) (place next : ℕ) → map_of held bytes place ≡ Got m next → IsDictionary held 0 m × (place ≡ next)
+  unfolding map_of
+  map_has held m bytes place next e = by (dictionary held 0) refl e
+    where
+      by : (o : Outcome Dictionary) → dictionary held 0 ≡ o → after o (λ m _. Got m place) ≡ Got m next → IsDictionary held 0 m × (place ≡ next)
+      by (Got n to) is e = let same = got n m place next e in (subst (IsDictionary held 0) same.0 (d.only held 0 n to is).0, same.1)
+      by (Fault r) is e = faulty m r next e
+      by Past is e = absurd (cc)
+
+  maps_are : (items : List (List ℕ)) (ms : List Dictionary) (bytes : List ℕ) (place : ℕ) → AreDictionaries items ms → maps_of items bytes place ≡ Got ms place
+  unfolding maps_of each
+  maps_are [] [] bytes place h = refl
+  maps_are [] (m ∷ ms) bytes place h = absurd h
+  maps_are (item ∷ items) [] bytes place h = absurd h
+  maps_are (item ∷ items) (m ∷ ms) bytes place h = rw (map_is item m bytes place h.0, maps_are items ms bytes place h.1) refl
+
+  maps_have : (items : List (List ℕ)) (ms : List Dictionary) (bytes : List ℕ) (place next : ℕ) → maps_of items bytes place ≡ Got ms next → AreDictionaries items ms × (place ≡ next)
+  unfolding maps_of each
+  maps_have [] [] bytes place next e = (tt, (got _ _ _ _ e).1)
+  maps_have [] (m ∷ ms) bytes place next e = absurd (cc)
+  maps_have (item ∷ items) ms bytes place next e =
+      let h = accepted (Step (map_of item) (λ m. Step (maps_of items) (λ ms. Done (m ∷ ms)))) bytes place ms next e in
+      let one = map_has item h.0 bytes place h.1 h.2 in
+      let more = maps_have items h.3.0 bytes h.1 h.3.1 h.3.2 in
+      (subst (AreDictionaries (item ∷ items)) h.3.3.0 (one.0, more.0), one.1 ∙ (more.1 ∙ h.3.3.1))
+
+  -- ---- the private dictionary
+  private_is : (start offset : ℕ) (m local : Dictionary) (bytes : List ℕ) (place : ℕ) → HasPrivate bytes start m offset local → (next : ℕ) × (private start m bytes place ≡ Got (offset, local) next)
+  unfolding private
+  private_is start offset m local bytes place h =
+      let s = slice_is h.0 (start + offset) h.1 bytes place h.4 in
+      (s.0, rw (bounds_is start m h.0 offset bytes place h.2 h.3, s.1, map_is h.1 local bytes s.0 h.5) refl)
+
+  private_has : (start : ℕ) (m : Dictionary) (r : ℕ × Dictionary) (bytes : List ℕ) (place next : ℕ) → private start m bytes place ≡ Got r next → HasPrivate bytes start m r.0 r.1
+  unfolding private
+  private_has start m r bytes place next e =
+      let h = accepted (Step (bounds start m) (λ b. Step (bytes_at b.2 b.0) (λ held. Step (map_of held) (λ local. Done (b.1, local))))) bytes place r next e in
+      let b = bounds_has start m h.0 bytes place h.1 h.2 in
+      let s = slice_has h.0.0 h.0.2 h.3.0 bytes h.1 h.3.1 h.3.2 in
+      let l = map_has h.3.0 h.3.3.0 bytes h.3.1 h.3.3.1 h.3.3.2 in
+      let pair = h.3.3.3.0 in
+      let offset : h.0.1 ≡ r.0 = ap (λ q. q.0) pair in
+      let local : h.3.3.0 ≡ r.1 = ap (λ q. q.1) pair in (
+        h.0.0,
+        h.3.0,
+        subst (λ k. HasTwo m operators.Private (pos h.0.0) (pos k)) offset b.0,
+        subst (λ k. IsPlace (start + k)) offset b.2,
+        subst (λ k. IsSlice bytes k h.0.0 h.3.0) (b.1 ∙ ap (λ k. start + k) offset) s,
+        subst (IsDictionary h.3.0 0) local l.0,
+      )
+
+  -- ---- a part
+  part_is : (bytes : List ℕ) (start : ℕ) (m : Dictionary) (p : Part) (place next : ℕ) → IsPart bytes start m p next → part start m bytes place ≡ Got p next
+  unfolding part glyphs locals
+  part_is bytes start m p place next h =
+      let set = char_set_is start (length p.char_strings.items) m bytes p.char_set h.char_strings_next h.char_set in
+      let l = private_is start h.private_offset m p.local_dictionary bytes set.0 h.private in
+      rw (
+        encoding_is m p.encoding bytes place h.encoding,
+        char_strings_is start m bytes p.char_strings place h.char_strings_next h.char_strings,
+        set.1,
+        l.1,
+        subroutines_is start h.private_offset p.local_dictionary bytes p.local_subroutines l.0 next h.local_subroutines,
+      ) refl
+
+  glyphs_have : (bytes : List ℕ) (start : ℕ) (m : Dictionary) (g : Index × CharSet) (place next : ℕ) → glyphs start m bytes place ≡ Got g next → (at : ℕ) × HasCharStrings bytes start m g.0 at × HasCharSet bytes start (length g.0.items) m g.1
+  unfolding glyphs
+  glyphs_have bytes start m g place next e =
+      let h = accepted (Step (char_strings start m) (λ i. Step (char_set start (length i.items) m) (λ s. Done (i, s)))) bytes place g next e in
+      let strings = ap (λ p. p.0) h.3.3.0 in
+      let set = ap (λ p. p.1) h.3.3.0 in (
+        h.1,
+        subst (λ k. HasCharStrings bytes start m k h.1) strings (char_strings_has start m bytes h.0 place h.1 h.2),
+        subst (λ k. HasCharSet bytes start (length g.0.items) m k) set (subst (λ k. HasCharSet bytes start (length k.items) m h.3.0) strings (char_set_has start (length h.0.items) m bytes h.3.0 h.1 h.3.1 h.3.2)),
+      )
+
+  locals_have : (bytes : List ℕ) (start : ℕ) (m : Dictionary) (l : Dictionary × Index) (place next : ℕ) → locals start m bytes place ≡ Got l next → (offset : ℕ) × HasPrivate bytes start m offset l.0 × HasSubroutines bytes start offset l.0 l.1 next
+  unfolding locals
+  locals_have bytes start m l place next e =
+      let h = accepted (Step (private start m) (λ p. Step (subroutines start p.0 p.1) (λ s. Done (p.1, s)))) bytes place l next e in
+      let local = ap (λ p. p.0) h.3.3.0 in
+      let list = ap (λ p. p.1) h.3.3.0 in
+      let stands = subroutines_has start h.0.0 h.0.1 bytes h.3.0 h.1 h.3.1 h.3.2 in (
+        h.0.0,
+        subst (HasPrivate bytes start m h.0.0) local (private_has start m h.0 bytes place h.1 h.2),
+        subst (λ k. HasSubroutines bytes start h.0.0 l.0 l.1 k) h.3.3.1 (subst (λ k. HasSubroutines bytes start h.0.0 l.0 k h.3.1) list (subst (λ k. HasSubroutines bytes start h.0.0 k h.3.0 h.3.1) local stands)),
+      )
+
+  part_has : (bytes : List ℕ) (start : ℕ) (m : Dictionary) (p : Part) (place next : ℕ) → part start m bytes place ≡ Got p next → IsPart bytes start m p next
+  unfolding part
+  part_has bytes start m p place next e =
+      let h = accepted (Step (encoding m) (λ e. Step (glyphs start m) (λ g. Step (locals start m) (λ l. Done (record { encoding = e; char_strings = g.0; char_set = g.1; local_dictionary = l.0; local_subroutines = l.1 }))))) bytes place p next e in
+      let g = glyphs_have bytes start m h.3.0 h.1 h.3.1 h.3.2 in
+      let l = locals_have bytes start m h.3.3.0 h.3.1 h.3.3.1 h.3.3.2 in
+      let q : Part = record { encoding = h.0; char_strings = h.3.0.0; char_set = h.3.0.1; local_dictionary = h.3.3.0.0; local_subroutines = h.3.3.0.1 } in
+      let whole : IsPart bytes start m q h.3.3.1 = record {
+        char_strings_next = g.0;
+        private_offset = l.0;
+        encoding = (encoding_has m h.0 bytes place h.1 h.2).0;
+        char_strings = g.1;
+        char_set = g.2;
+        private = l.1;
+        local_subroutines = l.2;
+      } in
+      let end = h.3.3.3 in
+      subst (λ k. IsPart bytes start m p k) end.1 (subst (λ k. IsPart bytes start m k h.3.3.1) end.0 whole)
+
+  -- ---- all parts
+  parts_are : (bytes : List ℕ) (start : ℕ) (ms : List Dictionary) (ps : List Part) (place next : ℕ) → AreParts bytes start ms ps place next → each (part start) ms bytes place ≡ Got ps next
+  unfolding each
+  parts_are bytes start [] [] place next h = rw h refl
+  parts_are bytes start [] (p ∷ ps) place next h = absurd h
+  parts_are bytes start (m ∷ ms) [] place next h = absurd h
+  parts_are bytes start (m ∷ ms) (p ∷ ps) place next h = rw (part_is bytes start m p place h.0 h.1, parts_are bytes start ms ps h.0 next h.2) refl
+
+  parts_have : (bytes : List ℕ) (start : ℕ) (ms : List Dictionary) (ps : List Part) (place next : ℕ) → each (part start) ms bytes place ≡ Got ps next → AreParts bytes start ms ps place next
+  unfolding each
+  parts_have bytes start [] [] place next e = (got _ _ _ _ e).1
+  parts_have bytes start [] (p ∷ ps) place next e = absurd (cc)
+  parts_have bytes start (m ∷ ms) ps place next e =
+      let h = accepted (Step (part start m) (λ p. Step (each (part start) ms) (λ ps. Done (p ∷ ps)))) bytes place ps next e in
+      let rest = parts_have bytes start ms h.3.0 h.1 h.3.1 h.3.2 in
+      subst (λ k. AreParts bytes start (m ∷ ms) k place next) h.3.3.0 (subst (λ k. AreParts bytes start (m ∷ ms) (h.0 ∷ h.3.0) place k) h.3.3.1 (h.1, part_has bytes start m h.0 place h.1 h.2, rest))
+
+  -- ---- what stands behind the header
+  tables_are : (bytes : List ℕ) (there : ℕ) (t : Tables) (place next : ℕ) → AreTables bytes there t next → tables there bytes place ≡ Got t next
+  unfolding tables names dictionaries
+  tables_are bytes there t place next h =
+      rw (
+        index_at_is there bytes place h.names h.names_next h.are_names,
+        sym h.texts,
+        reads_indices.all bytes h.names_next h.dictionaries h.dictionaries_next h.are_items,
+        maps_are h.dictionaries.items t.dictionaries bytes h.dictionaries_next h.are_dictionaries,
+        reads_indices.all bytes h.dictionaries_next t.strings h.strings_next h.are_strings,
+        reads_indices.all bytes h.strings_next t.subroutines next h.are_subroutines,
+      ) refl
+
+  tables_have : (bytes : List ℕ) (there : ℕ) (t : Tables) (place next : ℕ) → tables there bytes place ≡ Got t next → AreTables bytes there t next
+  unfolding tables names dictionaries
+  tables_have bytes there t place next e =
+      let h = accepted (Step (names there) (λ n. Step dictionaries (λ ms. Step index (λ s. Step index (λ g. Done (record { names = n; dictionaries = ms; strings = s; subroutines = g })))))) bytes place t next e in
+      let n = accepted (Step (at there index) (λ i. Done (map text i.items))) bytes place h.0 h.1 h.2 in
+      let ds = h.3 in
+      let m = accepted (Step index (λ i. Last (maps_of i.items))) bytes h.1 ds.0 ds.1 ds.2 in
+      let maps = maps_have m.0.items ds.0 bytes m.1 ds.1 m.3 in
+      let s = ds.3 in
+      let g = s.3 in
+      let q : Tables = record { names = h.0; dictionaries = ds.0; strings = s.0; subroutines = g.0 } in
+      let whole : AreTables bytes there q g.1 = record {
+        names = n.0;
+        names_next = n.1;
+        dictionaries = m.0;
+        dictionaries_next = m.1;
+        strings_next = s.1;
+        are_names = index_at_has there bytes place n.0 n.1 n.2;
+        texts = sym n.3.0;
+        are_items = reads_indices.only bytes n.1 m.0 m.1 (subst (λ k. index bytes k ≡ Got m.0 m.1) (sym n.3.1) m.2);
+        are_dictionaries = maps.0;
+        are_strings = reads_indices.only bytes m.1 s.0 s.1 (subst (λ k. index bytes k ≡ Got s.0 s.1) (sym maps.1) s.2);
+        are_subroutines = reads_indices.only bytes s.1 g.0 g.1 g.2;
+      } in
+      let end = g.3 in
+      subst (λ k. AreTables bytes there t k) end.1 (subst (λ k. AreTables bytes there k g.1) end.0 whole)
+
+  -- ---- a font
+  pub font_is : (bytes : List ℕ) (start : ℕ) (f : Font) (next : ℕ) → IsFont bytes start f next → font bytes start ≡ Got f next
+  unfolding font behind parts
+  font_is bytes start f next h =
+      rw (
+        h.header,
+        in_range_is (start + f.header.header_size) bytes h.header_next h.place,
+        tables_are bytes (start + f.header.header_size) h.tables h.header_next h.behind h.are_tables,
+        parts_are bytes start h.tables.dictionaries h.parts h.behind next h.are_parts,
+        sym h.made_of,
+      ) refl
+
+  pub font_has : (bytes : List ℕ) (start : ℕ) (f : Font) (next : ℕ) → font bytes start ≡ Got f next → IsFont bytes start f next
+  unfolding font behind parts
+  font_has bytes start f next e =
+      let h = accepted (Step header (λ hd. Step (behind start hd) (λ t. Step (parts start t.dictionaries) (λ c. Done (font_of hd t c))))) bytes start f next e in
+      let t = accepted (Step (in_range (start + h.0.header_size)) (λ there. Last (tables there))) bytes h.1 h.3.0 h.3.1 h.3.2 in
+      let r = in_range_has (start + h.0.header_size) t.0 bytes h.1 t.1 t.2 in
+      let c = accepted (Step (each (part start) h.3.0.dictionaries) (λ ps. Done (columns ps))) bytes h.3.1 h.3.3.0 h.3.3.1 h.3.3.2 in
+      let whole : IsFont bytes start (font_of h.0 h.3.0 (columns c.0)) c.1 = record {
+        header_next = h.1;
+        tables = h.3.0;
+        behind = h.3.1;
+        parts = c.0;
+        header = h.2;
+        place = r.1;
+        are_tables = subst (λ k. AreTables bytes k h.3.0 h.3.1) (sym r.0) (tables_have bytes t.0 h.3.0 t.1 h.3.1 t.3);
+        are_parts = parts_have bytes start h.3.0.dictionaries c.0 h.3.1 c.1 c.2;
+        made_of = refl;
+      } in
+      let is : font_of h.0 h.3.0 (columns c.0) ≡ f = ap (font_of h.0 h.3.0) c.3.0 ∙ h.3.3.3.0 in
+      subst (λ k. IsFont bytes start f k) (c.3.1 ∙ h.3.3.3.1) (subst (λ k. IsFont bytes start k c.1) is whole)
+
+  pub reads_layout : ReadsLayout
+  reads_layout = record {
+    both_ways = λ bytes start f next. (font_has bytes start f next, font_is bytes start f next);
+    alone = λ bytes start f g next other a b. got f g next other (sym (font_is bytes start f next a) ∙ font_is bytes start g other b);
+  }
