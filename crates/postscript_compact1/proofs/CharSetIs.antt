@@ -20,7 +20,7 @@ use Rattle.postscript_compact1.specs.declared.char_set.range.Range1.{Range1}
 use Rattle.postscript_compact1.proofs.Ranges.{range_takes}
 
 -- what holds of a value, and of where it ends
-abbrev Gives : {A : Type 0} → (A → ℕ → Type 0) → Outcome A → Type 0
+abbrev pub Gives : {A : Type 0} → (A → ℕ → Type 0) → Outcome A → Type 0
 Gives P (Got value next) = P value next
 Gives P (Fault refusal) = Unit {0}
 Gives P Past = Unit {0}
@@ -48,7 +48,7 @@ many_all one [] bytes place next h = ap (Got []) (sym h)
 many_all one (value ∷ values) bytes place next h = rw (h.1, many_all one values bytes h.0 next h.2) refl
 
 module _ {A : Type 0} (size : A → ℕ) (one : Reading A) where
-  covering_gives : (wanting : ℕ) (bytes : List ℕ) (place : ℕ) → Gives (λ value next. (one bytes place ≡ Got value next) × (size value ≤ wanting)) (covering size one wanting bytes place)
+  pub covering_gives : (wanting : ℕ) (bytes : List ℕ) (place : ℕ) → Gives (λ value next. (one bytes place ≡ Got value next) × (size value ≤ wanting)) (covering size one wanting bytes place)
   unfolding covering
   covering_gives wanting bytes place = gives_after (one bytes place) _ _ (λ value next e. by value next e (nat_lt wanting (size value)) refl)
     where
@@ -56,12 +56,12 @@ module _ {A : Type 0} (size : A → ℕ) (one : Reading A) where
       by value next e true g = tt
       by value next e false g = (e, grind (arith, nat_tests))
 
-  covering_all : (wanting : ℕ) (bytes : List ℕ) (place next : ℕ) (value : A) → one bytes place ≡ Got value next → size value ≤ wanting → covering size one wanting bytes place ≡ Got value next
+  pub covering_all : (wanting : ℕ) (bytes : List ℕ) (place next : ℕ) (value : A) → one bytes place ≡ Got value next → size value ≤ wanting → covering size one wanting bytes place ≡ Got value next
   unfolding covering
   covering_all wanting bytes place next value e within = let no_more : nat_lt wanting (size value) ≡ false = grind (arith, nat_tests) in rw (e, no_more) refl
 
   -- values until none is wanting
-  abbrev all_until : ℕ → ℕ → Reading (List A)
+  abbrev pub all_until : ℕ → ℕ → Reading (List A)
   all_until most wanting = until_from none_wanting (covering size one) (uncovered size) most wanting
 
   abbrev Covers : ℕ → List ℕ → ℕ → List A → ℕ → Type 0
@@ -105,10 +105,10 @@ gives_more (Fault refusal) P Q each h = tt
 gives_more Past P Q each h = tt
 
 -- what stands behind the byte of the format
-abbrev Lists : ℕ → List ℕ → ℕ → Listed → ℕ → Type 0
+abbrev pub Lists : ℕ → List ℕ → ℕ → Listed → ℕ → Type 0
 Lists glyphs bytes place set next = (set.format ≡ 0) × StandAt (number 2) bytes place set.glyphs next × (1 + length set.glyphs ≡ glyphs)
 
-abbrev CoversAll : ℕ → List ℕ → ℕ → Covered Range1 → ℕ → Type 0
+abbrev pub CoversAll : ℕ → List ℕ → ℕ → Covered Range1 → ℕ → Type 0
 CoversAll glyphs bytes place set next = (set.format ≡ 1) × StandAt range bytes place set.ranges next × (1 + sum_by glyphs_of set.ranges ≡ glyphs)
 
 one_more : (glyphs count : ℕ) → (glyphs == 0) ≡ false → count ≡ glyphs - 1 → 1 + count ≡ glyphs
@@ -142,7 +142,7 @@ listed_all glyphs bytes place set next h =
     let count : glyphs - 1 ≡ length set.glyphs = omega arith in
     rw (some, count, many_all (number 2) set.glyphs bytes place next h.1) (ap (λ format. Got (record { format = format; glyphs = set.glyphs }) next) (sym h.0))
 
-covers_some : (range : Range1) → 0 < glyphs_of range
+pub covers_some : (range : Range1) → 0 < glyphs_of range
 covers_some range = omega arith
 
 covered_all : (glyphs : ℕ) (bytes : List ℕ) (place : ℕ) (set : Covered Range1) (next : ℕ) → CoversAll glyphs bytes place set next → covered glyphs bytes place ≡ Got set next
@@ -160,7 +160,7 @@ lists_whole bytes place glyphs format behind e is set next h = record { format =
 covers_whole : (bytes : List ℕ) (place glyphs format behind : ℕ) → number 1 bytes place ≡ Got format behind → format ≡ 1 → (set : Covered Range1) (next : ℕ) → CoversAll glyphs bytes behind set next → CoversGlyphs bytes place glyphs set next
 covers_whole bytes place glyphs format behind e is set next h = record { format = h.0; behind = behind; byte = e ∙ ap (λ format. Got format behind) is; ranges = h.1; each = h.2 }
 
-is_format : (format n : ℕ) → (format == n) ≡ true → format ≡ n
+pub is_format : (format n : ℕ) → (format == n) ≡ true → format ≡ n
 is_format format n e = grind (arith, nat_tests)
 
 gives_0 : (glyphs : ℕ) (bytes : List ℕ) (place : ℕ) → Gives (ListsGlyphs bytes place glyphs) (char_set_0 glyphs bytes place)

@@ -5,3 +5,4 @@ pub mod PredefinedRows
 pub mod Ranges
 pub mod GlyphRuns
 pub mod CharSetIs
+pub mod CharSetRefused

@@ -1,1 +1,2 @@
 //! Indices.
+pub use crate::standard_strings::get_standard_string;
