@@ -13,7 +13,7 @@ use Rattle.postscript_base.specs.Tape.Onward.{MovesOn, TakesBytes}
 use Rattle.postscript_base.specs.Tape.Outcome.{Outcome, Got, Fault, Past, Reading, after, pure, fault}
 use Rattle.postscript_compact1.specs.CharSets.{char_set, char_set_0, char_set_1, covered, covering, glyphs_of, listed, none_wanting, range, ranges, uncovered}
 use Rattle.postscript_compact1.specs.CharSets.Formats.{Listed, Covered}
-use Rattle.postscript_compact1.specs.CharSetLaw.{CoversGlyphs, IsCharSet, ListsGlyphs, ReadsCharSets, StandAt}
+use Rattle.postscript_compact1.specs.CharSetLaw.{CoversGlyphs, IsCharSet, ListsGlyphs, StandAt}
 use Rattle.postscript_compact1.specs.declared.char_set.CharSet.{CharSet}
 use Rattle.postscript_compact1.specs.declared.char_set.CharSet.TheVariants.{ISOAdobe, Expert, ExpertSubset, Format0, Format1}
 use Rattle.postscript_compact1.specs.declared.char_set.range.Range1.{Range1}
@@ -163,7 +163,7 @@ covers_whole bytes place glyphs format behind e is set next h = record { format 
 pub is_format : (format n : ℕ) → (format == n) ≡ true → format ≡ n
 is_format format n e = grind (arith, nat_tests)
 
-gives_0 : (glyphs : ℕ) (bytes : List ℕ) (place : ℕ) → Gives (ListsGlyphs bytes place glyphs) (char_set_0 glyphs bytes place)
+pub gives_0 : (glyphs : ℕ) (bytes : List ℕ) (place : ℕ) → Gives (ListsGlyphs bytes place glyphs) (char_set_0 glyphs bytes place)
 unfolding char_set_0
 gives_0 glyphs bytes place = gives_after (number 1 bytes place) _ _ (λ format behind e. by format behind e (format == 0) refl)
   where
@@ -171,7 +171,7 @@ gives_0 glyphs bytes place = gives_after (number 1 bytes place) _ _ (λ format b
     by format behind e true is = gives_more (listed glyphs bytes behind) _ _ (lists_whole bytes place glyphs format behind e (is_format format 0 is)) (listed_gives glyphs bytes behind)
     by format behind e false is = tt
 
-gives_1 : (glyphs : ℕ) (bytes : List ℕ) (place : ℕ) → Gives (CoversGlyphs bytes place glyphs) (char_set_1 glyphs bytes place)
+pub gives_1 : (glyphs : ℕ) (bytes : List ℕ) (place : ℕ) → Gives (CoversGlyphs bytes place glyphs) (char_set_1 glyphs bytes place)
 unfolding char_set_1
 gives_1 glyphs bytes place = gives_after (number 1 bytes place) _ _ (λ format behind e. by format behind e (format == 1) refl)
   where
@@ -179,7 +179,7 @@ gives_1 glyphs bytes place = gives_after (number 1 bytes place) _ _ (λ format b
     by format behind e true is = gives_more (covered glyphs bytes behind) _ _ (covers_whole bytes place glyphs format behind e (is_format format 1 is)) (covered_gives glyphs bytes behind)
     by format behind e false is = tt
 
-gives_any : (glyphs : ℕ) (bytes : List ℕ) (place : ℕ) → Gives (IsCharSet bytes place glyphs) (char_set glyphs bytes place)
+pub gives_any : (glyphs : ℕ) (bytes : List ℕ) (place : ℕ) → Gives (IsCharSet bytes place glyphs) (char_set glyphs bytes place)
 unfolding char_set
 gives_any glyphs bytes place = gives_after (number 1 bytes place) _ _ (λ format behind e. by format behind e (format == 0) (format == 1) (format == 2) refl refl)
   where
@@ -190,31 +190,21 @@ gives_any glyphs bytes place = gives_after (number 1 bytes place) _ _ (λ format
     by format behind e false false true other is = tt
     by format behind e false false false other is = tt
 
-all_0 : (glyphs : ℕ) (bytes : List ℕ) (place : ℕ) (set : Listed) (next : ℕ) → ListsGlyphs bytes place glyphs set next → char_set_0 glyphs bytes place ≡ Got set next
+pub all_0 : (glyphs : ℕ) (bytes : List ℕ) (place : ℕ) (set : Listed) (next : ℕ) → ListsGlyphs bytes place glyphs set next → char_set_0 glyphs bytes place ≡ Got set next
 unfolding char_set_0
 all_0 glyphs bytes place set next h = rw h.byte (listed_all glyphs bytes h.behind set next (h.format, h.identifiers, h.each))
 
-all_1 : (glyphs : ℕ) (bytes : List ℕ) (place : ℕ) (set : Covered Range1) (next : ℕ) → CoversGlyphs bytes place glyphs set next → char_set_1 glyphs bytes place ≡ Got set next
+pub all_1 : (glyphs : ℕ) (bytes : List ℕ) (place : ℕ) (set : Covered Range1) (next : ℕ) → CoversGlyphs bytes place glyphs set next → char_set_1 glyphs bytes place ≡ Got set next
 unfolding char_set_1
 all_1 glyphs bytes place set next h = rw h.byte (covered_all glyphs bytes h.behind set next (h.format, h.ranges, h.each))
 
-all : (glyphs : ℕ) (bytes : List ℕ) (place : ℕ) (set : CharSet) (next : ℕ) → IsCharSet bytes place glyphs set next → char_set glyphs bytes place ≡ Got set next
+pub all : (glyphs : ℕ) (bytes : List ℕ) (place : ℕ) (set : CharSet) (next : ℕ) → IsCharSet bytes place glyphs set next → char_set glyphs bytes place ≡ Got set next
 unfolding char_set
 all glyphs bytes place ISOAdobe next h = absurd h
 all glyphs bytes place Expert next h = absurd h
 all glyphs bytes place ExpertSubset next h = absurd h
 all glyphs bytes place (Format0 set) next h = rw (h.byte, listed_all glyphs bytes h.behind set next (h.format, h.identifiers, h.each)) refl
 all glyphs bytes place (Format1 set) next h = rw (h.byte, covered_all glyphs bytes h.behind set next (h.format, h.ranges, h.each)) refl
-
-pub reads_char_sets : ReadsCharSets
-reads_char_sets = record {
-  all = all;
-  only = λ glyphs bytes place set next e. subst (Gives (IsCharSet bytes place glyphs)) e (gives_any glyphs bytes place);
-  all_0 = all_0;
-  only_0 = λ glyphs bytes place set next e. subst (Gives (ListsGlyphs bytes place glyphs)) e (gives_0 glyphs bytes place);
-  all_1 = all_1;
-  only_1 = λ glyphs bytes place set next e. subst (Gives (CoversGlyphs bytes place glyphs)) e (gives_1 glyphs bytes place);
-}
 
 -- past the end the byte of the format is wanting
 pub char_set_needs : (glyphs : ℕ) → NeedsBytes (char_set glyphs)
