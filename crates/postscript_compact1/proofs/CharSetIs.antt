@@ -13,14 +13,14 @@ use Rattle.postscript_base.specs.Tape.Onward.{MovesOn, TakesBytes}
 use Rattle.postscript_base.specs.Tape.Outcome.{Outcome, Got, Fault, Past, Reading, after, pure, fault}
 use Rattle.postscript_compact1.specs.CharSets.{char_set, char_set_0, char_set_1, covered, covering, glyphs_of, listed, none_wanting, range, ranges, uncovered}
 use Rattle.postscript_compact1.specs.CharSets.Formats.{Listed, Covered}
-use Rattle.postscript_compact1.specs.CharSetLaw.{CoversGlyphs, IsCharSet, ListsGlyphs, ReadsCharSets, StandAt}
+use Rattle.postscript_compact1.specs.CharSetLaw.{CoversGlyphs, IsCharSet, ListsGlyphs, StandAt}
 use Rattle.postscript_compact1.specs.declared.char_set.CharSet.{CharSet}
 use Rattle.postscript_compact1.specs.declared.char_set.CharSet.TheVariants.{ISOAdobe, Expert, ExpertSubset, Format0, Format1}
 use Rattle.postscript_compact1.specs.declared.char_set.range.Range1.{Range1}
 use Rattle.postscript_compact1.proofs.Ranges.{range_takes}
 
 -- what holds of a value, and of where it ends
-abbrev Gives : {A : Type 0} → (A → ℕ → Type 0) → Outcome A → Type 0
+abbrev pub Gives : {A : Type 0} → (A → ℕ → Type 0) → Outcome A → Type 0
 Gives P (Got value next) = P value next
 Gives P (Fault refusal) = Unit {0}
 Gives P Past = Unit {0}
@@ -48,7 +48,7 @@ many_all one [] bytes place next h = ap (Got []) (sym h)
 many_all one (value ∷ values) bytes place next h = rw (h.1, many_all one values bytes h.0 next h.2) refl
 
 module _ {A : Type 0} (size : A → ℕ) (one : Reading A) where
-  covering_gives : (wanting : ℕ) (bytes : List ℕ) (place : ℕ) → Gives (λ value next. (one bytes place ≡ Got value next) × (size value ≤ wanting)) (covering size one wanting bytes place)
+  pub covering_gives : (wanting : ℕ) (bytes : List ℕ) (place : ℕ) → Gives (λ value next. (one bytes place ≡ Got value next) × (size value ≤ wanting)) (covering size one wanting bytes place)
   unfolding covering
   covering_gives wanting bytes place = gives_after (one bytes place) _ _ (λ value next e. by value next e (nat_lt wanting (size value)) refl)
     where
@@ -56,12 +56,12 @@ module _ {A : Type 0} (size : A → ℕ) (one : Reading A) where
       by value next e true g = tt
       by value next e false g = (e, grind (arith, nat_tests))
 
-  covering_all : (wanting : ℕ) (bytes : List ℕ) (place next : ℕ) (value : A) → one bytes place ≡ Got value next → size value ≤ wanting → covering size one wanting bytes place ≡ Got value next
+  pub covering_all : (wanting : ℕ) (bytes : List ℕ) (place next : ℕ) (value : A) → one bytes place ≡ Got value next → size value ≤ wanting → covering size one wanting bytes place ≡ Got value next
   unfolding covering
   covering_all wanting bytes place next value e within = let no_more : nat_lt wanting (size value) ≡ false = grind (arith, nat_tests) in rw (e, no_more) refl
 
   -- values until none is wanting
-  abbrev all_until : ℕ → ℕ → Reading (List A)
+  abbrev pub all_until : ℕ → ℕ → Reading (List A)
   all_until most wanting = until_from none_wanting (covering size one) (uncovered size) most wanting
 
   abbrev Covers : ℕ → List ℕ → ℕ → List A → ℕ → Type 0
@@ -105,10 +105,10 @@ gives_more (Fault refusal) P Q each h = tt
 gives_more Past P Q each h = tt
 
 -- what stands behind the byte of the format
-abbrev Lists : ℕ → List ℕ → ℕ → Listed → ℕ → Type 0
+abbrev pub Lists : ℕ → List ℕ → ℕ → Listed → ℕ → Type 0
 Lists glyphs bytes place set next = (set.format ≡ 0) × StandAt (number 2) bytes place set.glyphs next × (1 + length set.glyphs ≡ glyphs)
 
-abbrev CoversAll : ℕ → List ℕ → ℕ → Covered Range1 → ℕ → Type 0
+abbrev pub CoversAll : ℕ → List ℕ → ℕ → Covered Range1 → ℕ → Type 0
 CoversAll glyphs bytes place set next = (set.format ≡ 1) × StandAt range bytes place set.ranges next × (1 + sum_by glyphs_of set.ranges ≡ glyphs)
 
 one_more : (glyphs count : ℕ) → (glyphs == 0) ≡ false → count ≡ glyphs - 1 → 1 + count ≡ glyphs
@@ -142,7 +142,7 @@ listed_all glyphs bytes place set next h =
     let count : glyphs - 1 ≡ length set.glyphs = omega arith in
     rw (some, count, many_all (number 2) set.glyphs bytes place next h.1) (ap (λ format. Got (record { format = format; glyphs = set.glyphs }) next) (sym h.0))
 
-covers_some : (range : Range1) → 0 < glyphs_of range
+pub covers_some : (range : Range1) → 0 < glyphs_of range
 covers_some range = omega arith
 
 covered_all : (glyphs : ℕ) (bytes : List ℕ) (place : ℕ) (set : Covered Range1) (next : ℕ) → CoversAll glyphs bytes place set next → covered glyphs bytes place ≡ Got set next
@@ -160,10 +160,10 @@ lists_whole bytes place glyphs format behind e is set next h = record { format =
 covers_whole : (bytes : List ℕ) (place glyphs format behind : ℕ) → number 1 bytes place ≡ Got format behind → format ≡ 1 → (set : Covered Range1) (next : ℕ) → CoversAll glyphs bytes behind set next → CoversGlyphs bytes place glyphs set next
 covers_whole bytes place glyphs format behind e is set next h = record { format = h.0; behind = behind; byte = e ∙ ap (λ format. Got format behind) is; ranges = h.1; each = h.2 }
 
-is_format : (format n : ℕ) → (format == n) ≡ true → format ≡ n
+pub is_format : (format n : ℕ) → (format == n) ≡ true → format ≡ n
 is_format format n e = grind (arith, nat_tests)
 
-gives_0 : (glyphs : ℕ) (bytes : List ℕ) (place : ℕ) → Gives (ListsGlyphs bytes place glyphs) (char_set_0 glyphs bytes place)
+pub gives_0 : (glyphs : ℕ) (bytes : List ℕ) (place : ℕ) → Gives (ListsGlyphs bytes place glyphs) (char_set_0 glyphs bytes place)
 unfolding char_set_0
 gives_0 glyphs bytes place = gives_after (number 1 bytes place) _ _ (λ format behind e. by format behind e (format == 0) refl)
   where
@@ -171,7 +171,7 @@ gives_0 glyphs bytes place = gives_after (number 1 bytes place) _ _ (λ format b
     by format behind e true is = gives_more (listed glyphs bytes behind) _ _ (lists_whole bytes place glyphs format behind e (is_format format 0 is)) (listed_gives glyphs bytes behind)
     by format behind e false is = tt
 
-gives_1 : (glyphs : ℕ) (bytes : List ℕ) (place : ℕ) → Gives (CoversGlyphs bytes place glyphs) (char_set_1 glyphs bytes place)
+pub gives_1 : (glyphs : ℕ) (bytes : List ℕ) (place : ℕ) → Gives (CoversGlyphs bytes place glyphs) (char_set_1 glyphs bytes place)
 unfolding char_set_1
 gives_1 glyphs bytes place = gives_after (number 1 bytes place) _ _ (λ format behind e. by format behind e (format == 1) refl)
   where
@@ -179,7 +179,7 @@ gives_1 glyphs bytes place = gives_after (number 1 bytes place) _ _ (λ format b
     by format behind e true is = gives_more (covered glyphs bytes behind) _ _ (covers_whole bytes place glyphs format behind e (is_format format 1 is)) (covered_gives glyphs bytes behind)
     by format behind e false is = tt
 
-gives_any : (glyphs : ℕ) (bytes : List ℕ) (place : ℕ) → Gives (IsCharSet bytes place glyphs) (char_set glyphs bytes place)
+pub gives_any : (glyphs : ℕ) (bytes : List ℕ) (place : ℕ) → Gives (IsCharSet bytes place glyphs) (char_set glyphs bytes place)
 unfolding char_set
 gives_any glyphs bytes place = gives_after (number 1 bytes place) _ _ (λ format behind e. by format behind e (format == 0) (format == 1) (format == 2) refl refl)
   where
@@ -190,31 +190,21 @@ gives_any glyphs bytes place = gives_after (number 1 bytes place) _ _ (λ format
     by format behind e false false true other is = tt
     by format behind e false false false other is = tt
 
-all_0 : (glyphs : ℕ) (bytes : List ℕ) (place : ℕ) (set : Listed) (next : ℕ) → ListsGlyphs bytes place glyphs set next → char_set_0 glyphs bytes place ≡ Got set next
+pub all_0 : (glyphs : ℕ) (bytes : List ℕ) (place : ℕ) (set : Listed) (next : ℕ) → ListsGlyphs bytes place glyphs set next → char_set_0 glyphs bytes place ≡ Got set next
 unfolding char_set_0
 all_0 glyphs bytes place set next h = rw h.byte (listed_all glyphs bytes h.behind set next (h.format, h.identifiers, h.each))
 
-all_1 : (glyphs : ℕ) (bytes : List ℕ) (place : ℕ) (set : Covered Range1) (next : ℕ) → CoversGlyphs bytes place glyphs set next → char_set_1 glyphs bytes place ≡ Got set next
+pub all_1 : (glyphs : ℕ) (bytes : List ℕ) (place : ℕ) (set : Covered Range1) (next : ℕ) → CoversGlyphs bytes place glyphs set next → char_set_1 glyphs bytes place ≡ Got set next
 unfolding char_set_1
 all_1 glyphs bytes place set next h = rw h.byte (covered_all glyphs bytes h.behind set next (h.format, h.ranges, h.each))
 
-all : (glyphs : ℕ) (bytes : List ℕ) (place : ℕ) (set : CharSet) (next : ℕ) → IsCharSet bytes place glyphs set next → char_set glyphs bytes place ≡ Got set next
+pub all : (glyphs : ℕ) (bytes : List ℕ) (place : ℕ) (set : CharSet) (next : ℕ) → IsCharSet bytes place glyphs set next → char_set glyphs bytes place ≡ Got set next
 unfolding char_set
 all glyphs bytes place ISOAdobe next h = absurd h
 all glyphs bytes place Expert next h = absurd h
 all glyphs bytes place ExpertSubset next h = absurd h
 all glyphs bytes place (Format0 set) next h = rw (h.byte, listed_all glyphs bytes h.behind set next (h.format, h.identifiers, h.each)) refl
 all glyphs bytes place (Format1 set) next h = rw (h.byte, covered_all glyphs bytes h.behind set next (h.format, h.ranges, h.each)) refl
-
-pub reads_char_sets : ReadsCharSets
-reads_char_sets = record {
-  all = all;
-  only = λ glyphs bytes place set next e. subst (Gives (IsCharSet bytes place glyphs)) e (gives_any glyphs bytes place);
-  all_0 = all_0;
-  only_0 = λ glyphs bytes place set next e. subst (Gives (ListsGlyphs bytes place glyphs)) e (gives_0 glyphs bytes place);
-  all_1 = all_1;
-  only_1 = λ glyphs bytes place set next e. subst (Gives (CoversGlyphs bytes place glyphs)) e (gives_1 glyphs bytes place);
-}
 
 -- past the end the byte of the format is wanting
 pub char_set_needs : (glyphs : ℕ) → NeedsBytes (char_set glyphs)

@@ -15,3 +15,4 @@ pub mod IndexIs
 pub mod Steps
 pub mod OperandLaws
 pub mod FontLaws
+pub mod CharSetRefused

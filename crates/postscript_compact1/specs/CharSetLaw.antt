@@ -1,7 +1,9 @@
 -- A char set in its own words: identifiers, or ranges, one behind the other (Technical Note 5176, "Charsets").
-use Rattle.std.specs.Prelude.{◌≡◌, ℕ, ◌+◌, List, [], ◌∷◌, length, sum_by}
+use Rattle.std.specs.Prelude.{◌≡◌, ◌≢◌, ℕ, ◌+◌, ◌<◌, ◌≤◌, List, [], ◌∷◌, length, sum_by}
 use Rattle.postscript_base.specs.Numbers.{number}
-use Rattle.postscript_base.specs.Tape.Outcome.{Got, Reading}
+use Rattle.postscript_base.specs.Refusal.{Refusal, OfPart, malformed_char_set, unknown_char_set_format}
+use Rattle.postscript_base.specs.Tape.Outcome.{Got, Fault, Past, Reading}
+use Rattle.postscript_base.specs.declared.error.Part.TheVariants.{CharSetFormat2}
 use Rattle.postscript_compact1.specs.CharSets.{char_set, char_set_0, char_set_1, glyphs_of, range}
 use Rattle.postscript_compact1.specs.CharSets.Formats.{Listed, Covered}
 use Rattle.postscript_compact1.specs.declared.char_set.CharSet.{CharSet}
@@ -38,11 +40,29 @@ IsCharSet bytes place glyphs ExpertSubset next = ⊥
 IsCharSet bytes place glyphs (Format0 set) next = ListsGlyphs bytes place glyphs set next
 IsCharSet bytes place glyphs (Format1 set) next = CoversGlyphs bytes place glyphs set next
 
--- What is read is the char set that stands there, with its next place, and every char set is read. Past the end bytes are
--- wanting.
+-- Why no char set stands at a place for so many glyphs: the byte of the format is cut; there are no glyphs, though the first
+-- one always is; behind fewer than there are an identifier, or a range, is cut; the next range covers more than are left;
+-- the format is 2, or greater.
+pub data NoCharSet (bytes : List ℕ) (place glyphs : ℕ) (refusal : Refusal) : Type 0 where
+  NoFormat : number 1 bytes place ≡ Fault refusal → NoCharSet bytes place glyphs refusal
+  NoGlyphs : (format behind : ℕ) → number 1 bytes place ≡ Got format behind → format ≤ 1 → glyphs ≡ 0 → refusal ≡ malformed_char_set → NoCharSet bytes place glyphs refusal
+  CutIdentifier : (behind : ℕ) (identifiers : List ℕ) (next : ℕ) → number 1 bytes place ≡ Got 0 behind → StandAt (number 2) bytes behind identifiers next → 1 + length identifiers < glyphs
+      → number 2 bytes next ≡ Fault refusal → NoCharSet bytes place glyphs refusal
+  CutRange : (behind : ℕ) (ranges : List Range1) (next : ℕ) → number 1 bytes place ≡ Got 1 behind → StandAt range bytes behind ranges next → 1 + sum_by glyphs_of ranges < glyphs
+      → range bytes next ≡ Fault refusal → NoCharSet bytes place glyphs refusal
+  TooManyGlyphs : (behind : ℕ) (ranges : List Range1) (next : ℕ) (last : Range1) (end : ℕ) → number 1 bytes place ≡ Got 1 behind → StandAt range bytes behind ranges next → 1 + sum_by glyphs_of ranges < glyphs
+      → range bytes next ≡ Got last end → glyphs < 1 + sum_by glyphs_of ranges + glyphs_of last → refusal ≡ malformed_char_set → NoCharSet bytes place glyphs refusal
+  SecondFormat : (behind : ℕ) → number 1 bytes place ≡ Got 2 behind → refusal ≡ OfPart CharSetFormat2 → NoCharSet bytes place glyphs refusal
+  OtherFormat : (format behind : ℕ) → number 1 bytes place ≡ Got format behind → 2 < format → refusal ≡ unknown_char_set_format → NoCharSet bytes place glyphs refusal
+
+-- What is read is the char set that stands there, with its next place, and every char set is read. A refusal says why there
+-- is none.
 pub record ReadsCharSets : Type 0 where
   pub all : (glyphs : ℕ) (bytes : List ℕ) (place : ℕ) (set : CharSet) (next : ℕ) → IsCharSet bytes place glyphs set next → char_set glyphs bytes place ≡ Got set next
   pub only : (glyphs : ℕ) (bytes : List ℕ) (place : ℕ) (set : CharSet) (next : ℕ) → char_set glyphs bytes place ≡ Got set next → IsCharSet bytes place glyphs set next
+  pub why : (glyphs : ℕ) (bytes : List ℕ) (place : ℕ) (refusal : Refusal) → char_set glyphs bytes place ≡ Fault refusal → NoCharSet bytes place glyphs refusal
+  pub refused : (glyphs : ℕ) (bytes : List ℕ) (place : ℕ) (refusal : Refusal) → NoCharSet bytes place glyphs refusal → char_set glyphs bytes place ≡ Fault refusal
+  pub never_past : (glyphs : ℕ) (bytes : List ℕ) (place : ℕ) → char_set glyphs bytes place ≢ Past
   pub all_0 : (glyphs : ℕ) (bytes : List ℕ) (place : ℕ) (set : Listed) (next : ℕ) → ListsGlyphs bytes place glyphs set next → char_set_0 glyphs bytes place ≡ Got set next
   pub only_0 : (glyphs : ℕ) (bytes : List ℕ) (place : ℕ) (set : Listed) (next : ℕ) → char_set_0 glyphs bytes place ≡ Got set next → ListsGlyphs bytes place glyphs set next
   pub all_1 : (glyphs : ℕ) (bytes : List ℕ) (place : ℕ) (set : Covered Range1) (next : ℕ) → CoversGlyphs bytes place glyphs set next → char_set_1 glyphs bytes place ≡ Got set next

@@ -2,6 +2,8 @@
 #![tactic(auto)]
 
 #[cfg(test)]
+mod char_sets;
+#[cfg(test)]
 mod decimals;
 #[cfg(test)]
 mod dictionaries;

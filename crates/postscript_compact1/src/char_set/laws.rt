@@ -5,7 +5,7 @@ ghost use Rattle.postscript_compact1.specs.CharSets.{char_set, char_set_0, char_
 
 /// A char set is read where the bytes are one: behind the byte of the format identifiers stand, or ranges, for each glyph
 /// but the first.
-#[tactic(auto, using(crate::proofs::CharSetIs::reads_char_sets))]
+#[tactic(auto, using(crate::proofs::CharSetRefused::reads_char_sets))]
 pub fn reads_char_sets()
     ensures law { ReadsCharSets }
 {}

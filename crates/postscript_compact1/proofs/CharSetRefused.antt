@@ -1,0 +1,219 @@
+-- A char set is refused where none stands, and for what the bytes are not.
+use Rattle.std.proofs.Common.{◌≡◌, ◌⊎◌, inl, inr, refl, sym, ap, subst, ◌∙◌, ℕ, zero, suc, ◌+◌, ◌-◌, ◌<◌, ◌≤◌, Bool, true, false, ◌==◌, nat_lt, List, [], ◌∷◌, length, arith, if◌then◌else◌}
+use Rattle.std.specs.Prelude.{sum_by}
+use Rattle.std.proofs.lemmas.Bool.Decides.{nat_tests}
+use Rattle.std.proofs.lemmas.List.Sums.{sum_by-cons}
+use Rattle.postscript_base.specs.Numbers.{number}
+use Rattle.postscript_base.specs.Refusal.{Refusal, OfPart, malformed_char_set, unknown_char_set_format}
+use Rattle.postscript_base.specs.Tape.Loops.{many, until, until_from}
+use Rattle.postscript_base.specs.Tape.Onward.{MovesOn, TakesBytes}
+use Rattle.postscript_base.specs.Tape.Outcome.{Outcome, Got, Fault, Past, Reading, after, pure, fault}
+use Rattle.postscript_base.specs.declared.error.Part.TheVariants.{CharSetFormat2}
+use Rattle.postscript_base.proofs.Onward.{number_takes}
+use Rattle.postscript_compact1.specs.CharSets.{char_set, covered, covering, glyphs_of, listed, none_wanting, range, ranges, uncovered}
+use Rattle.postscript_compact1.specs.CharSets.Formats.{Listed, Covered}
+use Rattle.postscript_compact1.specs.CharSetLaw.{CutIdentifier, CutRange, NoCharSet, NoFormat, NoGlyphs, OtherFormat, ReadsCharSets, SecondFormat, StandAt, TooManyGlyphs, ListsGlyphs, CoversGlyphs, IsCharSet}
+use Rattle.postscript_compact1.specs.declared.char_set.CharSet.{CharSet}
+use Rattle.postscript_compact1.specs.declared.char_set.CharSet.TheVariants.{Format0, Format1}
+use Rattle.postscript_compact1.specs.declared.char_set.range.Range1.{Range1}
+use Rattle.postscript_compact1.proofs.Ranges.{range_takes}
+use Rattle.postscript_compact1.proofs.CharSetIs.{Gives, all, all_0, all_1, all_until, covering_all, covering_gives, gives_0, gives_1, gives_any, is_format}
+
+-- what holds of a refusal; no place past the end is sought
+abbrev pub Fails : {A : Type 0} → (Refusal → Type 0) → Outcome A → Type 0
+Fails Q (Got value next) = Unit {0}
+Fails Q (Fault refusal) = Q refusal
+Fails Q Past = ⊥
+
+pub fails_after : {A B : Type 0} (o : Outcome A) (f : A → ℕ → Outcome B) (P Q : Refusal → Type 0) → Fails P o → ((refusal : Refusal) → P refusal → Q refusal) → ((value : A) (next : ℕ) → o ≡ Got value next → Fails Q (f value next)) → Fails Q (after o f)
+fails_after {A = A} o f P Q h more each = by o refl h
+  where
+    by : (p : Outcome A) → o ≡ p → Fails P p → Fails Q (after p f)
+    by (Got value next) e h = each value next e
+    by (Fault refusal) e h = more refusal h
+    by Past e h = h
+
+-- a reading that moves on is refused as it is
+pub moves_fails : {A : Type 0} (o : Outcome A) (place size : ℕ) → MovesOn place size o → Fails (λ refusal. o ≡ Fault refusal) o
+moves_fails (Got value next) place size h = tt
+moves_fails (Fault refusal) place size h = refl
+moves_fails Past place size h = h
+
+module _ {A : Type 0} (one : Reading A) where
+  -- behind fewer than so many one is cut
+  abbrev pub CutBehind : ℕ → List ℕ → ℕ → Refusal → Type 0
+  CutBehind count bytes place refusal = (values : List A) × (next : ℕ) × StandAt one bytes place values next × (length values < count) × (one bytes next ≡ Fault refusal)
+
+  pub many_fails : TakesBytes one → (count : ℕ) (bytes : List ℕ) (place : ℕ) → Fails (CutBehind count bytes place) (many one count bytes place)
+  unfolding many
+  many_fails takes zero bytes place = tt
+  many_fails takes (suc count) bytes place = fails_after (one bytes place) _ _ _ (moves_fails (one bytes place) place (length bytes) (takes bytes place))
+      (λ refusal e. ([], place, refl, omega arith, e))
+      (λ value at e. fails_after (many one count bytes at) _ _ _ (many_fails takes count bytes at)
+      (λ refusal h. let fewer = h.3 in (value ∷ h.0, h.1, (at, e, h.2), omega arith, h.4)) (λ values next e. tt))
+
+  pub many_cut : (values : List A) (count : ℕ) (bytes : List ℕ) (place next : ℕ) (refusal : Refusal) → StandAt one bytes place values next → length values < count → one bytes next ≡ Fault refusal → many one count bytes place ≡ Fault refusal
+  unfolding many
+  many_cut values zero bytes place next refusal h fewer cut = absurd (omega arith)
+  many_cut [] (suc count) bytes place next refusal h fewer cut = let here : one bytes place ≡ Fault refusal = ap (one bytes) (sym h) ∙ cut in rw here refl
+  many_cut (value ∷ values) (suc count) bytes place next refusal h fewer cut = rw (h.1, many_cut values count bytes h.0 next refusal h.2 (omega arith) cut) refl
+
+module _ {A : Type 0} (size : A → ℕ) (one : Reading A) (takes : TakesBytes one) where
+  -- the next value is cut, or covers more than are wanting
+  abbrev pub StopsAt : ℕ → List ℕ → ℕ → Refusal → Type 0
+  StopsAt wanting bytes place refusal = (one bytes place ≡ Fault refusal) ⊎ ((last : A) × (end : ℕ) × (one bytes place ≡ Got last end) × (wanting < size last) × (refusal ≡ malformed_char_set))
+
+  -- behind values that cover fewer than are wanting
+  abbrev pub StopsBehind : ℕ → List ℕ → ℕ → Refusal → Type 0
+  StopsBehind wanting bytes place refusal = (values : List A) × (next : ℕ) × StandAt one bytes place values next × (sum_by size values < wanting) × StopsAt (wanting - sum_by size values) bytes next refusal
+
+  covering_fails : (wanting : ℕ) (bytes : List ℕ) (place : ℕ) → Fails (StopsAt wanting bytes place) (covering size one wanting bytes place)
+  unfolding covering
+  covering_fails wanting bytes place = fails_after (one bytes place) _ _ _ (moves_fails (one bytes place) place (length bytes) (takes bytes place)) (λ refusal e. inl e) (λ value next e. by value next e (nat_lt wanting (size value)) refl)
+    where
+      by : (value : A) (next : ℕ) → one bytes place ≡ Got value next → (b : Bool) → nat_lt wanting (size value) ≡ b → Fails (StopsAt wanting bytes place) ((if b then fault malformed_char_set else pure value) bytes next)
+      by value next e true g = inr (value, next, e, grind (arith, nat_tests), refl)
+      by value next e false g = tt
+
+  pub until_fails : (most wanting : ℕ) (bytes : List ℕ) (place : ℕ) → length bytes - place < most → Fails (StopsBehind wanting bytes place) (all_until size one most wanting bytes place)
+  unfolding until_from
+  until_fails zero wanting bytes place few = absurd (omega arith)
+  until_fails (suc most) wanting bytes place few = by (none_wanting wanting) refl (λ less at fewer. until_fails most less bytes at fewer)
+    where
+      by : (b : Bool) → none_wanting wanting ≡ b → ((less at : ℕ) → length bytes - at < most → Fails (StopsBehind less bytes at) (all_until size one most less bytes at))
+          → Fails (StopsBehind wanting bytes place) (if b then Got [] place else after (covering size one wanting bytes place) (λ value at. after (all_until size one most (uncovered size wanting value) bytes at) (λ values next. Got (value ∷ values) next)))
+      by true e later = tt
+      by false e later = fails_after (covering size one wanting bytes place) _ _ _ (covering_fails wanting bytes place)
+          (λ refusal h. let all : wanting ≡ wanting - 0 = omega arith in ([], place, refl, grind (arith, nat_tests), subst (λ left. StopsAt left bytes place refusal) all h))
+          (λ value at g.
+          let first = subst (Gives (λ value next. (one bytes place ≡ Got value next) × (size value ≤ wanting))) g (covering_gives size one wanting bytes place) in
+          let moved : (place < at) × (at ≤ length bytes) = subst (MovesOn place (length bytes)) first.0 (takes bytes place) in
+          let up = moved.0 in
+          let within = moved.1 in
+          let covered = first.1 in
+          fails_after (all_until size one most (wanting - size value) bytes at) _ _ _ (later (wanting - size value) at (omega arith))
+          (λ refusal h.
+          let fewer = h.3 in
+          let sum = sum_by-cons size value h.0 in
+          let left : (wanting - size value) - sum_by size h.0 ≡ wanting - sum_by size (value ∷ h.0) = omega arith in
+          (value ∷ h.0, h.1, (at, first.0, h.2), omega arith, subst (λ left. StopsAt left bytes h.1 refusal) left h.4)) (λ values next e. tt))
+
+  covering_stops : (wanting : ℕ) (bytes : List ℕ) (place : ℕ) (refusal : Refusal) → StopsAt wanting bytes place refusal → covering size one wanting bytes place ≡ Fault refusal
+  unfolding covering
+  covering_stops wanting bytes place refusal (inl e) = rw e refl
+  covering_stops wanting bytes place refusal (inr h) = let more = h.3 in let past : nat_lt wanting (size h.0) ≡ true = grind (arith, nat_tests) in rw (h.2, past) (ap Fault (sym h.4))
+
+  pub until_stops : (most wanting : ℕ) (bytes : List ℕ) (place : ℕ) (values : List A) (next : ℕ) (refusal : Refusal) → StandAt one bytes place values next → sum_by size values < wanting
+      → StopsAt (wanting - sum_by size values) bytes next refusal → length bytes - place < most → all_until size one most wanting bytes place ≡ Fault refusal
+  unfolding until_from
+  until_stops zero wanting bytes place values next refusal h fewer stop few = absurd (omega arith)
+  until_stops (suc most) wanting bytes place [] next refusal h fewer stop few =
+      let more : none_wanting wanting ≡ false = grind (arith, nat_tests) in
+      let all : wanting - 0 ≡ wanting = omega arith in
+      let here : StopsAt wanting bytes place refusal = subst (λ at. StopsAt wanting bytes at refusal) h (subst (λ left. StopsAt left bytes next refusal) all stop) in
+      rw (more, covering_stops wanting bytes place refusal here) refl
+  until_stops (suc most) wanting bytes place (value ∷ values) next refusal h fewer stop few =
+      let moved : (place < h.0) × (h.0 ≤ length bytes) = subst (MovesOn place (length bytes)) h.1 (takes bytes place) in
+      let up = moved.0 in
+      let within = moved.1 in
+      let sum = sum_by-cons size value values in
+      let more : none_wanting wanting ≡ false = grind (arith, nat_tests) in
+      let left : wanting - sum_by size (value ∷ values) ≡ (wanting - size value) - sum_by size values = omega arith in
+      rw (
+        more,
+        covering_all size one wanting bytes place h.0 value h.1 (omega arith),
+        until_stops most (wanting - size value) bytes h.0 values next refusal h.2 (omega arith) (subst (λ left. StopsAt left bytes next refusal) left stop) (omega arith),
+      ) refl
+
+-- what refuses behind the byte of the format
+abbrev NoneOr : ℕ → (Refusal → Type 0) → Refusal → Type 0
+NoneOr glyphs Q refusal = ((glyphs ≡ 0) × (refusal ≡ malformed_char_set)) ⊎ Q refusal
+
+listed_fails : (glyphs : ℕ) (bytes : List ℕ) (place : ℕ) → Fails (NoneOr glyphs (CutBehind (number 2) (glyphs - 1) bytes place)) (listed glyphs bytes place)
+unfolding listed
+listed_fails glyphs bytes place = by (glyphs == 0) refl
+  where
+    by : (b : Bool) → (glyphs == 0) ≡ b → Fails {A = Listed} (NoneOr glyphs (CutBehind (number 2) (glyphs - 1) bytes place)) ((if b then fault malformed_char_set else (λ bytes place. after (many (number 2) (glyphs - 1) bytes place) (λ identifiers next. Got (record { format = 0; glyphs = identifiers }) next))) bytes place)
+    by true e = inl (is_format glyphs 0 e, refl)
+    by false e = fails_after (many (number 2) (glyphs - 1) bytes place) _ _ _ (many_fails (number 2) (number_takes 2 (omega arith)) (glyphs - 1) bytes place) (λ refusal h. inr h) (λ values next g. tt)
+
+covered_fails : (glyphs : ℕ) (bytes : List ℕ) (place : ℕ) → Fails (NoneOr glyphs (StopsBehind glyphs_of range range_takes (glyphs - 1) bytes place)) (covered glyphs bytes place)
+unfolding covered until
+covered_fails glyphs bytes place = by (glyphs == 0) refl
+  where
+    by : (b : Bool) → (glyphs == 0) ≡ b → Fails {A = Covered Range1} (NoneOr glyphs (StopsBehind glyphs_of range range_takes (glyphs - 1) bytes place)) ((if b then fault malformed_char_set else (λ bytes place. after (ranges glyphs_of range (glyphs - 1) bytes place) (λ ranges next. Got (record { format = 1; ranges = ranges }) next))) bytes place)
+    by true e = inl (is_format glyphs 0 e, refl)
+    by false e = fails_after (ranges glyphs_of range (glyphs - 1) bytes place) _ _ _ (until_fails glyphs_of range range_takes (suc (length bytes)) (glyphs - 1) bytes place (omega arith)) (λ refusal h. inr h) (λ values next g. tt)
+
+no_list : (bytes : List ℕ) (place glyphs format behind : ℕ) → number 1 bytes place ≡ Got format behind → format ≡ 0 → (refusal : Refusal) → NoneOr glyphs (CutBehind (number 2) (glyphs - 1) bytes behind) refusal → NoCharSet bytes place glyphs refusal
+no_list bytes place glyphs format behind e is refusal (inl h) = NoGlyphs format behind e (omega arith) h.0 h.1
+no_list bytes place glyphs format behind e is refusal (inr h) = let fewer = h.3 in CutIdentifier behind h.0 h.1 (e ∙ ap (λ format. Got format behind) is) h.2 (omega arith) h.4
+
+no_cover : (bytes : List ℕ) (place glyphs format behind : ℕ) → number 1 bytes place ≡ Got format behind → format ≡ 1 → (refusal : Refusal) → NoneOr glyphs (StopsBehind glyphs_of range range_takes (glyphs - 1) bytes behind) refusal → NoCharSet bytes place glyphs refusal
+no_cover bytes place glyphs format behind e is refusal (inl h) = NoGlyphs format behind e (omega arith) h.0 h.1
+no_cover bytes place glyphs format behind e is refusal (inr h) = by h.4
+  where
+    by : StopsAt glyphs_of range range_takes ((glyphs - 1) - sum_by glyphs_of h.0) bytes h.1 refusal → NoCharSet bytes place glyphs refusal
+    by (inl cut) = let fewer = h.3 in CutRange behind h.0 h.1 (e ∙ ap (λ format. Got format behind) is) h.2 (omega arith) cut
+    by (inr last) = let fewer = h.3 in let more = last.3 in TooManyGlyphs behind h.0 h.1 last.0 last.1 (e ∙ ap (λ format. Got format behind) is) h.2 (omega arith) last.2 (omega arith) last.4
+
+any_fails : (glyphs : ℕ) (bytes : List ℕ) (place : ℕ) → Fails (NoCharSet bytes place glyphs) (char_set glyphs bytes place)
+unfolding char_set
+any_fails glyphs bytes place = fails_after (number 1 bytes place) _ _ _ (moves_fails (number 1 bytes place) place (length bytes) (number_takes 1 (omega arith) bytes place)) (λ refusal e. NoFormat e) (λ format behind e. by format behind e (format == 0) (format == 1) (format == 2) refl refl refl)
+  where
+    by : (format behind : ℕ) → number 1 bytes place ≡ Got format behind → (zeroth first second : Bool) → (format == 0) ≡ zeroth → (format == 1) ≡ first → (format == 2) ≡ second
+        → Fails {A = CharSet} (NoCharSet bytes place glyphs) ((if zeroth then (λ bytes place. after (listed glyphs bytes place) (λ set next. Got (Format0 set) next)) else if first then (λ bytes place. after (covered glyphs bytes place) (λ set next. Got (Format1 set) next)) else if second then fault (OfPart CharSetFormat2) else fault unknown_char_set_format) bytes behind)
+    by format behind e true first second is other others = fails_after (listed glyphs bytes behind) _ _ _ (listed_fails glyphs bytes behind) (no_list bytes place glyphs format behind e (is_format format 0 is)) (λ set next g. tt)
+    by format behind e false true second other is others = fails_after (covered glyphs bytes behind) _ _ _ (covered_fails glyphs bytes behind) (no_cover bytes place glyphs format behind e (is_format format 1 is)) (λ set next g. tt)
+    by format behind e false false true other others is = SecondFormat behind (e ∙ ap (λ format. Got format behind) (is_format format 2 is)) refl
+    by format behind e false false false zeroth first second = OtherFormat format behind e (grind (arith, nat_tests)) refl
+
+listed_none : (glyphs : ℕ) (bytes : List ℕ) (place : ℕ) → glyphs ≡ 0 → listed glyphs bytes place ≡ Fault malformed_char_set
+unfolding listed
+listed_none glyphs bytes place none = rw none refl
+
+covered_none : (glyphs : ℕ) (bytes : List ℕ) (place : ℕ) → glyphs ≡ 0 → covered glyphs bytes place ≡ Fault malformed_char_set
+unfolding covered
+covered_none glyphs bytes place none = rw none refl
+
+listed_cut : (glyphs : ℕ) (bytes : List ℕ) (place : ℕ) (values : List ℕ) (next : ℕ) (refusal : Refusal) → StandAt (number 2) bytes place values next → 1 + length values < glyphs → number 2 bytes next ≡ Fault refusal → listed glyphs bytes place ≡ Fault refusal
+unfolding listed
+listed_cut glyphs bytes place values next refusal h fewer cut =
+    let some : (glyphs == 0) ≡ false = grind (arith, nat_tests) in
+    rw (some, many_cut (number 2) values (glyphs - 1) bytes place next refusal h (omega arith) cut) refl
+
+covered_stops : (glyphs : ℕ) (bytes : List ℕ) (place : ℕ) (values : List Range1) (next : ℕ) (refusal : Refusal) → StandAt range bytes place values next → 1 + sum_by glyphs_of values < glyphs
+    → StopsAt glyphs_of range range_takes ((glyphs - 1) - sum_by glyphs_of values) bytes next refusal → covered glyphs bytes place ≡ Fault refusal
+unfolding covered until
+covered_stops glyphs bytes place values next refusal h fewer stop =
+    let some : (glyphs == 0) ≡ false = grind (arith, nat_tests) in
+    rw (some, until_stops glyphs_of range range_takes (suc (length bytes)) (glyphs - 1) bytes place values next refusal h (omega arith) stop (omega arith)) refl
+
+refused : (glyphs : ℕ) (bytes : List ℕ) (place : ℕ) (refusal : Refusal) → NoCharSet bytes place glyphs refusal → char_set glyphs bytes place ≡ Fault refusal
+unfolding char_set
+refused glyphs bytes place refusal (NoFormat e) = rw e refl
+refused glyphs bytes place refusal (NoGlyphs zero behind e first none is) = rw (e, listed_none glyphs bytes behind none) (ap Fault (sym is))
+refused glyphs bytes place refusal (NoGlyphs (suc zero) behind e first none is) = rw (e, covered_none glyphs bytes behind none) (ap Fault (sym is))
+refused glyphs bytes place refusal (NoGlyphs (suc (suc format)) behind e first none is) = absurd (omega arith)
+refused glyphs bytes place refusal (CutIdentifier behind values next e h fewer cut) = rw (e, listed_cut glyphs bytes behind values next refusal h fewer cut) refl
+refused glyphs bytes place refusal (CutRange behind values next e h fewer cut) = rw (e, covered_stops glyphs bytes behind values next refusal h fewer (inl cut)) refl
+refused glyphs bytes place refusal (TooManyGlyphs behind values next last end e h fewer got more is) = rw (e, covered_stops glyphs bytes behind values next refusal h fewer (inr (last, end, got, omega arith, is))) refl
+refused glyphs bytes place refusal (SecondFormat behind e is) = rw e (ap Fault (sym is))
+refused glyphs bytes place refusal (OtherFormat format behind e greater is) =
+    let zeroth : (format == 0) ≡ false = grind (arith, nat_tests) in
+    let first : (format == 1) ≡ false = grind (arith, nat_tests) in
+    let second : (format == 2) ≡ false = grind (arith, nat_tests) in
+    rw (e, zeroth, first, second) (ap Fault (sym is))
+
+pub reads_char_sets : ReadsCharSets
+reads_char_sets = record {
+  all = all;
+  only = λ glyphs bytes place set next e. subst (Gives (IsCharSet bytes place glyphs)) e (gives_any glyphs bytes place);
+  why = λ glyphs bytes place refusal e. subst (Fails (NoCharSet bytes place glyphs)) e (any_fails glyphs bytes place);
+  refused = refused;
+  never_past = λ glyphs bytes place e. subst (Fails (NoCharSet bytes place glyphs)) e (any_fails glyphs bytes place);
+  all_0 = all_0;
+  only_0 = λ glyphs bytes place set next e. subst (Gives (ListsGlyphs bytes place glyphs)) e (gives_0 glyphs bytes place);
+  all_1 = all_1;
+  only_1 = λ glyphs bytes place set next e. subst (Gives (CoversGlyphs bytes place glyphs)) e (gives_1 glyphs bytes place);
+}
