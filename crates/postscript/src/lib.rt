@@ -10,6 +10,7 @@ pub mod compact1 {
         GlyphID, Header, Offset, OffsetSize, Operand, Operands, Operation, Operations, Operator,
         StringID, laws, number,
     };
+    pub use postscript_compact1::index::Index;
     pub use postscript_compact1::{char_set, encoding, index};
 }
 

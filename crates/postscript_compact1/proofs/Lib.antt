@@ -4,3 +4,4 @@ pub mod IndexRows
 pub mod Clones
 pub mod Maps
 pub mod IndexIs
+pub mod ItemsAre

@@ -10,6 +10,8 @@ mod errors;
 #[cfg(test)]
 mod flat;
 #[cfg(test)]
+mod indices;
+#[cfg(test)]
 mod parts;
 #[cfg(test)]
 mod programs;
