@@ -12,7 +12,9 @@ pub mod compact1 {
     };
     pub use postscript_compact1::char_set::CharSet;
     pub use postscript_compact1::encoding::Encoding;
-    pub use postscript_compact1::{char_set, encoding, index};
+    pub use postscript_compact1::font_set::FontSet;
+    pub use postscript_compact1::index::Index;
+    pub use postscript_compact1::{char_set, encoding, font_set, index};
 }
 
 /// Tapes, and what is read from them.

@@ -16,3 +16,4 @@ pub mod Steps
 pub mod OperandLaws
 pub mod FontLaws
 pub mod CharSetRefused
+pub mod ItemsAre

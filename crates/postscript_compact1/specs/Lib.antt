@@ -5,5 +5,6 @@ pub mod IndexLaw
 pub mod Kinds
 pub mod Encodings
 pub mod CharSets
+pub mod ItemsLaw
 pub mod Texts
 pub mod CharSetLaw

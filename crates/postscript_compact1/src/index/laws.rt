@@ -4,6 +4,7 @@ ghost use Rattle.postscript_base.specs.Tape.At.{NeedsBytes};
 ghost use Rattle.postscript_base.specs.Tape.Onward.{TakesBytes};
 ghost use Rattle.postscript_compact1.specs.Index.{index};
 ghost use Rattle.postscript_compact1.specs.IndexLaw.{ReadsIndices};
+ghost use Rattle.postscript_compact1.specs.ItemsLaw.{ReadsItems};
 ghost use Rattle.postscript_compact1.specs.Kinds.{char_strings};
 
 /// An INDEX is read where the bytes at a place are one: a count, the size of the offsets, offsets that begin with 1 and
@@ -14,4 +15,11 @@ pub fn reads_indices()
     ensures takes { TakesBytes index }
     ensures needs { NeedsBytes index }
     ensures char_strings { NeedsBytes (char_strings (pos 2)) }
+{}
+
+/// The maps of items are those of the dictionaries that the items are, or the first item that is no dictionary is
+/// refused.
+#[tactic(auto, using(crate::proofs::ItemsAre::reads_items))]
+pub fn reads_items()
+    ensures law { ReadsItems }
 {}
