@@ -27,7 +27,8 @@ use Rattle.postscript_compact1.specs.FontSet.Operands.{first, size_of, in_range,
 use Rattle.postscript_compact1.specs.FontSet.Font.{Part, Tables, Columns, Font, columns, font_of}
 use Rattle.postscript_compact1.specs.FontSet.Order.{encoding_of, encoding, char_strings, own_char_set, char_set_of, char_set_offset, char_set, glyphs, private, subroutines, locals, part, names, dictionaries, tables, behind, parts, font}
 use Rattle.postscript_compact1.specs.FontSet.Layout.{HasFirst, HasTwo, Stands, IsSlice, IsPlace, HasEncoding, HasCharStrings, HasCharSet, Is_0, Is_1, Is_2, Own, HasPrivate, HasSubroutines, IsPart, AreParts, AreDictionaries, AreTables, IsFont, ReadsLayout}
-use Rattle.postscript_compact1.proofs.CharSetIs.{reads_char_sets, char_set_needs}
+use Rattle.postscript_compact1.proofs.CharSetIs.{char_set_needs}
+use Rattle.postscript_compact1.proofs.CharSetRefused.{reads_char_sets}
 use Rattle.postscript_compact1.proofs.IndexIs.{reads_indices}
 use Rattle.postscript_compact1.proofs.OperandLaws.{faulty, first_is, first_has, size_has, in_range_is, in_range_has, placed_is, placed_has, type_is, type_has, bounds_is, bounds_has}
 use Rattle.postscript_compact1.proofs.Outcomes.{got}

@@ -319,7 +319,7 @@ takes bytes place = by (index bytes place) (is_index bytes place)
     by (Fault refusal) h = tt
     by Past h = h
 
-needs : NeedsBytes index
+pub needs : NeedsBytes index
 unfolding index
 needs = needs_after (number 2) (λ count. if count == 0 then pure empty else filled count) (number_needs 2 (omega arith))
 

@@ -5,7 +5,6 @@ pub mod Clones
 pub mod CharSetRows
 pub mod PredefinedRows
 pub mod Ranges
-pub mod Needs
 pub mod Maps
 pub mod Outcomes
 pub mod EachPart
@@ -17,3 +16,4 @@ pub mod OperandLaws
 pub mod FontLaws
 pub mod CharSetRefused
 pub mod ItemsAre
+pub mod FontClauses

@@ -1,11 +1,14 @@
 //! Fonts (Technical Note 5176).
-ghost use Rattle.std.specs.Prelude.{◌≡◌, [], ◌∷◌, map, IfOk, OnOk};
+ghost use Rattle.std.specs.Prelude.{◌≡◌, ◌≢◌, ℕ, [], ◌∷◌, IfOk, IfErr};
 ghost use Rattle.postscript_base.specs.Error.{IsListed};
-ghost use Rattle.postscript_base.specs.Tape.{Reads};
-ghost use Rattle.postscript_compact1.specs.FontSet.Font.{font_of};
+ghost use Rattle.postscript_base.specs.Tape.{Reads, IsHonest};
+ghost use Rattle.postscript_base.specs.declared.error.Error.TheVariants as errors;
+ghost use Rattle.postscript_compact1.specs.FontSet.Font.{Font, font_of};
+ghost use Rattle.postscript_compact1.specs.FontSet.Layout.{IsFont};
 ghost use Rattle.postscript_compact1.specs.FontSet.Order.{font};
 ghost use Rattle.postscript_compact1.specs.FontSet.Shown.{font_shown, tables_shown, parts_shown};
 
+pub mod laws;
 mod operands;
 mod parts;
 mod tables;
@@ -14,6 +17,7 @@ use crate::char_set::CharSet;
 use crate::encoding::Encoding;
 use crate::index::{CharStrings, Strings, Subroutines};
 use parts::{Parts, read_parts};
+use postscript_base::compact1::laws::reads_dictionaries;
 use postscript_base::compact1::{Header, Operations};
 use postscript_base::{Result, Tape, Value};
 use std::alloc::Global;
@@ -49,8 +53,12 @@ pub struct FontSet {
 /// another encoding than Standard and Expert and for a char set of format 2; as indices, dictionaries and char sets are;
 /// `UnexpectedEof`, `Io`, `Memory`.
 impl Value for FontSet {
-    ghost use Rattle.std.specs.Prelude.{[], ◌∷◌, map, refl};
+    ghost use Rattle.std.specs.Prelude.{◌≢◌, ℕ, [], ◌∷◌, map, refl, IfOk, IfErr};
+    ghost use Rattle.postscript_base.specs.Error.{IsListed};
+    ghost use Rattle.postscript_base.specs.Tape.{Reads, IsHonest};
+    ghost use Rattle.postscript_base.specs.declared.error.Error.TheVariants as errors;
     ghost use Rattle.postscript_compact1.specs.FontSet.Font.{Font};
+    ghost use Rattle.postscript_compact1.specs.FontSet.Layout.{IsFont};
     ghost use Rattle.postscript_compact1.specs.FontSet.Order.{font};
     ghost use Rattle.postscript_compact1.specs.FontSet.Shown.{font_shown};
 
@@ -66,7 +74,14 @@ impl Value for FontSet {
 
     ghost refusals = { 1 ∷ 2 ∷ 3 ∷ 5 ∷ 6 ∷ 7 ∷ 8 ∷ 9 ∷ 10 ∷ 11 ∷ 12 ∷ 13 ∷ 14 ∷ 15 ∷ 16 ∷ [] };
 
-    fn read<T: Tape>(alloc: Global, tape: &mut T) -> Result<FontSet> {
+    /// Whoever calls it learns that a font is read where one stands, and nowhere else.
+    fn read<T: Tape>(alloc: Global, tape: &mut T) -> Result<FontSet>
+        ensures exact { Reads font_shown (T.state tape.old) result (T.state tape.new) font }
+        ensures listed { IsListed (1 ∷ 2 ∷ 3 ∷ 5 ∷ 6 ∷ 7 ∷ 8 ∷ 9 ∷ 10 ∷ 11 ∷ 12 ∷ 13 ∷ 14 ∷ 15 ∷ 16 ∷ []) result }
+        ensures found { IsHonest (T.state tape.old) → IfOk result (λ f. IsFont (T.state tape.old).bytes (T.state tape.old).place (font_shown f) (T.state tape.new).place) }
+        ensures only { IsHonest (T.state tape.old) → IfErr result (λ e. e ≢ errors.Memory → (f : Font) (next : ℕ) → IsFont (T.state tape.old).bytes (T.state tape.old).place f next → ⊥) }
+    {
+        reads_dictionaries();
         read_font(alloc, tape)
     }
 }

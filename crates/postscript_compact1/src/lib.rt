@@ -3,6 +3,6 @@
 
 pub mod char_set;
 pub mod encoding;
-mod font_set;
+pub mod font_set;
 pub mod index;
 mod standard_strings;

@@ -82,7 +82,7 @@ fn glyphs<T: Tape>(
 }
 
 /// The char strings of a dictionary.
-#[tactic(auto, using(crate::proofs::Needs::char_strings_needs), unfolding(crate::specs::FontSet::Order::char_strings, crate::specs::Kinds::char_strings))]
+#[tactic(auto, using(crate::proofs::IndexIs::char_strings_need), unfolding(crate::specs::FontSet::Order::char_strings, crate::specs::Kinds::char_strings))]
 fn char_strings<T: Tape>(
     alloc: Global,
     tape: &mut T,
@@ -130,7 +130,7 @@ fn char_set_offset(dictionary: &Operations) -> Result<u32>
 }
 
 /// The char set at an offset, for so many glyphs.
-#[tactic(auto, using(crate::proofs::Needs::char_set_needs), unfolding(crate::specs::FontSet::Order::own_char_set))]
+#[tactic(auto, using(crate::proofs::CharSetIs::char_set_needs), unfolding(crate::specs::FontSet::Order::own_char_set))]
 fn own_char_set<T: Tape>(
     alloc: Global,
     tape: &mut T,
@@ -181,7 +181,7 @@ fn private<T: Tape>(
 }
 
 /// The local subroutines of a private dictionary at an offset.
-#[tactic(auto, using(crate::proofs::Needs::index_needs), unfolding(crate::specs::FontSet::Order::subroutines))]
+#[tactic(auto, using(crate::proofs::IndexIs::needs), unfolding(crate::specs::FontSet::Order::subroutines))]
 fn subroutines<T: Tape>(
     alloc: Global,
     tape: &mut T,

@@ -56,7 +56,7 @@ fn read_tables<T: Tape>(alloc: Global, tape: &mut T, place: u64) -> Result<Table
 }
 
 /// Reads the names, each as a text.
-#[tactic(auto, using(crate::proofs::Needs::index_needs), unfolding(crate::specs::FontSet::Order::names))]
+#[tactic(auto, using(crate::proofs::IndexIs::needs), unfolding(crate::specs::FontSet::Order::names))]
 fn read_names<T: Tape>(alloc: Global, tape: &mut T, place: u64) -> Result<Vec<String>>
     ensures exact { Reads (λ names. map string_bytes names.items) (T.state tape.old) result (T.state tape.new) (the_names place) }
     ensures listed { IsListed (1 ∷ 2 ∷ 3 ∷ 5 ∷ 6 ∷ []) result }

@@ -1,0 +1,21 @@
+-- The clauses of a font's reading, from its outcome.
+use Rattle.std.proofs.Common.{◌≢◌, ℕ, List, Ok, Err, Result, subst}
+use Rattle.std.specs.Prelude.{IfOk, IfErr}
+use Rattle.postscript_base.specs.Compact1.DictionaryLaw.{ReadsDictionaries}
+use Rattle.postscript_base.specs.Tape.Outcome.{Answers, RefusedAs}
+use Rattle.postscript_base.specs.declared.error.Error.{Error}
+use Rattle.postscript_base.specs.declared.error.Error.TheVariants.{Memory}
+use Rattle.postscript_compact1.specs.declared.font_set.FontSet.{FontSet}
+use Rattle.postscript_compact1.specs.FontSet.Font.{Font}
+use Rattle.postscript_compact1.specs.FontSet.Order.{font}
+use Rattle.postscript_compact1.specs.FontSet.Layout.{IsFont}
+use Rattle.postscript_compact1.specs.FontSet.Shown.{font_shown}
+use Rattle.postscript_compact1.proofs.FontLaws.{font_is, font_has}
+
+pub found : ReadsDictionaries → (r : Result FontSet Error) (bytes : List ℕ) (start next : ℕ) → Answers font_shown r next (font bytes start) → IfOk r (λ f. IsFont bytes start (font_shown f) next)
+found d (Ok f) bytes start next h = font_has d bytes start (font_shown f) next h
+found d (Err e) bytes start next h = tt
+
+pub only : ReadsDictionaries → (r : Result FontSet Error) (bytes : List ℕ) (start next : ℕ) → Answers font_shown r next (font bytes start) → IfErr r (λ e. e ≢ Memory → (f : Font) (end : ℕ) → IsFont bytes start f end → ⊥)
+only d (Ok f) bytes start next h = tt
+only d (Err e) bytes start next h = λ other f end stands. subst (RefusedAs e) (font_is d bytes start f end stands) (h other)

@@ -1,0 +1,8 @@
+use Rattle.postscript_compact1.proofs.FontClauses.{found, only}
+use Rattle.postscript_compact1.proofs.font_set.FontSetValue.read.Goals as goal
+
+pub returns-clause-found : goal.returns-clause-found
+returns-clause-found g c = λ honest. found c.reads_dictionaries.ensures.law c.read_font.result _ _ _ (c.read_font.ensures.exact honest).1
+
+pub returns-clause-only : goal.returns-clause-only
+returns-clause-only g c = λ honest. only c.reads_dictionaries.ensures.law c.read_font.result _ _ _ (c.read_font.ensures.exact honest).1
