@@ -10,6 +10,8 @@ use Rattle.postscript_compact1.specs.FontSet.Font.{Font}
 use Rattle.postscript_compact1.specs.FontSet.Order.{font}
 use Rattle.postscript_compact1.specs.FontSet.Layout.{IsFont}
 use Rattle.postscript_compact1.specs.FontSet.Shown.{font_shown}
+use Rattle.postscript_compact1.specs.FontSet.Causes.{NoFont}
+use Rattle.postscript_compact1.proofs.FontCauses.{no_font}
 use Rattle.postscript_compact1.proofs.FontLaws.{font_is, font_has}
 
 pub found : ReadsDictionaries → (r : Result FontSet Error) (bytes : List ℕ) (start next : ℕ) → Answers font_shown r next (font bytes start) → IfOk r (λ f. IsFont bytes start (font_shown f) next)
@@ -19,3 +21,7 @@ found d (Err e) bytes start next h = tt
 pub only : ReadsDictionaries → (r : Result FontSet Error) (bytes : List ℕ) (start next : ℕ) → Answers font_shown r next (font bytes start) → IfErr r (λ e. e ≢ Memory → (f : Font) (end : ℕ) → IsFont bytes start f end → ⊥)
 only d (Ok f) bytes start next h = tt
 only d (Err e) bytes start next h = λ other f end stands. subst (RefusedAs e) (font_is d bytes start f end stands) (h other)
+
+pub why : ReadsDictionaries → (r : Result FontSet Error) (bytes : List ℕ) (start next : ℕ) → Answers font_shown r next (font bytes start) → IfErr r (λ e. e ≢ Memory → NoFont e bytes start)
+why d (Ok f) bytes start next h = tt
+why d (Err e) bytes start next h = λ other. no_font d e bytes start (h other)

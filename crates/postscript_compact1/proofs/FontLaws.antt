@@ -192,11 +192,11 @@ subroutines_has start base local bytes s place next e =
 
 -- ---- dictionaries, the readings of which are what the law says
 module _ (d : ReadsDictionaries) where
-  map_is : (held : List ℕ) (m : Dictionary) (bytes : List ℕ) (place : ℕ) → IsDictionary held 0 m → map_of held bytes place ≡ Got m place
+  pub map_is : (held : List ℕ) (m : Dictionary) (bytes : List ℕ) (place : ℕ) → IsDictionary held 0 m → map_of held bytes place ≡ Got m place
   unfolding map_of
   map_is held m bytes place h = rw (d.all held 0 m h) refl
 
-  map_has : (held : List ℕ) (m : Dictionary) (bytes : List ℕ) (place next : ℕ) → map_of held bytes place ≡ Got m next → IsDictionary held 0 m × (place ≡ next)
+  pub map_has : (held : List ℕ) (m : Dictionary) (bytes : List ℕ) (place next : ℕ) → map_of held bytes place ≡ Got m next → IsDictionary held 0 m × (place ≡ next)
   unfolding map_of
   map_has held m bytes place next e = by (dictionary held 0) refl e
     where
@@ -205,14 +205,14 @@ module _ (d : ReadsDictionaries) where
       by (Fault r) is e = faulty m r next e
       by Past is e = absurd (cc)
 
-  maps_are : (items : List (List ℕ)) (ms : List Dictionary) (bytes : List ℕ) (place : ℕ) → AreDictionaries items ms → maps_of items bytes place ≡ Got ms place
+  pub maps_are : (items : List (List ℕ)) (ms : List Dictionary) (bytes : List ℕ) (place : ℕ) → AreDictionaries items ms → maps_of items bytes place ≡ Got ms place
   unfolding maps_of each
   maps_are [] [] bytes place h = refl
   maps_are [] (m ∷ ms) bytes place h = absurd h
   maps_are (item ∷ items) [] bytes place h = absurd h
   maps_are (item ∷ items) (m ∷ ms) bytes place h = rw (map_is item m bytes place h.0, maps_are items ms bytes place h.1) refl
 
-  maps_have : (items : List (List ℕ)) (ms : List Dictionary) (bytes : List ℕ) (place next : ℕ) → maps_of items bytes place ≡ Got ms next → AreDictionaries items ms × (place ≡ next)
+  pub maps_have : (items : List (List ℕ)) (ms : List Dictionary) (bytes : List ℕ) (place next : ℕ) → maps_of items bytes place ≡ Got ms next → AreDictionaries items ms × (place ≡ next)
   unfolding maps_of each
   maps_have [] [] bytes place next e = (tt, (got _ _ _ _ e).1)
   maps_have [] (m ∷ ms) bytes place next e = absurd (cc)
@@ -223,13 +223,13 @@ module _ (d : ReadsDictionaries) where
       (subst (AreDictionaries (item ∷ items)) h.3.3.0 (one.0, more.0), one.1 ∙ (more.1 ∙ h.3.3.1))
 
   -- ---- the private dictionary
-  private_is : (start offset : ℕ) (m local : Dictionary) (bytes : List ℕ) (place : ℕ) → HasPrivate bytes start m offset local → (next : ℕ) × (private start m bytes place ≡ Got (offset, local) next)
+  pub private_is : (start offset : ℕ) (m local : Dictionary) (bytes : List ℕ) (place : ℕ) → HasPrivate bytes start m offset local → (next : ℕ) × (private start m bytes place ≡ Got (offset, local) next)
   unfolding private
   private_is start offset m local bytes place h =
       let s = slice_is h.0 (start + offset) h.1 bytes place h.4 in
       (s.0, rw (bounds_is start m h.0 offset bytes place h.2 h.3, s.1, map_is h.1 local bytes s.0 h.5) refl)
 
-  private_has : (start : ℕ) (m : Dictionary) (r : ℕ × Dictionary) (bytes : List ℕ) (place next : ℕ) → private start m bytes place ≡ Got r next → HasPrivate bytes start m r.0 r.1
+  pub private_has : (start : ℕ) (m : Dictionary) (r : ℕ × Dictionary) (bytes : List ℕ) (place next : ℕ) → private start m bytes place ≡ Got r next → HasPrivate bytes start m r.0 r.1
   unfolding private
   private_has start m r bytes place next e =
       let h = accepted (Step (bounds start m) (λ b. Step (bytes_at b.2 b.0) (λ held. Step (map_of held) (λ local. Done (b.1, local))))) bytes place r next e in
@@ -248,7 +248,7 @@ module _ (d : ReadsDictionaries) where
       )
 
   -- ---- a part
-  part_is : (bytes : List ℕ) (start : ℕ) (m : Dictionary) (p : Part) (place next : ℕ) → IsPart bytes start m p next → part start m bytes place ≡ Got p next
+  pub part_is : (bytes : List ℕ) (start : ℕ) (m : Dictionary) (p : Part) (place next : ℕ) → IsPart bytes start m p next → part start m bytes place ≡ Got p next
   unfolding part glyphs locals
   part_is bytes start m p place next h =
       let set = char_set_is start (length p.char_strings.items) m bytes p.char_set h.char_strings_next h.char_set in
@@ -261,7 +261,7 @@ module _ (d : ReadsDictionaries) where
         subroutines_is start h.private_offset p.local_dictionary bytes p.local_subroutines l.0 next h.local_subroutines,
       ) refl
 
-  glyphs_have : (bytes : List ℕ) (start : ℕ) (m : Dictionary) (g : Index × CharSet) (place next : ℕ) → glyphs start m bytes place ≡ Got g next → (at : ℕ) × HasCharStrings bytes start m g.0 at × HasCharSet bytes start (length g.0.items) m g.1
+  pub glyphs_have : (bytes : List ℕ) (start : ℕ) (m : Dictionary) (g : Index × CharSet) (place next : ℕ) → glyphs start m bytes place ≡ Got g next → (at : ℕ) × HasCharStrings bytes start m g.0 at × HasCharSet bytes start (length g.0.items) m g.1
   unfolding glyphs
   glyphs_have bytes start m g place next e =
       let h = accepted (Step (char_strings start m) (λ i. Step (char_set start (length i.items) m) (λ s. Done (i, s)))) bytes place g next e in
@@ -272,7 +272,7 @@ module _ (d : ReadsDictionaries) where
         subst (λ k. HasCharSet bytes start (length g.0.items) m k) set (subst (λ k. HasCharSet bytes start (length k.items) m h.3.0) strings (char_set_has start (length h.0.items) m bytes h.3.0 h.1 h.3.1 h.3.2)),
       )
 
-  locals_have : (bytes : List ℕ) (start : ℕ) (m : Dictionary) (l : Dictionary × Index) (place next : ℕ) → locals start m bytes place ≡ Got l next → (offset : ℕ) × HasPrivate bytes start m offset l.0 × HasSubroutines bytes start offset l.0 l.1 next
+  pub locals_have : (bytes : List ℕ) (start : ℕ) (m : Dictionary) (l : Dictionary × Index) (place next : ℕ) → locals start m bytes place ≡ Got l next → (offset : ℕ) × HasPrivate bytes start m offset l.0 × HasSubroutines bytes start offset l.0 l.1 next
   unfolding locals
   locals_have bytes start m l place next e =
       let h = accepted (Step (private start m) (λ p. Step (subroutines start p.0 p.1) (λ s. Done (p.1, s)))) bytes place l next e in
@@ -284,7 +284,7 @@ module _ (d : ReadsDictionaries) where
         subst (λ k. HasSubroutines bytes start h.0.0 l.0 l.1 k) h.3.3.1 (subst (λ k. HasSubroutines bytes start h.0.0 l.0 k h.3.1) list (subst (λ k. HasSubroutines bytes start h.0.0 k h.3.0 h.3.1) local stands)),
       )
 
-  part_has : (bytes : List ℕ) (start : ℕ) (m : Dictionary) (p : Part) (place next : ℕ) → part start m bytes place ≡ Got p next → IsPart bytes start m p next
+  pub part_has : (bytes : List ℕ) (start : ℕ) (m : Dictionary) (p : Part) (place next : ℕ) → part start m bytes place ≡ Got p next → IsPart bytes start m p next
   unfolding part
   part_has bytes start m p place next e =
       let h = accepted (Step (encoding m) (λ e. Step (glyphs start m) (λ g. Step (locals start m) (λ l. Done (record { encoding = e; char_strings = g.0; char_set = g.1; local_dictionary = l.0; local_subroutines = l.1 }))))) bytes place p next e in
@@ -304,14 +304,14 @@ module _ (d : ReadsDictionaries) where
       subst (λ k. IsPart bytes start m p k) end.1 (subst (λ k. IsPart bytes start m k h.3.3.1) end.0 whole)
 
   -- ---- all parts
-  parts_are : (bytes : List ℕ) (start : ℕ) (ms : List Dictionary) (ps : List Part) (place next : ℕ) → AreParts bytes start ms ps place next → each (part start) ms bytes place ≡ Got ps next
+  pub parts_are : (bytes : List ℕ) (start : ℕ) (ms : List Dictionary) (ps : List Part) (place next : ℕ) → AreParts bytes start ms ps place next → each (part start) ms bytes place ≡ Got ps next
   unfolding each
   parts_are bytes start [] [] place next h = rw h refl
   parts_are bytes start [] (p ∷ ps) place next h = absurd h
   parts_are bytes start (m ∷ ms) [] place next h = absurd h
   parts_are bytes start (m ∷ ms) (p ∷ ps) place next h = rw (part_is bytes start m p place h.0 h.1, parts_are bytes start ms ps h.0 next h.2) refl
 
-  parts_have : (bytes : List ℕ) (start : ℕ) (ms : List Dictionary) (ps : List Part) (place next : ℕ) → each (part start) ms bytes place ≡ Got ps next → AreParts bytes start ms ps place next
+  pub parts_have : (bytes : List ℕ) (start : ℕ) (ms : List Dictionary) (ps : List Part) (place next : ℕ) → each (part start) ms bytes place ≡ Got ps next → AreParts bytes start ms ps place next
   unfolding each
   parts_have bytes start [] [] place next e = (got _ _ _ _ e).1
   parts_have bytes start [] (p ∷ ps) place next e = absurd (cc)
@@ -321,7 +321,7 @@ module _ (d : ReadsDictionaries) where
       subst (λ k. AreParts bytes start (m ∷ ms) k place next) h.3.3.0 (subst (λ k. AreParts bytes start (m ∷ ms) (h.0 ∷ h.3.0) place k) h.3.3.1 (h.1, part_has bytes start m h.0 place h.1 h.2, rest))
 
   -- ---- what stands behind the header
-  tables_are : (bytes : List ℕ) (there : ℕ) (t : Tables) (place next : ℕ) → AreTables bytes there t next → tables there bytes place ≡ Got t next
+  pub tables_are : (bytes : List ℕ) (there : ℕ) (t : Tables) (place next : ℕ) → AreTables bytes there t next → tables there bytes place ≡ Got t next
   unfolding tables names dictionaries
   tables_are bytes there t place next h =
       rw (
@@ -333,7 +333,7 @@ module _ (d : ReadsDictionaries) where
         reads_indices.all bytes h.strings_next t.subroutines next h.are_subroutines,
       ) refl
 
-  tables_have : (bytes : List ℕ) (there : ℕ) (t : Tables) (place next : ℕ) → tables there bytes place ≡ Got t next → AreTables bytes there t next
+  pub tables_have : (bytes : List ℕ) (there : ℕ) (t : Tables) (place next : ℕ) → tables there bytes place ≡ Got t next → AreTables bytes there t next
   unfolding tables names dictionaries
   tables_have bytes there t place next e =
       let h = accepted (Step (names there) (λ n. Step dictionaries (λ ms. Step index (λ s. Step index (λ g. Done (record { names = n; dictionaries = ms; strings = s; subroutines = g })))))) bytes place t next e in

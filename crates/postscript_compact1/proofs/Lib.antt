@@ -17,3 +17,4 @@ pub mod FontLaws
 pub mod CharSetRefused
 pub mod ItemsAre
 pub mod FontClauses
+pub mod FontCauses

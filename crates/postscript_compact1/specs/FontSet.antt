@@ -4,3 +4,4 @@ pub mod Font
 pub mod Order
 pub mod Layout
 pub mod Shown
+pub mod Causes

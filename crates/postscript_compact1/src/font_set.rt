@@ -4,6 +4,7 @@ ghost use Rattle.postscript_base.specs.Error.{IsListed};
 ghost use Rattle.postscript_base.specs.Tape.{Reads, IsHonest};
 ghost use Rattle.postscript_base.specs.declared.error.Error.TheVariants as errors;
 ghost use Rattle.postscript_compact1.specs.FontSet.Font.{Font, font_of};
+ghost use Rattle.postscript_compact1.specs.FontSet.Causes.{NoFont};
 ghost use Rattle.postscript_compact1.specs.FontSet.Layout.{IsFont};
 ghost use Rattle.postscript_compact1.specs.FontSet.Order.{font};
 ghost use Rattle.postscript_compact1.specs.FontSet.Shown.{font_shown, tables_shown, parts_shown};
@@ -58,6 +59,7 @@ impl Value for FontSet {
     ghost use Rattle.postscript_base.specs.Tape.{Reads, IsHonest};
     ghost use Rattle.postscript_base.specs.declared.error.Error.TheVariants as errors;
     ghost use Rattle.postscript_compact1.specs.FontSet.Font.{Font};
+    ghost use Rattle.postscript_compact1.specs.FontSet.Causes.{NoFont};
     ghost use Rattle.postscript_compact1.specs.FontSet.Layout.{IsFont};
     ghost use Rattle.postscript_compact1.specs.FontSet.Order.{font};
     ghost use Rattle.postscript_compact1.specs.FontSet.Shown.{font_shown};
@@ -80,6 +82,7 @@ impl Value for FontSet {
         ensures listed { IsListed (1 ∷ 2 ∷ 3 ∷ 5 ∷ 6 ∷ 7 ∷ 8 ∷ 9 ∷ 10 ∷ 11 ∷ 12 ∷ 13 ∷ 14 ∷ 15 ∷ 16 ∷ []) result }
         ensures found { IsHonest (T.state tape.old) → IfOk result (λ f. IsFont (T.state tape.old).bytes (T.state tape.old).place (font_shown f) (T.state tape.new).place) }
         ensures only { IsHonest (T.state tape.old) → IfErr result (λ e. e ≢ errors.Memory → (f : Font) (next : ℕ) → IsFont (T.state tape.old).bytes (T.state tape.old).place f next → ⊥) }
+        ensures why { IsHonest (T.state tape.old) → IfErr result (λ e. e ≢ errors.Memory → NoFont e (T.state tape.old).bytes (T.state tape.old).place) }
     {
         reads_dictionaries();
         read_font(alloc, tape)
