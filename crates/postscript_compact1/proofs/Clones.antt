@@ -1,5 +1,5 @@
 -- Clones of lists of bytes.
-use Rattle.std.proofs.Common.{◌≡◌, refl, sym, ap, ◌∙◌, ℕ, List, [], ◌∷◌, map, Vec, Global, vec_len}
+use Rattle.std.proofs.Common.{◌≡◌, refl, ℕ, List, [], ◌∷◌, map, Vec, Global, vec_len}
 use Rattle.std.specs.List.{AllZip, each_same}
 
 -- the clones have the bytes of what they are clones of

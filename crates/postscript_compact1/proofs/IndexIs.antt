@@ -7,11 +7,11 @@ use Rattle.postscript_base.specs.Refusal.{Refusal, malformed_index, malformed_of
 use Rattle.postscript_base.specs.Tape.At.{NeedsBytes}
 use Rattle.postscript_base.specs.Tape.Loops.{chain, each}
 use Rattle.postscript_base.specs.Tape.Onward.{MovesOn, TakesBytes}
-use Rattle.postscript_base.specs.Tape.Outcome.{Outcome, Got, Fault, Past, Reading, after, end, fault, pure, ◌>>=◌}
+use Rattle.postscript_base.specs.Tape.Outcome.{Outcome, Got, Fault, Past, after, end, fault, pure}
 use Rattle.postscript_base.proofs.Onward.{needs_after, number_needs}
 use Rattle.postscript_compact1.specs.Index.{Index, empty, filled, index, lengths, lengths_from, offsets}
 use Rattle.postscript_compact1.specs.Kinds.{char_strings}
-use Rattle.postscript_compact1.specs.IndexLaw.{AreOffsets, IsEmptyAt, IsFilled, IsFilledAt, IsIndex, IsWhole, ItemsAt, ItemsFrom, NumberAt, OffsetsAt, ReadsIndices, RisesFrom, before_data, last_of}
+use Rattle.postscript_compact1.specs.IndexLaw.{AreOffsets, IsFilledAt, IsIndex, IsWhole, ItemsAt, ItemsFrom, NumberAt, OffsetsAt, ReadsIndices, RisesFrom, before_data, last_of}
 
 -- what refuses an INDEX: no place past the end is sought
 abbrev Refuses : Refusal → Type 0

@@ -1,11 +1,11 @@
 -- Known indices.
-use Rattle.std.proofs.Common.{◌≡◌, refl, List, [], ◌∷◌, ℕ}
+use Rattle.std.proofs.Common.{◌≡◌, refl, [], ◌∷◌}
 use Rattle.postscript_base.specs.Numbers.{number, slice}
 use Rattle.postscript_base.specs.Compact1.Offset.{offset, rising}
 use Rattle.postscript_base.specs.Tape.Loops.{chain, each}
-use Rattle.postscript_base.specs.Tape.Outcome.{Got, Fault, Outcome, end}
+use Rattle.postscript_base.specs.Tape.Outcome.{Got, Fault, end}
 use Rattle.postscript_base.specs.Refusal.{malformed_offset, malformed_index}
-use Rattle.postscript_compact1.specs.Index.{Index, index, filled, offsets, empty}
+use Rattle.postscript_compact1.specs.Index.{index, filled, offsets, empty}
 
 -- count 0
 none : index (0x00 ∷ 0x00 ∷ []) 0 ≡ Got empty 2

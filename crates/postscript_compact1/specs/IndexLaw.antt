@@ -1,5 +1,5 @@
 -- An INDEX in its own words: slices of one list of bytes (Technical Note 5176, "INDEX Data").
-use Rattle.std.specs.Prelude.{◌≡◌, ◌≢◌, ◌⊎◌, ℕ, ◌+◌, ◌-◌, ◌*◌, ◌<◌, ◌≤◌, List, [], ◌∷◌, length, take, drop, map}
+use Rattle.std.specs.Prelude.{◌≡◌, ◌⊎◌, ℕ, ◌+◌, ◌-◌, ◌*◌, ◌<◌, ◌≤◌, List, [], ◌∷◌, length, take, drop, map}
 use Rattle.postscript_base.specs.Numbers.{big_endian}
 use Rattle.postscript_base.specs.Refusal.{Refusal, unexpected_eof, malformed_offset, malformed_index}
 use Rattle.postscript_base.specs.Tape.At.{NeedsBytes}

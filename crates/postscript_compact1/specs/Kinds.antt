@@ -1,5 +1,5 @@
 -- The kinds of INDEX (Technical Note 5176, "CharStrings INDEX", "Top DICT INDEX").
-use Rattle.std.specs.Prelude.{ℤ, pos, ℕ, List, Option, Some, None, slice_get, if◌then◌else◌}
+use Rattle.std.specs.Prelude.{ℤ, pos, ℕ, List, Option, Some, None, if◌then◌else◌}
 use Rattle.std.specs.Ordering.{int_eq}
 use Rattle.postscript_base.specs.Refusal.{unknown_char_string_format}
 use Rattle.postscript_base.specs.Compact1.Dictionary.{Dictionary, dictionary}

@@ -1,5 +1,5 @@
 -- The texts of items (Technical Note 5176, "Name INDEX" and "String INDEX").
-use Rattle.std.specs.Prelude.{ℕ, ◌-◌, List, Option, Some, None, map, option_map, slice_get, encode_utf8_all}
+use Rattle.std.specs.Prelude.{ℕ, ◌-◌, List, Option, Some, None, option_map, slice_get, encode_utf8_all}
 use Rattle.bstr.specs.Utf8.{lossy_chars}
 use Rattle.postscript_compact1.specs.StandardStrings.{standard_string}
 

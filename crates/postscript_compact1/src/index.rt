@@ -16,11 +16,11 @@ mod names;
 mod strings;
 mod subroutines;
 
+pub use crate::standard_strings::get_standard_string;
 pub use char_strings::CharStrings;
 pub use dictionaries::Dictionaries;
 pub(crate) use dictionaries::operations_of;
 pub use names::Names;
-pub use crate::standard_strings::get_standard_string;
 use postscript_base::compact1::{Offset, OffsetSize};
 use postscript_base::tape::{Source, read_chain, read_each};
 use postscript_base::{Result, Tape, Value, Walue};

@@ -56,6 +56,14 @@ fn has_items(index: &Index, items: &[&[u8]]) -> bool {
     same && index.item(items.len()).is_none() && index.item(usize::MAX).is_none()
 }
 
+/// Whether an INDEX is that of the two items.
+fn is_two(index: &Index) -> bool {
+    index.count == 2
+        && index.offset_size == 1
+        && index.offsets.as_slice() == [Offset(1), Offset(2), Offset(4)].as_slice()
+        && has_items(index, &[&[0x41], &[0x42, 0x43]])
+}
+
 #[test]
 fn rows_of_indices(rt: HostRuntime) -> Outcome<()> {
     for (row, (bytes, wanted)) in ROWS.iter().enumerate() {
@@ -69,17 +77,18 @@ fn rows_of_indices(rt: HostRuntime) -> Outcome<()> {
             _ => assert!(rt; false, "at {row}"),
         }
     }
+    Ok(())
+}
+
+#[test]
+fn cut_copied_and_empty_indices(rt: HostRuntime) -> Outcome<()> {
     for length in 0..TWO.len() {
         let mut cut = Cursor::new(&TWO[..length]);
         assert_eq!(rt; code_of(cut.take::<Index>(rt.alloc())), 1, "at {length}");
     }
     let index: Index = Cursor::new(TWO).take(rt.alloc())?;
-    for index in [index.clone()?, index] {
-        assert_eq!(rt; index.count, 2);
-        assert_eq!(rt; index.offset_size, 1);
-        assert!(rt; index.offsets.as_slice() == [Offset(1), Offset(2), Offset(4)].as_slice());
-        assert!(rt; has_items(&index, &[&[0x41], &[0x42, 0x43]]));
-    }
+    assert!(rt; is_two(&index));
+    assert!(rt; is_two(&index.clone()?));
     let empty = Index::empty(rt.alloc());
     assert_eq!(rt; empty.count, 0);
     assert_eq!(rt; empty.offset_size, 0);
@@ -101,7 +110,7 @@ fn indices_on_troubled_tapes(rt: HostRuntime) -> Outcome<()> {
     for trouble in [Trouble::Interrupted, Trouble::OneByte] {
         let mut tape = TroubledTape::new(TWO, trouble);
         let index: Index = tape.take(rt.alloc())?;
-        assert!(rt; has_items(&index, &[&[0x41], &[0x42, 0x43]]), "at {trouble:?}");
+        assert!(rt; is_two(&index), "at {trouble:?}");
     }
     Ok(())
 }
@@ -129,8 +138,7 @@ fn long_items(rt: HostRuntime) -> Outcome<()> {
 }
 
 #[test]
-fn kinds_of_indices(rt: HostRuntime) -> Outcome<()> {
-    let items: &[&[u8]] = &[&[0x41], &[0x42, 0x43]];
+fn char_strings_of_two(rt: HostRuntime) -> Outcome<()> {
     let mut tape = Cursor::new(TWO);
     for format in [1, 0, -1, 3, i32::MIN, i32::MAX] {
         let refused: Result<CharStrings> = tape.take_given(rt.alloc(), format);
@@ -138,24 +146,31 @@ fn kinds_of_indices(rt: HostRuntime) -> Outcome<()> {
         assert_eq!(rt; tape.position(), 0, "at {format}");
     }
     let char_strings: CharStrings = tape.take_given(rt.alloc(), 2)?;
-    assert!(rt; has_items(&*char_strings, items));
-    assert!(rt; has_items(&*char_strings.clone()?, items));
-    assert_eq!(rt; code_of(tape.take_given::<CharStrings>(rt.alloc(), 2)), 1);
+    assert!(rt; is_two(&*char_strings));
+    assert!(rt; is_two(&*char_strings.clone()?));
+    Ok(())
+}
+
+#[test]
+fn dictionaries_and_names_of_two(rt: HostRuntime) -> Outcome<()> {
     let dictionaries: Dictionaries = Cursor::new(TWO).take(rt.alloc())?;
-    assert!(rt; has_items(&*dictionaries, items));
-    assert!(rt; has_items(&*dictionaries.clone()?, items));
+    assert!(rt; is_two(&*dictionaries));
+    assert!(rt; is_two(&*dictionaries.clone()?));
     let names: Names = Cursor::new(TWO).take(rt.alloc())?;
-    assert!(rt; has_items(&*names, items));
-    assert!(rt; has_items(&*names.clone()?, items));
+    assert!(rt; is_two(&*names));
+    assert!(rt; is_two(&*names.clone()?));
+    Ok(())
+}
+
+#[test]
+fn strings_and_subroutines_of_two(rt: HostRuntime) -> Outcome<()> {
     let strings: Strings = Cursor::new(TWO).take(rt.alloc())?;
-    assert!(rt; has_items(&*strings, items));
-    assert!(rt; has_items(&*strings.clone()?, items));
+    assert!(rt; is_two(&*strings));
+    assert!(rt; is_two(&*strings.clone()?));
     let subroutines: Subroutines = Cursor::new(TWO).take(rt.alloc())?;
-    assert_eq!(rt; subroutines.len(), 2);
-    assert_eq!(rt; subroutines.data().len(), 2);
-    assert!(rt; has_items(&*subroutines, items));
-    assert!(rt; has_items(&*subroutines.clone()?, items));
-    assert!(rt; has_items(&*Subroutines::empty(rt.alloc()), &[]));
+    assert!(rt; is_two(&*subroutines));
+    assert!(rt; is_two(&*subroutines.clone()?));
+    assert_eq!(rt; Subroutines::empty(rt.alloc()).len(), 0);
     Ok(())
 }
 
