@@ -12,6 +12,8 @@ mod errors;
 #[cfg(test)]
 mod flat;
 #[cfg(test)]
+mod fonts;
+#[cfg(test)]
 mod indices;
 #[cfg(test)]
 mod parts;
