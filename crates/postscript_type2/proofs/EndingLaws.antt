@@ -24,7 +24,7 @@ use Rattle.postscript_type2.specs.Operation.Operators.{operator_of}
 use Rattle.postscript_type2.specs.Program.Parsing.{Phrase, Complete, NoPhrase, is_number, passed, with_number, numbered, with_operator, escaped, ending, phrase_after, phrase}
 use Rattle.postscript_type2.specs.Program.Routines.{Lists}
 use Rattle.postscript_type2.specs.Program.Runs.{Answer, End, UsedUp, Returned, Finished, Fault, Run, fault_of}
-use Rattle.postscript_type2.specs.Program.Stacks.{one_to_one, two_to_one, depth, roll_by}
+use Rattle.postscript_type2.specs.Program.Stacks.{one_to_one, two_to_one, distance, roll_by}
 use Rattle.postscript_type2.specs.Program.Still.{through, still}
 use Rattle.postscript_type2.specs.Program.Working.{lists_of, state_of}
 use Rattle.postscript_type2.specs.Program.Works.{Work, ◌>>=◌, given, after, top_of, pop, operand, whole_operand, operand_below, push}
@@ -246,7 +246,7 @@ operators-listed IfElse =
 operators-listed Drop = bind operand _ operand-listed (λ a. given-listed (Ok (tt {0})) tt)
 operators-listed Exch = bind operand _ operand-listed (λ b. bind operand _ operand-listed (λ a. bind (push b) (λ x. push a) (push-listed b) (λ x. push-listed a)))
 operators-listed Dup = bind (operand_below 0) _ (below-listed 0) (λ top. push-listed top)
-operators-listed Index = bind whole_operand _ whole-listed (λ i. bind (operand_below (depth i)) _ (below-listed (depth i)) (λ x. push-listed x))
+operators-listed Index = bind whole_operand _ whole-listed (λ i. bind (operand_below (distance i)) _ (below-listed (distance i)) (λ x. push-listed x))
 operators-listed Roll = bind whole_operand _ whole-listed (λ shift. bind whole_operand _ whole-listed (λ span. roll_by-listed shift span))
 operators-listed op = tt
 

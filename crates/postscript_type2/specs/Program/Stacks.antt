@@ -48,16 +48,16 @@ duplication = do
   top ← operand_below 0
   push top
 
--- a number as a depth: below zero it is the top
-abbrev pub depth : ℤ → ℕ
-depth (pos n) = n
-depth (negsuc n) = 0
+-- a number as a distance below the top: a negative one is the top itself
+abbrev pub distance : ℤ → ℕ
+distance (pos n) = n
+distance (negsuc n) = 0
 
 -- an operand from further down once more
 abbrev pub copy : Work (Unit {0})
 copy = do
   i ← whole_operand
-  x ← operand_below (depth i)
+  x ← operand_below (distance i)
   push x
 
 -- the place of item k of so many after a roll: (k + shift) mod their number

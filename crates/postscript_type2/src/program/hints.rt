@@ -37,19 +37,19 @@ impl State {
         Ok(Effect::Clears(operands, 0))
     }
 
-    /// A mask, where so many bytes follow its operator.
+    /// A mask, where so many bytes are behind its operator.
     pub(super) fn mask<'l>(
         &mut self,
         alloc: Global,
         operator: Operator,
-        after: usize,
+        behind: usize,
     ) -> Result<Effect<'l>>
-        ensures value { (bytes : List ℕ) → length bytes ≡ after → Does (mask_move operator bytes (state_of self.old)) self.old result self.new }
-        ensures room { IfOk result (λ e. mask_of e ≤ after) }
+        ensures value { (bytes : List ℕ) → length bytes ≡ behind → Does (mask_move operator bytes (state_of self.old)) self.old result self.new }
+        ensures room { IfOk result (λ e. mask_of e ≤ behind) }
     {
         let stems = self.stems_after()?;
         let mask = (stems as usize).div_ceil(8);
-        if after < mask {
+        if behind < mask {
             return Err(Error::UnexpectedEof);
         }
         let Some(taken) = operator.taken(self.stack.len()) else {

@@ -87,8 +87,8 @@ impl<'l> Machine<'l> {
         let operator = self.routine.phrase(&mut self.state.stack)?;
         let bytes = self.routine.passed(rest);
         let said = Said { operator, bytes };
-        let after = self.routine.len();
-        match self.state.act(self.alloc, self.lists, operator, after)? {
+        let behind = self.routine.len();
+        match self.state.act(self.alloc, self.lists, operator, behind)? {
             Effect::Keeps => Ok(Event::Went(said)),
             Effect::Clears(operands, mask) => {
                 self.routine.skip(mask);

@@ -113,17 +113,17 @@ impl State {
         }
     }
 
-    /// What the operator does, where so many bytes follow it.
+    /// What the operator does, where so many bytes are behind it.
     pub(crate) fn act<'l>(
         &mut self,
         alloc: Global,
         lists: Subroutines<'l>,
         operator: Operator,
-        after: usize,
+        behind: usize,
     ) -> Result<Effect<'l>>
-        ensures value { (bytes : List ℕ) → length bytes ≡ after →
+        ensures value { (bytes : List ℕ) → length bytes ≡ behind →
             Does (effect (lists_of lists.entry) operator bytes (state_of self.old)) self.old result self.new }
-        ensures room { IfOk result (λ effect. mask_of effect ≤ after) }
+        ensures room { IfOk result (λ effect. mask_of effect ≤ behind) }
     {
         match operator {
             Operator::CallSubr => self.call(lists.local),
@@ -136,7 +136,7 @@ impl State {
             Operator::HStem | Operator::VStem | Operator::HStemHM | Operator::VStemHM => self.stem(
                 alloc, operator,
             ),
-            Operator::HintMask | Operator::CntrMask => self.mask(alloc, operator, after),
+            Operator::HintMask | Operator::CntrMask => self.mask(alloc, operator, behind),
             Operator::Random => Err(Error::Unsupported(Part::Random)),
             Operator::Put => Err(Error::Unsupported(Part::Put)),
             Operator::Get => Err(Error::Unsupported(Part::Get)),
