@@ -27,3 +27,5 @@ pub mod EndingLaws
 pub mod Telling
 pub mod RollingLaws
 pub mod RuleRows
+pub mod Cases
+pub mod Suffixes

@@ -8,7 +8,7 @@ mod steps;
 use crate::synthetic::charstring;
 use arithmetic::ARITHMETIC;
 use calls::{CALLS, GLOBAL_CALLS, LONG_LISTS};
-use codes::{NUMBERS, OPERANDS, OPERATORS};
+use codes::{LENGTHS, NUMBERS, OPERANDS, OPERATORS};
 use paths::{PATHS_AND_HINTS, PATHS_AND_NUMBERS};
 use postscript::Error;
 use postscript::type2::{self, Answers, Operand, Operation, Operator, Program, number};
@@ -207,6 +207,14 @@ fn check_operators<R: Abort>(rt: &R) -> Outcome<()> {
     Ok(())
 }
 
+/// Asks each operator how many operands it takes.
+fn check_lengths<R: Abort>(rt: &R) -> Outcome<()> {
+    for (code, length, wanted) in LENGTHS {
+        assert_eq!(rt; Operator::from(*code)?.taken(*length), *wanted, "at {code}");
+    }
+    Ok(())
+}
+
 /// Asks each operand.
 fn check_operands<R: AllocGlobal + Abort>(rt: &R) -> Outcome<()> {
     for (bits, whole, text) in OPERANDS {
@@ -227,5 +235,6 @@ fn check_operands<R: AllocGlobal + Abort>(rt: &R) -> Outcome<()> {
 fn tables(rt: HostRuntime) -> Outcome<()> {
     check_numbers(&rt)?;
     check_operators(&rt)?;
+    check_lengths(&rt)?;
     check_operands(&rt)
 }
