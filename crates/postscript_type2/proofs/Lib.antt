@@ -29,3 +29,4 @@ pub mod RollingLaws
 pub mod RuleRows
 pub mod Cases
 pub mod Suffixes
+pub mod Slices

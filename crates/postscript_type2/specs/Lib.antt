@@ -1,3 +1,4 @@
 pub mod Number
 pub mod Operation
 pub mod Program
+pub mod Slices

@@ -191,7 +191,14 @@ impl Operator {
     pub fn from(code: u16) -> Result<Self>
         ensures { result ≡ ok_or (operator_of code) errors.UnknownOperator }
     {
-        Ok(match code {
+        Operator::of(code).ok_or(Error::UnknownOperator)
+    }
+
+    /// The operator of a code, if there is one.
+    pub(crate) fn of(code: u16) -> Option<Self>
+        ensures { result ≡ operator_of code }
+    {
+        Some(match code {
             0x01 => Operator::HStem,
             0x03 => Operator::VStem,
             0x04 => Operator::VMoveTo,
@@ -239,7 +246,7 @@ impl Operator {
             0x0c23 => Operator::Flex,
             0x0c24 => Operator::HFlex1,
             0x0c25 => Operator::Flex1,
-            _ => return Err(Error::UnknownOperator),
+            _ => return None,
         })
     }
 

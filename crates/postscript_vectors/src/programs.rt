@@ -177,13 +177,24 @@ fn step_by_step(rt: HostRuntime) -> Outcome<()> {
     Ok(())
 }
 
-/// Reads each number.
+/// A program reads the number as well.
+fn check_run<R: AllocGlobal + Abort>(rt: &R, digits: &str, operand: Operand) -> Outcome<()> {
+    let found = told(rt.alloc(), format!(in rt.alloc(); "{digits}06")?.as_str(), &[], &[])?;
+    let wanted = format!(in rt.alloc(); "HLineTo {operand} | end | width none")?;
+    assert_eq!(rt; found.as_str(), wanted.as_str(), "at {digits}");
+    Ok(())
+}
+
+/// Reads each number, of a tape and in a program.
 fn check_numbers<R: AllocGlobal + Abort>(rt: &R) -> Outcome<()> {
     for (digits, wanted) in NUMBERS {
         let bytes = bytes_of(rt.alloc(), digits)?;
         let mut tape = Cursor::new(bytes.as_slice());
         match (number::read(&mut tape), wanted) {
-            (Ok(operand), Ok(bits)) => assert_eq!(rt; operand.bits(), *bits, "at {digits}"),
+            (Ok(operand), Ok(bits)) => {
+                assert_eq!(rt; operand.bits(), *bits, "at {digits}");
+                check_run(rt, digits, operand)?;
+            }
             (Err(fault), Err(code)) => assert_eq!(rt; fault.code(), *code, "at {digits}"),
             _ => assert!(rt; false, "at {digits}"),
         }

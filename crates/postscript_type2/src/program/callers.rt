@@ -49,7 +49,7 @@ pub(crate) fn are_used_up<'a, 'l>(routine: &'a Routine<'l>, callers: &'a Callers
     let mut current = routine;
     let mut chain = callers;
     while let Callers::Inside(caller, outer) = chain {
-        if current.first().is_some() {
+        if !current.is_used_up() {
             return false;
         }
         current = caller;
