@@ -30,3 +30,4 @@ pub mod RuleRows
 pub mod Cases
 pub mod Suffixes
 pub mod Slices
+pub mod Frames

@@ -68,7 +68,7 @@ impl<'l> Machine<'l> {
             alloc,
             lists: Subroutines { global, local },
             routine: Routine::new(code),
-            callers: Callers::Outermost,
+            callers: Callers::none(alloc),
             left: NESTED_CALLS,
             state,
         }
@@ -100,7 +100,7 @@ impl<'l> Machine<'l> {
                     return Err(Error::TooDeep);
                 }
                 let caller = mem::replace(&mut self.routine, Routine::new(code));
-                self.callers.enter(self.alloc, caller)?;
+                self.callers.enter(caller)?;
                 self.left -= 1;
                 Ok(Event::Went(said))
             }
