@@ -5,6 +5,9 @@ use Rattle.std.specs.Option.{ok_or, option_map}
 use Rattle.std.specs.Ordering.{int_eq}
 use Rattle.postscript_base.specs.declared.error.Error.{Error}
 use Rattle.postscript_base.specs.declared.error.Error.TheVariants as errors
+use Rattle.postscript_type2.specs.declared.refused.Refused.{Refused}
+use Rattle.postscript_type2.specs.declared.refused.Refused.TheVariants.{Memory}
+use Rattle.postscript_type2.specs.Refused.{error_of, reason}
 use Rattle.postscript_base.specs.Error.{code, IsOneOf, IsListed}
 use Rattle.postscript_base.specs.Numbers.{slice, number as unsigned, big_endian, two_sided, above, below}
 use Rattle.postscript_base.specs.Tape.Outcome.{Outcome, Got, Fault as Cut, Past, Reading, after as chained, ◌>>=◌ as ◌>>>◌, pure, fault}
@@ -416,10 +419,10 @@ fault-listed e end h is = error-listed e end h (fault-is end (refusal_of e) is)
 pub machine-ends : (machine : Machine) → IsRunsEnd (still_of machine).end
 machine-ends machine = still-ends (lists_of machine.lists) machine.left machine.routine (rests machine.callers) (state_of machine.state)
 
-pub next-listed : (before : Run) (e : Error) → IsRunsEnd before.end → ((e ≡ errors.Memory) ⊎ ((before.answers ≡ []) × (before.end ≡ Fault (refusal_of e)))) →
-    IsOneOf next_refusals (code e)
-next-listed before e h (inl is) = inr (inl (ap code is))
-next-listed before e h (inr is) = inr (inr (error-listed e before.end h is.1))
+pub next-listed : (before : Run) (e : Refused) → IsRunsEnd before.end → ((e ≡ Memory) ⊎ ((before.answers ≡ []) × (before.end ≡ Fault (reason e)))) →
+    IsOneOf next_refusals (code (error_of e))
+next-listed before e h (inl is) = inr (inl (ap (λ r. code (error_of r)) is))
+next-listed before e h (inr is) = inr (inr (error-listed (error_of e) before.end h is.1))
 
 pub flatten-listed : {A : Type 0} (r : Result A Error) (end : End) → IsRunsEnd end → IfErr r (λ e. (e ≡ errors.Memory) ⊎ (fault_of end ≡ Some (refusal_of e))) →
     IsListed flatten_refusals r

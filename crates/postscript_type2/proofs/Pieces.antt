@@ -3,10 +3,11 @@ use Rattle.std.proofs.Common.{◌≡◌, ◌≢◌, refl, ap, sym, subst, ◌∙
 use Rattle.std.proofs.lemmas.Bool.Decides.{nat_tests}
 use Rattle.std.proofs.lemmas.List.{append-nil, drop-drop}
 use Rattle.std.specs.Option.{ok_or}
-use Rattle.postscript_base.specs.declared.error.Error.{Error}
-use Rattle.postscript_base.specs.declared.error.Error.TheVariants.{UnknownOperator}
+use Rattle.postscript_type2.specs.declared.refused.Refused.{Refused}
+use Rattle.postscript_type2.specs.declared.refused.Refused.TheVariants.{UnknownOperator}
 use Rattle.postscript_base.specs.Tape.Outcome.{Got, Fault}
-use Rattle.postscript_base.specs.Refusal.{Refusal, refusal_of, unexpected_eof}
+use Rattle.postscript_base.specs.Refusal.{Refusal, unexpected_eof}
+use Rattle.postscript_type2.specs.Refused.{reason}
 use Rattle.postscript_type2.specs.declared.operation.Operator.{Operator}
 use Rattle.postscript_type2.specs.Number.{number, spelled}
 use Rattle.postscript_type2.specs.Operation.Operators.{operator_of}
@@ -16,22 +17,22 @@ use Rattle.postscript_type2.proofs.Bytes.{number-front, got-later, later-fault}
 use Rattle.postscript_type2.proofs.Fronts.{front-number_at}
 use Rattle.postscript_type2.proofs.Places.{spelled-local}
 
-with-operator : (place more : ℕ) (o : Option Operator) (r : Result (Operator × ℕ) Error) →
+with-operator : (place more : ℕ) (o : Option Operator) (r : Result (Operator × ℕ) Refused) →
     r ≡ ok_or (option_map (λ op. (op, place + more)) o) UnknownOperator → EndsAt (with_operator more o) place r
 with-operator place more (Some op) (Ok read) e =
     let same : read ≡ (op, place + more) = cc in
     (more, sym (ap (λ (x : Operator × ℕ). Complete [] x.0 more) same), ap (λ (x : Operator × ℕ). x.1) same)
 with-operator place more (Some op) (Err f) e = absurd (cc)
 with-operator place more None (Ok read) e = absurd (cc)
-with-operator place more None (Err f) e = let same : UnknownOperator ≡ f = cc in ap (λ x. NoPhrase (refusal_of x)) same
+with-operator place more None (Err f) e = let same : UnknownOperator ≡ f = cc in ap (λ x. NoPhrase (reason x)) same
 
 -- an operator of two bytes, and one of one
-pub operator-two : (rest : List ℕ) (place first second behind : ℕ) (more : List ℕ) (r : Result (Operator × ℕ) Error) → rest ≡ second ∷ more → behind ≡ place + 1 → first ≡ 12 →
+pub operator-two : (rest : List ℕ) (place first second behind : ℕ) (more : List ℕ) (r : Result (Operator × ℕ) Refused) → rest ≡ second ∷ more → behind ≡ place + 1 → first ≡ 12 →
     r ≡ ok_or (option_map (λ op. (op, behind)) (operator_of (0x0c00 + second))) UnknownOperator → EndsAt (ending first rest) place r
 operator-two rest place first second behind more r is after two e =
     rw (two, is) (with-operator place 1 (operator_of (0x0c00 + second)) r (subst (λ n. r ≡ ok_or (option_map (λ op. (op, n)) (operator_of (0x0c00 + second))) UnknownOperator) after e))
 
-pub operator-one : (rest : List ℕ) (place first : ℕ) (r : Result (Operator × ℕ) Error) → first ≢ 12 →
+pub operator-one : (rest : List ℕ) (place first : ℕ) (r : Result (Operator × ℕ) Refused) → first ≢ 12 →
     r ≡ ok_or (option_map (λ op. (op, place)) (operator_of first)) UnknownOperator → EndsAt (ending first rest) place r
 operator-one rest place first r other e =
     let no : (first == 12) ≡ false = grind (arith, nat_tests) in
@@ -41,7 +42,7 @@ operator-one rest place first r other e =
     (with-operator place 0 (operator_of first) r (subst (λ n. r ≡ ok_or (option_map (λ op. (op, n)) (operator_of first)) UnknownOperator) here e))
 
 -- an operator of two bytes, whose second one is wanting
-pub operator-cut : (rest : List ℕ) (place first : ℕ) (e : Error) → rest ≡ [] → first ≡ 12 → refusal_of e ≡ unexpected_eof → ending first rest ≡ NoPhrase (refusal_of e)
+pub operator-cut : (rest : List ℕ) (place first : ℕ) (e : Refused) → rest ≡ [] → first ≡ 12 → reason e ≡ unexpected_eof → ending first rest ≡ NoPhrase (reason e)
 operator-cut rest place first e none two is = rw (none, two, is) refl
 
 -- the bytes behind the first one
@@ -102,7 +103,7 @@ refused-behind k stack stack' (Complete numbers op more) p' e same bad =
 refused-behind k stack stack' (NoPhrase f) p' e same bad = let other : NoPhrase e ≡ NoPhrase f = sym (ap (fronted stack' k) bad) ∙ same in sym other
 
 -- the operator at a place ends the phrase that began so many bytes before
-pub reads-operator : (start next k : ℕ) (old self rest : List ℕ) (first : ℕ) (stack stack' : List ℤ) (r : Result (Operator × ℕ) Error) → next ≡ start + k → self ≡ first ∷ rest → is_number first ≡ false →
+pub reads-operator : (start next k : ℕ) (old self rest : List ℕ) (first : ℕ) (stack stack' : List ℤ) (r : Result (Operator × ℕ) Refused) → next ≡ start + k → self ≡ first ∷ rest → is_number first ≡ false →
     fronted stack' k (phrase self) ≡ fronted stack 0 (phrase old) → EndsAt (ending first rest) (next + 1) r → ReadsPhraseAt old start stack r stack'
 reads-operator start next k old self rest first stack stack' (Ok read) there is other same ends =
     let more = ends.0 in
@@ -111,4 +112,4 @@ reads-operator start next k old self rest first stack stack' (Ok read) there is 
     sym same ∙ ap (fronted stack' k) alone ∙ ap (λ xs. Complete xs read.0 (k + more)) (append-nil stack') in
     (k + more, whole, let h = ends.2 in omega (arith, h, there))
 reads-operator start next k old self rest first stack stack' (Err e) there is other same ends =
-    inr (refused-behind k stack stack' (phrase old) (phrase self) (refusal_of e) same (front-ending self rest first is other ∙ ap ending_of is ∙ ends))
+    inr (refused-behind k stack stack' (phrase old) (phrase self) (reason e) same (front-ending self rest first is other ∙ ap ending_of is ∙ ends))

@@ -5,9 +5,11 @@ ghost use Rattle.postscript_base.specs.Tape.Outcome.{same};
 ghost use Rattle.postscript_base.specs.Numbers.{number as unsigned};
 ghost use Rattle.postscript_base.specs.Tape.{Reads};
 ghost use Rattle.postscript_type2.specs.Number.{number as the_number};
+ghost use Rattle.postscript_type2.specs.Refused.{IsListedAs};
 ghost use Rattle.postscript_type2.specs.Slices.{ReadsAt};
 
 use crate::operation::Operand;
+use crate::refused::{self, Refused};
 use postscript_base::number::{above, below, byte, long_word, small, word};
 use postscript_base::{Error, Result, Tape};
 
@@ -34,40 +36,40 @@ pub fn read<T: Tape>(tape: &mut T) -> Result<Operand>
 pub(crate) type At<T> = (T, usize);
 
 /// The byte at a place.
-pub(crate) fn byte_at(code: &[u8], place: usize) -> Result<At<u8>>
+pub(crate) fn byte_at(code: &[u8], place: usize) -> refused::Result<At<u8>>
     ensures exact { ReadsAt (unsigned 1 code.now place) result }
-    ensures listed { IsListed (1 ∷ []) result }
+    ensures listed { IsListedAs (1 ∷ []) result }
     ensures room { IfOk result (λ read. read.1 ≤ length code.now) }
 {
     match code.get(place) {
         Some(byte) => Ok((*byte, place + 1)),
-        None => Err(Error::UnexpectedEof),
+        None => Err(Refused::UnexpectedEof),
     }
 }
 
 /// The two bytes at a place.
-fn word_at(code: &[u8], place: usize) -> Result<At<u16>>
+fn word_at(code: &[u8], place: usize) -> refused::Result<At<u16>>
     requires { place ≤ length code.now }
     ensures exact { ReadsAt (unsigned 2 code.now place) result }
-    ensures listed { IsListed (1 ∷ []) result }
+    ensures listed { IsListedAs (1 ∷ []) result }
     ensures room { IfOk result (λ read. read.1 ≤ length code.now) }
 {
     if code.len() - place < 2 {
-        return Err(Error::UnexpectedEof);
+        return Err(Refused::UnexpectedEof);
     }
     let word = u16::from_be_bytes([code[place], code[place + 1]]);
     Ok((word, place + 2))
 }
 
 /// The four bytes at a place.
-fn long_word_at(code: &[u8], place: usize) -> Result<At<u32>>
+fn long_word_at(code: &[u8], place: usize) -> refused::Result<At<u32>>
     requires { place ≤ length code.now }
     ensures exact { ReadsAt (unsigned 4 code.now place) result }
-    ensures listed { IsListed (1 ∷ []) result }
+    ensures listed { IsListedAs (1 ∷ []) result }
     ensures room { IfOk result (λ read. read.1 ≤ length code.now) }
 {
     if code.len() - place < 4 {
-        return Err(Error::UnexpectedEof);
+        return Err(Refused::UnexpectedEof);
     }
     let bytes = [
         code[place],
@@ -82,9 +84,9 @@ fn long_word_at(code: &[u8], place: usize) -> Result<At<u32>>
 ///
 /// Refused: `MalformedNumber` where the first byte begins no number, `UnexpectedEof`.
 #[tactic(auto, unfolding(crate::specs::Number::number))]
-pub(crate) fn read_at(code: &[u8], place: usize) -> Result<At<Operand>>
+pub(crate) fn read_at(code: &[u8], place: usize) -> refused::Result<At<Operand>>
     ensures exact { ReadsAt (the_number code.now place) result }
-    ensures listed { IsListed (1 ∷ 7 ∷ []) result }
+    ensures listed { IsListedAs (1 ∷ 7 ∷ []) result }
     ensures room { IfOk result (λ read. read.1 ≤ length code.now) }
 {
     let (first, next) = byte_at(code, place)?;
@@ -106,6 +108,6 @@ pub(crate) fn read_at(code: &[u8], place: usize) -> Result<At<Operand>>
             let (bits, next) = long_word_at(code, next)?;
             Ok((Operand::from_bits(bits.cast_signed()), next))
         }
-        _ => Err(Error::MalformedNumber),
+        _ => Err(Refused::MalformedNumber),
     }
 }

@@ -1,13 +1,13 @@
 //! The callers of a routine.
 ghost use Rattle.std.specs.List.{list_all};
 ghost use Rattle.std.specs.Prelude.{◌≡◌, ◌∷◌, [], OnOk, IfErr, MatchOption};
-ghost use Rattle.postscript_base.specs.declared.error.Error.TheVariants as errors;
+ghost use Rattle.postscript_type2.specs.declared.refused.Refused.TheVariants as cases;
 ghost use Rattle.postscript_type2.specs.Program.Callers.{rests};
 ghost use Rattle.postscript_type2.specs.Program.Evaluation.{is_empty};
 ghost use Rattle.postscript_type2.specs.Program.Still.{are_used_up as the_are_used_up};
 
 use super::routine::Routine;
-use postscript_base::Result;
+use crate::refused::Result;
 use std::alloc::Global;
 
 /// The callers of a routine, the outermost first, each at the place behind its call.
@@ -29,7 +29,7 @@ impl<'l> Callers<'l> {
     /// Adds the caller of a routine that is entered.
     pub(crate) fn enter(&mut self, caller: Routine<'l>) -> Result<()>
         ensures ok { OnOk result (rests self.new ≡ caller.entry ∷ rests self.old) }
-        ensures err { IfErr result (λ e. e ≡ errors.Memory) }
+        ensures err { IfErr result (λ e. e ≡ cases.Memory) }
     {
         self.frames.push(caller)?;
         Ok(())

@@ -9,7 +9,7 @@ use super::routine::Routine;
 use super::state::{Effect, State};
 use super::subroutines::Subroutines;
 use crate::operation::{Operand, Operator};
-use postscript_base::{Error, Result};
+use crate::refused::{Refused, Result};
 use std::alloc::Global;
 use std::mem;
 
@@ -97,7 +97,7 @@ impl<'l> Machine<'l> {
             }
             Effect::Calls(code) => {
                 if self.left == 0 {
-                    return Err(Error::TooDeep);
+                    return Err(Refused::TooDeep);
                 }
                 let caller = mem::replace(&mut self.routine, Routine::new(code));
                 self.callers.enter(caller)?;
@@ -106,7 +106,7 @@ impl<'l> Machine<'l> {
             }
             Effect::Returns => {
                 let Some(caller) = self.callers.leave() else {
-                    return Err(Error::ReturnWithoutCaller);
+                    return Err(Refused::ReturnWithoutCaller);
                 };
                 self.routine = caller;
                 self.left += 1;
@@ -114,7 +114,7 @@ impl<'l> Machine<'l> {
             }
             Effect::Ends(width) => {
                 if !are_used_up(&self.routine, &self.callers) {
-                    return Err(Error::TrailingData);
+                    return Err(Refused::TrailingData);
                 }
                 self.state.width = Some(width);
                 Ok(Event::Over(said))

@@ -1,7 +1,7 @@
 //! A routine: code, and the place that is reached in it.
 ghost use Rattle.std.specs.Option.{ok_or};
-ghost use Rattle.std.specs.Prelude.{◌≡◌, ◌-◌, ◌≤◌, IfOk, length, take, drop, option_map};
-ghost use Rattle.postscript_base.specs.declared.error.Error.TheVariants as errors;
+ghost use Rattle.std.specs.Prelude.{◌≡◌, ◌-◌, ◌≤◌, OnOk, IfOk, IfErr, length, take, drop, option_map};
+ghost use Rattle.postscript_type2.specs.declared.refused.Refused.TheVariants as cases;
 ghost use Rattle.postscript_type2.specs.Operation.Operators.{operator_of};
 ghost use Rattle.postscript_type2.specs.Program.Evaluation.{is_empty};
 ghost use Rattle.postscript_type2.specs.Program.Parsing.{is_number, ending};
@@ -9,7 +9,7 @@ ghost use Rattle.postscript_type2.specs.Program.Tokens.{LooksAt, EndsAt, ReadsPh
 
 use crate::number::{At, byte_at, read_at};
 use crate::operation::{Operand, Operator};
-use postscript_base::{Error, Result};
+use crate::refused::{Refused, Result};
 use std::marker::Model;
 
 /// A routine, seen as its bytes that are not read yet.
@@ -45,11 +45,11 @@ fn first_at(code: &[u8], place: usize) -> Option<u8>
 
 /// The operator of a code, which ends just before a place.
 fn known(code: u16, place: usize) -> Result<At<Operator>>
-    ensures { result ≡ ok_or (option_map (λ op. (op, place)) (operator_of code)) errors.UnknownOperator }
+    ensures { result ≡ ok_or (option_map (λ op. (op, place)) (operator_of code)) cases.UnknownOperator }
 {
     match Operator::of(code) {
         Some(operator) => Ok((operator, place)),
-        None => Err(Error::UnknownOperator),
+        None => Err(Refused::UnknownOperator),
     }
 }
 
@@ -81,7 +81,21 @@ fn phrase_at(code: &[u8], place: usize, stack: &mut Vec<Operand>) -> Result<At<O
         stack.push(operand)?;
         next = behind;
     }
-    Err(Error::UnexpectedEof)
+    Err(Refused::UnexpectedEof)
+}
+
+/// How many operands a stack holds (Technical Note 5177, Appendix B, "Type 2 Charstring Implementation Limits").
+const OPERANDS: usize = 48;
+
+/// Takes memory for so many operands at once, before the first is put onto the stack.
+fn make_room(stack: &mut Vec<Operand>) -> Result<()>
+    ensures ok { OnOk result (stack.new.items ≡ stack.old.items) }
+    ensures err { IfErr result (λ e. e ≡ cases.Memory) }
+{
+    if stack.capacity() == 0 {
+        stack.reserve(OPERANDS)?;
+    }
+    Ok(())
 }
 
 impl<'l> Routine<'l> {
@@ -132,6 +146,7 @@ impl<'l> Routine<'l> {
     pub(crate) fn phrase(&mut self, stack: &mut Vec<Operand>) -> Result<Operator>
         ensures { ReadsPhrase self.old stack.old.items result self.new stack.new.items }
     {
+        make_room(stack)?;
         let (operator, place) = phrase_at(self.code, self.place, stack)?;
         self.place = place;
         Ok(operator)

@@ -8,7 +8,7 @@ ghost use Rattle.postscript_type2.specs.Program.Works.{operand as the_operand, w
 
 use super::arithmetic;
 use crate::operation::{Operand, Operator};
-use postscript_base::{Error, Result};
+use crate::refused::{Refused, Result};
 
 /// The operand on top, which is popped.
 fn operand(stack: &mut Vec<Operand>) -> Result<Operand>
@@ -16,7 +16,7 @@ fn operand(stack: &mut Vec<Operand>) -> Result<Operand>
 {
     match stack.pop() {
         Some(top) => Ok(top),
-        None => Err(Error::ExpectedOperand),
+        None => Err(Refused::ExpectedOperand),
     }
 }
 
@@ -25,11 +25,11 @@ pub(crate) fn whole_operand(stack: &mut Vec<Operand>) -> Result<i16>
     ensures { Performs the_whole_operand stack.old.items result stack.new.items }
 {
     let Some(top) = stack.pop() else {
-        return Err(Error::ExpectedInteger);
+        return Err(Refused::ExpectedInteger);
     };
     match top.to_int() {
         Some(number) => Ok(number),
-        None => Err(Error::ExpectedInteger),
+        None => Err(Refused::ExpectedInteger),
     }
 }
 
@@ -40,7 +40,7 @@ fn operand_below(stack: &[Operand], distance: usize) -> Result<Operand>
     if distance < stack.len() {
         Ok(stack[stack.len() - 1 - distance])
     } else {
-        Err(Error::ExpectedMoreOperands)
+        Err(Refused::ExpectedMoreOperands)
     }
 }
 
@@ -214,11 +214,11 @@ fn roll_by(stack: &mut Vec<Operand>, shift: i16, span: i16) -> Result<()>
     ensures { Performs (the_roll_by shift span) stack.old.items result stack.new.items }
 {
     if span < 0 {
-        return Err(Error::InvalidOperand);
+        return Err(Refused::InvalidOperand);
     }
     let count = span as usize;
     if stack.len() < count {
-        return Err(Error::ExpectedMoreOperands);
+        return Err(Refused::ExpectedMoreOperands);
     }
     let from = stack.len() - count;
     rotate(&mut stack[from..], shift, span);

@@ -1,6 +1,6 @@
 //! What an operator does with the stack.
 ghost use Rattle.std.specs.Prelude.{◌≡◌, ◌≤◌, ℕ, List, [], length, Some, OnErr, IfOk, IfErr};
-ghost use Rattle.postscript_base.specs.declared.error.Error.TheVariants.{Memory};
+ghost use Rattle.postscript_type2.specs.declared.refused.Refused.TheVariants.{Memory};
 ghost use Rattle.postscript_type2.specs.Program.Effects.{settled as the_settled, path_move, last_of, effect, subroutine, call_move};
 ghost use Rattle.postscript_type2.specs.Operation.Kinds.{kind};
 ghost use Rattle.postscript_type2.specs.Program.Performing.{WorksOrDraws};
@@ -10,8 +10,8 @@ ghost use Rattle.postscript_type2.specs.Program.Working.{lists_of, state_of, mas
 use super::stack::{perform, whole_operand};
 use super::subroutines::{Subroutines, named};
 use crate::operation::{Operand, Operator};
+use crate::refused::{Refused, Result};
 use postscript_base::error::Part;
-use postscript_base::{Error, Result};
 use std::alloc::Global;
 
 /// The operands, the top last; the stems so far; and the width, once it is settled.
@@ -80,7 +80,7 @@ impl State {
         ensures room { IfOk result (λ e. mask_of e ≡ 0) }
     {
         let Some(taken) = operator.taken(self.stack.len()) else {
-            return Err(Error::MalformedOperands);
+            return Err(Refused::MalformedOperands);
         };
         let operands = self.clear(alloc, taken, taken)?;
         Ok(Effect::Clears(operands, 0))
@@ -109,7 +109,7 @@ impl State {
         let number = whole_operand(&mut self.stack)?;
         match named(routines, number) {
             Some(routine) => Ok(Effect::Calls(routine)),
-            None => Err(Error::MissingSubroutine),
+            None => Err(Refused::MissingSubroutine),
         }
     }
 
@@ -137,9 +137,9 @@ impl State {
                 alloc, operator,
             ),
             Operator::HintMask | Operator::CntrMask => self.mask(alloc, operator, behind),
-            Operator::Random => Err(Error::Unsupported(Part::Random)),
-            Operator::Put => Err(Error::Unsupported(Part::Put)),
-            Operator::Get => Err(Error::Unsupported(Part::Get)),
+            Operator::Random => Err(Refused::Unsupported(Part::Random)),
+            Operator::Put => Err(Refused::Unsupported(Part::Put)),
+            Operator::Get => Err(Refused::Unsupported(Part::Get)),
             _ => self.work(alloc, operator),
         }
     }

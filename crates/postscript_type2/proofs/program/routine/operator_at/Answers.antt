@@ -1,7 +1,7 @@
 use Rattle.std.proofs.Common.{◌≡◌, ◌+◌, option_map, drop}
 use Rattle.std.specs.Option.{ok_or}
 use Rattle.std.proofs.lemmas.Result.{err_from_is_err_and}
-use Rattle.postscript_base.specs.declared.error.Error.TheVariants.{UnknownOperator}
+use Rattle.postscript_type2.specs.declared.refused.Refused.TheVariants.{UnknownOperator}
 use Rattle.postscript_type2.specs.Operation.Operators.{operator_of}
 use Rattle.postscript_type2.proofs.Bytes.{byte-there, byte-missing}
 use Rattle.postscript_type2.proofs.Pieces.{operator-one, operator-two, operator-cut}
