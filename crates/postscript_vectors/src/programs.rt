@@ -179,7 +179,12 @@ fn step_by_step(rt: HostRuntime) -> Outcome<()> {
 
 /// A program reads the number as well.
 fn check_run<R: AllocGlobal + Abort>(rt: &R, digits: &str, operand: Operand) -> Outcome<()> {
-    let found = told(rt.alloc(), format!(in rt.alloc(); "{digits}06")?.as_str(), &[], &[])?;
+    let found = told(
+        rt.alloc(),
+        format!(in rt.alloc(); "{digits}06")?.as_str(),
+        &[],
+        &[],
+    )?;
     let wanted = format!(in rt.alloc(); "HLineTo {operand} | end | width none")?;
     assert_eq!(rt; found.as_str(), wanted.as_str(), "at {digits}");
     Ok(())
