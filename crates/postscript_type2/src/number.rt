@@ -36,6 +36,7 @@ pub fn read<T: Tape>(tape: &mut T) -> Result<Operand>
 pub(crate) type At<T> = (T, usize);
 
 /// The byte at a place.
+#[inline(always)]
 pub(crate) fn byte_at(code: &[u8], place: usize) -> refused::Result<At<u8>>
     ensures exact { ReadsAt (unsigned 1 code.now place) result }
     ensures listed { IsListedAs (1 ∷ []) result }
@@ -84,6 +85,7 @@ fn long_word_at(code: &[u8], place: usize) -> refused::Result<At<u32>>
 ///
 /// Refused: `MalformedNumber` where the first byte begins no number, `UnexpectedEof`.
 #[tactic(auto, unfolding(crate::specs::Number::number))]
+#[inline(always)]
 pub(crate) fn read_at(code: &[u8], place: usize) -> refused::Result<At<Operand>>
     ensures exact { ReadsAt (the_number code.now place) result }
     ensures listed { IsListedAs (1 ∷ 7 ∷ []) result }

@@ -195,6 +195,7 @@ impl Operator {
     }
 
     /// The operator of a code, if there is one.
+    #[inline(always)]
     pub(crate) fn of(code: u16) -> Option<Self>
         ensures { result ≡ operator_of code }
     {
@@ -308,6 +309,7 @@ impl Operator {
     /// How many operands the operator is answered with, of `length` on the stack: the greatest number up to `length` that it
     /// takes (Technical Note 5177, "Path Construction Operators", "Hint Operators"). None where there is none, and for
     /// `EndChar` and the operators that do not clear the stack.
+    #[inline(always)]
     pub fn taken(&self, length: usize) -> Option<usize>
         ensures value { result ≡ the_taken self.now length }
         ensures room { IfSome result (λ n. n ≤ length) }
@@ -319,6 +321,7 @@ impl Operator {
     }
 
     /// The row of the table.
+    #[inline(always)]
     fn lengths(&self) -> Option<Lengths>
         ensures { (n : ℕ) → the_taken self.now n ≡ longest result n }
     {
@@ -337,6 +340,7 @@ struct Lengths {
 
 impl Lengths {
     /// The greatest up to `length`, if there is one.
+    #[inline(always)]
     fn greatest(self, length: usize) -> Option<usize>
         ensures value { result ≡ longest (Some self) length }
         ensures room { IfSome result (λ n. n ≤ length) }

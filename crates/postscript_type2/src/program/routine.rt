@@ -30,6 +30,7 @@ impl<'l> Model for Routine<'l> {
 }
 
 /// Whether a number begins with this byte.
+#[inline(always)]
 fn begins_number(first: u8) -> bool
     ensures { result ≡ is_number first }
 {
@@ -37,6 +38,7 @@ fn begins_number(first: u8) -> bool
 }
 
 /// The byte at a place.
+#[inline(always)]
 fn first_at(code: &[u8], place: usize) -> Option<u8>
     ensures { LooksAt (drop place code.now) result }
 {
@@ -44,6 +46,7 @@ fn first_at(code: &[u8], place: usize) -> Option<u8>
 }
 
 /// The operator of a code, which ends just before a place.
+#[inline(always)]
 fn known(code: u16, place: usize) -> Result<At<Operator>>
     ensures { result ≡ ok_or (option_map (λ op. (op, place)) (operator_of code)) cases.UnknownOperator }
 {
@@ -54,6 +57,7 @@ fn known(code: u16, place: usize) -> Result<At<Operator>>
 }
 
 /// Reads the operator that a first byte begins, whose second one would stand at this place.
+#[inline(always)]
 fn operator_at(code: &[u8], first: u8, place: usize) -> Result<At<Operator>>
     requires { place ≤ length code.now }
     ensures exact { EndsAt (ending first (drop place code.now)) place result }
@@ -67,6 +71,7 @@ fn operator_at(code: &[u8], first: u8, place: usize) -> Result<At<Operator>>
 }
 
 /// Reads the phrase at a place: puts its numbers onto the stack, and answers its operator.
+#[inline(always)]
 fn phrase_at(code: &[u8], place: usize, stack: &mut Vec<Operand>) -> Result<At<Operator>>
     requires { place ≤ length code.now }
     ensures exact { ReadsPhraseAt (drop place code.now) place stack.old.items result stack.new.items }
@@ -89,6 +94,7 @@ fn phrase_at(code: &[u8], place: usize, stack: &mut Vec<Operand>) -> Result<At<O
 const OPERANDS: usize = 48;
 
 /// Takes memory for so many operands at once, before the first is put onto the stack.
+#[inline(always)]
 fn make_room(stack: &mut Vec<Operand>) -> Result<()>
     ensures ok { OnOk result (stack.new.items ≡ stack.old.items) }
     ensures err { IfErr result (λ e. e ≡ cases.Memory) }
@@ -114,6 +120,7 @@ impl<'l> Routine<'l> {
     }
 
     /// The bytes that are not read yet.
+    #[inline(always)]
     pub(crate) fn rest(&self) -> &'l [u8]
         ensures { result.now ≡ self.now }
     {
@@ -121,6 +128,7 @@ impl<'l> Routine<'l> {
     }
 
     /// The front of a rest that was passed since.
+    #[inline(always)]
     pub(crate) fn passed(&self, rest: &'l [u8]) -> &'l [u8]
         requires { length self.now ≤ length rest.now }
         ensures { result.now ≡ take (length rest.now - length self.now) rest.now }
@@ -129,6 +137,7 @@ impl<'l> Routine<'l> {
     }
 
     /// How many bytes are not read yet.
+    #[inline(always)]
     pub(crate) fn len(&self) -> usize
         ensures { result ≡ length self.now }
     {
@@ -136,6 +145,7 @@ impl<'l> Routine<'l> {
     }
 
     /// Passes so many bytes, which are there.
+    #[inline(always)]
     pub(crate) fn skip(&mut self, count: usize)
         requires { count ≤ length self.old }
         ensures { self.new ≡ drop count self.old }

@@ -34,6 +34,7 @@ pub(crate) enum Effect<'l> {
 }
 
 /// The width where the last `counted` operands count as taken.
+#[inline(always)]
 fn settled(width: Option<Option<Operand>>, stack: &[Operand], counted: usize) -> Option<Operand>
     requires { counted ≤ length stack.now }
     ensures { result ≡ the_settled width stack.now counted }
@@ -52,6 +53,7 @@ fn settled(width: Option<Option<Operand>>, stack: &[Operand], counted: usize) ->
 
 impl State {
     /// Takes the last operands off the stack for an operation, and settles the width.
+    #[inline(always)]
     pub(super) fn clear(
         &mut self,
         alloc: Global,
