@@ -3,9 +3,10 @@ use Rattle.std.proofs.lemmas.List.{drop-drop}
 use Rattle.std.proofs.lemmas.Bool.{eqb-false}
 use Rattle.std.proofs.Common.{eqb-true, ◌≢◌, ◌==◌, ◌≡◌, ap, sym, subst, ◌∙◌, ◌⊎◌, inl, inr, ℕ, zero, suc, ◌+◌, ◌-◌, ◌<◌, Bool, true, false, List, [], ◌∷◌, take, drop, length, ℤ, Option, if◌then◌else◌, length-drop, arith}
 use Rattle.std.proofs.lemmas.Grind.{common_steps}
-use Rattle.postscript_base.specs.declared.error.Error.{Error}
-use Rattle.postscript_base.specs.declared.error.Error.TheVariants.{Memory}
-use Rattle.postscript_base.specs.Refusal.{Refusal, refusal_of, return_without_caller, trailing_data, too_deep}
+use Rattle.postscript_type2.specs.declared.refused.Refused.{Refused}
+use Rattle.postscript_type2.specs.declared.refused.Refused.TheVariants.{Memory}
+use Rattle.postscript_base.specs.Refusal.{Refusal, return_without_caller, trailing_data, too_deep}
+use Rattle.postscript_type2.specs.Refused.{reason}
 use Rattle.postscript_type2.specs.declared.operation.Operator.{Operator}
 use Rattle.postscript_type2.specs.Program.Effects.{State, Move, Keeps, Clears, Calls, Returns, Ends, Refuses, effect, stacked, cleared}
 use Rattle.postscript_type2.specs.Program.Evaluation.{with_phrase, with_answer, at_end, said, moved, stride}
@@ -148,17 +149,17 @@ unread lists left cs bytes st e some bad =
     (ap (λ run. run.answers) step, ap (λ run. run.end) step)
 
 -- the same, where want of memory may come in place of a refusal
-pub refused-or-memory : (lists : Lists) (left : ℕ) (cs : List (List ℕ)) (bytes rest : List ℕ) (st : State) (ys : List ℤ) (op : Operator) (more : ℕ) (e : Error) →
-    IsRead bytes rest st ys op more → (e ≡ Memory) ⊎ (effect lists op rest (stacked ys st) ≡ Refuses (refusal_of e)) →
-    (e ≡ Memory) ⊎ (((still lists left bytes cs st).answers ≡ []) × ((still lists left bytes cs st).end ≡ Fault (refusal_of e)))
+pub refused-or-memory : (lists : Lists) (left : ℕ) (cs : List (List ℕ)) (bytes rest : List ℕ) (st : State) (ys : List ℤ) (op : Operator) (more : ℕ) (e : Refused) →
+    IsRead bytes rest st ys op more → (e ≡ Memory) ⊎ (effect lists op rest (stacked ys st) ≡ Refuses (reason e)) →
+    (e ≡ Memory) ⊎ (((still lists left bytes cs st).answers ≡ []) × ((still lists left bytes cs st).end ≡ Fault (reason e)))
 refused-or-memory lists left cs bytes rest st ys op more e read (inl memory) = inl memory
-refused-or-memory lists left cs bytes rest st ys op more e read (inr does) = inr (refused lists left cs bytes rest st ys op more (refusal_of e) read does)
+refused-or-memory lists left cs bytes rest st ys op more e read (inr does) = inr (refused lists left cs bytes rest st ys op more (reason e) read does)
 
-pub unread-or-memory : (lists : Lists) (left : ℕ) (cs : List (List ℕ)) (bytes : List ℕ) (st : State) (e : Error) → 0 < length bytes →
-    (e ≡ Memory) ⊎ (phrase bytes ≡ NoPhrase (refusal_of e)) →
-    (e ≡ Memory) ⊎ (((still lists left bytes cs st).answers ≡ []) × ((still lists left bytes cs st).end ≡ Fault (refusal_of e)))
+pub unread-or-memory : (lists : Lists) (left : ℕ) (cs : List (List ℕ)) (bytes : List ℕ) (st : State) (e : Refused) → 0 < length bytes →
+    (e ≡ Memory) ⊎ (phrase bytes ≡ NoPhrase (reason e)) →
+    (e ≡ Memory) ⊎ (((still lists left bytes cs st).answers ≡ []) × ((still lists left bytes cs st).end ≡ Fault (reason e)))
 unread-or-memory lists left cs bytes st e some (inl memory) = inl memory
-unread-or-memory lists left cs bytes st e some (inr bad) = inr (unread lists left cs bytes st (refusal_of e) some bad)
+unread-or-memory lists left cs bytes st e some (inr bad) = inr (unread lists left cs bytes st (reason e) some bad)
 
 -- a routine that is used up ends the run
 pub used-up : (lists : Lists) (left : ℕ) (cs : List (List ℕ)) (bytes : List ℕ) (st : State) → length bytes ≡ 0 → still lists left bytes cs st ≡ at_end UsedUp

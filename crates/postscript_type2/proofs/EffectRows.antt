@@ -1,16 +1,17 @@
 -- What operators do on small stacks, and pieces of runs with calls, computed from the definitions.
-use Rattle.std.proofs.Common.{◌≡◌, refl, ℕ, Bool, true, false, List, [], ◌∷◌, Some, None, ℤ, pos, neg_ℤ, ◌-◌, ◌^◌, replicate}
+use Rattle.std.proofs.Common.{◌≡◌, refl, ℕ, List, [], ◌∷◌, Some, None, ℤ, pos, neg_ℤ, ◌-◌, ◌^◌, replicate}
 use Rattle.postscript_base.specs.Refusal.{unexpected_eof, malformed_operands, expected_operand, expected_integer, expected_more_operands, invalid_operand, missing_subroutine, trailing_data, too_deep, overflow, zero_divisor, negative_root, too_many_stems}
 use Rattle.postscript_type2.specs.declared.operation.Operator.{Operator}
 use Rattle.postscript_type2.specs.declared.operation.Operator.TheVariants.{HStem, RLineTo, RRCurveTo, CallSubr, Return, EndChar, HintMask, CntrMask, RCurveLine, RLineCurve, HHCurveTo, CallGSubr, HVCurveTo, And, Or, Not, Abs, Add, Sub, Div, Neg, Eq, Drop, IfElse, Mul, Sqrt, Dup, Exch, Index, Roll, Flex}
 use Rattle.postscript_type2.specs.Program.Effects.{State, start, Move, Keeps, Clears, Calls, Refuses, bias, effect}
-use Rattle.postscript_type2.specs.Program.Evaluation.{Back, called, callee, after_call, mean, moved, said}
+use Rattle.postscript_type2.specs.Program.Evaluation.{Back, moved, said}
 use Rattle.postscript_type2.specs.Program.Flat.{flat_text}
 use Rattle.postscript_type2.specs.Operation.Kinds.{taken}
 use Rattle.postscript_type2.specs.Number.{whole}
 use Rattle.postscript_type2.specs.Program.Routines.{Lists}
 use Rattle.postscript_type2.specs.Program.Runs.{End, UsedUp, Finished, Fault}
 use Rattle.postscript_type2.specs.Program.Still.{still}
+use Rattle.postscript_type2.proofs.Meant.{EndsSo, ends_so}
 
 abbrev no_lists : Lists
 no_lists = record { global = []; local = [] }
@@ -213,7 +214,7 @@ stem_of_one = refl
 
 -- a mask, where these bytes follow
 abbrev mask_before : List ℕ → State → Move
-mask_before after st = effect no_lists HintMask after st
+mask_before behind st = effect no_lists HintMask behind st
 
 mask_with_width : mask_before (0x80 ∷ 0x0e ∷ []) (with_stack (n 3 ∷ n 1 ∷ n 2 ∷ [])) ≡ Clears [] 1 (Some (n 3)) 1
 mask_with_width = refl
@@ -270,26 +271,30 @@ call_global = refl
 return : moved Return 0 (0x0b ∷ []) start (effect no_lists Return [] start) ≡ Back (said Return 0 (0x0b ∷ [])) start
 return = refl
 
--- the end of a run that calls a routine where these bytes follow the call, and where so many calls may still nest
-abbrev end_of_call : (left : ℕ) → (inner : Bool) → (routine after : List ℕ) → End
-end_of_call left inner routine after = (called (callee no_lists left) routine start (after_call inner after (mean no_lists left inner after))).end
+-- by the rules a call of the only subroutine ends the run so, with so many calls open and these bytes behind the call
+abbrev CallEnds : (depth : ℕ) → (subroutine behind : List ℕ) → End → Type 0
+CallEnds depth subroutine behind end = EndsSo (record { global = []; local = subroutine ∷ [] }) depth (0x20 ∷ 0x0a ∷ behind) end
 
 -- a routine that is used up ends the run
-call_empty : end_of_call 10 false [] (0x00 ∷ []) ≡ UsedUp
-call_empty = refl
+call_empty : CallEnds 0 [] (0x00 ∷ []) UsedUp
+call_empty = ends_so _ 10 0 refl _ refl
 
 -- EndChar in a subroutine: the outermost code may have bytes left, a subroutine may not
-call_end : end_of_call 10 false (0x0e ∷ []) (0xff ∷ []) ≡ Finished None
-call_end = refl
+call_end : CallEnds 0 (0x0e ∷ []) (0xff ∷ []) (Finished None)
+call_end = ends_so _ 10 0 refl _ refl
 
-call_end_with_bytes : end_of_call 10 false (0x0e ∷ 0x0b ∷ []) [] ≡ Fault trailing_data
-call_end_with_bytes = refl
+call_end_with_bytes : CallEnds 0 (0x0e ∷ 0x0b ∷ []) [] (Fault trailing_data)
+call_end_with_bytes = ends_so _ 10 0 refl _ refl
 
-call_end_inner : end_of_call 9 true (0x0e ∷ []) (0x0b ∷ []) ≡ Fault trailing_data
-call_end_inner = refl
+call_end_inner : CallEnds 1 (0x0e ∷ []) (0x0b ∷ []) (Fault trailing_data)
+call_end_inner = ends_so _ 9 1 refl _ refl
 
-call_eleventh : end_of_call 0 true (0x0e ∷ []) [] ≡ Fault too_deep
-call_eleventh = refl
+-- ten calls may nest
+call_tenth : CallEnds 9 (0x0e ∷ []) [] (Finished None)
+call_tenth = ends_so _ 1 9 refl _ refl
+
+call_eleventh : CallEnds 10 (0x0e ∷ []) [] (Fault too_deep)
+call_eleventh = ends_so _ 0 10 refl _ refl
 
 -- the same for a chain of callers, the outermost code last
 chain_end : (still no_lists 8 (0x0e ∷ []) ([] ∷ (0xff ∷ []) ∷ []) start).end ≡ Finished None

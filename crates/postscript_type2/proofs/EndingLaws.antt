@@ -5,6 +5,9 @@ use Rattle.std.specs.Option.{ok_or, option_map}
 use Rattle.std.specs.Ordering.{int_eq}
 use Rattle.postscript_base.specs.declared.error.Error.{Error}
 use Rattle.postscript_base.specs.declared.error.Error.TheVariants as errors
+use Rattle.postscript_type2.specs.declared.refused.Refused.{Refused}
+use Rattle.postscript_type2.specs.declared.refused.Refused.TheVariants.{Memory}
+use Rattle.postscript_type2.specs.Refused.{error_of, reason}
 use Rattle.postscript_base.specs.Error.{code, IsOneOf, IsListed}
 use Rattle.postscript_base.specs.Numbers.{slice, number as unsigned, big_endian, two_sided, above, below}
 use Rattle.postscript_base.specs.Tape.Outcome.{Outcome, Got, Fault as Cut, Past, Reading, after as chained, ◌>>=◌ as ◌>>>◌, pure, fault}
@@ -24,7 +27,7 @@ use Rattle.postscript_type2.specs.Operation.Operators.{operator_of}
 use Rattle.postscript_type2.specs.Program.Parsing.{Phrase, Complete, NoPhrase, is_number, passed, with_number, numbered, with_operator, escaped, ending, phrase_after, phrase}
 use Rattle.postscript_type2.specs.Program.Routines.{Lists}
 use Rattle.postscript_type2.specs.Program.Runs.{Answer, End, UsedUp, Returned, Finished, Fault, Run, fault_of}
-use Rattle.postscript_type2.specs.Program.Stacks.{one_to_one, two_to_one, depth, roll_by}
+use Rattle.postscript_type2.specs.Program.Stacks.{one_to_one, two_to_one, distance, roll_by}
 use Rattle.postscript_type2.specs.Program.Still.{through, still}
 use Rattle.postscript_type2.specs.Program.Working.{lists_of, state_of}
 use Rattle.postscript_type2.specs.Program.Works.{Work, ◌>>=◌, given, after, top_of, pop, operand, whole_operand, operand_below, push}
@@ -246,7 +249,7 @@ operators-listed IfElse =
 operators-listed Drop = bind operand _ operand-listed (λ a. given-listed (Ok (tt {0})) tt)
 operators-listed Exch = bind operand _ operand-listed (λ b. bind operand _ operand-listed (λ a. bind (push b) (λ x. push a) (push-listed b) (λ x. push-listed a)))
 operators-listed Dup = bind (operand_below 0) _ (below-listed 0) (λ top. push-listed top)
-operators-listed Index = bind whole_operand _ whole-listed (λ i. bind (operand_below (depth i)) _ (below-listed (depth i)) (λ x. push-listed x))
+operators-listed Index = bind whole_operand _ whole-listed (λ i. bind (operand_below (distance i)) _ (below-listed (distance i)) (λ x. push-listed x))
 operators-listed Roll = bind whole_operand _ whole-listed (λ shift. bind whole_operand _ whole-listed (λ span. roll_by-listed shift span))
 operators-listed op = tt
 
@@ -416,10 +419,10 @@ fault-listed e end h is = error-listed e end h (fault-is end (refusal_of e) is)
 pub machine-ends : (machine : Machine) → IsRunsEnd (still_of machine).end
 machine-ends machine = still-ends (lists_of machine.lists) machine.left machine.routine (rests machine.callers) (state_of machine.state)
 
-pub next-listed : (before : Run) (e : Error) → IsRunsEnd before.end → ((e ≡ errors.Memory) ⊎ ((before.answers ≡ []) × (before.end ≡ Fault (refusal_of e)))) →
-    IsOneOf next_refusals (code e)
-next-listed before e h (inl is) = inr (inl (ap code is))
-next-listed before e h (inr is) = inr (inr (error-listed e before.end h is.1))
+pub next-listed : (before : Run) (e : Refused) → IsRunsEnd before.end → ((e ≡ Memory) ⊎ ((before.answers ≡ []) × (before.end ≡ Fault (reason e)))) →
+    IsOneOf next_refusals (code (error_of e))
+next-listed before e h (inl is) = inr (inl (ap (λ r. code (error_of r)) is))
+next-listed before e h (inr is) = inr (inr (error-listed (error_of e) before.end h is.1))
 
 pub flatten-listed : {A : Type 0} (r : Result A Error) (end : End) → IsRunsEnd end → IfErr r (λ e. (e ≡ errors.Memory) ⊎ (fault_of end ≡ Some (refusal_of e))) →
     IsListed flatten_refusals r

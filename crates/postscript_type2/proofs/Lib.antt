@@ -27,3 +27,7 @@ pub mod EndingLaws
 pub mod Telling
 pub mod RollingLaws
 pub mod RuleRows
+pub mod Cases
+pub mod Suffixes
+pub mod Slices
+pub mod Frames

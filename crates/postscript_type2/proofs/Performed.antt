@@ -1,8 +1,8 @@
 -- A work on the stack, by the kind of its operator.
 use Rattle.std.proofs.Common.{◌≡◌, ap, ◌⊎◌, inl, inr, ℕ, ℤ, List, Some, Err}
-use Rattle.postscript_base.specs.declared.error.Error.{Error}
-use Rattle.postscript_base.specs.declared.error.Error.TheVariants.{Memory}
-use Rattle.postscript_base.specs.Refusal.{refusal_of}
+use Rattle.postscript_type2.specs.declared.refused.Refused.{Refused}
+use Rattle.postscript_type2.specs.declared.refused.Refused.TheVariants.{Memory}
+use Rattle.postscript_type2.specs.Refused.{reason}
 use Rattle.postscript_type2.specs.declared.operation.Operator.{Operator}
 use Rattle.postscript_type2.specs.Program.Effects.{State, Refuses, work_move, effect_of}
 use Rattle.postscript_type2.specs.Operation.Kinds.{Kind, Draws, DeclaresStems, Masks, Works, CallsFrom, GoesBack, EndsGlyph, IsRefused}
@@ -10,8 +10,8 @@ use Rattle.postscript_type2.specs.Program.Performing.{PerformsKind}
 use Rattle.postscript_type2.specs.Program.Routines.{Lists}
 
 -- a work that is refused
-pub work-refused : (k : Kind) (lists : Lists) (op : Operator) (bytes : List ℕ) (st : State) (stack : List ℤ) (e : Error) → PerformsKind k st.stack (Some (Err e)) stack →
-    (e ≡ Memory) ⊎ (effect_of k lists op bytes st ≡ Refuses (refusal_of e))
+pub work-refused : (k : Kind) (lists : Lists) (op : Operator) (bytes : List ℕ) (st : State) (stack : List ℤ) (e : Refused) → PerformsKind k st.stack (Some (Err e)) stack →
+    (e ≡ Memory) ⊎ (effect_of k lists op bytes st ≡ Refuses (reason e))
 work-refused (Works work) lists op bytes st stack e (inl memory) = inl memory
 work-refused (Works work) lists op bytes st stack e (inr refused) = inr (ap work_move refused)
 work-refused (Draws takes) lists op bytes st stack e h = absurd h

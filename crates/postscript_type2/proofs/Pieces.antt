@@ -1,41 +1,55 @@
 -- A phrase from its pieces.
-use Rattle.std.proofs.Common.{◌≡◌, ◌≢◌, refl, ap, sym, subst, ◌∙◌, ℕ, suc, ◌+◌, ◌-◌, ◌<◌, ◌==◌, inr, true, false, cond, List, [], ◌∷◌, ◌++◌, length, drop, ℤ, Option, Some, None, Result, Ok, Err, length-drop, arith}
+use Rattle.std.proofs.Common.{◌≡◌, ◌≢◌, refl, ap, sym, subst, ◌∙◌, ℕ, suc, ◌+◌, ◌-◌, ◌<◌, ◌==◌, inr, true, false, cond, List, [], ◌∷◌, ◌++◌, length, drop, ℤ, Option, Some, None, option_map, Result, Ok, Err, length-drop, arith}
 use Rattle.std.proofs.lemmas.Bool.Decides.{nat_tests}
 use Rattle.std.proofs.lemmas.List.{append-nil, drop-drop}
 use Rattle.std.specs.Option.{ok_or}
-use Rattle.postscript_base.specs.declared.error.Error.{Error}
-use Rattle.postscript_base.specs.declared.error.Error.TheVariants.{UnknownOperator}
-use Rattle.postscript_base.specs.Tape.Outcome.{Outcome, Got, Fault, Past}
-use Rattle.postscript_base.specs.Refusal.{Refusal, refusal_of}
+use Rattle.postscript_type2.specs.declared.refused.Refused.{Refused}
+use Rattle.postscript_type2.specs.declared.refused.Refused.TheVariants.{UnknownOperator}
+use Rattle.postscript_base.specs.Tape.Outcome.{Got, Fault}
+use Rattle.postscript_base.specs.Refusal.{Refusal, unexpected_eof}
+use Rattle.postscript_type2.specs.Refused.{reason}
 use Rattle.postscript_type2.specs.declared.operation.Operator.{Operator}
 use Rattle.postscript_type2.specs.Number.{number, spelled}
 use Rattle.postscript_type2.specs.Operation.Operators.{operator_of}
 use Rattle.postscript_type2.specs.Program.Parsing.{Phrase, Complete, NoPhrase, is_number, numbered, phrase_after, phrase, ending, escaped, with_operator, fronted}
-use Rattle.postscript_type2.specs.Program.Tokens.{ReadsOperator, ReadsPhrase, ending_of}
-use Rattle.postscript_type2.proofs.Bytes.{number-front, got-later}
+use Rattle.postscript_type2.specs.Program.Tokens.{EndsAt, ReadsPhraseAt, ending_of}
+use Rattle.postscript_type2.proofs.Bytes.{number-front, got-later, later-fault}
 use Rattle.postscript_type2.proofs.Fronts.{front-number_at}
-use Rattle.postscript_type2.proofs.Places.{later, spelled-local}
+use Rattle.postscript_type2.proofs.Places.{spelled-local}
 
-with-operator : (old new : List ℕ) (more : ℕ) (o : Option Operator) (r : Result Operator Error) → ending_of old ≡ with_operator more o → new ≡ drop (more + 1) old →
-    r ≡ ok_or o UnknownOperator → ReadsOperator old r new
-with-operator old new more (Some op) (Ok op') is there e = let same : op ≡ op' = cc in (more, is ∙ ap (λ x. Complete [] x more) same, there)
-with-operator old new more (Some op) (Err f) is there e = absurd (cc)
-with-operator old new more None (Ok op') is there e = absurd (cc)
-with-operator old new more None (Err f) is there e = let same : UnknownOperator ≡ f = cc in is ∙ ap (λ x. NoPhrase (refusal_of x)) same
+with-operator : (place more : ℕ) (o : Option Operator) (r : Result (Operator × ℕ) Refused) →
+    r ≡ ok_or (option_map (λ op. (op, place + more)) o) UnknownOperator → EndsAt (with_operator more o) place r
+with-operator place more (Some op) (Ok read) e =
+    let same : read ≡ (op, place + more) = cc in
+    (more, sym (ap (λ (x : Operator × ℕ). Complete [] x.0 more) same), ap (λ (x : Operator × ℕ). x.1) same)
+with-operator place more (Some op) (Err f) e = absurd (cc)
+with-operator place more None (Ok read) e = absurd (cc)
+with-operator place more None (Err f) e = let same : UnknownOperator ≡ f = cc in ap (λ x. NoPhrase (reason x)) same
 
 -- an operator of two bytes, and one of one
-pub operator-two : (old rest new : List ℕ) (first second : ℕ) (r : Result Operator Error) → old ≡ first ∷ rest → rest ≡ second ∷ new → first ≡ 12 →
-    r ≡ ok_or (operator_of (0x0c00 + second)) UnknownOperator → ReadsOperator old r new
-operator-two old rest new first second r one two is e =
-    let all : old ≡ 12 ∷ second ∷ new = one ∙ ap (λ b. b ∷ rest) is ∙ ap (λ xs. 12 ∷ xs) two in
-    rw all (with-operator (12 ∷ second ∷ new) new 1 (operator_of (0x0c00 + second)) r refl refl e)
+pub operator-two : (rest : List ℕ) (place first second behind : ℕ) (more : List ℕ) (r : Result (Operator × ℕ) Refused) → rest ≡ second ∷ more → behind ≡ place + 1 → first ≡ 12 →
+    r ≡ ok_or (option_map (λ op. (op, behind)) (operator_of (0x0c00 + second))) UnknownOperator → EndsAt (ending first rest) place r
+operator-two rest place first second behind more r is after two e =
+    rw (two, is) (with-operator place 1 (operator_of (0x0c00 + second)) r (subst (λ n. r ≡ ok_or (option_map (λ op. (op, n)) (operator_of (0x0c00 + second))) UnknownOperator) after e))
 
-pub operator-one : (old new : List ℕ) (first : ℕ) (r : Result Operator Error) → old ≡ first ∷ new → first ≢ 12 →
-    r ≡ ok_or (operator_of first) UnknownOperator → ReadsOperator old r new
-operator-one old new first r one other e =
+pub operator-one : (rest : List ℕ) (place first : ℕ) (r : Result (Operator × ℕ) Refused) → first ≢ 12 →
+    r ≡ ok_or (option_map (λ op. (op, place)) (operator_of first)) UnknownOperator → EndsAt (ending first rest) place r
+operator-one rest place first r other e =
     let no : (first == 12) ≡ false = grind (arith, nat_tests) in
-    let is : ending first new ≡ with_operator 0 (operator_of first) = ap (λ b. cond b (escaped new) (with_operator 0 (operator_of first))) no in
-    rw one (with-operator (first ∷ new) new 0 (operator_of first) r is refl e)
+    let is : ending first rest ≡ with_operator 0 (operator_of first) = ap (λ b. cond b (escaped rest) (with_operator 0 (operator_of first))) no in
+    let here : place ≡ place + 0 = omega arith in
+    subst (λ p. EndsAt p place r) (sym is)
+    (with-operator place 0 (operator_of first) r (subst (λ n. r ≡ ok_or (option_map (λ op. (op, n)) (operator_of first)) UnknownOperator) here e))
+
+-- an operator of two bytes, whose second one is wanting
+pub operator-cut : (rest : List ℕ) (place first : ℕ) (e : Refused) → rest ≡ [] → first ≡ 12 → reason e ≡ unexpected_eof → ending first rest ≡ NoPhrase (reason e)
+operator-cut rest place first e none two is = rw (none, two, is) refl
+
+-- the bytes behind the first one
+pub rest-of : (code : List ℕ) (place first : ℕ) (rest : List ℕ) → drop place code ≡ first ∷ rest → drop place code ≡ first ∷ drop (place + 1) code
+rest-of code place first rest is =
+    let same : rest ≡ drop (place + 1) code = ap (drop 1) (sym is) ∙ drop-drop 1 place code in
+    is ∙ ap (λ xs. first ∷ xs) same
 
 -- the same phrase, so many bytes on
 shifted : ℕ → Phrase → Phrase
@@ -70,11 +84,6 @@ front-shorter self rest first next x is got =
     let shorter : length (drop next self) ≡ length self - next = length-drop next self in
     omega (arith, g.2)
 
-later-fault : {A : Type 0} (n : ℕ) (k : Refusal) (o : Outcome A) → later n o ≡ Fault k → o ≡ Fault k
-later-fault n k (Got x next) h = absurd (cc)
-later-fault n k (Fault j) h = cc
-later-fault n k Past h = absurd (cc)
-
 -- a number that is cut
 pub front-cut : (self rest : List ℕ) (first : ℕ) (k : Refusal) → self ≡ first ∷ rest → is_number first ≡ true → number self 0 ≡ Fault k → phrase self ≡ NoPhrase k
 front-cut self rest first k is begins cut =
@@ -93,13 +102,14 @@ refused-behind k stack stack' (Complete numbers op more) p' e same bad =
     let other : NoPhrase e ≡ Complete (stack ++ numbers) op (0 + more) = sym (ap (fronted stack' k) bad) ∙ same in absurd (cc)
 refused-behind k stack stack' (NoPhrase f) p' e same bad = let other : NoPhrase e ≡ NoPhrase f = sym (ap (fronted stack' k) bad) ∙ same in sym other
 
-pub reads-operator : (old self new : List ℕ) (stack stack' : List ℤ) (k : ℕ) (r : Result Operator Error) → self ≡ drop k old →
-    fronted stack' k (phrase self) ≡ fronted stack 0 (phrase old) → phrase self ≡ ending_of self → ReadsOperator self r new → ReadsPhrase old stack r new stack'
-reads-operator old self new stack stack' k (Ok op) there same is read =
-    let more = read.0 in
-    let whole : fronted stack 0 (phrase old) ≡ Complete stack' op (k + more) =
-    sym same ∙ ap (fronted stack' k) (is ∙ read.1) ∙ ap (λ xs. Complete xs op (k + more)) (append-nil stack') in
-    let behind : new ≡ drop (k + more + 1) old =
-    read.2 ∙ ap (drop (more + 1)) there ∙ drop-drop (more + 1) k old ∙ ap (λ n. drop n old) (omega arith) in
-    (k + more, whole, behind)
-reads-operator old self new stack stack' k (Err e) there same is read = inr (refused-behind k stack stack' (phrase old) (phrase self) (refusal_of e) same (is ∙ read))
+-- the operator at a place ends the phrase that began so many bytes before
+pub reads-operator : (start next k : ℕ) (old self rest : List ℕ) (first : ℕ) (stack stack' : List ℤ) (r : Result (Operator × ℕ) Refused) → next ≡ start + k → self ≡ first ∷ rest → is_number first ≡ false →
+    fronted stack' k (phrase self) ≡ fronted stack 0 (phrase old) → EndsAt (ending first rest) (next + 1) r → ReadsPhraseAt old start stack r stack'
+reads-operator start next k old self rest first stack stack' (Ok read) there is other same ends =
+    let more = ends.0 in
+    let alone : phrase self ≡ Complete [] read.0 more = front-ending self rest first is other ∙ ap ending_of is ∙ ends.1 in
+    let whole : fronted stack 0 (phrase old) ≡ Complete stack' read.0 (k + more) =
+    sym same ∙ ap (fronted stack' k) alone ∙ ap (λ xs. Complete xs read.0 (k + more)) (append-nil stack') in
+    (k + more, whole, let h = ends.2 in omega (arith, h, there))
+reads-operator start next k old self rest first stack stack' (Err e) there is other same ends =
+    inr (refused-behind k stack stack' (phrase old) (phrase self) (reason e) same (front-ending self rest first is other ∙ ap ending_of is ∙ ends))

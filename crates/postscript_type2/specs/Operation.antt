@@ -3,3 +3,4 @@ pub mod Operators
 pub mod Texts
 pub mod Lengths
 pub mod Kinds
+pub mod Suffixes

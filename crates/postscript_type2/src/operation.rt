@@ -1,9 +1,9 @@
 //! The operators of charstrings, and their operands.
-ghost use Rattle.std.specs.Prelude.{◌≡◌, ◌<◌, ◌≤◌, ℤ, Some, IfSome};
+ghost use Rattle.std.specs.Prelude.{◌≡◌, ◌≤◌, ℕ, ℤ, Some, IfSome};
 ghost use Rattle.std.specs.Option.{ok_or};
 ghost use Rattle.postscript_base.specs.declared.error.Error.TheVariants as errors;
 ghost use Rattle.postscript_type2.specs.Operation.Kinds.{taken as the_taken};
-ghost use Rattle.postscript_type2.specs.Operation.Lengths.{exactly as the_exactly, some, groups_and as the_groups_and, curves_of_four as the_curves_of_four, greatest};
+ghost use Rattle.postscript_type2.specs.Operation.Suffixes.{longest};
 ghost use Rattle.postscript_type2.specs.Number.{whole, to_int};
 ghost use Rattle.postscript_type2.specs.Operation.Operators.{operator_of, name_of};
 ghost use Rattle.postscript_type2.specs.Operation.Texts.{text};
@@ -191,7 +191,15 @@ impl Operator {
     pub fn from(code: u16) -> Result<Self>
         ensures { result ≡ ok_or (operator_of code) errors.UnknownOperator }
     {
-        Ok(match code {
+        Operator::of(code).ok_or(Error::UnknownOperator)
+    }
+
+    /// The operator of a code, if there is one.
+    #[inline(always)]
+    pub(crate) fn of(code: u16) -> Option<Self>
+        ensures { result ≡ operator_of code }
+    {
+        Some(match code {
             0x01 => Operator::HStem,
             0x03 => Operator::VStem,
             0x04 => Operator::VMoveTo,
@@ -239,7 +247,7 @@ impl Operator {
             0x0c23 => Operator::Flex,
             0x0c24 => Operator::HFlex1,
             0x0c25 => Operator::Flex1,
-            _ => return Err(Error::UnknownOperator),
+            _ => return None,
         })
     }
 
@@ -298,75 +306,183 @@ impl Operator {
         }
     }
 
-    /// The greatest number of operands, at most `length`, that a clearing operator takes; none for `EndChar` and for
-    /// operators that do not clear.
-    pub(crate) fn taken(&self, length: usize) -> Option<usize>
+    /// How many operands the operator is answered with, of `length` on the stack: the greatest number up to `length` that it
+    /// takes (Technical Note 5177, "Path Construction Operators", "Hint Operators"). None where there is none, and for
+    /// `EndChar` and the operators that do not clear the stack.
+    #[inline(always)]
+    pub fn taken(&self, length: usize) -> Option<usize>
         ensures value { result ≡ the_taken self.now length }
         ensures room { IfSome result (λ n. n ≤ length) }
     {
-        match self {
-            Operator::RMoveTo => exactly(2, length),
-            Operator::HMoveTo | Operator::VMoveTo => exactly(1, length),
-            Operator::RLineTo
-            | Operator::HStem
-            | Operator::VStem
-            | Operator::HStemHM
-            | Operator::VStemHM => groups_and(2, 0, length),
-            Operator::HLineTo | Operator::VLineTo => any(length),
-            Operator::RRCurveTo => groups_and(6, 0, length),
-            Operator::HHCurveTo | Operator::VVCurveTo | Operator::HVCurveTo | Operator::VHCurveTo =>
-                curves_of_four(length),
-            Operator::RCurveLine => groups_and(6, 2, length),
-            Operator::RLineCurve => groups_and(2, 6, length),
-            Operator::Flex => exactly(13, length),
-            Operator::Flex1 => exactly(11, length),
-            Operator::HFlex => exactly(7, length),
-            Operator::HFlex1 => exactly(9, length),
-            Operator::HintMask | Operator::CntrMask => exactly(0, length),
-            _ => None,
+        let Some(lengths) = self.lengths() else {
+            return None;
+        };
+        lengths.greatest(length)
+    }
+
+    /// The row of the table.
+    #[inline(always)]
+    fn lengths(&self) -> Option<Lengths>
+        ensures { (n : ℕ) → the_taken self.now n ≡ longest result n }
+    {
+        LENGTHS[*self as usize]
+    }
+}
+
+/// The numbers of operands that an operator takes: `least`, or more by `step` any number of times, which at 0 is never; and
+/// each of these with up to `spare` more.
+#[derive(Clone, Copy)]
+struct Lengths {
+    least: usize,
+    step: usize,
+    spare: usize,
+}
+
+impl Lengths {
+    /// The greatest up to `length`, if there is one.
+    #[inline(always)]
+    fn greatest(self, length: usize) -> Option<usize>
+        ensures value { result ≡ longest (Some self) length }
+        ensures room { IfSome result (λ n. n ≤ length) }
+    {
+        if length < self.least {
+            return None;
         }
+        let more = length - self.least;
+        let past = if self.step == 0 {
+            more
+        } else {
+            more % self.step
+        };
+        Some(length - past.saturating_sub(self.spare))
     }
 }
 
-/// The one length `m`.
-fn exactly(m: usize, length: usize) -> Option<usize>
-    ensures value { result ≡ greatest (the_exactly m) length }
-    ensures room { IfSome result (λ n. n ≤ length) }
-{
-    if length < m { None } else { Some(m) }
-}
+const ZERO: Option<Lengths> = Some(Lengths {
+    least: 0,
+    step: 0,
+    spare: 0,
+});
 
-/// All operands, where there are any.
-fn any(length: usize) -> Option<usize>
-    ensures value { result ≡ greatest some length }
-    ensures room { IfSome result (λ n. n ≤ length) }
-{
-    if length == 0 { None } else { Some(length) }
-}
+const ONE: Option<Lengths> = Some(Lengths {
+    least: 1,
+    step: 0,
+    spare: 0,
+});
 
-/// `k` or `2 k` or `3 k` and so on, and `m` more.
-fn groups_and(k: usize, m: usize, length: usize) -> Option<usize>
-    requires { 0 < k }
-    ensures value { result ≡ greatest (the_groups_and k m) length }
-    ensures room { IfSome result (λ n. n ≤ length) }
-{
-    let rest = length.saturating_sub(m);
-    if rest < k {
-        None
-    } else {
-        Some(length - rest % k)
-    }
-}
+const TWO: Option<Lengths> = Some(Lengths {
+    least: 2,
+    step: 0,
+    spare: 0,
+});
 
-/// Curves of four operands each, and perhaps one more.
-fn curves_of_four(length: usize) -> Option<usize>
-    ensures value { result ≡ greatest the_curves_of_four length }
-    ensures room { IfSome result (λ n. n ≤ length) }
-{
-    if length < 4 {
-        None
-    } else {
-        let odd = (length % 4).saturating_sub(1);
-        Some(length - odd)
-    }
-}
+const SEVEN: Option<Lengths> = Some(Lengths {
+    least: 7,
+    step: 0,
+    spare: 0,
+});
+
+const NINE: Option<Lengths> = Some(Lengths {
+    least: 9,
+    step: 0,
+    spare: 0,
+});
+
+const ELEVEN: Option<Lengths> = Some(Lengths {
+    least: 11,
+    step: 0,
+    spare: 0,
+});
+
+const THIRTEEN: Option<Lengths> = Some(Lengths {
+    least: 13,
+    step: 0,
+    spare: 0,
+});
+
+const SOME: Option<Lengths> = Some(Lengths {
+    least: 1,
+    step: 1,
+    spare: 0,
+});
+
+const PAIRS: Option<Lengths> = Some(Lengths {
+    least: 2,
+    step: 2,
+    spare: 0,
+});
+
+const SIXES: Option<Lengths> = Some(Lengths {
+    least: 6,
+    step: 6,
+    spare: 0,
+});
+
+const SIXES_AND_TWO: Option<Lengths> = Some(Lengths {
+    least: 8,
+    step: 6,
+    spare: 0,
+});
+
+const PAIRS_AND_SIX: Option<Lengths> = Some(Lengths {
+    least: 8,
+    step: 2,
+    spare: 0,
+});
+
+const FOURS: Option<Lengths> = Some(Lengths {
+    least: 4,
+    step: 4,
+    spare: 1,
+});
+
+/// The lengths of each operator, in the order of `Operator`.
+const LENGTHS: [Option<Lengths>; 47] = [
+    PAIRS, // HStem
+    PAIRS, // VStem
+    ONE, // VMoveTo
+    PAIRS, // RLineTo
+    SOME, // HLineTo
+    SOME, // VLineTo
+    SIXES, // RRCurveTo
+    None, // CallSubr
+    None, // Return
+    None, // EndChar
+    PAIRS, // HStemHM
+    ZERO, // HintMask
+    ZERO, // CntrMask
+    TWO, // RMoveTo
+    ONE, // HMoveTo
+    PAIRS, // VStemHM
+    SIXES_AND_TWO, // RCurveLine
+    PAIRS_AND_SIX, // RLineCurve
+    FOURS, // VVCurveTo
+    FOURS, // HHCurveTo
+    None, // CallGSubr
+    FOURS, // VHCurveTo
+    FOURS, // HVCurveTo
+    None, // And
+    None, // Or
+    None, // Not
+    None, // Abs
+    None, // Add
+    None, // Sub
+    None, // Div
+    None, // Neg
+    None, // Eq
+    None, // Drop
+    None, // Put
+    None, // Get
+    None, // IfElse
+    None, // Random
+    None, // Mul
+    None, // Sqrt
+    None, // Dup
+    None, // Exch
+    None, // Index
+    None, // Roll
+    SEVEN, // HFlex
+    THIRTEEN, // Flex
+    NINE, // HFlex1
+    ELEVEN, // Flex1
+];

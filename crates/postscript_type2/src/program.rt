@@ -97,7 +97,7 @@ impl<'l> Program<'l> {
                 }
                 Err(e) => {
                     self.phase = Phase::Failed;
-                    return Err(e);
+                    return Err(Error::from(e));
                 }
             }
         }

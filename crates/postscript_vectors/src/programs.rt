@@ -8,7 +8,7 @@ mod steps;
 use crate::synthetic::charstring;
 use arithmetic::ARITHMETIC;
 use calls::{CALLS, GLOBAL_CALLS, LONG_LISTS};
-use codes::{NUMBERS, OPERANDS, OPERATORS};
+use codes::{LENGTHS, NUMBERS, OPERANDS, OPERATORS};
 use paths::{PATHS_AND_HINTS, PATHS_AND_NUMBERS};
 use postscript::Error;
 use postscript::type2::{self, Answers, Operand, Operation, Operator, Program, number};
@@ -177,13 +177,29 @@ fn step_by_step(rt: HostRuntime) -> Outcome<()> {
     Ok(())
 }
 
-/// Reads each number.
+/// A program reads the number as well.
+fn check_run<R: AllocGlobal + Abort>(rt: &R, digits: &str, operand: Operand) -> Outcome<()> {
+    let found = told(
+        rt.alloc(),
+        format!(in rt.alloc(); "{digits}06")?.as_str(),
+        &[],
+        &[],
+    )?;
+    let wanted = format!(in rt.alloc(); "HLineTo {operand} | end | width none")?;
+    assert_eq!(rt; found.as_str(), wanted.as_str(), "at {digits}");
+    Ok(())
+}
+
+/// Reads each number, of a tape and in a program.
 fn check_numbers<R: AllocGlobal + Abort>(rt: &R) -> Outcome<()> {
     for (digits, wanted) in NUMBERS {
         let bytes = bytes_of(rt.alloc(), digits)?;
         let mut tape = Cursor::new(bytes.as_slice());
         match (number::read(&mut tape), wanted) {
-            (Ok(operand), Ok(bits)) => assert_eq!(rt; operand.bits(), *bits, "at {digits}"),
+            (Ok(operand), Ok(bits)) => {
+                assert_eq!(rt; operand.bits(), *bits, "at {digits}");
+                check_run(rt, digits, operand)?;
+            }
             (Err(fault), Err(code)) => assert_eq!(rt; fault.code(), *code, "at {digits}"),
             _ => assert!(rt; false, "at {digits}"),
         }
@@ -207,6 +223,14 @@ fn check_operators<R: Abort>(rt: &R) -> Outcome<()> {
     Ok(())
 }
 
+/// Asks each operator how many operands it takes.
+fn check_lengths<R: Abort>(rt: &R) -> Outcome<()> {
+    for (code, length, wanted) in LENGTHS {
+        assert_eq!(rt; Operator::from(*code)?.taken(*length), *wanted, "at {code}");
+    }
+    Ok(())
+}
+
 /// Asks each operand.
 fn check_operands<R: AllocGlobal + Abort>(rt: &R) -> Outcome<()> {
     for (bits, whole, text) in OPERANDS {
@@ -227,5 +251,6 @@ fn check_operands<R: AllocGlobal + Abort>(rt: &R) -> Outcome<()> {
 fn tables(rt: HostRuntime) -> Outcome<()> {
     check_numbers(&rt)?;
     check_operators(&rt)?;
+    check_lengths(&rt)?;
     check_operands(&rt)
 }

@@ -1,8 +1,7 @@
--- The chain of callers.
-use Rattle.std.specs.Prelude.{ℕ, List, [], ◌∷◌}
-use Rattle.postscript_type2.specs.declared.program.callers.Callers.{Callers, Outermost, Inside'}
+-- The callers of a routine.
+use Rattle.std.specs.Prelude.{ℕ, List, reverse}
+use Rattle.postscript_type2.specs.declared.program.callers.Callers.{Callers}
 
--- the rests of the callers, the innermost first
+-- the rests of the callers, the innermost first: they are kept the outermost first
 abbrev pub rests : Callers → List (List ℕ)
-rests Outermost = []
-rests (Inside' caller pointer callers) = caller ∷ rests callers
+rests callers = reverse callers.frames.items

@@ -1,8 +1,8 @@
 -- What the machine of a program still answers.
 use Rattle.std.specs.Prelude.{◌≡◌, ◌⊎◌, ◌+◌, ℤ, [], length, Option, Some, Result, Ok, Err}
-use Rattle.postscript_base.specs.declared.error.Error.{Error}
-use Rattle.postscript_base.specs.declared.error.Error.TheVariants.{Memory}
-use Rattle.postscript_base.specs.Refusal.{refusal_of}
+use Rattle.postscript_type2.specs.declared.refused.Refused.{Refused}
+use Rattle.postscript_type2.specs.declared.refused.Refused.TheVariants.{Memory}
+use Rattle.postscript_type2.specs.Refused.{reason}
 use Rattle.postscript_type2.specs.declared.program.machine.Event.{Event}
 use Rattle.postscript_type2.specs.declared.program.machine.Event.TheVariants as events
 use Rattle.postscript_type2.specs.declared.program.machine.Machine.{Machine}
@@ -24,11 +24,11 @@ abbrev pub said_of : code.Said → Said
 said_of said = record { operator = said.operator; bytes = said.bytes.now }
 
 -- Of what was still answered the event is the first, and the machine still answers what is left.
-abbrev pub Advances : Run → Option (Option ℤ) → Result Event Error → Machine → Type 0
+abbrev pub Advances : Run → Option (Option ℤ) → Result Event Refused → Machine → Type 0
 Advances before width (Ok events.UsedUp) new = (before ≡ at_end UsedUp) × (new.state.width ≡ width)
 Advances before width (Ok (events.Went said)) new = (before ≡ with_phrase (said_of said) (still_of new)) × (new.state.width ≡ width)
 Advances before width (Ok (events.Answered said operands)) new =
     before ≡ with_phrase (said_of said) (with_answer (record { operator = said.operator; operands = operands.items; width = settled_width new.state.width }) (still_of new))
 Advances before width (Ok (events.Over said)) new =
     (last : Option ℤ) × (before ≡ with_phrase (said_of said) (at_end (Finished last))) × (new.state.width ≡ Some last)
-Advances before width (Err e) new = ((e ≡ Memory) ⊎ ((before.answers ≡ []) × (before.end ≡ Fault (refusal_of e)))) × (new.state.width ≡ width)
+Advances before width (Err e) new = ((e ≡ Memory) ⊎ ((before.answers ≡ []) × (before.end ≡ Fault (reason e)))) × (new.state.width ≡ width)

@@ -1,24 +1,25 @@
 -- What the code of works on the stack does.
 use Rattle.std.specs.Prelude.{◌≡◌, ◌⊎◌, ℤ, List, Option, Some, None, Result, Ok, Err}
-use Rattle.postscript_base.specs.declared.error.Error.{Error}
-use Rattle.postscript_base.specs.declared.error.Error.TheVariants.{Memory}
-use Rattle.postscript_base.specs.Refusal.{Refusal, refusal_of}
+use Rattle.postscript_type2.specs.declared.refused.Refused.{Refused}
+use Rattle.postscript_type2.specs.declared.refused.Refused.TheVariants.{Memory}
+use Rattle.postscript_base.specs.Refusal.{Refusal}
+use Rattle.postscript_type2.specs.Refused.{reason}
 use Rattle.postscript_type2.specs.Operation.Kinds.{Kind, Draws, Works}
 use Rattle.postscript_type2.specs.Program.Works.{Work}
 
 -- From the old stack to the new one the code does a work and gives its value, or it refuses what the work refuses.
 -- Want of memory may come in place of either.
-abbrev pub Performs : {A : Type 0} → Work A → List ℤ → Result A Error → List ℤ → Type 0
+abbrev pub Performs : {A : Type 0} → Work A → List ℤ → Result A Refused → List ℤ → Type 0
 Performs work old (Ok value) new = work old ≡ Ok (value, new)
-Performs work old (Err e) new = (e ≡ Memory) ⊎ (work old ≡ Err (refusal_of e))
+Performs work old (Err e) new = (e ≡ Memory) ⊎ (work old ≡ Err (reason e))
 
 -- the code gives what it is to give, or it refuses likewise
-abbrev pub Gives : {A : Type 0} → Result A Refusal → Result A Error → Type 0
+abbrev pub Gives : {A : Type 0} → Result A Refusal → Result A Refused → Type 0
 Gives wanted (Ok value) = wanted ≡ Ok value
-Gives wanted (Err e) = wanted ≡ Err (refusal_of e)
+Gives wanted (Err e) = wanted ≡ Err (reason e)
 
 -- the code does the work of such a kind, and leaves the stack at any other kind
-abbrev pub PerformsKind : Kind → List ℤ → Option (Result (Unit {0}) Error) → List ℤ → Type 0
+abbrev pub PerformsKind : Kind → List ℤ → Option (Result (Unit {0}) Refused) → List ℤ → Type 0
 PerformsKind (Works work) old (Some result) new = Performs work old result new
 PerformsKind (Works work) old None new = ⊥
 PerformsKind kind old (Some result) new = ⊥

@@ -1,7 +1,6 @@
 -- Operators that work on the stack alone (Technical Note 5177, "Arithmetic Operators" and "Conditional Operators").
 use Rattle.std.specs.Int.{int_rem_euclid}
-use Rattle.std.specs.List.{slice_rotate_right}
-use Rattle.std.specs.Prelude.{◌≡◌, ℕ, ◌-◌, ◌<◌, ℤ, pos, negsuc, ◌+ℤ◌, nat_abs, int_le, nat_lt, List, ◌++◌, length, take, drop, slice_get, Result, Ok, Err, if◌then◌else◌}
+use Rattle.std.specs.Prelude.{◌≡◌, ℕ, suc, ◌-◌, ◌<◌, ℤ, pos, negsuc, ◌+ℤ◌, nat_abs, int_le, nat_lt, List, [], ◌∷◌, ◌++◌, length, take, drop, slice_get, slice_set, Result, Ok, Err, if◌then◌else◌}
 use Rattle.postscript_base.specs.Refusal.{Refusal, expected_more_operands, invalid_operand}
 use Rattle.postscript_type2.specs.Program.Works.{Work, ◌>>=◌, ◌>>◌, given, operand, whole_operand, operand_below, push}
 
@@ -49,16 +48,16 @@ duplication = do
   top ← operand_below 0
   push top
 
--- a number as a depth: below zero it is the top
-abbrev pub depth : ℤ → ℕ
-depth (pos n) = n
-depth (negsuc n) = 0
+-- a number as a distance below the top: a negative one is the top itself
+abbrev pub distance : ℤ → ℕ
+distance (pos n) = n
+distance (negsuc n) = 0
 
 -- an operand from further down once more
 abbrev pub copy : Work (Unit {0})
 copy = do
   i ← whole_operand
-  x ← operand_below (depth i)
+  x ← operand_below (distance i)
   push x
 
 -- the place of item k of so many after a roll: (k + shift) mod their number
@@ -70,9 +69,14 @@ pub record IsRolled (shift : ℤ) (xs ys : List ℤ) : Type 0 where
   pub as_many : length ys ≡ length xs
   pub items : (k : ℕ) → k < length xs → slice_get ys (place shift (length xs) k) ≡ slice_get xs k
 
--- the list that is rolled so, as std turns it
+-- each of these items, the first of which is item k of so many, is put at its place
+abbrev pub put_each : (shift : ℤ) → (count k : ℕ) → (items : List ℤ) → List ℤ → List ℤ
+put_each shift count k [] ys = ys
+put_each shift count k (item ∷ items) ys = put_each shift count (suc k) items (slice_set ys (place shift count k) item)
+
+-- the list that is rolled so: item k goes to the place (k + shift) mod their number
 abbrev pub rolled : (shift : ℤ) → List ℤ → List ℤ
-rolled shift xs = slice_rotate_right xs (nat_abs (int_rem_euclid shift (pos (length xs))))
+rolled shift xs = put_each shift (length xs) 0 xs xs
 
 -- a stack whose topmost items are rolled, as many as the span says
 abbrev pub rolled_top : (shift : ℤ) → (span : ℕ) → List ℤ → List ℤ

@@ -1,8 +1,8 @@
 -- What the code of operators does, as works and moves.
 use Rattle.std.specs.Prelude.{◌≡◌, ◌⊎◌, ℕ, ℤ, Option, Some, None, Result, Ok, Err}
-use Rattle.postscript_base.specs.declared.error.Error.{Error}
-use Rattle.postscript_base.specs.declared.error.Error.TheVariants.{Memory}
-use Rattle.postscript_base.specs.Refusal.{refusal_of}
+use Rattle.postscript_type2.specs.declared.refused.Refused.{Refused}
+use Rattle.postscript_type2.specs.declared.refused.Refused.TheVariants.{Memory}
+use Rattle.postscript_type2.specs.Refused.{reason}
 use Rattle.postscript_type2.specs.declared.program.state.Effect.{Effect}
 use Rattle.postscript_type2.specs.declared.program.state.Effect.TheVariants as effects
 use Rattle.postscript_type2.specs.declared.program.state.State as code
@@ -46,6 +46,6 @@ after_move (Refuses e) st = st
 
 -- From the old state to the new one the code makes a move, or it refuses what the move refuses. Want of memory may come in
 -- place of either. A refusal settles no width.
-abbrev pub Does : Move → code.State → Result Effect Error → code.State → Type 0
+abbrev pub Does : Move → code.State → Result Effect Refused → code.State → Type 0
 Does move old (Ok effect) new = (move ≡ move_of effect (state_of new)) × (state_of new ≡ after_move move (state_of old))
-Does move old (Err e) new = ((e ≡ Memory) ⊎ (move ≡ Refuses (refusal_of e))) × (new.width ≡ old.width)
+Does move old (Err e) new = ((e ≡ Memory) ⊎ (move ≡ Refuses (reason e))) × (new.width ≡ old.width)

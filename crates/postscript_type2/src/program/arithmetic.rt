@@ -4,7 +4,7 @@ ghost use Rattle.postscript_type2.specs.Program.FixedPoint.{fit as the_fit, abso
 ghost use Rattle.postscript_type2.specs.Program.Performing.{Gives};
 
 use crate::operation::Operand;
-use postscript_base::{Error, Result};
+use crate::refused::{Refused, Result};
 
 /// The operand of these bits, if 32 bits hold them.
 fn fit(bits: i64) -> Result<Operand>
@@ -12,7 +12,7 @@ fn fit(bits: i64) -> Result<Operand>
 {
     match i32::try_from(bits) {
         Ok(bits) => Ok(Operand::from_bits(bits)),
-        Err(_) => Err(Error::Overflow),
+        Err(_) => Err(Refused::Overflow),
     }
 }
 
@@ -68,7 +68,7 @@ pub(crate) fn quotient(a: Operand, b: Operand) -> Result<Operand>
     ensures { Gives (the_quotient a b) result }
 {
     if b.bits() == 0 {
-        return Err(Error::ZeroDivisor);
+        return Err(Refused::ZeroDivisor);
     }
     fit(cut(i64::from(a.bits()) * 65536, i64::from(b.bits())))
 }
@@ -86,7 +86,7 @@ pub(crate) fn root(a: Operand) -> Result<Operand>
     ensures { Gives (the_root a) result }
 {
     if a.bits() < 0 {
-        return Err(Error::NegativeRoot);
+        return Err(Refused::NegativeRoot);
     }
     let root = whole_root(u64::from(a.bits().unsigned_abs()) * 65536);
     Ok(Operand::from_bits(root))

@@ -1,30 +1,37 @@
-//! The chain of callers.
+//! The callers of a routine.
+ghost use Rattle.std.specs.List.{list_all};
 ghost use Rattle.std.specs.Prelude.{◌≡◌, ◌∷◌, [], OnOk, IfErr, MatchOption};
-ghost use Rattle.postscript_base.specs.declared.error.Error.TheVariants as errors;
+ghost use Rattle.postscript_type2.specs.declared.refused.Refused.TheVariants as cases;
 ghost use Rattle.postscript_type2.specs.Program.Callers.{rests};
+ghost use Rattle.postscript_type2.specs.Program.Evaluation.{is_empty};
 ghost use Rattle.postscript_type2.specs.Program.Still.{are_used_up as the_are_used_up};
 
 use super::routine::Routine;
-use postscript_base::Result;
+use crate::refused::Result;
 use std::alloc::Global;
-use std::mem;
 
-/// The callers of a routine, the innermost first.
+/// The callers of a routine, the outermost first, each at the place behind its call.
 #[derive(Drop)]
-pub(crate) enum Callers<'l> {
-    Outermost,
-    Inside(Routine<'l>, Box<Callers<'l>>),
+pub(crate) struct Callers<'l> {
+    frames: Vec<Routine<'l>>,
 }
 
 impl<'l> Callers<'l> {
-    /// Adds the caller of a routine that is entered.
-    pub(crate) fn enter(&mut self, alloc: Global, caller: Routine<'l>) -> Result<()>
-        ensures ok { OnOk result (rests self.new ≡ caller.entry ∷ rests self.old) }
-        ensures err { IfErr result (λ e. e ≡ errors.Memory) }
+    /// No callers.
+    pub(crate) fn none(alloc: Global) -> Self
+        ensures { rests result ≡ [] }
     {
-        let callers = mem::replace(self, Callers::Outermost);
-        let callers = Box::new(alloc, callers)?;
-        *self = Callers::Inside(caller, callers);
+        Callers {
+            frames: Vec::new(alloc),
+        }
+    }
+
+    /// Adds the caller of a routine that is entered.
+    pub(crate) fn enter(&mut self, caller: Routine<'l>) -> Result<()>
+        ensures ok { OnOk result (rests self.new ≡ caller.entry ∷ rests self.old) }
+        ensures err { IfErr result (λ e. e ≡ cases.Memory) }
+    {
+        self.frames.push(caller)?;
         Ok(())
     }
 
@@ -32,28 +39,23 @@ impl<'l> Callers<'l> {
     pub(crate) fn leave(&mut self) -> Option<Routine<'l>>
         ensures { MatchOption result (rests self.old ≡ []) (λ caller. rests self.old ≡ caller ∷ rests self.new) }
     {
-        match mem::replace(self, Callers::Outermost) {
-            Callers::Outermost => None,
-            Callers::Inside(caller, callers) => {
-                *self = Box::into_inner(callers);
-                Some(caller)
-            }
-        }
+        self.frames.pop()
     }
+}
+
+/// Whether each of these routines is used up.
+fn all_used_up(frames: &[Routine<'_>]) -> bool
+    ensures { result ≡ list_all is_empty frames.now }
+{
+    frames.iter().all(|frame| frame.is_used_up())
 }
 
 /// Whether a routine and each of its callers but the outermost is used up.
 pub(crate) fn are_used_up<'a, 'l>(routine: &'a Routine<'l>, callers: &'a Callers<'l>) -> bool
     ensures { result ≡ the_are_used_up routine.now (rests callers.now) }
 {
-    let mut current = routine;
-    let mut chain = callers;
-    while let Callers::Inside(caller, outer) = chain {
-        if current.first().is_some() {
-            return false;
-        }
-        current = caller;
-        chain = outer;
+    if callers.frames.is_empty() {
+        return true;
     }
-    true
+    routine.is_used_up() && all_used_up(&callers.frames[1..])
 }

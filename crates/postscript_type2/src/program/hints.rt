@@ -1,24 +1,24 @@
 //! Operators that declare stems, and masks.
 ghost use Rattle.std.specs.Prelude.{◌≡◌, ◌≤◌, ◌^◌, ℕ, List, length, nat_lt, IfOk, Ok, Err, if◌then◌else◌};
-ghost use Rattle.postscript_base.specs.declared.error.Error.TheVariants as errors;
+ghost use Rattle.postscript_type2.specs.declared.refused.Refused.TheVariants as cases;
 ghost use Rattle.postscript_type2.specs.Program.Effects.{stem_move, mask_move, stems_after as the_stems_after};
 ghost use Rattle.postscript_type2.specs.Program.Working.{state_of, mask_of, Does};
 
 use super::state::{Effect, State};
 use crate::operation::Operator;
-use postscript_base::{Error, Result};
+use crate::refused::{Refused, Result};
 use std::alloc::Global;
 
 impl State {
     /// The stems, where each two operands of the stack are one more.
     fn stems_after(&self) -> Result<u32>
         ensures { let stems = the_stems_after (state_of self.now) in
-            result ≡ (if nat_lt stems (2 ^ 32) then Ok stems else Err errors.TooManyStems) }
+            result ≡ (if nat_lt stems (2 ^ 32) then Ok stems else Err cases.TooManyStems) }
     {
         let stems = self.stems;
         let more = self.stack.len() / 2;
         if more > (u32::MAX - stems) as usize {
-            return Err(Error::TooManyStems);
+            return Err(Refused::TooManyStems);
         }
         Ok(stems + more as u32)
     }
@@ -30,30 +30,30 @@ impl State {
     {
         let stems = self.stems_after()?;
         let Some(taken) = operator.taken(self.stack.len()) else {
-            return Err(Error::MalformedOperands);
+            return Err(Refused::MalformedOperands);
         };
         let operands = self.clear(alloc, taken, taken)?;
         self.stems = stems;
         Ok(Effect::Clears(operands, 0))
     }
 
-    /// A mask, where so many bytes follow its operator.
+    /// A mask, where so many bytes are behind its operator.
     pub(super) fn mask<'l>(
         &mut self,
         alloc: Global,
         operator: Operator,
-        after: usize,
+        behind: usize,
     ) -> Result<Effect<'l>>
-        ensures value { (bytes : List ℕ) → length bytes ≡ after → Does (mask_move operator bytes (state_of self.old)) self.old result self.new }
-        ensures room { IfOk result (λ e. mask_of e ≤ after) }
+        ensures value { (bytes : List ℕ) → length bytes ≡ behind → Does (mask_move operator bytes (state_of self.old)) self.old result self.new }
+        ensures room { IfOk result (λ e. mask_of e ≤ behind) }
     {
         let stems = self.stems_after()?;
         let mask = (stems as usize).div_ceil(8);
-        if after < mask {
-            return Err(Error::UnexpectedEof);
+        if behind < mask {
+            return Err(Refused::UnexpectedEof);
         }
         let Some(taken) = operator.taken(self.stack.len()) else {
-            return Err(Error::MalformedOperands);
+            return Err(Refused::MalformedOperands);
         };
         let implied = self.stack.len() - self.stack.len() % 2;
         let operands = self.clear(alloc, taken, implied)?;

@@ -9,7 +9,7 @@ use super::routine::Routine;
 use super::state::{Effect, State};
 use super::subroutines::Subroutines;
 use crate::operation::{Operand, Operator};
-use postscript_base::{Error, Result};
+use crate::refused::{Refused, Result};
 use std::alloc::Global;
 use std::mem;
 
@@ -68,7 +68,7 @@ impl<'l> Machine<'l> {
             alloc,
             lists: Subroutines { global, local },
             routine: Routine::new(code),
-            callers: Callers::Outermost,
+            callers: Callers::none(alloc),
             left: NESTED_CALLS,
             state,
         }
@@ -87,8 +87,8 @@ impl<'l> Machine<'l> {
         let operator = self.routine.phrase(&mut self.state.stack)?;
         let bytes = self.routine.passed(rest);
         let said = Said { operator, bytes };
-        let after = self.routine.len();
-        match self.state.act(self.alloc, self.lists, operator, after)? {
+        let behind = self.routine.len();
+        match self.state.act(self.alloc, self.lists, operator, behind)? {
             Effect::Keeps => Ok(Event::Went(said)),
             Effect::Clears(operands, mask) => {
                 self.routine.skip(mask);
@@ -97,16 +97,16 @@ impl<'l> Machine<'l> {
             }
             Effect::Calls(code) => {
                 if self.left == 0 {
-                    return Err(Error::TooDeep);
+                    return Err(Refused::TooDeep);
                 }
                 let caller = mem::replace(&mut self.routine, Routine::new(code));
-                self.callers.enter(self.alloc, caller)?;
+                self.callers.enter(caller)?;
                 self.left -= 1;
                 Ok(Event::Went(said))
             }
             Effect::Returns => {
                 let Some(caller) = self.callers.leave() else {
-                    return Err(Error::ReturnWithoutCaller);
+                    return Err(Refused::ReturnWithoutCaller);
                 };
                 self.routine = caller;
                 self.left += 1;
@@ -114,7 +114,7 @@ impl<'l> Machine<'l> {
             }
             Effect::Ends(width) => {
                 if !are_used_up(&self.routine, &self.callers) {
-                    return Err(Error::TrailingData);
+                    return Err(Refused::TrailingData);
                 }
                 self.state.width = Some(width);
                 Ok(Event::Over(said))

@@ -3,12 +3,12 @@ ghost use Rattle.std.specs.Prelude.{◌≡◌, length, pos};
 ghost use Rattle.postscript_type2.specs.Program.FixedPoint.{absolute_value, opposite, root, sum, difference, product, quotient, both, either, denial, same_bits};
 ghost use Rattle.postscript_type2.specs.Operation.Kinds.{kind};
 ghost use Rattle.postscript_type2.specs.Program.Performing.{Performs, PerformsKind};
-ghost use Rattle.postscript_type2.specs.Program.Stacks.{one_to_one, two_to_one, choice, removal, exchange, duplication, copy, depth as the_depth, rolled, roll_by as the_roll_by, roll as the_roll};
+ghost use Rattle.postscript_type2.specs.Program.Stacks.{one_to_one, two_to_one, choice, removal, exchange, duplication, copy, distance as the_distance, rolled, roll_by as the_roll_by, roll as the_roll};
 ghost use Rattle.postscript_type2.specs.Program.Works.{operand as the_operand, whole_operand as the_whole_operand, operand_below as the_operand_below, push as the_push};
 
 use super::arithmetic;
 use crate::operation::{Operand, Operator};
-use postscript_base::{Error, Result};
+use crate::refused::{Refused, Result};
 
 /// The operand on top, which is popped.
 fn operand(stack: &mut Vec<Operand>) -> Result<Operand>
@@ -16,7 +16,7 @@ fn operand(stack: &mut Vec<Operand>) -> Result<Operand>
 {
     match stack.pop() {
         Some(top) => Ok(top),
-        None => Err(Error::ExpectedOperand),
+        None => Err(Refused::ExpectedOperand),
     }
 }
 
@@ -25,22 +25,22 @@ pub(crate) fn whole_operand(stack: &mut Vec<Operand>) -> Result<i16>
     ensures { Performs the_whole_operand stack.old.items result stack.new.items }
 {
     let Some(top) = stack.pop() else {
-        return Err(Error::ExpectedInteger);
+        return Err(Refused::ExpectedInteger);
     };
     match top.to_int() {
         Some(number) => Ok(number),
-        None => Err(Error::ExpectedInteger),
+        None => Err(Refused::ExpectedInteger),
     }
 }
 
 /// The operand so far below the top, which stays.
-fn operand_below(stack: &[Operand], depth: usize) -> Result<Operand>
-    ensures { Performs (the_operand_below depth) stack.now result stack.now }
+fn operand_below(stack: &[Operand], distance: usize) -> Result<Operand>
+    ensures { Performs (the_operand_below distance) stack.now result stack.now }
 {
-    if depth < stack.len() {
-        Ok(stack[stack.len() - 1 - depth])
+    if distance < stack.len() {
+        Ok(stack[stack.len() - 1 - distance])
     } else {
-        Err(Error::ExpectedMoreOperands)
+        Err(Refused::ExpectedMoreOperands)
     }
 }
 
@@ -183,9 +183,9 @@ pub(crate) fn dup(stack: &mut Vec<Operand>) -> Result<()>
     push(stack, top)
 }
 
-/// A number as a depth: below zero it is the top.
-fn depth(number: i16) -> usize
-    ensures { result ≡ the_depth number }
+/// A number as a distance below the top: a negative one is the top itself.
+fn distance(number: i16) -> usize
+    ensures { result ≡ the_distance number }
 {
     if number < 0 { 0 } else { number as usize }
 }
@@ -195,11 +195,12 @@ pub(crate) fn index(stack: &mut Vec<Operand>) -> Result<()>
     ensures { Performs copy stack.old.items result stack.new.items }
 {
     let i = whole_operand(stack)?;
-    let x = operand_below(stack, depth(i))?;
+    let x = operand_below(stack, distance(i))?;
     push(stack, x)
 }
 
 /// Sends item k to the place (k + shift) mod span.
+#[tactic(auto, using(crate::proofs::RollingLaws::turned_is_rolled))]
 fn rotate(items: &mut [Operand], shift: i16, span: i16)
     requires { span ≡ pos (length items.old) }
     ensures { items.new ≡ rolled shift items.old }
@@ -213,11 +214,11 @@ fn roll_by(stack: &mut Vec<Operand>, shift: i16, span: i16) -> Result<()>
     ensures { Performs (the_roll_by shift span) stack.old.items result stack.new.items }
 {
     if span < 0 {
-        return Err(Error::InvalidOperand);
+        return Err(Refused::InvalidOperand);
     }
     let count = span as usize;
     if stack.len() < count {
-        return Err(Error::ExpectedMoreOperands);
+        return Err(Refused::ExpectedMoreOperands);
     }
     let from = stack.len() - count;
     rotate(&mut stack[from..], shift, span);

@@ -1,6 +1,6 @@
 //! What an operator does with the stack.
 ghost use Rattle.std.specs.Prelude.{◌≡◌, ◌≤◌, ℕ, List, [], length, Some, OnErr, IfOk, IfErr};
-ghost use Rattle.postscript_base.specs.declared.error.Error.TheVariants.{Memory};
+ghost use Rattle.postscript_type2.specs.declared.refused.Refused.TheVariants.{Memory};
 ghost use Rattle.postscript_type2.specs.Program.Effects.{settled as the_settled, path_move, last_of, effect, subroutine, call_move};
 ghost use Rattle.postscript_type2.specs.Operation.Kinds.{kind};
 ghost use Rattle.postscript_type2.specs.Program.Performing.{WorksOrDraws};
@@ -10,8 +10,8 @@ ghost use Rattle.postscript_type2.specs.Program.Working.{lists_of, state_of, mas
 use super::stack::{perform, whole_operand};
 use super::subroutines::{Subroutines, named};
 use crate::operation::{Operand, Operator};
+use crate::refused::{Refused, Result};
 use postscript_base::error::Part;
-use postscript_base::{Error, Result};
 use std::alloc::Global;
 
 /// The operands, the top last; the stems so far; and the width, once it is settled.
@@ -34,6 +34,7 @@ pub(crate) enum Effect<'l> {
 }
 
 /// The width where the last `counted` operands count as taken.
+#[inline(always)]
 fn settled(width: Option<Option<Operand>>, stack: &[Operand], counted: usize) -> Option<Operand>
     requires { counted ≤ length stack.now }
     ensures { result ≡ the_settled width stack.now counted }
@@ -52,6 +53,7 @@ fn settled(width: Option<Option<Operand>>, stack: &[Operand], counted: usize) ->
 
 impl State {
     /// Takes the last operands off the stack for an operation, and settles the width.
+    #[inline(always)]
     pub(super) fn clear(
         &mut self,
         alloc: Global,
@@ -80,7 +82,7 @@ impl State {
         ensures room { IfOk result (λ e. mask_of e ≡ 0) }
     {
         let Some(taken) = operator.taken(self.stack.len()) else {
-            return Err(Error::MalformedOperands);
+            return Err(Refused::MalformedOperands);
         };
         let operands = self.clear(alloc, taken, taken)?;
         Ok(Effect::Clears(operands, 0))
@@ -109,21 +111,21 @@ impl State {
         let number = whole_operand(&mut self.stack)?;
         match named(routines, number) {
             Some(routine) => Ok(Effect::Calls(routine)),
-            None => Err(Error::MissingSubroutine),
+            None => Err(Refused::MissingSubroutine),
         }
     }
 
-    /// What the operator does, where so many bytes follow it.
+    /// What the operator does, where so many bytes are behind it.
     pub(crate) fn act<'l>(
         &mut self,
         alloc: Global,
         lists: Subroutines<'l>,
         operator: Operator,
-        after: usize,
+        behind: usize,
     ) -> Result<Effect<'l>>
-        ensures value { (bytes : List ℕ) → length bytes ≡ after →
+        ensures value { (bytes : List ℕ) → length bytes ≡ behind →
             Does (effect (lists_of lists.entry) operator bytes (state_of self.old)) self.old result self.new }
-        ensures room { IfOk result (λ effect. mask_of effect ≤ after) }
+        ensures room { IfOk result (λ effect. mask_of effect ≤ behind) }
     {
         match operator {
             Operator::CallSubr => self.call(lists.local),
@@ -136,10 +138,10 @@ impl State {
             Operator::HStem | Operator::VStem | Operator::HStemHM | Operator::VStemHM => self.stem(
                 alloc, operator,
             ),
-            Operator::HintMask | Operator::CntrMask => self.mask(alloc, operator, after),
-            Operator::Random => Err(Error::Unsupported(Part::Random)),
-            Operator::Put => Err(Error::Unsupported(Part::Put)),
-            Operator::Get => Err(Error::Unsupported(Part::Get)),
+            Operator::HintMask | Operator::CntrMask => self.mask(alloc, operator, behind),
+            Operator::Random => Err(Refused::Unsupported(Part::Random)),
+            Operator::Put => Err(Refused::Unsupported(Part::Put)),
+            Operator::Get => Err(Refused::Unsupported(Part::Get)),
             _ => self.work(alloc, operator),
         }
     }

@@ -76,6 +76,18 @@ pub(super) const OPERATORS: &[(u16, &str)] = &[
     (0x0c25, "Flex1"),
 ];
 
+/// An operator's code, how many operands there are, and how many of them it takes.
+pub(super) const LENGTHS: &[(u16, usize, Option<usize>)] = &[
+    (0x1f, 11, Some(9)),
+    (0x1f, 3, None),
+    (0x18, 13, Some(8)),
+    (0x19, 13, Some(12)),
+    (0x13, 5, Some(0)),
+    (0x0e, 5, None),
+    (0x05, 1, None),
+    (0x08, usize::MAX, Some(usize::MAX - 3)),
+];
+
 /// Bits, the whole number, and the text.
 pub(super) const OPERANDS: &[(i32, Option<i16>, &str)] = &[
     (0, Some(0), "0"),

@@ -31,7 +31,7 @@ returns-in_err-act-clause-advances c =
     let more = c.in_ok-operator.ensures.0 in
     let some : 0 < length bytes = rw (← c.rest-rest.ensures) (some-of (length c.rest-rest.result.now) c.if-is_empty.ensures) in
     let read : IsRead bytes rest st ys op more = record { some = some; spelled = c.in_ok-operator.ensures.1; behind = c.in_ok-operator.ensures.2 } in
-    let does = c.in_err-act.ensures.value rest (sym c.len-after.ensures) in
+    let does = c.in_err-act.ensures.value rest (sym c.len-behind.ensures) in
     let error = err_from_is_err_and c.from_residual-in_err-act.result c.from_residual-in_err-act.ensures.1 in
     rw (error.1, error.2) (refused-or-memory lists left callers bytes rest st ys op more c.in_err-act.field-0.0 read does.0, does.1)
 
@@ -50,7 +50,7 @@ returns-in-Keeps-clause-advances c =
     let read : IsRead bytes rest st ys op more = record { some = some; spelled = c.in_ok-operator.ensures.1; behind = c.in_ok-operator.ensures.2 } in
     let is_front : c.passed-bytes.result.now ≡ take (length bytes - length rest) bytes = rw (← c.rest-rest.ensures) c.passed-bytes.ensures in
     let front : c.passed-bytes.result.now ≡ take (more + 1) bytes = front-of bytes rest c.passed-bytes.result.now (more + 1) c.in_ok-operator.ensures.2 is_front in
-    let does = c.in_ok-act.ensures.value rest (sym c.len-after.ensures) in
+    let does = c.in_ok-act.ensures.value rest (sym c.len-behind.ensures) in
     let now : State = state_of c.act.new.self in
     let moves : effect lists op rest (stacked ys st) ≡ Keeps now.stack = does.0 ∙ ap (λ done. move_of done now) c.in-Keeps.is in
     let becomes : now ≡ stacked now.stack st = does.1 ∙ ap (λ move. after_move move (stacked ys st)) moves in
@@ -69,7 +69,7 @@ returns-in-Clears-clause-advances c =
     let more = c.in_ok-operator.ensures.0 in
     let some : 0 < length bytes = rw (← c.rest-rest.ensures) (some-of (length c.rest-rest.result.now) c.if-is_empty.ensures) in
     let read : IsRead bytes rest st ys op more = record { some = some; spelled = c.in_ok-operator.ensures.1; behind = c.in_ok-operator.ensures.2 } in
-    let does = c.in_ok-act.ensures.value rest (sym c.len-after.ensures) in
+    let does = c.in_ok-act.ensures.value rest (sym c.len-behind.ensures) in
     let now : State = state_of c.act.new.self in
     let moves : effect lists op rest (stacked ys st) ≡ Clears c.in-Clears.operands.items now.stems (settled_width now.width) c.in-Clears.mask = does.0 ∙ ap (λ done. move_of done now) c.in-Clears.is in
     let becomes : now ≡ cleared now.stems (settled_width now.width) = does.1 ∙ ap (λ move. after_move move (stacked ys st)) moves in
@@ -91,7 +91,7 @@ returns-then-self-eq0-clause-advances c =
     let more = c.in_ok-operator.ensures.0 in
     let some : 0 < length bytes = rw (← c.rest-rest.ensures) (some-of (length c.rest-rest.result.now) c.if-is_empty.ensures) in
     let read : IsRead bytes rest st ys op more = record { some = some; spelled = c.in_ok-operator.ensures.1; behind = c.in_ok-operator.ensures.2 } in
-    let does = c.in_ok-act.ensures.value rest (sym c.len-after.ensures) in
+    let does = c.in_ok-act.ensures.value rest (sym c.len-behind.ensures) in
     let now : State = state_of c.act.new.self in
     let moves : effect lists op rest (stacked ys st) ≡ Calls c.in-Calls.code.now now.stack = does.0 ∙ ap (λ done. move_of done now) c.in-Calls.is in
     let becomes : now ≡ stacked now.stack st = does.1 ∙ ap (λ move. after_move move (stacked ys st)) moves in
@@ -113,7 +113,7 @@ returns-in_ok-enter-in-Calls-clause-advances c =
     let read : IsRead bytes rest st ys op more = record { some = some; spelled = c.in_ok-operator.ensures.1; behind = c.in_ok-operator.ensures.2 } in
     let is_front : c.passed-bytes.result.now ≡ take (length bytes - length rest) bytes = rw (← c.rest-rest.ensures) c.passed-bytes.ensures in
     let front : c.passed-bytes.result.now ≡ take (more + 1) bytes = front-of bytes rest c.passed-bytes.result.now (more + 1) c.in_ok-operator.ensures.2 is_front in
-    let does = c.in_ok-act.ensures.value rest (sym c.len-after.ensures) in
+    let does = c.in_ok-act.ensures.value rest (sym c.len-behind.ensures) in
     let now : State = state_of c.act.new.self in
     let moves : effect lists op rest (stacked ys st) ≡ Calls c.in-Calls.code.now now.stack = does.0 ∙ ap (λ done. move_of done now) c.in-Calls.is in
     let becomes : now ≡ stacked now.stack st = does.1 ∙ ap (λ move. after_move move (stacked ys st)) moves in
@@ -135,7 +135,7 @@ returns-in_default-clause-advances c =
     let more = c.in_ok-operator.ensures.0 in
     let some : 0 < length bytes = rw (← c.rest-rest.ensures) (some-of (length c.rest-rest.result.now) c.if-is_empty.ensures) in
     let read : IsRead bytes rest st ys op more = record { some = some; spelled = c.in_ok-operator.ensures.1; behind = c.in_ok-operator.ensures.2 } in
-    let does = c.in_ok-act.ensures.value rest (sym c.len-after.ensures) in
+    let does = c.in_ok-act.ensures.value rest (sym c.len-behind.ensures) in
     let now : State = state_of c.act.new.self in
     let moves : effect lists op rest (stacked ys st) ≡ Returns = does.0 ∙ ap (λ done. move_of done now) c.in-Returns.is in
     let becomes : now ≡ stacked ys st = does.1 ∙ ap (λ move. after_move move (stacked ys st)) moves in
@@ -157,7 +157,7 @@ returns-in-Some-clause-advances c =
     let read : IsRead bytes rest st ys op more = record { some = some; spelled = c.in_ok-operator.ensures.1; behind = c.in_ok-operator.ensures.2 } in
     let is_front : c.passed-bytes.result.now ≡ take (length bytes - length rest) bytes = rw (← c.rest-rest.ensures) c.passed-bytes.ensures in
     let front : c.passed-bytes.result.now ≡ take (more + 1) bytes = front-of bytes rest c.passed-bytes.result.now (more + 1) c.in_ok-operator.ensures.2 is_front in
-    let does = c.in_ok-act.ensures.value rest (sym c.len-after.ensures) in
+    let does = c.in_ok-act.ensures.value rest (sym c.len-behind.ensures) in
     let now : State = state_of c.act.new.self in
     let moves : effect lists op rest (stacked ys st) ≡ Returns = does.0 ∙ ap (λ done. move_of done now) c.in-Returns.is in
     let becomes : now ≡ stacked ys st = does.1 ∙ ap (λ move. after_move move (stacked ys st)) moves in
@@ -176,7 +176,7 @@ returns-then-not-are_used_up-clause-advances c =
     let more = c.in_ok-operator.ensures.0 in
     let some : 0 < length bytes = rw (← c.rest-rest.ensures) (some-of (length c.rest-rest.result.now) c.if-is_empty.ensures) in
     let read : IsRead bytes rest st ys op more = record { some = some; spelled = c.in_ok-operator.ensures.1; behind = c.in_ok-operator.ensures.2 } in
-    let does = c.in_ok-act.ensures.value rest (sym c.len-after.ensures) in
+    let does = c.in_ok-act.ensures.value rest (sym c.len-behind.ensures) in
     let now : State = state_of c.act.new.self in
     let moves : effect lists op rest (stacked ys st) ≡ Ends c.in-Ends.width = does.0 ∙ ap (λ done. move_of done now) c.in-Ends.is in
     let becomes : now ≡ stacked ys st = does.1 ∙ ap (λ move. after_move move (stacked ys st)) moves in
@@ -197,7 +197,7 @@ returns-else-not-are_used_up-clause-advances c =
     let read : IsRead bytes rest st ys op more = record { some = some; spelled = c.in_ok-operator.ensures.1; behind = c.in_ok-operator.ensures.2 } in
     let is_front : c.passed-bytes.result.now ≡ take (length bytes - length rest) bytes = rw (← c.rest-rest.ensures) c.passed-bytes.ensures in
     let front : c.passed-bytes.result.now ≡ take (more + 1) bytes = front-of bytes rest c.passed-bytes.result.now (more + 1) c.in_ok-operator.ensures.2 is_front in
-    let does = c.in_ok-act.ensures.value rest (sym c.len-after.ensures) in
+    let does = c.in_ok-act.ensures.value rest (sym c.len-behind.ensures) in
     let now : State = state_of c.act.new.self in
     let moves : effect lists op rest (stacked ys st) ≡ Ends c.in-Ends.width = does.0 ∙ ap (λ done. move_of done now) c.in-Ends.is in
     (c.in-Ends.width, finished lists left callers bytes rest c.passed-bytes.result.now st ys op more c.in-Ends.width read moves c.if-not-are_used_up.ensures front, refl)
