@@ -174,14 +174,19 @@ fn strings_and_subroutines_of_two(rt: HostRuntime) -> Outcome<()> {
     Ok(())
 }
 
+/// A number below 256.
+fn short(number: usize) -> u8 {
+    u8::try_from(number).unwrap_or(u8::MAX)
+}
+
 /// The bytes of an INDEX of short items.
 fn index_of(alloc: Global, items: &[&[u8]]) -> Outcome<Vec<u8>> {
     let mut bytes = Vec::new(alloc);
-    bytes.extend_from_slice(&[0, items.len() as u8, 1, 1])?;
-    let mut offset = 1usize;
+    bytes.extend_from_slice(&[0, short(items.len()), 1, 1])?;
+    let mut offset = 1u8;
     for item in items {
-        offset = offset.saturating_add(item.len());
-        bytes.push(offset as u8)?;
+        offset = offset.saturating_add(short(item.len()));
+        bytes.push(offset)?;
     }
     for item in items {
         bytes.extend_from_slice(item)?;
@@ -228,7 +233,7 @@ fn texts_of_names_and_strings(rt: HostRuntime) -> Outcome<()> {
     assert_eq!(rt; names.len(), TEXTS.len());
     for (i, (_, text)) in TEXTS.iter().enumerate() {
         assert!(rt; names.get(i).map(|name| name.as_str()) == Some(*text), "at {i}");
-        let string = strings.get(rt.alloc(), 391 + i as u16)?;
+        let string = strings.get(rt.alloc(), 391 + u16::from(short(i)))?;
         assert!(rt; string.as_deref() == Some(*text), "at {i}");
     }
     for (sid, text) in [(0, ".notdef"), (175, "Aring"), (390, "Semibold")] {
