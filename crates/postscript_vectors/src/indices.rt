@@ -34,9 +34,15 @@ const ROWS: &[Row] = &[
     (&[0, 1, 5], Err(5)),
     (&[0, 1, 0xff, 1, 2, 0x41], Err(5)),
     (&[0, 1, 1, 1, 2, 0x41], Ok((&[&[0x41]], 6))),
-    (&[0, 1, 2, 0, 1, 0, 3, 0x41, 0x42], Ok((&[&[0x41, 0x42]], 9))),
+    (
+        &[0, 1, 2, 0, 1, 0, 3, 0x41, 0x42],
+        Ok((&[&[0x41, 0x42]], 9)),
+    ),
     (&[0, 1, 3, 0, 0, 1, 0, 0, 2, 0x0e], Ok((&[&[0x0e]], 10))),
-    (&[0, 1, 4, 0, 0, 0, 1, 0, 0, 0, 2, 0x0e, 0x0f], Ok((&[&[0x0e]], 12))),
+    (
+        &[0, 1, 4, 0, 0, 0, 1, 0, 0, 0, 2, 0x0e, 0x0f],
+        Ok((&[&[0x0e]], 12)),
+    ),
     // An item that is cut, one of 4 GiB, and 65,535 of them.
     (&[0, 1, 1, 1, 3, 0x41], Err(1)),
     (&[0, 1, 4, 0, 0, 0, 1, 0xff, 0xff, 0xff, 0xff], Err(1)),
@@ -51,7 +57,9 @@ const TWO: &[u8] = &[0, 2, 1, 1, 2, 4, 0x41, 0x42, 0x43];
 fn has_items(index: &Index, items: &[&[u8]]) -> bool {
     let mut same = index.len() == items.len() && index.data().len() == items.len();
     for (i, item) in index.iter().enumerate() {
-        same = same && items.get(i) == Some(&item.as_slice()) && index.item(i) == Some(item.as_slice());
+        same = same
+            && items.get(i) == Some(&item.as_slice())
+            && index.item(i) == Some(item.as_slice());
     }
     same && index.item(items.len()).is_none() && index.item(usize::MAX).is_none()
 }
@@ -174,14 +182,19 @@ fn strings_and_subroutines_of_two(rt: HostRuntime) -> Outcome<()> {
     Ok(())
 }
 
+/// A number below 256.
+fn short(number: usize) -> u8 {
+    u8::try_from(number).unwrap_or(u8::MAX)
+}
+
 /// The bytes of an INDEX of short items.
 fn index_of(alloc: Global, items: &[&[u8]]) -> Outcome<Vec<u8>> {
     let mut bytes = Vec::new(alloc);
-    bytes.extend_from_slice(&[0, items.len() as u8, 1, 1])?;
-    let mut offset = 1usize;
+    bytes.extend_from_slice(&[0, short(items.len()), 1, 1])?;
+    let mut offset = 1u8;
     for item in items {
-        offset = offset.saturating_add(item.len());
-        bytes.push(offset as u8)?;
+        offset = offset.saturating_add(short(item.len()));
+        bytes.push(offset)?;
     }
     for item in items {
         bytes.extend_from_slice(item)?;
@@ -193,7 +206,10 @@ fn index_of(alloc: Global, items: &[&[u8]]) -> Outcome<Vec<u8>> {
 /// Maximal Subparts"): forms that are not the shortest, surrogates, other bytes, and sequences that are cut.
 const TEXTS: &[(&[u8], &str)] = &[
     (b"A", "A"),
-    (&[0xc3, 0x84, 0xe2, 0x82, 0xac, 0xf0, 0x9f, 0x98, 0x80], "\u{c4}\u{20ac}\u{1f600}"),
+    (
+        &[0xc3, 0x84, 0xe2, 0x82, 0xac, 0xf0, 0x9f, 0x98, 0x80],
+        "\u{c4}\u{20ac}\u{1f600}",
+    ),
     (&[0xff, 0x41], "\u{fffd}A"),
     (&[0xff, 0xff], "\u{fffd}\u{fffd}"),
     (&[0xe2, 0x82, 0x41], "\u{fffd}A"),
@@ -215,20 +231,36 @@ const TEXTS: &[(&[u8], &str)] = &[
     ),
 ];
 
-#[test]
-fn texts_of_names_and_strings(rt: HostRuntime) -> Outcome<()> {
-    let mut items = Vec::new(rt.alloc());
+/// The bytes of an INDEX of the bytes of the texts.
+fn index_of_texts(alloc: Global) -> Outcome<Vec<u8>> {
+    let mut items = Vec::new(alloc);
     for (bytes, _) in TEXTS {
         items.push(*bytes)?;
     }
-    let bytes = index_of(rt.alloc(), &items)?;
-    let strings: Strings = Cursor::new(bytes.as_slice()).take(rt.alloc())?;
-    let names: Names = Cursor::new(bytes.as_slice()).take(rt.alloc())?;
+    index_of(alloc, &items)
+}
+
+#[test]
+fn texts_of_names(rt: HostRuntime) -> Outcome<()> {
+    let bytes = index_of_texts(rt.alloc())?;
+    let names: Names = Cursor::new(bytes).take(rt.alloc())?;
     let names = names.into(rt.alloc())?;
     assert_eq!(rt; names.len(), TEXTS.len());
     for (i, (_, text)) in TEXTS.iter().enumerate() {
-        assert!(rt; names.get(i).map(|name| name.as_str()) == Some(*text), "at {i}");
-        let string = strings.get(rt.alloc(), 391 + i as u16)?;
+        assert!(rt;
+            names.get(i).map(|name| name.as_str()) == Some(*text),
+            "at {i}"
+        );
+    }
+    Ok(())
+}
+
+#[test]
+fn texts_of_strings(rt: HostRuntime) -> Outcome<()> {
+    let bytes = index_of_texts(rt.alloc())?;
+    let strings: Strings = Cursor::new(bytes).take(rt.alloc())?;
+    for (i, (_, text)) in TEXTS.iter().enumerate() {
+        let string = strings.get(rt.alloc(), 391 + u16::from(short(i)))?;
         assert!(rt; string.as_deref() == Some(*text), "at {i}");
     }
     for (sid, text) in [(0, ".notdef"), (175, "Aring"), (390, "Semibold")] {
@@ -252,7 +284,10 @@ fn dictionaries_of_items(rt: HostRuntime) -> Outcome<()> {
         let map = dictionaries.operations(rt.alloc(), i)?;
         for map in [map.as_ref(), maps.get(i)] {
             let found = map.and_then(|map| map.get_single(operator));
-            assert!(rt; found.and_then(|operand| operand.to_i32()) == Some(operand), "at {i}");
+            assert!(rt;
+                found.and_then(|operand| operand.to_i32()) == Some(operand),
+                "at {i}"
+            );
             assert!(rt; map.map(|map| map.0.len()) == Some(1), "at {i}");
         }
     }
