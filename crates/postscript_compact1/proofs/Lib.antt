@@ -18,3 +18,4 @@ pub mod CharSetRefused
 pub mod ItemsAre
 pub mod FontClauses
 pub mod FontCauses
+pub mod FontRows

@@ -44,11 +44,7 @@ fn refusals(rt: HostRuntime) -> Result<(), Fail> {
             14,
             "failed to find an operation with operator CharStrings",
         ),
-        (
-            Error::OutOfRangeOffset,
-            15,
-            "found an offset out of range",
-        ),
+        (Error::OutOfRangeOffset, 15, "found an offset out of range"),
         (
             Error::Unsupported(Part::CustomEncoding),
             16,

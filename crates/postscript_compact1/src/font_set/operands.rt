@@ -18,9 +18,7 @@ pub(super) fn first(dictionary: &Operations, operator: Operator) -> Result<i32>
     let operand = dictionary
         .get_single(operator)
         .ok_or(Error::MissingOperation(operator))?;
-    operand
-        .to_i32()
-        .ok_or(Error::MalformedOperation(operator))
+    operand.to_i32().ok_or(Error::MalformedOperation(operator))
 }
 
 /// The first two operands of an operator, as whole numbers.
