@@ -40,7 +40,7 @@ const ROWS: &[Row] = &[
         Ok(("header 0 0 0 0|strings 0|globals 0", 8)),
     ),
     ("00000000000000", 0, Err(1)),
-    (TWO_DICTIONARIES, 0, Ok((PAIR, 38))),
+    (TWO_DICTIONARIES, 0, Ok((PAIR, 36))),
     (
         OWN_CHAR_SET,
         0,
