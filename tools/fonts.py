@@ -31,15 +31,22 @@ def print_fonts(words):
             print("index", name, table[top.rawDict["CharStrings"]:].hex())
 
 
+def cells(ours, rust):
+    """The times of both in microseconds, and their ratio."""
+    return f"{ours // 1000} µs | {rust // 1000} µs | {ours / rust:.2f}"
+
+
 def print_table(ours, rust):
     if [(name, count) for name, (_, count) in ours.items()] != [(name, count) for name, (_, count) in rust.items()]:
         sys.exit("the programs did not read the same")
-    print("| what | font | items | Rattle | Rust | ratio |")
-    print("|---|---|---|---|---|---|")
+    print("| font | glyphs | the font: Rattle | Rust | ratio | its INDEX of char strings: Rattle | Rust | ratio |")
+    print("|---|---|---|---|---|---|---|---|")
     for name, (nanos, count) in ours.items():
         kind, font = name.split(":")
-        other = rust[name][0]
-        print(f"| {kind} | {font} | {count} | {nanos // 1000} µs | {other // 1000} µs | {nanos / other:.2f} |")
+        if kind == "index":
+            whole = f"font:{font}"
+            left = cells(ours[whole][0], rust[whole][0]) if whole in ours else "- | - | -"
+            print(f"| {font} | {count} | {left} | {cells(nanos, rust[name][0])} |")
 
 
 def main(words):

@@ -1,5 +1,5 @@
 -- Why a font is refused, in the words of the layout.
-use Rattle.std.proofs.Common.{◌≡◌, ◌⊎◌, inl, inr, ℕ, zero, suc, ◌+◌, ◌^◌, ◌<◌, ◌≤◌, Bool, true, false, ℤ, pos, negsuc, ◌+ℤ◌, List, [], ◌∷◌, length, map, Option, Some, None, nat_lt, ◌==◌, if◌then◌else◌, refl, sym, subst, arith}
+use Rattle.std.proofs.Common.{◌≡◌, ◌⊎◌, inl, inr, ℕ, zero, suc, ◌+◌, ◌^◌, ◌<◌, ◌≤◌, Bool, true, false, ℤ, pos, negsuc, ◌+ℤ◌, List, [], ◌∷◌, length, map, Option, Some, None, nat_lt, ◌==◌, if◌then◌else◌, refl, sym, ap, ◌∙◌, subst, arith}
 use Rattle.std.proofs.lemmas.Int.{ints}
 use Rattle.std.proofs.lemmas.Bool.Decides.{nat_tests}
 use Rattle.postscript_base.specs.Numbers.{slice}
@@ -10,7 +10,7 @@ use Rattle.postscript_base.specs.Tape.Outcome.{Outcome, Got, Fault, Past, Readin
 use Rattle.postscript_base.specs.Compact1.Decimal.{Decimal, to_i32}
 use Rattle.postscript_base.specs.Compact1.Defaults.{look, first_of, first_two_of}
 use Rattle.postscript_base.specs.Compact1.Dictionary.{Dictionary, dictionary}
-use Rattle.postscript_base.specs.Compact1.DictionaryLaw.{ReadsDictionaries}
+use Rattle.postscript_base.specs.Compact1.DictionaryLaw.{IsRefused, ReadsDictionaries}
 use Rattle.postscript_base.specs.Compact1.Header.{header}
 use Rattle.postscript_base.specs.declared.compact1.header.Header.{Header}
 use Rattle.postscript_base.specs.declared.compact1.operator.Operator.{Operator}
@@ -22,17 +22,19 @@ use Rattle.postscript_compact1.specs.Kinds.{map_of, maps_of}
 use Rattle.postscript_compact1.specs.Texts.{text}
 use Rattle.postscript_compact1.specs.CharSets.{char_set as the_set}
 use Rattle.postscript_compact1.specs.IndexLaw.{IsIndex}
+use Rattle.postscript_compact1.specs.ItemsLaw.{AreDictionaries, HasRefused}
 use Rattle.postscript_compact1.specs.declared.char_set.CharSet.{CharSet}
 use Rattle.postscript_compact1.specs.declared.encoding.Encoding.{Encoding}
 use Rattle.postscript_compact1.specs.declared.encoding.Encoding.TheVariants as encodings
 use Rattle.postscript_compact1.specs.FontSet.Operands.{number_of, number_of_first, first, numbers_of_two, two, size_of, in_range, place_of, place_at, only_two, type_two, bounded, bounds}
 use Rattle.postscript_compact1.specs.FontSet.Font.{Part, Tables, Font, columns, font_of}
 use Rattle.postscript_compact1.specs.FontSet.Order.{encoding_of, encoding, char_strings, own_char_set, char_set_of, char_set_offset, char_set, glyphs, private, subroutines, locals, part, names, dictionaries, tables, behind, parts, font}
-use Rattle.postscript_compact1.specs.FontSet.Layout.{HasFirst, IsPlace, IsSlice, HasEncoding, HasCharStrings, HasCharSet, HasPrivate, AreDictionaries, AreTables}
-use Rattle.postscript_compact1.specs.FontSet.Causes.{RefusedAt, NoFirst, Missing, Malformed, NoPlace, NoOffset, OfOperand, OutOfRange, NoEncoding, EncodingOperand, OtherEncoding, NoCharStrings, StringsOffset, TypeOperand, OtherType, StringsRefused, NoCharSet, SetOperand, SetNegative, SetFar, SetRefused, NoBounds, TooFew, NotWhole, BoundsRange, NoPrivate, PrivateBounds, PrivateSlice, PrivateRefused, NoSubroutines, SubrsOffset, SubrsRefused, NoPart, OfEncoding, OfStrings, OfSet, OfPrivate, OfSubroutines, NoParts, NoDictionaries, NoTables, OfNames, OfItems, OfDictionaries, OfStringList, OfGlobalList, NoFont, OfHeader, HeaderSize, OfTables, OfParts}
+use Rattle.postscript_compact1.specs.FontSet.Layout.{HasFirst, IsPlace, IsSlice, HasEncoding, HasCharStrings, HasCharSet, HasPrivate, AreTables}
+use Rattle.postscript_compact1.specs.FontSet.Causes.{RefusedAt, NoFirst, Missing, Malformed, NoPlace, NoOffset, OfOperand, OutOfRange, NoEncoding, EncodingOperand, OtherEncoding, NoCharStrings, StringsOffset, TypeOperand, OtherType, StringsRefused, NoCharSet, SetOperand, SetNegative, SetFar, SetRefused, NoBounds, TooFew, NotWhole, BoundsRange, NoPrivate, PrivateBounds, PrivateSlice, PrivateRefused, NoSubroutines, SubrsOffset, SubrsRefused, NoPart, OfEncoding, OfStrings, OfSet, OfPrivate, OfSubroutines, NoParts, NoTables, OfNames, OfItems, OfDictionaries, OfStringList, OfGlobalList, NoFont, OfHeader, HeaderSize, OfTables, OfParts}
 use Rattle.postscript_compact1.proofs.IndexIs.{reads_indices}
+use Rattle.postscript_compact1.proofs.ItemsAre.{reads_items}
 use Rattle.postscript_compact1.proofs.OperandLaws.{first_has, two_has, size_has, in_range_has, placed_has, type_has, bounds_has}
-use Rattle.postscript_compact1.proofs.FontLaws.{index_at_has, slice_has, encoding_has, char_strings_has, map_has, maps_have, private_has, glyphs_have, part_has, tables_have}
+use Rattle.postscript_compact1.proofs.FontLaws.{index_at_has, slice_has, encoding_has, char_strings_has, private_has, glyphs_have, part_has, tables_have}
 use Rattle.postscript_compact1.proofs.Steps.{Steps, Done, Last, Step, accepted, stopped, Stops}
 
 refused_at : {A : Type 0} (e : Error) (there : ℕ) (reading : Reading A) (bytes : List ℕ) (place : ℕ) → RefusedAs e (at there reading bytes place) → RefusedAt e reading bytes there
@@ -224,26 +226,6 @@ no_slice e size there bytes place h = by (size == 0) refl h
     by true t h = absurd h
     by false t h = (grind (arith, nat_tests), refused_at e there (slice size) bytes place h)
 
-no_map : (e : Error) (held bytes : List ℕ) (place : ℕ) → RefusedAs e (map_of held bytes place) → RefusedAs e (dictionary held 0)
-unfolding map_of
-no_map e held bytes place h = by (dictionary held 0) h
-  where
-    by : (o : Outcome Dictionary) → RefusedAs e (after o (λ m _. Got m place)) → RefusedAs e o
-    by (Got m n) h = h
-    by (Fault r) h = h
-    by Past h = h
-
-no_private : (e : Error) (bytes : List ℕ) (start : ℕ) (m : Dictionary) (place : ℕ) → RefusedAs e (private start m bytes place) → NoPrivate e bytes start m
-unfolding private
-no_private e bytes start m place h = by (stopped {X = ℕ × Dictionary} e (Step (bounds start m) (λ b. Step (bytes_at b.2 b.0) (λ held. Step (map_of held) (λ local. Done (b.1, local))))) bytes place h)
-  where
-    by : Stops {X = ℕ × Dictionary} e (Step (bounds start m) (λ b. Step (bytes_at b.2 b.0) (λ held. Step (map_of held) (λ local. Done (b.1, local))))) bytes place → NoPrivate e bytes start m
-    by (inl h) = PrivateBounds (no_bounds e start m bytes place h)
-    by (inr (b, from, is, inl h)) = let p = bounds_has start m b bytes place from is in let s = no_slice e b.0 b.2 bytes from h in PrivateSlice b.0 b.1 p.0 p.2 s.0 (subst (RefusedAt e (slice b.0) bytes) p.1 s.1)
-    by (inr (b, from, is, inr (held, to, cut, inl h))) = let p = bounds_has start m b bytes place from is in
-        PrivateRefused b.0 b.1 held p.0 p.2 (subst (λ k. IsSlice bytes k b.0 held) p.1 (slice_has b.0 b.2 held bytes from to cut)) (no_map e held bytes to h)
-    by (inr (b, from, is, inr (held, to, cut, inr h))) = absurd h.3
-
 -- ---- a part, and all parts
 no_glyphs : (e : Error) (bytes : List ℕ) (start : ℕ) (m : Dictionary) (place : ℕ) → RefusedAs e (glyphs start m bytes place) → NoCharStrings e bytes start m ⊎ ((i : Index) × (next : ℕ) × HasCharStrings bytes start m i next × NoCharSet e bytes start (length i.items) m)
 unfolding glyphs
@@ -255,6 +237,26 @@ no_glyphs e bytes start m place h = by (stopped {X = Index × CharSet} e (Step (
     by (inr (i, next, is, inr h)) = absurd h.3
 
 module _ (d : ReadsDictionaries) where
+  no_map : (e : Error) (held bytes : List ℕ) (place : ℕ) → RefusedAs e (map_of held bytes place) → IsRefused held 0 (refusal_of e)
+  unfolding map_of
+  no_map e held bytes place h = by (dictionary held 0) refl h
+    where
+      by : (o : Outcome Dictionary) → dictionary held 0 ≡ o → RefusedAs e (after o (λ m _. Got m place)) → IsRefused held 0 (refusal_of e)
+      by (Got m n) is h = absurd h
+      by (Fault r) is h = d.refused_only held 0 (refusal_of e) (is ∙ ap (λ k. Fault k) (sym h))
+      by Past is h = absurd (d.never_past held 0 is)
+
+  no_private : (e : Error) (bytes : List ℕ) (start : ℕ) (m : Dictionary) (place : ℕ) → RefusedAs e (private start m bytes place) → NoPrivate e bytes start m
+  unfolding private
+  no_private e bytes start m place h = by (stopped {X = ℕ × Dictionary} e (Step (bounds start m) (λ b. Step (bytes_at b.2 b.0) (λ held. Step (map_of held) (λ local. Done (b.1, local))))) bytes place h)
+    where
+      by : Stops {X = ℕ × Dictionary} e (Step (bounds start m) (λ b. Step (bytes_at b.2 b.0) (λ held. Step (map_of held) (λ local. Done (b.1, local))))) bytes place → NoPrivate e bytes start m
+      by (inl h) = PrivateBounds (no_bounds e start m bytes place h)
+      by (inr (b, from, is, inl h)) = let p = bounds_has start m b bytes place from is in let s = no_slice e b.0 b.2 bytes from h in PrivateSlice b.0 b.1 p.0 p.2 s.0 (subst (RefusedAt e (slice b.0) bytes) p.1 s.1)
+      by (inr (b, from, is, inr (held, to, cut, inl h))) = let p = bounds_has start m b bytes place from is in
+          PrivateRefused b.0 b.1 held p.0 p.2 (subst (λ k. IsSlice bytes k b.0 held) p.1 (slice_has b.0 b.2 held bytes from to cut)) (no_map e held bytes to h)
+      by (inr (b, from, is, inr (held, to, cut, inr h))) = absurd h.3
+
   no_locals : (e : Error) (bytes : List ℕ) (start : ℕ) (m : Dictionary) (place : ℕ) → RefusedAs e (locals start m bytes place) → NoPrivate e bytes start m ⊎ ((offset : ℕ) × (local : Dictionary) × HasPrivate bytes start m offset local × NoSubroutines e bytes start offset local)
   unfolding locals
   no_locals e bytes start m place h = by (stopped {X = Dictionary × Index} e (Step (private start m) (λ p. Step (subroutines start p.0 p.1) (λ s. Done (p.1, s)))) bytes place h)
@@ -293,15 +295,13 @@ module _ (d : ReadsDictionaries) where
       by rest (inr (p, next, is, inr h)) = absurd h.3
 
   -- ---- what stands behind the header
-  no_maps : (e : Error) (items : List (List ℕ)) (bytes : List ℕ) (place : ℕ) → RefusedAs e (maps_of items bytes place) → NoDictionaries e items
-  unfolding maps_of each
-  no_maps e [] bytes place h = absurd h
-  no_maps e (item ∷ items) bytes place h = by (λ next. no_maps e items bytes next) (stopped e (Step (map_of item) (λ m. Step (maps_of items) (λ ms. Done (m ∷ ms)))) bytes place h)
+  no_maps : (e : Error) (items : List (List ℕ)) (bytes : List ℕ) (place : ℕ) → RefusedAs e (maps_of items bytes place) → HasRefused items (refusal_of e)
+  no_maps e items bytes place h = by (maps_of items bytes place) refl h
     where
-      by : ((next : ℕ) → RefusedAs e (maps_of items bytes next) → NoDictionaries e items) → Stops e (Step (map_of item) (λ m. Step (maps_of items) (λ ms. Done (m ∷ ms)))) bytes place → NoDictionaries e (item ∷ items)
-      by rest (inl h) = inl (no_map e item bytes place h)
-      by rest (inr (m, next, is, inl h)) = inr (m, (map_has d item m bytes place next is).0, rest next h)
-      by rest (inr (m, next, is, inr h)) = absurd h.3
+      by : (o : Outcome (List Dictionary)) → maps_of items bytes place ≡ o → RefusedAs e o → HasRefused items (refusal_of e)
+      by (Got ms next) is h = absurd h
+      by (Fault r) is h = reads_items.refused_only items (refusal_of e) bytes place (is ∙ ap (λ k. Fault k) (sym h))
+      by Past is h = absurd (reads_items.never_past items bytes place is)
 
   no_tables : (e : Error) (bytes : List ℕ) (there place : ℕ) → RefusedAs e (tables there bytes place) → NoTables e bytes there
   unfolding tables names dictionaries
@@ -316,8 +316,8 @@ module _ (d : ReadsDictionaries) where
       mapped : (ms : List Dictionary) (from to : ℕ) → dictionaries bytes from ≡ Got ms to → (i : Index) × IsIndex bytes from i to × AreDictionaries i.items ms
       mapped ms from to is =
           let h = accepted (Step index (λ i. Last (maps_of i.items))) bytes from ms to is in
-          let maps = maps_have d h.0.items ms bytes h.1 to h.3 in
-          (h.0, subst (λ k. IsIndex bytes from h.0 k) maps.1 (index_is from h.0 h.1 h.2), maps.0)
+          let maps = reads_items.only h.0.items ms bytes h.1 to h.3 in
+          (h.0, subst (λ k. IsIndex bytes from h.0 k) (sym maps.1) (index_is from h.0 h.1 h.2), maps.0)
 
       no_names : Stops e (Step (at there index) (λ i. Done (map text i.items))) bytes place → NoTables e bytes there
       no_names (inl h) = OfNames (refused_at e there index bytes place h)

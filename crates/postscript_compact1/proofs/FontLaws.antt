@@ -26,10 +26,11 @@ use Rattle.postscript_compact1.specs.declared.encoding.Encoding.TheVariants as e
 use Rattle.postscript_compact1.specs.FontSet.Operands.{first, size_of, in_range, place_at, type_two, bounds}
 use Rattle.postscript_compact1.specs.FontSet.Font.{Part, Tables, Columns, Font, columns, font_of}
 use Rattle.postscript_compact1.specs.FontSet.Order.{encoding_of, encoding, char_strings, own_char_set, char_set_of, char_set_offset, char_set, glyphs, private, subroutines, locals, part, names, dictionaries, tables, behind, parts, font}
-use Rattle.postscript_compact1.specs.FontSet.Layout.{HasFirst, HasTwo, Stands, IsSlice, IsPlace, HasEncoding, HasCharStrings, HasCharSet, Is_0, Is_1, Is_2, Own, HasPrivate, HasSubroutines, IsPart, AreParts, AreDictionaries, AreTables, IsFont, ReadsLayout}
+use Rattle.postscript_compact1.specs.FontSet.Layout.{HasFirst, HasTwo, Stands, IsSlice, IsPlace, HasEncoding, HasCharStrings, HasCharSet, Is_0, Is_1, Is_2, Own, HasPrivate, HasSubroutines, IsPart, AreParts, AreTables, IsFont, ReadsLayout}
 use Rattle.postscript_compact1.proofs.CharSetIs.{char_set_needs}
 use Rattle.postscript_compact1.proofs.CharSetRefused.{reads_char_sets}
 use Rattle.postscript_compact1.proofs.IndexIs.{reads_indices}
+use Rattle.postscript_compact1.proofs.ItemsAre.{reads_items}
 use Rattle.postscript_compact1.proofs.OperandLaws.{faulty, first_is, first_has, size_has, in_range_is, in_range_has, placed_is, placed_has, type_is, type_has, bounds_is, bounds_has}
 use Rattle.postscript_compact1.proofs.Outcomes.{got}
 use Rattle.postscript_compact1.proofs.Steps.{Steps, Done, Last, Step, accepted}
@@ -205,23 +206,6 @@ module _ (d : ReadsDictionaries) where
       by (Fault r) is e = faulty m r next e
       by Past is e = absurd (cc)
 
-  pub maps_are : (items : List (List ℕ)) (ms : List Dictionary) (bytes : List ℕ) (place : ℕ) → AreDictionaries items ms → maps_of items bytes place ≡ Got ms place
-  unfolding maps_of each
-  maps_are [] [] bytes place h = refl
-  maps_are [] (m ∷ ms) bytes place h = absurd h
-  maps_are (item ∷ items) [] bytes place h = absurd h
-  maps_are (item ∷ items) (m ∷ ms) bytes place h = rw (map_is item m bytes place h.0, maps_are items ms bytes place h.1) refl
-
-  pub maps_have : (items : List (List ℕ)) (ms : List Dictionary) (bytes : List ℕ) (place next : ℕ) → maps_of items bytes place ≡ Got ms next → AreDictionaries items ms × (place ≡ next)
-  unfolding maps_of each
-  maps_have [] [] bytes place next e = (tt, (got _ _ _ _ e).1)
-  maps_have [] (m ∷ ms) bytes place next e = absurd (cc)
-  maps_have (item ∷ items) ms bytes place next e =
-      let h = accepted (Step (map_of item) (λ m. Step (maps_of items) (λ ms. Done (m ∷ ms)))) bytes place ms next e in
-      let one = map_has item h.0 bytes place h.1 h.2 in
-      let more = maps_have items h.3.0 bytes h.1 h.3.1 h.3.2 in
-      (subst (AreDictionaries (item ∷ items)) h.3.3.0 (one.0, more.0), one.1 ∙ (more.1 ∙ h.3.3.1))
-
   -- ---- the private dictionary
   pub private_is : (start offset : ℕ) (m local : Dictionary) (bytes : List ℕ) (place : ℕ) → HasPrivate bytes start m offset local → (next : ℕ) × (private start m bytes place ≡ Got (offset, local) next)
   unfolding private
@@ -328,7 +312,7 @@ module _ (d : ReadsDictionaries) where
         index_at_is there bytes place h.names h.names_next h.are_names,
         sym h.texts,
         reads_indices.all bytes h.names_next h.dictionaries h.dictionaries_next h.are_items,
-        maps_are h.dictionaries.items t.dictionaries bytes h.dictionaries_next h.are_dictionaries,
+        reads_items.all h.dictionaries.items t.dictionaries bytes h.dictionaries_next h.are_dictionaries,
         reads_indices.all bytes h.dictionaries_next t.strings h.strings_next h.are_strings,
         reads_indices.all bytes h.strings_next t.subroutines next h.are_subroutines,
       ) refl
@@ -340,7 +324,7 @@ module _ (d : ReadsDictionaries) where
       let n = accepted (Step (at there index) (λ i. Done (map text i.items))) bytes place h.0 h.1 h.2 in
       let ds = h.3 in
       let m = accepted (Step index (λ i. Last (maps_of i.items))) bytes h.1 ds.0 ds.1 ds.2 in
-      let maps = maps_have m.0.items ds.0 bytes m.1 ds.1 m.3 in
+      let maps = reads_items.only m.0.items ds.0 bytes m.1 ds.1 m.3 in
       let s = ds.3 in
       let g = s.3 in
       let q : Tables = record { names = h.0; dictionaries = ds.0; strings = s.0; subroutines = g.0 } in
@@ -354,7 +338,7 @@ module _ (d : ReadsDictionaries) where
         texts = sym n.3.0;
         are_items = reads_indices.only bytes n.1 m.0 m.1 (subst (λ k. index bytes k ≡ Got m.0 m.1) (sym n.3.1) m.2);
         are_dictionaries = maps.0;
-        are_strings = reads_indices.only bytes m.1 s.0 s.1 (subst (λ k. index bytes k ≡ Got s.0 s.1) (sym maps.1) s.2);
+        are_strings = reads_indices.only bytes m.1 s.0 s.1 (subst (λ k. index bytes k ≡ Got s.0 s.1) maps.1 s.2);
         are_subroutines = reads_indices.only bytes s.1 g.0 g.1 g.2;
       } in
       let end = g.3 in

@@ -71,4 +71,5 @@ reads_items = record {
   only = λ items maps bytes place next e. subst (Are items place) e (are items bytes place);
   refused = refused;
   refused_only = λ items refusal bytes place e. subst (Are items place) e (are items bytes place);
+  never_past = λ items bytes place e. subst (Are items place) e (are items bytes place);
 }

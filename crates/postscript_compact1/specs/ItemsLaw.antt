@@ -1,9 +1,9 @@
 -- Items that are dictionaries, in their own words (Technical Note 5176, "Top DICT INDEX").
-use Rattle.std.specs.Prelude.{◌≡◌, ◌⊎◌, ℕ, List, [], ◌∷◌}
+use Rattle.std.specs.Prelude.{◌≡◌, ◌≢◌, ◌⊎◌, ℕ, List, [], ◌∷◌}
 use Rattle.postscript_base.specs.Compact1.Dictionary.{Dictionary}
 use Rattle.postscript_base.specs.Compact1.DictionaryLaw.{IsDictionary, IsRefused}
 use Rattle.postscript_base.specs.Refusal.{Refusal}
-use Rattle.postscript_base.specs.Tape.Outcome.{Got, Fault}
+use Rattle.postscript_base.specs.Tape.Outcome.{Got, Fault, Past}
 use Rattle.postscript_compact1.specs.Kinds.{maps_of}
 
 -- each item is a dictionary, with the map in its place
@@ -24,3 +24,4 @@ pub record ReadsItems : Type 0 where
   pub only : (items : List (List ℕ)) (maps : List Dictionary) (bytes : List ℕ) (place next : ℕ) → maps_of items bytes place ≡ Got maps next → AreDictionaries items maps × (next ≡ place)
   pub refused : (items : List (List ℕ)) (refusal : Refusal) (bytes : List ℕ) (place : ℕ) → HasRefused items refusal → maps_of items bytes place ≡ Fault refusal
   pub refused_only : (items : List (List ℕ)) (refusal : Refusal) (bytes : List ℕ) (place : ℕ) → maps_of items bytes place ≡ Fault refusal → HasRefused items refusal
+  pub never_past : (items : List (List ℕ)) (bytes : List ℕ) (place : ℕ) → maps_of items bytes place ≢ Past

@@ -6,8 +6,8 @@ use Rattle.postscript_base.specs.Numbers.{slice}
 use Rattle.postscript_base.specs.Tape.Outcome.{Reading, RefusedAs}
 use Rattle.postscript_base.specs.Compact1.Decimal.{Decimal, to_i32}
 use Rattle.postscript_base.specs.Compact1.Defaults.{look, first_of, first_two_of}
-use Rattle.postscript_base.specs.Compact1.Dictionary.{Dictionary, dictionary}
-use Rattle.postscript_base.specs.Compact1.DictionaryLaw.{IsDictionary}
+use Rattle.postscript_base.specs.Compact1.Dictionary.{Dictionary}
+use Rattle.postscript_base.specs.Compact1.DictionaryLaw.{IsRefused}
 use Rattle.postscript_base.specs.Compact1.Header.{header}
 use Rattle.postscript_base.specs.declared.compact1.header.Header.{Header}
 use Rattle.postscript_base.specs.declared.compact1.operator.Operator.{Operator}
@@ -16,11 +16,12 @@ use Rattle.postscript_base.specs.declared.error.Error.{Error}
 use Rattle.postscript_base.specs.declared.error.Part.TheVariants as unsupported
 use Rattle.postscript_compact1.specs.Index.{Index, index}
 use Rattle.postscript_compact1.specs.IndexLaw.{IsIndex}
+use Rattle.postscript_compact1.specs.ItemsLaw.{AreDictionaries, HasRefused}
 use Rattle.postscript_compact1.specs.CharSets.{char_set}
 use Rattle.postscript_compact1.specs.declared.char_set.CharSet.{CharSet}
 use Rattle.postscript_compact1.specs.declared.encoding.Encoding.{Encoding}
 use Rattle.postscript_compact1.specs.FontSet.Font.{Part, Tables}
-use Rattle.postscript_compact1.specs.FontSet.Layout.{HasFirst, HasTwo, IsSlice, IsPlace, Stands, HasEncoding, HasCharStrings, HasCharSet, HasPrivate, IsPart, AreDictionaries, AreTables}
+use Rattle.postscript_compact1.specs.FontSet.Layout.{HasFirst, HasTwo, IsSlice, IsPlace, Stands, HasEncoding, HasCharStrings, HasCharSet, HasPrivate, IsPart, AreTables}
 
 -- the place sought lies past the end, or what stands there is refused
 abbrev pub RefusedAt : {A : Type 0} → Error → Reading A → List ℕ → ℕ → Type 0
@@ -63,7 +64,7 @@ pub data NoBounds (e : Error) (start : ℕ) (map : Dictionary) : Type 0 where
 pub data NoPrivate (e : Error) (bytes : List ℕ) (start : ℕ) (map : Dictionary) : Type 0 where
   PrivateBounds : NoBounds e start map → NoPrivate e bytes start map
   PrivateSlice : (size offset : ℕ) → HasTwo map operators.Private (pos size) (pos offset) → IsPlace (start + offset) → 0 < size → RefusedAt e (slice size) bytes (start + offset) → NoPrivate e bytes start map
-  PrivateRefused : (size offset : ℕ) (held : List ℕ) → HasTwo map operators.Private (pos size) (pos offset) → IsPlace (start + offset) → IsSlice bytes (start + offset) size held → RefusedAs e (dictionary held 0) → NoPrivate e bytes start map
+  PrivateRefused : (size offset : ℕ) (held : List ℕ) → HasTwo map operators.Private (pos size) (pos offset) → IsPlace (start + offset) → IsSlice bytes (start + offset) size held → IsRefused held 0 (refusal_of e) → NoPrivate e bytes start map
 
 pub data NoSubroutines (e : Error) (bytes : List ℕ) (start base : ℕ) (local : Dictionary) : Type 0 where
   SubrsOffset : NoOffset e start base local operators.Subrs → NoSubroutines e bytes start base local
@@ -82,15 +83,10 @@ abbrev pub NoParts : Error → List ℕ → ℕ → List Dictionary → Type 0
 NoParts e bytes start [] = ⊥
 NoParts e bytes start (m ∷ ms) = NoPart e bytes start m ⊎ ((p : Part) × (next : ℕ) × IsPart bytes start m p next × NoParts e bytes start ms)
 
--- some item is refused, and those before it are dictionaries
-abbrev pub NoDictionaries : Error → List (List ℕ) → Type 0
-NoDictionaries e [] = ⊥
-NoDictionaries e (item ∷ items) = RefusedAs e (dictionary item 0) ⊎ ((map : Dictionary) × IsDictionary item 0 map × NoDictionaries e items)
-
 pub data NoTables (e : Error) (bytes : List ℕ) (place : ℕ) : Type 0 where
   OfNames : RefusedAt e index bytes place → NoTables e bytes place
   OfItems : (names : Index) (behind : ℕ) → IsIndex bytes place names behind → RefusedAs e (index bytes behind) → NoTables e bytes place
-  OfDictionaries : (names items : Index) (behind next : ℕ) → IsIndex bytes place names behind → IsIndex bytes behind items next → NoDictionaries e items.items → NoTables e bytes place
+  OfDictionaries : (names items : Index) (behind next : ℕ) → IsIndex bytes place names behind → IsIndex bytes behind items next → HasRefused items.items (refusal_of e) → NoTables e bytes place
   OfStringList : (names items : Index) (maps : List Dictionary) (behind next : ℕ) → IsIndex bytes place names behind → IsIndex bytes behind items next → AreDictionaries items.items maps → RefusedAs e (index bytes next) → NoTables e bytes place
   OfGlobalList : (names items strings : Index) (maps : List Dictionary) (behind next at : ℕ) → IsIndex bytes place names behind → IsIndex bytes behind items next → AreDictionaries items.items maps → IsIndex bytes next strings at → RefusedAs e (index bytes at) → NoTables e bytes place
 

@@ -10,6 +10,7 @@ use Rattle.postscript_base.specs.declared.compact1.operator.Operator.{Operator}
 use Rattle.postscript_base.specs.declared.compact1.operator.Operator.TheVariants as operators
 use Rattle.postscript_compact1.specs.Index.{Index}
 use Rattle.postscript_compact1.specs.IndexLaw.{IsIndex}
+use Rattle.postscript_compact1.specs.ItemsLaw.{AreDictionaries}
 use Rattle.postscript_compact1.specs.Texts.{text}
 use Rattle.postscript_compact1.specs.CharSetLaw.{IsCharSet}
 use Rattle.postscript_compact1.specs.declared.char_set.CharSet.{CharSet}
@@ -84,13 +85,6 @@ AreParts bytes start [] [] place next = place ≡ next
 AreParts bytes start (m ∷ ms) (p ∷ ps) place next = (behind : ℕ) × IsPart bytes start m p behind × AreParts bytes start ms ps behind next
 AreParts bytes start [] (p ∷ ps) place next = ⊥
 AreParts bytes start (m ∷ ms) [] place next = ⊥
-
--- each item is a dictionary
-abbrev pub AreDictionaries : List (List ℕ) → List Dictionary → Type 0
-AreDictionaries [] [] = Unit {0}
-AreDictionaries (item ∷ items) (map ∷ maps) = IsDictionary item 0 map × AreDictionaries items maps
-AreDictionaries [] (map ∷ maps) = ⊥
-AreDictionaries (item ∷ items) [] = ⊥
 
 -- at a place stand names, dictionaries, strings and global subroutines, one behind the other
 pub record AreTables (bytes : List ℕ) (place : ℕ) (tables : Tables) (next : ℕ) : Type 0 where
