@@ -23,7 +23,7 @@ use postscript_base::error::{Error, Part, Result};
 use postscript_base::{Tape, Value, Walue};
 use predefined::{EXPERT, EXPERT_SUBSET, ISO_ADOBE, Run, name};
 pub use range::Range1;
-use std::alloc::Global;
+use std::alloc::{AllocError, Global};
 
 /// A char set: which string names each glyph (Technical Note 5176, "Charsets").
 #[derive(Debug, Drop)]
@@ -96,6 +96,17 @@ impl CharSet {
             CharSet::Format0(set) => CharSet::Format0(set.clone()?),
             CharSet::Format1(set) => CharSet::Format1(set.clone()?),
         })
+    }
+}
+
+/// As `CharSet::clone`, so that lists of them are cloned as well.
+impl Clone for CharSet {
+    ghost use Rattle.std.specs.Prelude.{◌≡◌};
+
+    ghost is_clone = { λ old new. new ≡ old };
+
+    fn clone(&self) -> std::result::Result<Self, AllocError> {
+        self.clone().map_err(|_| AllocError)
     }
 }
 

@@ -48,6 +48,27 @@ pub struct FontSet {
     pub local_subroutines: Vec<Subroutines>,
 }
 
+impl FontSet {
+    /// An equal font.
+    pub fn clone(&self) -> Result<Self>
+        ensures equal { IfOk result (λ font. font_shown font ≡ font_shown self.now) }
+        ensures listed { IsListed (3 ∷ []) result }
+    {
+        Ok(FontSet {
+            header: self.header,
+            names: self.names.clone()?,
+            strings: self.strings.clone()?,
+            encodings: self.encodings.clone()?,
+            char_sets: self.char_sets.clone()?,
+            char_strings: self.char_strings.clone()?,
+            global_dictionaries: self.global_dictionaries.clone()?,
+            global_subroutines: self.global_subroutines.clone()?,
+            local_dictionaries: self.local_dictionaries.clone()?,
+            local_subroutines: self.local_subroutines.clone()?,
+        })
+    }
+}
+
 /// Refused: `OutOfRangeOffset` where an offset, a size or a sum of offsets is negative, or 64 bits do not count a place;
 /// `MissingOperation` and `MalformedOperation` with the operator that is missing, has too few operands, or has one that
 /// is no whole number of `i32`; `UnknownCharStringFormat` for char strings of another type than 2; `Unsupported` for

@@ -1,7 +1,7 @@
 -- The commands.
 use Rattle.std.specs.Prelude.{ℕ, List, codes}
 use Rattle.psfont.specs.declared.command.Command.{Command}
-use Rattle.psfont.specs.declared.command.Command.TheVariants.{Load, Run, Flat}
+use Rattle.psfont.specs.declared.command.Command.TheVariants.{Load, Run, Flat, Font}
 use Rattle.psfont.specs.declared.command.Place.TheVariants.{Code, Global, Local}
 
 -- what a command is called
@@ -11,3 +11,4 @@ name_of (Load Global) = codes "global"
 name_of (Load Local) = codes "local"
 name_of Run = codes "run"
 name_of Flat = codes "flat"
+name_of Font = codes "font"

@@ -2,3 +2,4 @@ pub mod Command
 pub mod Line
 pub mod Loaded
 pub mod Piece
+pub mod Words

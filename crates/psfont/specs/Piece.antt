@@ -7,7 +7,7 @@ use Rattle.psfont.specs.declared.lines.Piece.TheVariants.{Part, Line, End}
 -- the bytes that a reader gives up with a piece: a line end goes with the line
 abbrev pub spent : Piece → List ℕ → List ℕ
 spent Part bytes = bytes
-spent Line bytes = bytes ++ 10 ∷ []
+spent (Line more) bytes = bytes ++ 10 ∷ []
 spent End bytes = bytes
 
 -- the line gains bytes without a line end, and the reader gives up those, and no others

@@ -7,13 +7,15 @@ ghost use Rattle.psfont.specs.Loaded.{put, Loads};
 
 use crate::command::{Command, Place, split};
 use crate::routines::Routines;
+use crate::summary::write_font;
 use hex::FromHexError;
+use postscript::compact1::FontSet;
 use postscript::type2::{Answers, Operation};
-use postscript::{Error, Result};
+use postscript::{Error, Result, Value};
 use std::alloc::Global;
-use std::io::Write;
+use std::io::{Cursor, Write};
 
-/// Answers a line, at once: the writer is flushed. An empty line has no answer.
+/// Answers a line. An empty line has no answer.
 pub fn answer_line<W: Write>(
     alloc: Global,
     line: &[u8],
@@ -34,9 +36,9 @@ pub fn answer_line<W: Write>(
         Some(Command::Load(place)) => load(alloc, place, argument, routines, writer)?,
         Some(Command::Run) if argument.is_empty() => run(alloc, routines, writer)?,
         Some(Command::Flat) if argument.is_empty() => flatten(alloc, routines, writer)?,
+        Some(Command::Font) => font(alloc, argument, writer)?,
         _ => writeln!(writer, "bad command")?,
     }
-    writer.flush()?;
     Ok(())
 }
 
@@ -97,6 +99,20 @@ fn flatten<W: Write>(alloc: Global, routines: &Routines, writer: &mut W) -> Resu
             writeln!(writer, "flat {digits}")?;
         }
         Err(fault) => write_fault(&fault, writer)?,
+    }
+    Ok(())
+}
+
+/// Reads a font from the bytes that hex digits spell, and tells what it holds.
+fn font<W: Write>(alloc: Global, digits: &[u8], writer: &mut W) -> Result<()>
+    ensures listed { IsListed (1 ∷ 2 ∷ 3 ∷ []) result }
+{
+    match bytes_of(alloc, digits)? {
+        Some(bytes) => match FontSet::read(alloc, &mut Cursor::new(bytes)) {
+            Ok(font) => write_font(&font, writer)?,
+            Err(fault) => write_fault(&fault, writer)?,
+        },
+        None => writeln!(writer, "bad hex")?,
     }
     Ok(())
 }

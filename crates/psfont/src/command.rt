@@ -13,6 +13,8 @@ pub enum Command {
     Run,
     /// Write the code without calls.
     Flat,
+    /// Read a font, written as hex.
+    Font,
 }
 
 /// Where bytes go.
@@ -41,6 +43,7 @@ impl Command {
             b"local" => Some(Command::Load(Place::Local)),
             b"run" => Some(Command::Run),
             b"flat" => Some(Command::Flat),
+            b"font" => Some(Command::Font),
             _ => None,
         }
     }

@@ -12,8 +12,8 @@ use std::io::{BufRead, ErrorKind};
 pub enum Piece {
     /// More of the line, or nothing, and the line goes on.
     Part,
-    /// The rest of the line.
-    Line,
+    /// The rest of the line, and whether more of the input is shown behind it. Where none is, the next look may wait.
+    Line { more: bool },
     /// The end of the input.
     End,
 }
@@ -36,9 +36,10 @@ pub fn read_piece<R: BufRead>(reader: &mut R, line: &mut Vec<u8>) -> Result<Piec
     }
     match first_place(shown, b'\n') {
         Some(length) => {
+            let more = length + 1 < shown.len();
             line.extend_from_slice(&shown[..length])?;
             reader.consume(length + 1);
-            Ok(Piece::Line)
+            Ok(Piece::Line { more })
         }
         None => {
             let length = shown.len();

@@ -1,49 +1,65 @@
-//! A conversation about charstrings: lines come in, and each is answered.
+//! A conversation about charstrings and fonts: lines come in, and each is answered. Or what a font's file holds.
 #![tactic(auto)]
 
-ghost use Rattle.std.specs.Prelude.{◌≡◌, ◌≢◌, [], ◌≤◌, ◌↔◌, ◌∷◌, IsOk};
+ghost use Rattle.std.specs.Prelude.{◌≡◌, [], ◌≤◌, ◌↔◌, ◌∷◌, map, string_bytes, IsOk};
 ghost use Rattle.postscript.specs.Error.{IsListed};
+ghost use Rattle.psfont.specs.Words.{AreKnown};
 
-use postscript::{Error, Result};
+use postscript::compact1::FontSet;
+use postscript::{Error, Result, Value};
 use std::alloc::Global;
 use std::env::Env;
+use std::fs::File;
 use std::io::{BufRead, BufReader, BufWriter, ErrorKind, Input, Write};
 use std::process::ExitCode;
+use std::rt::Files;
 use std::{env, io};
 
 mod answer;
 mod command;
 mod lines;
 mod routines;
+mod summary;
 #[cfg(test)]
 mod tests;
 
 use answer::answer_line;
 use lines::{Piece, read_piece, without_return};
 use routines::Routines;
+use summary::write_font;
 
 /// Answers each line of a reader on a writer, up to the end of the input.
 ///
 /// A line ends at 0x0a, and one 0x0d just before it is dropped; the last line may lack its end. Empty lines are
-/// skipped. An interrupted look at the input is made again, and after `u64::MAX` looks the input counts as ended.
+/// skipped. An interrupted look at the input is made again, and after `u64::MAX` looks the input counts as ended. The
+/// writer is flushed before each look that may wait, and at the end, also after a fault.
 ///
 /// Refused: `UnexpectedEof` and `Io` where a read or a write failed, `Memory`.
 pub fn session<R: BufRead, W: Write>(alloc: Global, reader: &mut R, writer: &mut W) -> Result<()>
+    ensures listed { IsListed (1 ∷ 2 ∷ 3 ∷ []) result }
+{
+    let outcome = answer_lines(alloc, reader, writer);
+    let flushed = writer.flush();
+    outcome?;
+    Ok(flushed?)
+}
+
+/// Answers each line, up to the end of the input.
+fn answer_lines<R: BufRead, W: Write>(alloc: Global, reader: &mut R, writer: &mut W) -> Result<()>
     ensures listed { IsListed (1 ∷ 2 ∷ 3 ∷ []) result }
 {
     let mut routines = Routines::new(alloc);
     let mut line = Vec::new(alloc);
     for _ in 0..u64::MAX {
         match read_piece(reader, &mut line)? {
-            Piece::Part => {}
-            Piece::Line => {
-                answer_line(
-                    alloc,
-                    without_return(line.as_slice()),
-                    &mut routines,
-                    writer,
-                )?;
+            Piece::Part => writer.flush()?,
+            Piece::Line { more } => {
+                let text = without_return(line.as_slice());
+                answer_line(alloc, text, &mut routines, writer)?;
                 line.clear();
+                if !more {
+                    writer.flush()?;
+                }
             }
             Piece::End => break,
         }
@@ -51,13 +67,15 @@ pub fn session<R: BufRead, W: Write>(alloc: Global, reader: &mut R, writer: &mut
     answer_line(alloc, line.as_slice(), &mut routines, writer)
 }
 
-/// Does what the words after the program's name ask for, and answers the status to end with.
-pub fn start<R: Input + Print + Eprint + AllocGlobal>(rt: &R, words: &[String]) -> u8
+/// Does what the words after the program's name ask for, and answers the status to end with: none is a session on the
+/// standard input and output, and `font PATH` tells what the font of a file holds.
+pub fn start<R: Input + Print + Eprint + Files + AllocGlobal>(rt: &R, words: &[String]) -> u8
     ensures status { result ≤ 2 }
-    ensures usage { (result ≡ 2) ↔ (words.now ≢ []) }
+    ensures usage { (result ≡ 2) ↔ (¬ (AreKnown (map string_bytes words.now))) }
 {
     match words {
         [] => status(rt, converse(rt)),
+        [word, path] if word.as_str() == "font" => status(rt, show_file(rt, path.as_str())),
         _ => usage(rt),
     }
 }
@@ -68,6 +86,17 @@ fn converse<R: Input + Print + AllocGlobal>(rt: &R) -> Result<()> {
     let mut reader = BufReader::new(alloc, rt.reader()).map_err(|_| Error::Memory)?;
     let mut writer = BufWriter::new(alloc, io::writer(rt)).map_err(|_| Error::Memory)?;
     session(alloc, &mut reader, &mut writer)
+}
+
+/// What the font of a file holds, on the standard output.
+///
+/// Refused: `Io` where the file cannot be opened, and as `FontSet::read` and the writer are.
+fn show_file<R: Print + Files + AllocGlobal>(rt: &R, path: &str) -> Result<()> {
+    let alloc = rt.alloc();
+    let mut tape = BufReader::new(alloc, File::open(rt, path)?).map_err(|_| Error::Memory)?;
+    let mut writer = BufWriter::new(alloc, io::writer(rt)).map_err(|_| Error::Memory)?;
+    write_font(&FontSet::read(alloc, &mut tape)?, &mut writer)?;
+    Ok(writer.flush()?)
 }
 
 /// The status of an outcome, whose fault is told on the standard error.

@@ -8,7 +8,7 @@ ghost use Rattle.postscript_base.specs.Compact1.Dictionary.{dictionary_of, put};
 use super::{Operand, Operands, Operation, Operator};
 use crate::Result;
 use crate::tape::{Tape, Value, read_to_end};
-use std::alloc::Global;
+use std::alloc::{AllocError, Global};
 use std::collections::HashMap;
 use std::marker::Model;
 
@@ -87,6 +87,17 @@ impl Operations {
     {
         self.0.insert(operation.0, operation.1)?;
         Ok(())
+    }
+}
+
+/// As `Operations::clone`, so that lists of them are cloned as well.
+impl Clone for Operations {
+    ghost use Rattle.std.specs.Prelude.{◌≡◌};
+
+    ghost is_clone = { λ old new. new ≡ old };
+
+    fn clone(&self) -> std::result::Result<Self, AllocError> {
+        self.clone().map_err(|_| AllocError)
     }
 }
 

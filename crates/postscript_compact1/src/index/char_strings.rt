@@ -8,7 +8,7 @@ ghost use Rattle.postscript_compact1.specs.Kinds.{char_strings};
 
 use super::Index;
 use postscript_base::{Error, Result, Tape, Value, Walue};
-use std::alloc::Global;
+use std::alloc::{AllocError, Global};
 use std::marker::Model;
 use std::ops::Deref;
 
@@ -41,6 +41,17 @@ impl CharStrings {
         ensures listed { IsListed (3 ∷ []) result }
     {
         Ok(CharStrings(self.0.clone()?))
+    }
+}
+
+/// As `CharStrings::clone`, so that lists of them are cloned as well.
+impl Clone for CharStrings {
+    ghost use Rattle.std.specs.Prelude.{◌≡◌};
+
+    ghost is_clone = { λ old new. new ≡ old };
+
+    fn clone(&self) -> std::result::Result<Self, AllocError> {
+        self.clone().map_err(|_| AllocError)
     }
 }
 

@@ -5,7 +5,7 @@ ghost use Rattle.postscript_compact1.specs.Index.{empty};
 
 use super::Index;
 use postscript_base::{Result, Tape, Value};
-use std::alloc::Global;
+use std::alloc::{AllocError, Global};
 use std::marker::Model;
 use std::ops::Deref;
 
@@ -45,6 +45,17 @@ impl Subroutines {
         ensures listed { IsListed (3 ∷ []) result }
     {
         Ok(Subroutines(self.0.clone()?))
+    }
+}
+
+/// As `Subroutines::clone`, so that lists of them are cloned as well.
+impl Clone for Subroutines {
+    ghost use Rattle.std.specs.Prelude.{◌≡◌};
+
+    ghost is_clone = { λ old new. new ≡ old };
+
+    fn clone(&self) -> std::result::Result<Self, AllocError> {
+        self.clone().map_err(|_| AllocError)
     }
 }
 

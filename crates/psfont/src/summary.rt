@@ -1,0 +1,83 @@
+//! What a font holds, in lines.
+ghost use Rattle.std.specs.Prelude.{[], ◌∷◌};
+ghost use Rattle.postscript.specs.Error.{IsListed};
+
+use postscript::Result;
+use postscript::compact1::FontSet;
+use std::io::Write;
+
+/// The header, how many names there are and each, how many strings and global subroutines, and a line for each
+/// dictionary.
+pub fn write_font<W: Write>(font: &FontSet, writer: &mut W) -> Result<()>
+    ensures listed { IsListed (1 ∷ 2 ∷ []) result }
+{
+    write_header(font, writer)?;
+    write_names(&font.names, writer)?;
+    let strings = font.strings.len();
+    let globals = font.global_subroutines.len();
+    writeln!(writer, "strings {strings}")?;
+    writeln!(writer, "globals {globals}")?;
+    write_dictionaries(font, writer)?;
+    writeln!(writer, "end")?;
+    Ok(())
+}
+
+/// The header's four fields.
+fn write_header<W: Write>(font: &FontSet, writer: &mut W) -> Result<()>
+    ensures listed { IsListed (1 ∷ 2 ∷ []) result }
+{
+    let header = font.header;
+    let (major, minor) = (header.major, header.minor);
+    let (header_size, offset_size) = (header.header_size, header.offset_size);
+    writeln!(writer, "header {major} {minor} {header_size} {offset_size}")?;
+    Ok(())
+}
+
+/// How many names there are, and each.
+fn write_names<W: Write>(names: &[String], writer: &mut W) -> Result<()>
+    ensures listed { IsListed (1 ∷ 2 ∷ []) result }
+{
+    let count = names.len();
+    writeln!(writer, "names {count}")?;
+    for name in names {
+        write_name(name.as_str(), writer)?;
+    }
+    Ok(())
+}
+
+/// A name, with `?` for each control character of ASCII.
+fn write_name<W: Write>(name: &str, writer: &mut W) -> Result<()>
+    ensures listed { IsListed (1 ∷ 2 ∷ []) result }
+{
+    writer.write_all(b"name ")?;
+    for character in name.chars() {
+        let shown = if character.is_ascii_control() {
+            '?'
+        } else {
+            character
+        };
+        write!(writer, "{shown}")?;
+    }
+    writer.write_all(b"\n")?;
+    Ok(())
+}
+
+/// How many dictionaries there are, and of each the names of encoding and char set, and how many glyphs and local
+/// subroutines it has.
+fn write_dictionaries<W: Write>(font: &FontSet, writer: &mut W) -> Result<()>
+    ensures listed { IsListed (1 ∷ 2 ∷ []) result }
+{
+    let count = font.global_dictionaries.len();
+    writeln!(writer, "dictionaries {count}")?;
+    let sets = font.encodings.iter().zip(font.char_sets.iter());
+    let programs = font.char_strings.iter().zip(font.local_subroutines.iter());
+    for ((encoding, char_set), (char_strings, local)) in sets.zip(programs) {
+        let (encoding, char_set) = (encoding.name(), char_set.name());
+        let (glyphs, locals) = (char_strings.len(), local.len());
+        writeln!(
+            writer,
+            "font {encoding} {char_set} glyphs {glyphs} locals {locals}"
+        )?;
+    }
+    Ok(())
+}
