@@ -1,12 +1,12 @@
+mod files;
 mod glyphs;
 
 use super::{session, start};
+use files::Memory;
 use postscript::Result as Outcome;
-use std::alloc::{Allocator, Global};
-use std::cell::RefCell;
-use std::fmt::Display;
+use std::cell::{Cell, RefCell};
 use std::io;
-use std::io::{BufRead, ErrorKind, Input, Lines, Read, Write};
+use std::io::{BufRead, ErrorKind, Read, Write};
 use std::test::Fail;
 
 /// A reader of text that shows a byte at a time, and fails once.
@@ -62,69 +62,55 @@ impl Write for Full {
     }
 }
 
-/// A runtime over memory.
+/// A reader of text that shows so many bytes at a time, and notes whether something written waits while it is asked for
+/// more.
 #[derive(Drop)]
-struct Memory {
-    alloc: Global,
-    input: &'static [u8],
-    output: RefCell<Vec<u8>>,
-    errors: RefCell<Vec<u8>>,
+struct Asked<'l> {
+    text: &'l [u8],
+    step: usize,
+    shown: usize,
+    waits: &'l Cell<bool>,
+    late: bool,
 }
 
-fn put(place: &RefCell<Vec<u8>>, bytes: &[u8]) -> io::Result<()> {
-    match place.try_borrow_mut() {
-        Ok(mut held) => Ok(held.extend_from_slice(bytes)?),
-        Err(_) => Err(io::Error::from(ErrorKind::WouldBlock)),
-    }
-}
-
-impl Alloc for Memory {
-    type A = Global;
-
-    fn alloc(&self) -> Global {
-        self.alloc
+impl Read for Asked<'_> {
+    fn read(&mut self, buffer: &mut [u8]) -> io::Result<usize> {
+        self.text.read(buffer)
     }
 }
 
-impl Input for Memory {
-    type Reader = &'static [u8];
-
-    fn read_line<A: Allocator + Clone>(&self, _buffer: &mut String<A>) -> io::Result<usize> {
-        Err(io::Error::from(ErrorKind::Unsupported))
+impl BufRead for Asked<'_> {
+    fn fill_buf(&mut self) -> io::Result<&[u8]> {
+        if self.shown == 0 {
+            self.late = self.late || self.waits.get();
+            self.shown = self.step;
+        }
+        Ok(&self.text[..self.text.len().min(self.shown)])
     }
 
-    fn lines<A: Allocator>(&self, alloc: A) -> Lines<&'static [u8], A> {
-        self.input.lines(alloc)
-    }
-
-    fn reader(&self) -> &'static [u8] {
-        self.input
-    }
-}
-
-impl Print for Memory {
-    fn print<D: Display + Drop>(&self, value: D) -> io::Result<()> {
-        put(&self.output, value.to_string(self.alloc)?.as_bytes())
-    }
-
-    fn println<D: Display + Drop>(&self, value: D) -> io::Result<()> {
-        self.print(value)?;
-        put(&self.output, b"\n")
-    }
-
-    fn write_all(&self, bytes: &[u8]) -> io::Result<()> {
-        put(&self.output, bytes)
+    fn consume(&mut self, amount: usize) {
+        self.text.consume(amount);
+        self.shown = self.shown.saturating_sub(amount);
     }
 }
 
-impl Eprint for Memory {
-    fn eprint<D: Display + Drop>(&self, value: D) -> io::Result<()> {
-        put(&self.errors, value.to_string(self.alloc)?.as_bytes())
+/// A writer that notes whether something written waits to be flushed, and counts its flushes.
+#[derive(Drop)]
+struct Flushed<'l> {
+    waits: &'l Cell<bool>,
+    flushes: u32,
+}
+
+impl Write for Flushed<'_> {
+    fn write(&mut self, bytes: &[u8]) -> io::Result<usize> {
+        self.waits.set(true);
+        Ok(bytes.len())
     }
 
-    fn eprintln<D: Display + Drop>(&self, value: D) -> io::Result<()> {
-        self.eprint(value)?;
-        put(&self.errors, b"\n")
+    fn flush(&mut self) -> io::Result<()> {
+        self.waits.set(false);
+        self.flushes = self.flushes.saturating_add(1);
+        Ok(())
     }
 }
 
@@ -153,8 +139,8 @@ fn answers_lines(rt: HostRuntime) -> Result<(), Fail> {
             "end\nwidth none\nbad command\nbad command\nbad command\nbad command\nbad command\n",
         ),
         (
-            "flat x\nfont 00\nfont 0\nlenient 00\ncode8c\ncodes 8c",
-            "bad command\nbad command\nbad command\nbad command\nbad command\nbad command\n",
+            "flat x\nfont x\nfont 0\nlenient 00\ncode8c\ncodes 8c",
+            "bad command\nbad hex\nbad hex\nbad command\nbad command\nbad command\n",
         ),
         (
             "flat\ncode 200a0e\nlocal 8c8d150b\nrun\nflat\nflat \ncode 8C8D\nflat",
@@ -163,6 +149,21 @@ fn answers_lines(rt: HostRuntime) -> Result<(), Fail> {
         (
             "code 8c06\ncode 8\ncode 8g\ncode  8c\ncode 8c \nrun",
             "ok\nbad hex\nbad hex\nbad hex\nbad hex\nHLineTo 1\nend\nwidth none\n",
+        ),
+        // Two names: one with control characters of ASCII and another, and a byte that is no text.
+        (
+            "font \nfont 01000401000201010207411f7fc285ff000000000000",
+            "fault 1\nheader 1 0 4 1\nnames 2\nname A\nname ??\u{85}\u{fffd}\nstrings 0\nglobals 0\ndictionaries 0\nend\n",
+        ),
+        // Two dictionaries with the same parts.
+        (
+            "font 01000401000000020101060ba5118dab12a5118dab120000000000010101020e8d130000",
+            "header 1 0 4 1\nnames 0\nstrings 0\nglobals 0\ndictionaries 2\nfont Standard ISOAdobe glyphs 1 locals 0\nfont Standard ISOAdobe glyphs 1 locals 0\nend\n",
+        ),
+        // A char set of the font's own, and one of another format.
+        (
+            "font 0100040100000001010108a111a90f8da7120000000000010101020e8d130000\nfont 0100040100000001010108a111a50f8da7120000000000010101020e8d130000",
+            "header 1 0 4 1\nnames 0\nstrings 0\nglobals 0\ndictionaries 1\nfont Standard Format0 glyphs 1 locals 0\nend\nfault 16\n",
         ),
         ("code 06\nrun", "ok\nfault 20\nwidth none\n"),
         (
@@ -258,12 +259,44 @@ fn meets_faults_of_the_writer(rt: HostRuntime) -> Result<(), Fail> {
 }
 
 #[test]
+fn flushes_before_it_waits(rt: HostRuntime) -> Result<(), Fail> {
+    // So many bytes are shown at a time; whether more than two flushes are needed.
+    for (step, often) in [
+        (1, true),
+        (5, true),
+        (6, true),
+        (17, true),
+        (18, false),
+        (99, false),
+    ] {
+        let waits = Cell::new(false);
+        let mut reader = Asked {
+            text: b"code\nrun\nflat\nrun\n",
+            step,
+            shown: 0,
+            waits: &waits,
+            late: false,
+        };
+        let mut writer = Flushed {
+            waits: &waits,
+            flushes: 0,
+        };
+        let outcome = session(rt.alloc(), &mut reader, &mut writer);
+        assert!(rt; outcome.is_ok(), "at {step}");
+        assert!(rt; !reader.late && !waits.get(), "at {step}");
+        assert_eq!(rt; writer.flushes > 2, often, "at {step}");
+    }
+    Ok(())
+}
+
+#[test]
 fn starts_by_its_words(rt: HostRuntime) -> Result<(), Fail> {
     let usage = "usage: psfont [font PATH]\n";
     let table = [
-        ("", 0, "ok\nbad command\n", ""),
-        ("font x", 2, "", usage),
+        ("", 0, "ok\nfault 1\n", ""),
+        ("font missing", 1, "", "psfont: fault 2\n"),
         ("font", 2, "", usage),
+        ("lenient x", 2, "", usage),
         ("run", 2, "", usage),
         ("font x y", 2, "", usage),
     ];
@@ -272,23 +305,11 @@ fn starts_by_its_words(rt: HostRuntime) -> Result<(), Fail> {
         for word in text.split_whitespace() {
             words.push(String::from_str(rt.alloc(), word)?)?;
         }
-        let memory = Memory {
-            alloc: rt.alloc(),
-            input: b"code\nfont",
-            output: RefCell::new(Vec::new(rt.alloc())),
-            errors: RefCell::new(Vec::new(rt.alloc())),
-        };
+        let memory = Memory::new(&rt, b"code\nfont");
         assert_eq!(rt; start(&memory, words.as_slice()), status, "at {text:?}");
-        assert_eq!(rt;
-            memory.output.into_inner().as_slice(),
-            output.as_bytes(),
-            "at {text:?}"
-        );
-        assert_eq!(rt;
-            memory.errors.into_inner().as_slice(),
-            errors.as_bytes(),
-            "at {text:?}"
-        );
+        let (printed, told) = memory.printed();
+        assert_eq!(rt; printed.as_slice(), output.as_bytes(), "at {text:?}");
+        assert_eq!(rt; told.as_slice(), errors.as_bytes(), "at {text:?}");
     }
     Ok(())
 }
