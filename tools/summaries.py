@@ -1,0 +1,105 @@
+#!/usr/bin/env python3
+"""Compares what psfont tells of real fonts with what fontTools reads of the same tables.
+
+    apt-get install -y python3-fonttools fonts-cantarell
+    (cd crates/psfont && rt run < stdin)
+    /usr/bin/python3 tools/summaries.py fonts-cantarell
+
+Each word is an installed Debian package, of which each file .otf is taken, or a font file. Each table `CFF ` is written to
+a file of its own, and `psfont font FILE` is asked what it holds. Where it answers, every line has to be what fontTools
+reads: the header's four bytes, the names, how many strings, global subroutines and dictionaries there are, and of each
+dictionary the encoding, the format of the char set, and how many glyphs and local subroutines it has. Where it refuses,
+the refusal has to be the first of these causes that fontTools sees in a dictionary: an encoding of the font's own (16), a
+char set of format 2 (16), no Private (14), no Subrs (14). The refusals are counted by their cause. The status is 1 where
+something differs.
+"""
+
+import collections
+import pathlib
+import subprocess
+import sys
+import tempfile
+
+sys.dont_write_bytecode = True
+
+from dictionaries import files_of
+from fontTools.ttLib import TTFont
+
+PSFONT = pathlib.Path(__file__).resolve().parent.parent / "crates" / "psfont" / "out" / "psfont"
+ENCODINGS = ["Standard", "Expert"]
+CHAR_SETS = ["ISOAdobe", "Expert", "ExpertSubset"]
+
+
+def cause_of(top, table):
+    """Why a dictionary's font is refused, and the refusal's number; None where it is not."""
+    if top.rawDict.get("Encoding", 0) not in (0, 1):
+        return "an encoding of its own", 16
+    char_set = top.rawDict.get("charset", 0)
+    if char_set > 2 and table[char_set] == 2:
+        return "a char set of format 2", 16
+    if "Private" not in top.rawDict:
+        return "no Private", 14
+    if "Subrs" not in top.Private.rawDict:
+        return "no Subrs", 14
+    return None
+
+
+def line_of(top, table):
+    """What psfont has to tell of a dictionary."""
+    char_set = top.rawDict.get("charset", 0)
+    of_set = CHAR_SETS[char_set] if char_set < 3 else f"Format{table[char_set]}"
+    encoding = ENCODINGS[top.rawDict.get("Encoding", 0)]
+    return f"font {encoding} {of_set} glyphs {len(top.CharStrings)} locals {len(top.Private.Subrs)}"
+
+
+def shown(name):
+    return "".join("?" if ord(c) < 0x20 or ord(c) == 0x7F else c for c in name)
+
+
+def expected(font, table):
+    """The lines that psfont has to print, the status, and the cause of a refusal."""
+    cff = font["CFF "].cff
+    tops = [cff.topDictIndex[i] for i in range(len(cff.topDictIndex))]
+    for top in tops:
+        cause = cause_of(top, table)
+        if cause:
+            return [f"psfont: fault {cause[1]}"], 1, cause[0]
+    lines = ["header {} {} {} {}".format(*table[:4]), f"names {len(cff.fontNames)}"]
+    lines += [f"name {shown(name)}" for name in cff.fontNames]
+    lines += [f"strings {len(cff.strings.strings)}", f"globals {len(cff.GlobalSubrs)}", f"dictionaries {len(tops)}"]
+    lines += [line_of(top, table) for top in tops]
+    return lines + ["end"], 0, "read"
+
+
+def told(table, folder):
+    """The lines that psfont prints, on either output, and the status."""
+    path = pathlib.Path(folder) / "table"
+    path.write_bytes(table)
+    done = subprocess.run([PSFONT, "font", path], capture_output=True, text=True)
+    return (done.stdout + done.stderr).splitlines(), done.returncode
+
+
+def main(words):
+    if not words:
+        sys.exit(__doc__)
+    causes, differ = collections.Counter(), 0
+    with tempfile.TemporaryDirectory() as folder:
+        for path in [path for word in words for path in files_of(word)]:
+            font = TTFont(path, lazy=True)
+            if "CFF " not in font:
+                continue
+            table = font.getTableData("CFF ")
+            lines, status, cause = expected(font, table)
+            causes[cause] += 1
+            printed = told(table, folder)
+            if printed != (lines, status):
+                differ += 1
+                print(f"{path}: psfont: {printed}, fontTools: {(lines, status)}")
+    for cause, count in causes.most_common():
+        print(f"{cause}: {count}")
+    print(f"all: {sum(causes.values())} fonts, {differ} differ")
+    return 1 if differ else 0
+
+
+if __name__ == "__main__":
+    sys.exit(main(sys.argv[1:]))
