@@ -7,101 +7,102 @@ use std::io;
 use std::io::ErrorKind;
 use std::test::Fail;
 
+/// The refusals but a fault of the tape, their numbers and their texts.
+const REFUSALS: &[(Error, u8, &str)] = &[
+    (Error::UnexpectedEof, 1, "failed to fill whole buffer"),
+    (Error::Memory, 3, "failed to find memory"),
+    (Error::TapeStuck, 4, "found a tape that stands still"),
+    (Error::MalformedOffset, 5, "found a malformed offset"),
+    (Error::MalformedIndex, 6, "found a malformed index"),
+    (Error::MalformedNumber, 7, "found a malformed number"),
+    (Error::OutOfRangeNumber, 8, "found a number out of range"),
+    (Error::UnknownOperator, 9, "found an unknown operator"),
+    (Error::MalformedCharSet, 10, "found a malformed char set"),
+    (
+        Error::UnknownCharSetFormat,
+        11,
+        "found an unknown char-set format",
+    ),
+    (
+        Error::UnknownCharStringFormat,
+        12,
+        "found an unknown char-string format",
+    ),
+    (
+        Error::MalformedOperation(Operator::Private),
+        13,
+        "found a malformed operation with operator Private",
+    ),
+    (
+        Error::MissingOperation(Operator::CharStrings),
+        14,
+        "failed to find an operation with operator CharStrings",
+    ),
+    (Error::OutOfRangeOffset, 15, "found an offset out of range"),
+    (
+        Error::Unsupported(Part::CustomEncoding),
+        16,
+        "found an unsupported part",
+    ),
+    (
+        Error::Unsupported(Part::CharSetFormat2),
+        16,
+        "found an unsupported part",
+    ),
+    (
+        Error::Unsupported(Part::Random),
+        16,
+        "found an unsupported part",
+    ),
+    (
+        Error::Unsupported(Part::Put),
+        16,
+        "found an unsupported part",
+    ),
+    (
+        Error::Unsupported(Part::Get),
+        16,
+        "found an unsupported part",
+    ),
+    (Error::ExpectedOperand, 17, "expected an operand"),
+    (
+        Error::ExpectedInteger,
+        18,
+        "expected an operand of a different type",
+    ),
+    (Error::ExpectedMoreOperands, 19, "expected more operands"),
+    (Error::MalformedOperands, 20, "found malformed operands"),
+    (Error::InvalidOperand, 21, "found an invalid operand"),
+    (Error::MissingSubroutine, 22, "failed to find a subroutine"),
+    (
+        Error::ReturnWithoutCaller,
+        23,
+        "found a return operator without a caller",
+    ),
+    (
+        Error::TrailingData,
+        24,
+        "found trailing data after the end operator",
+    ),
+    (Error::TooDeep, 25, "found calls nested too deep"),
+    (Error::Overflow, 26, "found an overflow"),
+    (Error::ZeroDivisor, 27, "found a zero divisor"),
+    (Error::NegativeRoot, 28, "found a root of a negative number"),
+    (Error::TooManyStems, 29, "found too many stems"),
+    (Error::AlreadyFailed, 30, "the program has failed before"),
+];
+
 #[test]
 fn refusals(rt: HostRuntime) -> Result<(), Fail> {
-    let refusals = [
-        (Error::UnexpectedEof, 1, "failed to fill whole buffer"),
-        (
-            Error::Io(io::Error::from(ErrorKind::NotFound)),
-            2,
-            "found a fault of the tape",
-        ),
-        (Error::Memory, 3, "failed to find memory"),
-        (Error::TapeStuck, 4, "found a tape that stands still"),
-        (Error::MalformedOffset, 5, "found a malformed offset"),
-        (Error::MalformedIndex, 6, "found a malformed index"),
-        (Error::MalformedNumber, 7, "found a malformed number"),
-        (Error::OutOfRangeNumber, 8, "found a number out of range"),
-        (Error::UnknownOperator, 9, "found an unknown operator"),
-        (Error::MalformedCharSet, 10, "found a malformed char set"),
-        (
-            Error::UnknownCharSetFormat,
-            11,
-            "found an unknown char-set format",
-        ),
-        (
-            Error::UnknownCharStringFormat,
-            12,
-            "found an unknown char-string format",
-        ),
-        (
-            Error::MalformedOperation(Operator::Private),
-            13,
-            "found a malformed operation with operator Private",
-        ),
-        (
-            Error::MissingOperation(Operator::CharStrings),
-            14,
-            "failed to find an operation with operator CharStrings",
-        ),
-        (Error::OutOfRangeOffset, 15, "found an offset out of range"),
-        (
-            Error::Unsupported(Part::CustomEncoding),
-            16,
-            "found an unsupported part",
-        ),
-        (
-            Error::Unsupported(Part::CharSetFormat2),
-            16,
-            "found an unsupported part",
-        ),
-        (
-            Error::Unsupported(Part::Random),
-            16,
-            "found an unsupported part",
-        ),
-        (
-            Error::Unsupported(Part::Put),
-            16,
-            "found an unsupported part",
-        ),
-        (
-            Error::Unsupported(Part::Get),
-            16,
-            "found an unsupported part",
-        ),
-        (Error::ExpectedOperand, 17, "expected an operand"),
-        (
-            Error::ExpectedInteger,
-            18,
-            "expected an operand of a different type",
-        ),
-        (Error::ExpectedMoreOperands, 19, "expected more operands"),
-        (Error::MalformedOperands, 20, "found malformed operands"),
-        (Error::InvalidOperand, 21, "found an invalid operand"),
-        (Error::MissingSubroutine, 22, "failed to find a subroutine"),
-        (
-            Error::ReturnWithoutCaller,
-            23,
-            "found a return operator without a caller",
-        ),
-        (
-            Error::TrailingData,
-            24,
-            "found trailing data after the end operator",
-        ),
-        (Error::TooDeep, 25, "found calls nested too deep"),
-        (Error::Overflow, 26, "found an overflow"),
-        (Error::ZeroDivisor, 27, "found a zero divisor"),
-        (Error::NegativeRoot, 28, "found a root of a negative number"),
-        (Error::TooManyStems, 29, "found too many stems"),
-        (Error::AlreadyFailed, 30, "the program has failed before"),
-    ];
-    for (error, code, message) in refusals {
-        assert_eq!(rt; error.code(), code);
+    for (error, code, message) in REFUSALS {
+        assert!(rt; error.code() == *code);
         let text = error.to_string(rt.alloc())?;
-        assert_eq!(rt; text.as_str(), message);
+        assert!(rt; text.as_str() == *message);
     }
+    let fault = Error::Io(io::Error::from(ErrorKind::NotFound));
+    assert!(rt; fault.code() == 2);
+    let text = fault.to_string(rt.alloc())?;
+    assert!(rt; text.as_str() == "found a fault of the tape");
     // Faults of others.
     let end = Error::from(io::Error::from(ErrorKind::UnexpectedEof));
     assert!(rt; matches!(end, Error::UnexpectedEof));
@@ -112,7 +113,7 @@ fn refusals(rt: HostRuntime) -> Result<(), Fail> {
     ] {
         match Error::from(io::Error::from(kind)) {
             Error::Io(fault) => assert!(rt; fault.kind() == kind),
-            other => assert_eq!(rt; other.code(), 2),
+            other => assert!(rt; other.code() == 2),
         }
     }
     assert!(rt; matches!(Error::from(AllocError), Error::Memory));

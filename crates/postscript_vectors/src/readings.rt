@@ -48,22 +48,27 @@ const PLACES: [(u64, u8, u16, u8, u8); 5] = [
 fn read_twelve<R: AllocGlobal + Abort, T: Tape>(rt: &R, tape: &mut T, name: &str) -> Outcome<()> {
     let wanted = (0x01, 0x0203, 0xff05_0607, [0x08, 0x09, 0x0a], [0x0b, 0x0c]);
     assert!(rt; read_each(rt.alloc(), tape)? == wanted, "at {name}");
-    assert_eq!(rt; Tape::position(tape)?, 12, "at {name}");
-    assert_eq!(rt; code_of(Tape::take::<u8>(tape, rt.alloc())), 1, "at {name}");
+    assert!(rt; Tape::position(tape)? == 12, "at {name}");
+    assert!(rt;
+        code_of(Tape::take::<u8>(tape, rt.alloc())) == 1,
+        "at {name}"
+    );
     for (place, byte, number, two, four) in PLACES {
-        assert_eq!(rt; tape.jump(place)?, place, "at {name}");
-        assert_eq!(rt; Tape::position(tape)?, place, "at {name}");
-        assert_eq!(rt; tape.peek::<u8>(rt.alloc())?, byte, "at {name}");
-        assert_eq!(rt;
-            tape.peek::<u16>(rt.alloc()).unwrap_or(0),
-            number,
+        assert!(rt; tape.jump(place)? == place, "at {name}");
+        assert!(rt; Tape::position(tape)? == place, "at {name}");
+        assert!(rt; tape.peek::<u8>(rt.alloc())? == byte, "at {name}");
+        assert!(rt;
+            tape.peek::<u16>(rt.alloc()).unwrap_or(0) == number,
             "at {name}"
         );
-        assert_eq!(rt; code_of(tape.peek::<u16>(rt.alloc())), two, "at {name}");
-        assert_eq!(rt; code_of(tape.peek::<u32>(rt.alloc())), four, "at {name}");
-        assert_eq!(rt; Tape::position(tape)?, place, "at {name}");
-        assert_eq!(rt; Tape::take::<u8>(tape, rt.alloc())?, byte, "at {name}");
-        assert_eq!(rt; Tape::position(tape)?, place.saturating_add(1), "at {name}");
+        assert!(rt; code_of(tape.peek::<u16>(rt.alloc())) == two, "at {name}");
+        assert!(rt; code_of(tape.peek::<u32>(rt.alloc())) == four, "at {name}");
+        assert!(rt; Tape::position(tape)? == place, "at {name}");
+        assert!(rt; Tape::take::<u8>(tape, rt.alloc())? == byte, "at {name}");
+        assert!(rt;
+            Tape::position(tape)? == place.saturating_add(1),
+            "at {name}"
+        );
     }
     Ok(())
 }
@@ -93,8 +98,8 @@ fn tapes(rt: HostRuntime) -> Outcome<()> {
     // A cursor goes past its end, where nothing can be read.
     let mut tape = Cursor::new(TWELVE.as_slice());
     for place in [12, 13, u64::MAX] {
-        assert_eq!(rt; tape.jump(place)?, place);
-        assert_eq!(rt; code_of(tape.take::<u8>(rt.alloc())), 1);
+        assert!(rt; tape.jump(place)? == place);
+        assert!(rt; code_of(tape.take::<u8>(rt.alloc())) == 1);
     }
     Ok(())
 }
@@ -209,18 +214,16 @@ fn failing_tapes(rt: HostRuntime) -> Outcome<()> {
             for (question, wanted, place, reads) in *row {
                 let found = answer(rt.alloc(), &mut tape, wrapping, *question)?;
                 assert!(rt; found == *wanted, "at {calls} {wrapping:?} {question:?}");
-                assert_eq!(rt;
-                    tape.place(),
-                    *place,
+                assert!(rt;
+                    tape.place() == *place,
                     "at {calls} {wrapping:?} {question:?}"
                 );
-                assert_eq!(rt;
-                    tape.reads(),
-                    *reads,
+                assert!(rt;
+                    tape.reads() == *reads,
                     "at {calls} {wrapping:?} {question:?}"
                 );
             }
-            assert_eq!(rt; tape.failures(), 1, "at {calls} {wrapping:?}");
+            assert!(rt; tape.failures() == 1, "at {calls} {wrapping:?}");
         }
     }
     // Wanting bytes are the end of the tape, and no fault of it.
@@ -229,7 +232,7 @@ fn failing_tapes(rt: HostRuntime) -> Outcome<()> {
             let mut tape = TroubledTape::new(&TWELVE[..length], Trouble::OneByte);
             let found = answer(rt.alloc(), &mut tape, wrapping, Question::Each)?;
             assert!(rt; found == Err(1), "at {length} {wrapping:?}");
-            assert_eq!(rt; tape.failures(), 0);
+            assert!(rt; tape.failures() == 0);
         }
     }
     Ok(())
@@ -245,20 +248,20 @@ fn lists(rt: HostRuntime) -> Outcome<()> {
     for count in [3, 65_537, usize::MAX] {
         tape.jump(0)?;
         let refused: Result<Vec<u8>> = tape.take_given(rt.alloc(), count);
-        assert_eq!(rt; code_of(refused), 1);
+        assert!(rt; code_of(refused) == 1);
     }
     // Longer than the list grows at a time.
     let zeros = vec![in rt.alloc(); 0u8; 150_000]?;
     let mut tape = Cursor::new(zeros);
     let copied: Vec<u8> = tape.take_given(rt.alloc(), 150_000)?;
-    assert_eq!(rt; copied.len(), 150_000);
-    assert_eq!(rt; Tape::position(&mut tape)?, 150_000);
+    assert!(rt; copied.len() == 150_000);
+    assert!(rt; Tape::position(&mut tape)? == 150_000);
     // Values of two bytes.
     let mut tape = Cursor::new(TWELVE.as_slice());
     let numbers: Vec<u16> = read_many(rt.alloc(), &mut tape, 3)?;
     assert!(rt; numbers.as_slice() == [0x0102, 0x03ff, 0x0506].as_slice());
     let none: Vec<u32> = read_many(rt.alloc(), &mut tape, 0)?;
     assert!(rt; none.is_empty());
-    assert_eq!(rt; code_of(read_many::<u16, _>(rt.alloc(), &mut tape, 4)), 1);
+    assert!(rt; code_of(read_many::<u16, _>(rt.alloc(), &mut tape, 4)) == 1);
     Ok(())
 }
