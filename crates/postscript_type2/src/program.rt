@@ -4,7 +4,7 @@ ghost use Rattle.postscript_base.specs.Error.{code as number, IsOneOf, IsListed}
 ghost use Rattle.postscript_base.specs.Refusal.{refusal_of};
 ghost use Rattle.postscript_type2.specs.Program.Endings.{run_refusals, flatten_refusals, next_refusals};
 ghost use Rattle.postscript_type2.specs.Program.Evaluation.{run_of};
-ghost use Rattle.postscript_type2.specs.Program.Flat.{flat_text};
+ghost use Rattle.postscript_type2.specs.Program.Flat.{flat_text, flat_len as the_flat_len};
 ghost use Rattle.postscript_type2.specs.Program.Inlining.{KeepsMeaning, FlatTextKeepsMeaning};
 ghost use Rattle.postscript_type2.specs.Program.Meaning.{IsRunOf};
 ghost use Rattle.postscript_type2.specs.Program.Programs.{begun, Next, ended, failed};
@@ -23,7 +23,7 @@ mod state;
 mod subroutines;
 
 use crate::operation::{Operand, Operation, Operations};
-use flat::flat_code;
+use flat::{flat_code, measured};
 use machine::{Event, Machine};
 use postscript_base::{Error, Result};
 use std::alloc::Global;
@@ -110,6 +110,27 @@ impl<'l> Program<'l> {
         ensures { result ≡ self.now.width }
     {
         self.machine.state.width.flatten()
+    }
+
+    /// How many bytes the flat code of `flatten` has; `usize::MAX` where it has more.
+    ///
+    /// Refused: what the run is refused with, `Memory`.
+    pub fn flat_len(
+        alloc: Global,
+        code: &'l [u8],
+        global: &'l [Vec<u8>],
+        local: &'l [Vec<u8>],
+    ) -> Result<usize>
+        ensures faultless { let run = run_of (subroutines global.now local.now) code.now in
+            OnOk result (fault_of run.end ≡ None) }
+        ensures measures { let run = run_of (subroutines global.now local.now) code.now in
+            IfOk result (λ len. len ≡ the_flat_len run.trace) }
+        ensures meant { IfOk result (λ len. (run : Run) × IsRunOf (subroutines global.now local.now) code.now run × (len ≡ the_flat_len run.trace)) }
+        ensures refused { let run = run_of (subroutines global.now local.now) code.now in
+            IfErr result (λ e. (e ≡ Error.Memory) ⊎ (fault_of run.end ≡ Some (refusal_of e))) }
+        ensures listed { IsListed flatten_refusals result }
+    {
+        measured(Machine::new(alloc, code, global, local))
     }
 
     /// The same glyph as code without calls: the phrases of the run in their order, byte for byte with the bytes of their
