@@ -1,5 +1,5 @@
 //! The programs.
-ghost use Rattle.std.specs.Prelude.{◌≡◌, ◌⊎◌, MatchResult, OnOk, IfOk, IfErr, IfSome};
+ghost use Rattle.std.specs.Prelude.{◌≡◌, ◌⊎◌, length, MatchResult, OnOk, IfOk, IfErr, IfSome};
 ghost use Rattle.postscript_base.specs.Error.{code as number, IsOneOf, IsListed};
 ghost use Rattle.postscript_base.specs.Refusal.{refusal_of};
 ghost use Rattle.postscript_type2.specs.Program.Endings.{run_refusals, flatten_refusals, next_refusals};
@@ -135,7 +135,7 @@ impl<'l> Program<'l> {
 
     /// The same glyph as code without calls: the phrases of the run in their order, byte for byte with the bytes of their
     /// masks. A call keeps its number and drops it again (`0c 12` stands for its operator), and a return drops a zero
-    /// (`8b 0c 12`). It ends where the run ends.
+    /// (`8b 0c 12`). It ends where the run ends, and has as many bytes as `flat_len` tells.
     ///
     /// Refused: what the run is refused with, `Memory`.
     pub fn flatten(
@@ -155,8 +155,11 @@ impl<'l> Program<'l> {
             IfErr result (λ e. (e ≡ Error.Memory) ⊎ (fault_of run.end ≡ Some (refusal_of e))) }
         ensures listed { IsListed flatten_refusals result }
         ensures law { FlatTextKeepsMeaning }
+        ensures measured { let run = run_of (subroutines global.now local.now) code.now in
+            IfOk result (λ flat. length flat.items ≡ the_flat_len run.trace) }
     {
-        flat_code(alloc, Machine::new(alloc, code, global, local))
+        let len = Program::flat_len(alloc, code, global, local)?;
+        flat_code(alloc, len, Machine::new(alloc, code, global, local))
     }
 }
 

@@ -61,15 +61,15 @@ pub(crate) fn measured(machine: Machine<'_>) -> Result<usize>
     }
 }
 
-/// The flat code of what a machine still answers.
-pub(crate) fn flat_code(alloc: Global, machine: Machine<'_>) -> Result<Vec<u8>>
+/// The flat code of what a machine still answers, in memory that is taken at once for so many bytes.
+pub(crate) fn flat_code(alloc: Global, len: usize, machine: Machine<'_>) -> Result<Vec<u8>>
     requires { IsNested machine }
     ensures faultless { OnOk result (fault_of (still_of machine.entry).end ≡ None) }
     ensures text { IfOk result (λ flat. flat.items ≡ flat_text (still_of machine.entry).trace) }
     ensures refused { IfErr result (λ e. (e ≡ errors.Memory) ⊎ (fault_of (still_of machine.entry).end ≡ Some (refusal_of e))) }
 {
     let mut machine = machine;
-    let mut flat = Vec::new(alloc);
+    let mut flat = Vec::with_capacity(alloc, len)?;
     loop {
         let event = machine.advance()?;
         match event {
