@@ -24,7 +24,7 @@ mod subroutines;
 
 use crate::operation::{Operand, Operation, Operations};
 use flat::{flat_code, measured};
-use machine::{Event, Machine};
+use machine::Machine;
 use postscript_base::{Error, Result};
 use std::alloc::Global;
 use std::marker::Model;
@@ -87,18 +87,15 @@ impl<'l> Program<'l> {
             Phase::Ended => return Ok(None),
             Phase::Failed => return Err(Error::AlreadyFailed),
         }
-        loop {
-            match self.machine.advance() {
-                Ok(Event::Went(_)) => {}
-                Ok(Event::Answered(said, operands)) => return Ok(Some((said.operator, operands))),
-                Ok(Event::UsedUp | Event::Over(_)) => {
-                    self.phase = Phase::Ended;
-                    return Ok(None);
-                }
-                Err(e) => {
-                    self.phase = Phase::Failed;
-                    return Err(Error::from(e));
-                }
+        match self.machine.answer() {
+            Ok(Some(operation)) => Ok(Some(operation)),
+            Ok(None) => {
+                self.phase = Phase::Ended;
+                Ok(None)
+            }
+            Err(e) => {
+                self.phase = Phase::Failed;
+                Err(Error::from(e))
             }
         }
     }

@@ -55,7 +55,10 @@ pub(crate) fn measured(machine: Machine<'_>) -> Result<usize>
         match machine.advance()? {
             Event::UsedUp => return Ok(len),
             Event::Went(said) => len = len.saturating_add(measure(said)),
-            Event::Answered(said, _operands) => len = len.saturating_add(measure(said)),
+            Event::Answered(said, taken) => {
+                machine.clear(taken);
+                len = len.saturating_add(measure(said));
+            }
             Event::Over(said) => return Ok(len.saturating_add(measure(said))),
         }
     }
@@ -75,7 +78,10 @@ pub(crate) fn flat_code(alloc: Global, len: usize, machine: Machine<'_>) -> Resu
         match event {
             Event::UsedUp => return Ok(flat),
             Event::Went(said) => append(&mut flat, said)?,
-            Event::Answered(said, _operands) => append(&mut flat, said)?,
+            Event::Answered(said, taken) => {
+                machine.clear(taken);
+                append(&mut flat, said)?;
+            }
             Event::Over(said) => {
                 append(&mut flat, said)?;
                 return Ok(flat);
