@@ -31,15 +31,26 @@ fn measure(said: Said<'_>) -> usize
     front.len().saturating_add(back.len())
 }
 
+/// Appends bytes, one at a time, since they are few.
+#[inline(always)]
+fn put(flat: &mut Vec<u8>, bytes: &[u8]) -> Result<()>
+    ensures ok { OnOk result (flat.new.items ≡ flat.old.items ++ bytes.now) }
+    ensures err { IfErr result (λ e. e ≡ errors.Memory) }
+{
+    for byte in bytes {
+        flat.push(*byte)?;
+    }
+    Ok(())
+}
+
 /// Appends a phrase as it stands in flat code.
 fn append(flat: &mut Vec<u8>, said: Said<'_>) -> Result<()>
     ensures ok { OnOk result (flat.new.items ≡ flat.old.items ++ flat_bytes (said_of said.entry)) }
     ensures err { IfErr result (λ e. e ≡ errors.Memory) }
 {
     let (front, back) = flat_parts(said);
-    flat.extend_from_slice(front)?;
-    flat.extend_from_slice(back)?;
-    Ok(())
+    put(flat, front)?;
+    put(flat, back)
 }
 
 /// The length of the flat code of what a machine still answers.
