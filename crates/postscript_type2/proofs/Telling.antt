@@ -8,11 +8,10 @@ use Rattle.postscript_type2.specs.declared.program.Answers.{Answers}
 use Rattle.postscript_type2.specs.Program.Effects.{start}
 use Rattle.postscript_type2.specs.Program.Endings.{run_refusals}
 use Rattle.postscript_type2.specs.Program.Evaluation.{run_of}
-use Rattle.postscript_type2.specs.Program.Flat.{flat_text}
 use Rattle.postscript_type2.specs.Program.Meaning.{IsRunOf}
 use Rattle.postscript_type2.specs.Program.Programs.{begun}
 use Rattle.postscript_type2.specs.Program.Routines.{Lists}
-use Rattle.postscript_type2.specs.Program.Runs.{Run}
+use Rattle.postscript_type2.specs.Program.Runs.{Said, Run}
 use Rattle.postscript_type2.specs.Program.Whole.{Tells, TellsPending}
 use Rattle.postscript_type2.proofs.EndingLaws.{law, told-listed}
 use Rattle.postscript_type2.proofs.MeaningLaws.{complete}
@@ -34,8 +33,8 @@ pub tells-listed : (lists : Lists) (code : List ℕ) (r : Result Answers Error) 
 tells-listed lists code (Ok told) h = told-listed told.fault (run_of lists code).end (law lists code) h.fault
 tells-listed lists code (Err e) h = tt
 
--- the flat text of a run by the rules
-pub text-meant : {V E : Type 0} (items : V → List ℕ) (lists : Lists) (code : List ℕ) (r : Result V E) → IfOk r (λ flat. items flat ≡ flat_text (run_of lists code).trace) →
-    IfOk r (λ flat. (run : Run) × IsRunOf lists code run × (items flat ≡ flat_text run.trace))
-text-meant items lists code (Ok flat) text = (run_of lists code, complete lists 10 0 (omega arith) code start, text)
-text-meant items lists code (Err e) text = tt
+-- what is told of a run, as its flat text, by the rules
+pub of-meant : {V E A : Type 0} (seen : V → A) (of : List Said → A) (lists : Lists) (code : List ℕ) (r : Result V E) → IfOk r (λ v. seen v ≡ of (run_of lists code).trace) →
+    IfOk r (λ v. (run : Run) × IsRunOf lists code run × (seen v ≡ of run.trace))
+of-meant seen of lists code (Ok v) is = (run_of lists code, complete lists 10 0 (omega arith) code start, is)
+of-meant seen of lists code (Err e) is = tt

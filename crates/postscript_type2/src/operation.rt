@@ -437,7 +437,7 @@ const FOURS: Option<Lengths> = Some(Lengths {
 });
 
 /// The lengths of each operator, in the order of `Operator`.
-const LENGTHS: [Option<Lengths>; 47] = [
+static LENGTHS: [Option<Lengths>; 47] = [
     PAIRS, // HStem
     PAIRS, // VStem
     ONE, // VMoveTo

@@ -1,10 +1,10 @@
 //! The programs.
-ghost use Rattle.std.specs.Prelude.{◌≡◌, ◌⊎◌, MatchResult, OnOk, IfOk, IfErr, IfSome};
+ghost use Rattle.std.specs.Prelude.{◌≡◌, ◌⊎◌, length, MatchResult, OnOk, IfOk, IfErr, IfSome};
 ghost use Rattle.postscript_base.specs.Error.{code as number, IsOneOf, IsListed};
 ghost use Rattle.postscript_base.specs.Refusal.{refusal_of};
 ghost use Rattle.postscript_type2.specs.Program.Endings.{run_refusals, flatten_refusals, next_refusals};
 ghost use Rattle.postscript_type2.specs.Program.Evaluation.{run_of};
-ghost use Rattle.postscript_type2.specs.Program.Flat.{flat_text};
+ghost use Rattle.postscript_type2.specs.Program.Flat.{flat_text, flat_len as the_flat_len};
 ghost use Rattle.postscript_type2.specs.Program.Inlining.{KeepsMeaning, FlatTextKeepsMeaning};
 ghost use Rattle.postscript_type2.specs.Program.Meaning.{IsRunOf};
 ghost use Rattle.postscript_type2.specs.Program.Programs.{begun, Next, ended, failed};
@@ -23,8 +23,8 @@ mod state;
 mod subroutines;
 
 use crate::operation::{Operand, Operation, Operations};
-use flat::flat_code;
-use machine::{Event, Machine};
+use flat::{flat_code, measured};
+use machine::Machine;
 use postscript_base::{Error, Result};
 use std::alloc::Global;
 use std::marker::Model;
@@ -87,18 +87,15 @@ impl<'l> Program<'l> {
             Phase::Ended => return Ok(None),
             Phase::Failed => return Err(Error::AlreadyFailed),
         }
-        loop {
-            match self.machine.advance() {
-                Ok(Event::Went(_)) => {}
-                Ok(Event::Answered(said, operands)) => return Ok(Some((said.operator, operands))),
-                Ok(Event::UsedUp | Event::Over(_)) => {
-                    self.phase = Phase::Ended;
-                    return Ok(None);
-                }
-                Err(e) => {
-                    self.phase = Phase::Failed;
-                    return Err(Error::from(e));
-                }
+        match self.machine.answer() {
+            Ok(Some(operation)) => Ok(Some(operation)),
+            Ok(None) => {
+                self.phase = Phase::Ended;
+                Ok(None)
+            }
+            Err(e) => {
+                self.phase = Phase::Failed;
+                Err(Error::from(e))
             }
         }
     }
@@ -112,9 +109,30 @@ impl<'l> Program<'l> {
         self.machine.state.width.flatten()
     }
 
+    /// How many bytes the flat code of `flatten` has; `usize::MAX` where it has more.
+    ///
+    /// Refused: what the run is refused with, `Memory`.
+    pub fn flat_len(
+        alloc: Global,
+        code: &'l [u8],
+        global: &'l [Vec<u8>],
+        local: &'l [Vec<u8>],
+    ) -> Result<usize>
+        ensures faultless { let run = run_of (subroutines global.now local.now) code.now in
+            OnOk result (fault_of run.end ≡ None) }
+        ensures measures { let run = run_of (subroutines global.now local.now) code.now in
+            IfOk result (λ len. len ≡ the_flat_len run.trace) }
+        ensures meant { IfOk result (λ len. (run : Run) × IsRunOf (subroutines global.now local.now) code.now run × (len ≡ the_flat_len run.trace)) }
+        ensures refused { let run = run_of (subroutines global.now local.now) code.now in
+            IfErr result (λ e. (e ≡ Error.Memory) ⊎ (fault_of run.end ≡ Some (refusal_of e))) }
+        ensures listed { IsListed flatten_refusals result }
+    {
+        measured(Machine::new(alloc, code, global, local))
+    }
+
     /// The same glyph as code without calls: the phrases of the run in their order, byte for byte with the bytes of their
     /// masks. A call keeps its number and drops it again (`0c 12` stands for its operator), and a return drops a zero
-    /// (`8b 0c 12`). It ends where the run ends.
+    /// (`8b 0c 12`). It ends where the run ends, and has as many bytes as `flat_len` tells.
     ///
     /// Refused: what the run is refused with, `Memory`.
     pub fn flatten(
@@ -134,8 +152,11 @@ impl<'l> Program<'l> {
             IfErr result (λ e. (e ≡ Error.Memory) ⊎ (fault_of run.end ≡ Some (refusal_of e))) }
         ensures listed { IsListed flatten_refusals result }
         ensures law { FlatTextKeepsMeaning }
+        ensures measured { let run = run_of (subroutines global.now local.now) code.now in
+            IfOk result (λ flat. length flat.items ≡ the_flat_len run.trace) }
     {
-        flat_code(alloc, Machine::new(alloc, code, global, local))
+        let len = Program::flat_len(alloc, code, global, local)?;
+        flat_code(alloc, len, Machine::new(alloc, code, global, local))
     }
 }
 

@@ -25,6 +25,16 @@ const FLAT: &[Row] = &[
     ("8e8c200a150e", "8d0b", "8e8c200c128d8b0c12150e"),
 ];
 
+/// A code in hex, its local subroutines in hex, and the length of its flat code.
+const FLAT_LENGTHS: &[(&str, &str, usize)] = &[
+    ("200a0e", "8c8d150b", 10),
+    ("200a", "8c0b", 7),
+    ("200a8c8d150e", "8c16", 5),
+    ("", "", 0),
+    // 512 moves, and a thousand calls.
+    ("200a0e", DOUBLING, 7163),
+];
+
 /// A code in hex, its local subroutines in hex, and the number of the fault.
 const FAULTY: &[(&str, &str, u8)] = &[
     ("8c8d", "", 1),
@@ -41,6 +51,19 @@ fn told_alone(alloc: Global, code: &[u8]) -> Outcome<String> {
     Ok(text_of(alloc, &answers)?)
 }
 
+/// Measures the flat code of a code.
+fn check_length<R: AllocGlobal + Abort>(
+    rt: &R,
+    code: &str,
+    local: &[Vec<u8>],
+    wanted: usize,
+) -> Outcome<()> {
+    let bytes = bytes_of(rt.alloc(), code)?;
+    let len = Program::flat_len(rt.alloc(), bytes.as_slice(), &[], local)?;
+    assert_eq!(rt; len, wanted, "at {code}");
+    Ok(())
+}
+
 /// Flattens a code, and its flat code again.
 fn check<R: AllocGlobal + Abort>(rt: &R, row: &Row) -> Outcome<()> {
     let (code, local, wanted) = *row;
@@ -49,6 +72,7 @@ fn check<R: AllocGlobal + Abort>(rt: &R, row: &Row) -> Outcome<()> {
     let wanted = bytes_of(rt.alloc(), wanted)?;
     let flat = Program::flatten(rt.alloc(), bytes.as_slice(), &[], local.as_slice())?;
     assert_eq!(rt; flat.as_slice(), wanted.as_slice(), "at {code}");
+    check_length(rt, code, local.as_slice(), wanted.len())?;
     let again = Program::flatten(rt.alloc(), flat.as_slice(), &[], &[])?;
     assert_eq!(rt; again.as_slice(), flat.as_slice(), "at {code}");
     let answers = type2::run(rt.alloc(), bytes.as_slice(), &[], local.as_slice())?;
@@ -58,7 +82,7 @@ fn check<R: AllocGlobal + Abort>(rt: &R, row: &Row) -> Outcome<()> {
     Ok(())
 }
 
-/// Flattens a code whose run is refused.
+/// Flattens and measures a code whose run is refused.
 fn check_faulty<R: AllocGlobal + Abort>(
     rt: &R,
     code: &str,
@@ -68,6 +92,10 @@ fn check_faulty<R: AllocGlobal + Abort>(
     let bytes = bytes_of(rt.alloc(), code)?;
     let local = routines_of(rt.alloc(), local)?;
     match Program::flatten(rt.alloc(), bytes.as_slice(), &[], local.as_slice()) {
+        Ok(_) => assert!(rt; false, "at {code}"),
+        Err(fault) => assert_eq!(rt; fault.code(), number, "at {code}"),
+    }
+    match Program::flat_len(rt.alloc(), bytes.as_slice(), &[], local.as_slice()) {
         Ok(_) => assert!(rt; false, "at {code}"),
         Err(fault) => assert_eq!(rt; fault.code(), number, "at {code}"),
     }
@@ -81,6 +109,10 @@ fn flat_codes(rt: HostRuntime) -> Outcome<()> {
     }
     for (code, local, number) in FAULTY {
         check_faulty(&rt, code, local, *number)?;
+    }
+    for (code, local, wanted) in FLAT_LENGTHS {
+        let local = routines_of(rt.alloc(), local)?;
+        check_length(&rt, code, local.as_slice(), *wanted)?;
     }
     // 512 moves, and a thousand calls.
     let code = bytes_of(rt.alloc(), "200a0e")?;

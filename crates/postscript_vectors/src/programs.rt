@@ -73,13 +73,19 @@ fn write_fault(text: &mut String, fault: &Error) -> Result<(), AllocError> {
     write!(text, "fault {code}")
 }
 
-/// The answers of a run as a text.
-pub fn text_of(alloc: Global, answers: &Answers) -> Result<String, AllocError> {
+/// The operations of a run as a text.
+fn operations_of(alloc: Global, answers: &Answers) -> Result<String, AllocError> {
     let mut text = String::new(alloc);
     for operation in &answers.operations {
         write_operation(&mut text, operation)?;
         text.push_str(" | ")?;
     }
+    Ok(text)
+}
+
+/// The answers of a run as a text.
+pub fn text_of(alloc: Global, answers: &Answers) -> Result<String, AllocError> {
+    let mut text = operations_of(alloc, answers)?;
     match &answers.fault {
         Some(fault) => write_fault(&mut text, fault)?,
         None => text.push_str("end")?,
@@ -145,6 +151,46 @@ fn runs(rt: HostRuntime) -> Outcome<()> {
         let answers = type2::run(rt.alloc(), code.as_slice(), &[], &[])?;
         assert!(rt; answers.fault.is_none(), "at {count}");
         assert_eq!(rt; answers.operations.len(), count);
+    }
+    Ok(())
+}
+
+/// The number of the fault of a run, 0 where there is none.
+fn fault_of(answers: &Answers) -> u8 {
+    match &answers.fault {
+        Some(fault) => fault.code(),
+        None => 0,
+    }
+}
+
+/// Runs each front of a code. Its operations begin the whole code's. Its fault is that of the whole code, or bytes are wanting.
+fn check_fronts<R: AllocGlobal + Abort>(rt: &R, code: &str, local: &str) -> Outcome<()> {
+    let bytes = bytes_of(rt.alloc(), code)?;
+    let local = routines_of(rt.alloc(), local)?;
+    let whole = type2::run(rt.alloc(), bytes.as_slice(), &[], local.as_slice())?;
+    let all = operations_of(rt.alloc(), &whole)?;
+    for length in 0..bytes.len() {
+        let part = type2::run(rt.alloc(), &bytes[..length], &[], local.as_slice())?;
+        let begun = operations_of(rt.alloc(), &part)?;
+        assert!(rt;
+            all.as_str().starts_with(begun.as_str()),
+            "at {code} cut to {length}"
+        );
+        let fault = fault_of(&part);
+        assert!(rt;
+            fault < 2 || fault == fault_of(&whole),
+            "at {code} cut to {length}"
+        );
+    }
+    Ok(())
+}
+
+#[test]
+fn fronts(rt: HostRuntime) -> Outcome<()> {
+    for rows in [PATHS_AND_NUMBERS, CALLS, PATHS_AND_HINTS, ARITHMETIC] {
+        for (code, local, _) in rows {
+            check_fronts(&rt, code, local)?;
+        }
     }
     Ok(())
 }

@@ -1,6 +1,6 @@
 -- Flat text: the phrases of a run in their order, without its calls and returns.
 use Rattle.std.specs.List.{flat_map}
-use Rattle.std.specs.Prelude.{ℕ, ◌-◌, List, [], ◌∷◌, ◌++◌, take, length}
+use Rattle.std.specs.Prelude.{ℕ, ◌-◌, ◌^◌, List, [], ◌∷◌, ◌++◌, take, length, min}
 use Rattle.postscript_type2.specs.declared.operation.Operator.{Operator}
 use Rattle.postscript_type2.specs.declared.operation.Operator.TheVariants.{Drop}
 use Rattle.postscript_type2.specs.Operation.Kinds.{Kind, Draws, DeclaresStems, Masks, Works, CallsFrom, GoesBack, EndsGlyph, IsRefused, kind}
@@ -37,3 +37,7 @@ flat_bytes said = (flat_said said).bytes
 -- the flat text of a trace
 abbrev pub flat_text : List Said → List ℕ
 flat_text trace = flat_map flat_bytes trace
+
+-- its length as a usize: usize::MAX where it is longer
+abbrev pub flat_len : List Said → ℕ
+flat_len trace = min (length (flat_text trace)) (2 ^ 64 - 1)

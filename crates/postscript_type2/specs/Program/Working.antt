@@ -6,8 +6,9 @@ use Rattle.postscript_type2.specs.Refused.{reason}
 use Rattle.postscript_type2.specs.declared.program.state.Effect.{Effect}
 use Rattle.postscript_type2.specs.declared.program.state.Effect.TheVariants as effects
 use Rattle.postscript_type2.specs.declared.program.state.State as code
+use Rattle.postscript_type2.specs.declared.program.state.Taken.{Taken}
 use Rattle.postscript_type2.specs.declared.program.subroutines.Subroutines as code_lists
-use Rattle.postscript_type2.specs.Program.Effects.{State, Move, Keeps, Clears, Calls, Returns, Ends, Refuses, stacked, cleared}
+use Rattle.postscript_type2.specs.Program.Effects.{State, Move, Keeps, Clears, Calls, Returns, Ends, Refuses, stacked, cleared, settled, last_of}
 use Rattle.postscript_type2.specs.Program.Routines.{Lists, texts}
 
 -- the code's subroutines and state
@@ -22,23 +23,30 @@ abbrev pub settled_width : Option (Option ℤ) → Option ℤ
 settled_width (Some width) = width
 settled_width None = None
 
+-- the width settled where so many operands count as taken, and then the stack cleared of what is taken
+abbrev pub settled_by : (counted : ℕ) → State → State
+settled_by counted st = record { stack = st.stack; stems = st.stems; width = Some (settled st.width st.stack counted) }
+
+abbrev pub cleared_of : Taken → State → State
+cleared_of taken st = cleared st.stems (settled st.width st.stack taken.counted)
+
 -- what the code answers of an operator, with the state after it
 abbrev pub move_of : Effect → State → Move
 move_of effects.Keeps st = Keeps st.stack
-move_of (effects.Clears operands mask) st = Clears operands.items st.stems (settled_width st.width) mask
+move_of (effects.Clears taken mask) st = Clears (last_of st.stack taken.count) st.stems (settled st.width st.stack taken.counted) mask
 move_of (effects.Calls routine) st = Calls routine.now st.stack
 move_of effects.Returns st = Returns
-move_of (effects.Ends width) st = Ends width
+move_of (effects.Ends counted) st = Ends (settled st.width st.stack counted)
 
 -- how many bytes of a mask belong to an effect
 abbrev pub mask_of : Effect → ℕ
-mask_of (effects.Clears operands mask) = mask
+mask_of (effects.Clears taken mask) = mask
 mask_of effect = 0
 
--- the state after a move
+-- the state after a move, before what is taken is cleared off the stack
 abbrev pub after_move : Move → State → State
 after_move (Keeps stack) st = stacked stack st
-after_move (Clears taken stems width mask) st = cleared stems width
+after_move (Clears taken stems width mask) st = record { stack = st.stack; stems = stems; width = st.width }
 after_move (Calls routine stack) st = stacked stack st
 after_move Returns st = st
 after_move (Ends width) st = st

@@ -4,10 +4,9 @@ ghost use Rattle.postscript_type2.specs.declared.refused.Refused.TheVariants as 
 ghost use Rattle.postscript_type2.specs.Program.Effects.{stem_move, mask_move, stems_after as the_stems_after};
 ghost use Rattle.postscript_type2.specs.Program.Working.{state_of, mask_of, Does};
 
-use super::state::{Effect, State};
+use super::state::{Effect, State, Taken};
 use crate::operation::Operator;
 use crate::refused::{Refused, Result};
-use std::alloc::Global;
 
 impl State {
     /// The stems, where each two operands of the stack are one more.
@@ -24,26 +23,24 @@ impl State {
     }
 
     /// An operator that declares stems.
-    pub(super) fn stem<'l>(&mut self, alloc: Global, operator: Operator) -> Result<Effect<'l>>
+    pub(super) fn stem<'l>(&mut self, operator: Operator) -> Result<Effect<'l>>
         ensures value { Does (stem_move operator (state_of self.old)) self.old result self.new }
         ensures room { IfOk result (λ e. mask_of e ≡ 0) }
     {
         let stems = self.stems_after()?;
-        let Some(taken) = operator.taken(self.stack.len()) else {
+        let Some(count) = operator.taken(self.stack.len()) else {
             return Err(Refused::MalformedOperands);
         };
-        let operands = self.clear(alloc, taken, taken)?;
         self.stems = stems;
-        Ok(Effect::Clears(operands, 0))
+        let taken = Taken {
+            count,
+            counted: count,
+        };
+        Ok(Effect::Clears(taken, 0))
     }
 
     /// A mask, where so many bytes are behind its operator.
-    pub(super) fn mask<'l>(
-        &mut self,
-        alloc: Global,
-        operator: Operator,
-        behind: usize,
-    ) -> Result<Effect<'l>>
+    pub(super) fn mask<'l>(&mut self, operator: Operator, behind: usize) -> Result<Effect<'l>>
         ensures value { (bytes : List ℕ) → length bytes ≡ behind → Does (mask_move operator bytes (state_of self.old)) self.old result self.new }
         ensures room { IfOk result (λ e. mask_of e ≤ behind) }
     {
@@ -52,12 +49,11 @@ impl State {
         if behind < mask {
             return Err(Refused::UnexpectedEof);
         }
-        let Some(taken) = operator.taken(self.stack.len()) else {
+        let Some(count) = operator.taken(self.stack.len()) else {
             return Err(Refused::MalformedOperands);
         };
-        let implied = self.stack.len() - self.stack.len() % 2;
-        let operands = self.clear(alloc, taken, implied)?;
+        let counted = self.stack.len() - self.stack.len() % 2;
         self.stems = stems;
-        Ok(Effect::Clears(operands, mask))
+        Ok(Effect::Clears(Taken { count, counted }, mask))
     }
 }

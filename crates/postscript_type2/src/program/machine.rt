@@ -1,14 +1,14 @@
 //! The machine of a program: one phrase at a time.
-ghost use Rattle.std.specs.Prelude.{◌≡◌, IfOk};
+ghost use Rattle.std.specs.Prelude.{◌≡◌, IfOk, IfSome};
 ghost use Rattle.postscript_type2.specs.Program.Evaluation.{run_of};
-ghost use Rattle.postscript_type2.specs.Program.Machines.{IsNested, still_of, Advances};
+ghost use Rattle.postscript_type2.specs.Program.Machines.{IsNested, still_of, still_behind, width_behind, Advances, TellsNext};
 ghost use Rattle.postscript_type2.specs.Program.Routines.{subroutines};
 
 use super::callers::{Callers, are_used_up};
 use super::routine::Routine;
-use super::state::{Effect, State};
+use super::state::{Effect, State, Taken};
 use super::subroutines::Subroutines;
-use crate::operation::{Operand, Operator};
+use crate::operation::{Operation, Operator};
 use crate::refused::{Refused, Result};
 use std::alloc::Global;
 use std::mem;
@@ -27,8 +27,8 @@ pub(crate) enum Event<'l> {
     UsedUp,
     /// The run goes on.
     Went(Said<'l>),
-    /// An operator that clears the stack was answered.
-    Answered(Said<'l>, Vec<Operand>),
+    /// An operator that clears the stack is answered. What it takes stands on the stack until that is cleared.
+    Answered(Said<'l>, Taken),
     /// EndChar: the end, without fault.
     Over(Said<'l>),
 }
@@ -88,12 +88,12 @@ impl<'l> Machine<'l> {
         let bytes = self.routine.passed(rest);
         let said = Said { operator, bytes };
         let behind = self.routine.len();
-        match self.state.act(self.alloc, self.lists, operator, behind)? {
+        match self.state.act(self.lists, operator, behind)? {
             Effect::Keeps => Ok(Event::Went(said)),
-            Effect::Clears(operands, mask) => {
+            Effect::Clears(taken, mask) => {
                 self.routine.skip(mask);
                 let bytes = self.routine.passed(rest);
-                Ok(Event::Answered(Said { operator, bytes }, operands))
+                Ok(Event::Answered(Said { operator, bytes }, taken))
             }
             Effect::Calls(code) => {
                 if self.left == 0 {
@@ -112,12 +112,42 @@ impl<'l> Machine<'l> {
                 self.left += 1;
                 Ok(Event::Went(said))
             }
-            Effect::Ends(width) => {
+            Effect::Ends(counted) => {
                 if !are_used_up(&self.routine, &self.callers) {
                     return Err(Refused::TrailingData);
                 }
-                self.state.width = Some(width);
+                self.state.settle(counted);
                 Ok(Event::Over(said))
+            }
+        }
+    }
+
+    /// Clears the stack of what an answered operator takes.
+    #[inline(always)]
+    pub(crate) fn clear(&mut self, taken: Taken)
+        requires nested { IsNested self.old }
+        ensures still { still_of self.new ≡ still_behind taken self.old }
+        ensures width { self.new.state.width ≡ Some (width_behind taken self.old) }
+        ensures nested { IsNested self.new }
+    {
+        self.state.clear(taken);
+    }
+
+    /// Runs up to the next operation, and answers it; None at an end without fault.
+    pub(crate) fn answer(&mut self) -> Result<Option<Operation>>
+        requires nested { IsNested self.old }
+        ensures tells { TellsNext (still_of self.old) self.old.state.width result self.new }
+        ensures nested { IfOk result (λ operation. IfSome operation (λ _. IsNested self.new)) }
+    {
+        loop {
+            match self.advance()? {
+                Event::Went(_) => {}
+                Event::Answered(said, taken) => {
+                    let operands = self.state.operands(self.alloc, taken)?;
+                    self.clear(taken);
+                    return Ok(Some((said.operator, operands)));
+                }
+                Event::UsedUp | Event::Over(_) => return Ok(None),
             }
         }
     }

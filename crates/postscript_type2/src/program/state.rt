@@ -1,11 +1,11 @@
 //! What an operator does with the stack.
-ghost use Rattle.std.specs.Prelude.{◌≡◌, ◌≤◌, ℕ, List, [], length, Some, OnErr, IfOk, IfErr};
+ghost use Rattle.std.specs.Prelude.{◌≡◌, ◌≤◌, ℕ, List, length, IfOk, IfErr};
 ghost use Rattle.postscript_type2.specs.declared.refused.Refused.TheVariants.{Memory};
 ghost use Rattle.postscript_type2.specs.Program.Effects.{settled as the_settled, path_move, last_of, effect, subroutine, call_move};
 ghost use Rattle.postscript_type2.specs.Operation.Kinds.{kind};
 ghost use Rattle.postscript_type2.specs.Program.Performing.{WorksOrDraws};
 ghost use Rattle.postscript_type2.specs.Program.Routines.{Lists, texts};
-ghost use Rattle.postscript_type2.specs.Program.Working.{lists_of, state_of, mask_of, Does};
+ghost use Rattle.postscript_type2.specs.Program.Working.{lists_of, state_of, mask_of, settled_by, cleared_of, Does};
 
 use super::stack::{perform, whole_operand};
 use super::subroutines::{Subroutines, named};
@@ -22,21 +22,27 @@ pub(crate) struct State {
     pub(crate) width: Option<Option<Operand>>,
 }
 
-/// What an operator does: it leaves a stack; it clears the stack and is answered with the operands taken, and so many bytes
-/// of a mask are its own; it calls a subroutine; it returns; or it ends the run.
+/// What an operator takes off the stack: so many operands, the last ones; and how many count as taken for the width.
+#[derive(Clone, Copy)]
+pub(crate) struct Taken {
+    pub(crate) count: usize,
+    pub(crate) counted: usize,
+}
+
+/// What an operator does: it leaves a stack; it takes operands, which stand on the stack until it is cleared, and so many
+/// bytes of a mask are its own; it calls a subroutine; it returns; or it ends the run, where so many operands count as taken.
 #[derive(Drop)]
 pub(crate) enum Effect<'l> {
     Keeps,
-    Clears(Vec<Operand>, usize),
+    Clears(Taken, usize),
     Calls(&'l [u8]),
     Returns,
-    Ends(Option<Operand>),
+    Ends(usize),
 }
 
 /// The width where the last `counted` operands count as taken.
 #[inline(always)]
 fn settled(width: Option<Option<Operand>>, stack: &[Operand], counted: usize) -> Option<Operand>
-    requires { counted ≤ length stack.now }
     ensures { result ≡ the_settled width stack.now counted }
 {
     match width {
@@ -45,51 +51,59 @@ fn settled(width: Option<Option<Operand>>, stack: &[Operand], counted: usize) ->
             if counted == stack.len() {
                 None
             } else {
-                Some(stack[stack.len() - counted - 1])
+                let place = stack.len().saturating_sub(counted).saturating_sub(1);
+                stack.get(place).copied()
             }
         }
     }
 }
 
 impl State {
-    /// Takes the last operands off the stack for an operation, and settles the width.
+    /// Settles the width, where the last `counted` operands count as taken.
     #[inline(always)]
-    pub(super) fn clear(
-        &mut self,
-        alloc: Global,
-        taken: usize,
-        counted: usize,
-    ) -> Result<Vec<Operand>>
-        requires taken { taken ≤ length self.old.stack.items }
-        requires counted { counted ≤ length self.old.stack.items }
-        ensures taken { IfOk result (λ operands. operands.items ≡ last_of self.old.stack.items taken) }
-        ensures width { IfOk result (λ _. self.new.width ≡ Some (the_settled self.old.width self.old.stack.items counted)) }
-        ensures stack { IfOk result (λ _. self.new.stack.items ≡ []) }
-        ensures stems { self.new.stems ≡ self.old.stems }
-        ensures kept { OnErr result (self.new.width ≡ self.old.width) }
-        ensures memory { IfErr result (λ e. e ≡ Memory) }
+    pub(super) fn settle(&mut self, counted: usize)
+        ensures { state_of self.new ≡ settled_by counted (state_of self.old) }
     {
-        let from = self.stack.len() - taken;
-        let operands = Vec::from_slice(alloc, &self.stack[from..])?;
         self.width = Some(settled(self.width, &self.stack, counted));
-        self.stack.clear();
+    }
+
+    /// The operands that are taken, as an operation has them.
+    #[inline(always)]
+    pub(super) fn operands(&self, alloc: Global, taken: Taken) -> Result<Vec<Operand>>
+        ensures ok { IfOk result (λ operands. operands.items ≡ last_of self.now.stack.items taken.count) }
+        ensures err { IfErr result (λ e. e ≡ Memory) }
+    {
+        let from = self.stack.len().saturating_sub(taken.count);
+        let operands = Vec::from_slice(alloc, &self.stack[from..])?;
         Ok(operands)
     }
 
+    /// Settles the width by what is taken, and clears the stack.
+    #[inline(always)]
+    pub(super) fn clear(&mut self, taken: Taken)
+        ensures { state_of self.new ≡ cleared_of taken (state_of self.old) }
+    {
+        self.settle(taken.counted);
+        self.stack.clear();
+    }
+
     /// An operator that draws.
-    fn path<'l>(&mut self, alloc: Global, operator: Operator) -> Result<Effect<'l>>
+    fn path<'l>(&mut self, operator: Operator) -> Result<Effect<'l>>
         ensures value { Does (path_move operator (state_of self.old)) self.old result self.new }
         ensures room { IfOk result (λ e. mask_of e ≡ 0) }
     {
-        let Some(taken) = operator.taken(self.stack.len()) else {
+        let Some(count) = operator.taken(self.stack.len()) else {
             return Err(Refused::MalformedOperands);
         };
-        let operands = self.clear(alloc, taken, taken)?;
-        Ok(Effect::Clears(operands, 0))
+        let taken = Taken {
+            count,
+            counted: count,
+        };
+        Ok(Effect::Clears(taken, 0))
     }
 
     /// An operator that works on the stack alone, and any other as one that draws.
-    fn work<'l>(&mut self, alloc: Global, operator: Operator) -> Result<Effect<'l>>
+    fn work<'l>(&mut self, operator: Operator) -> Result<Effect<'l>>
         requires { WorksOrDraws (kind operator) }
         ensures value { (lists : Lists) → (bytes : List ℕ) → Does (effect lists operator bytes (state_of self.old)) self.old result self.new }
         ensures room { IfOk result (λ effect. mask_of effect ≡ 0) }
@@ -99,7 +113,7 @@ impl State {
                 done?;
                 Ok(Effect::Keeps)
             }
-            None => self.path(alloc, operator),
+            None => self.path(operator),
         }
     }
 
@@ -118,7 +132,6 @@ impl State {
     /// What the operator does, where so many bytes are behind it.
     pub(crate) fn act<'l>(
         &mut self,
-        alloc: Global,
         lists: Subroutines<'l>,
         operator: Operator,
         behind: usize,
@@ -133,16 +146,16 @@ impl State {
             Operator::Return => Ok(Effect::Returns),
             Operator::EndChar => {
                 let counted = if self.stack.len() < 4 { 0 } else { 4 };
-                Ok(Effect::Ends(settled(self.width, &self.stack, counted)))
+                Ok(Effect::Ends(counted))
             }
             Operator::HStem | Operator::VStem | Operator::HStemHM | Operator::VStemHM => self.stem(
-                alloc, operator,
+                operator,
             ),
-            Operator::HintMask | Operator::CntrMask => self.mask(alloc, operator, behind),
+            Operator::HintMask | Operator::CntrMask => self.mask(operator, behind),
             Operator::Random => Err(Refused::Unsupported(Part::Random)),
             Operator::Put => Err(Refused::Unsupported(Part::Put)),
             Operator::Get => Err(Refused::Unsupported(Part::Get)),
-            _ => self.work(alloc, operator),
+            _ => self.work(operator),
         }
     }
 }

@@ -1,9 +1,9 @@
-use Rattle.std.proofs.Common.{◌≡◌, ◌∙◌, ◌+◌, ◌-◌, ◌<◌, suc, ap, sym, refl, ℕ, ℤ, List, ◌∷◌, take, length, inr, add-one, arith}
+use Rattle.std.proofs.Common.{◌≡◌, ◌∙◌, ◌+◌, ◌-◌, ◌<◌, suc, ap, sym, refl, ℕ, ℤ, Option, List, ◌∷◌, take, length, inr, add-one, arith}
 use Rattle.std.proofs.lemmas.Result.{err_from_is_err_and}
 use Rattle.postscript_type2.specs.Program.Callers.{rests}
-use Rattle.postscript_type2.specs.Program.Effects.{State, Keeps, Clears, Calls, Returns, Ends, effect, cleared, stacked}
+use Rattle.postscript_type2.specs.Program.Effects.{State, Keeps, Clears, Calls, Returns, Ends, effect, cleared, stacked, settled, last_of}
 use Rattle.postscript_type2.specs.Program.Routines.{Lists}
-use Rattle.postscript_type2.specs.Program.Working.{lists_of, state_of, settled_width, move_of, after_move}
+use Rattle.postscript_type2.specs.Program.Working.{lists_of, state_of, move_of, after_move}
 use Rattle.postscript_type2.proofs.Arms.{IsRead, some-of, none-of, front-of, used-up, kept, answered, entered, too-deep-call, returned, no-caller, finished, trailing, refused-or-memory, unread-or-memory}
 use Rattle.postscript_type2.proofs.program.machine.Machine.advance.Goals as goal
 
@@ -71,12 +71,14 @@ returns-in-Clears-clause-advances c =
     let read : IsRead bytes rest st ys op more = record { some = some; spelled = c.in_ok-operator.ensures.1; behind = c.in_ok-operator.ensures.2 } in
     let does = c.in_ok-act.ensures.value rest (sym c.len-behind.ensures) in
     let now : State = state_of c.act.new.self in
-    let moves : effect lists op rest (stacked ys st) ≡ Clears c.in-Clears.operands.items now.stems (settled_width now.width) c.in-Clears.mask = does.0 ∙ ap (λ done. move_of done now) c.in-Clears.is in
-    let becomes : now ≡ cleared now.stems (settled_width now.width) = does.1 ∙ ap (λ move. after_move move (stacked ys st)) moves in
+    let taken : List ℤ = last_of now.stack c.in-Clears.taken.count in
+    let width : Option ℤ = settled now.width now.stack c.in-Clears.taken.counted in
+    let moves : effect lists op rest (stacked ys st) ≡ Clears taken now.stems width c.in-Clears.mask = does.0 ∙ ap (λ done. move_of done now) c.in-Clears.is in
+    let becomes : now ≡ record { stack = ys; stems = now.stems; width = st.width } = does.1 ∙ ap (λ move. after_move move (stacked ys st)) moves in
     let behind : List ℕ = c.skip.new.self in
     let front : List ℕ = c.passed-bytes-in-Clears.result.now in
     let is_front : front ≡ take (length bytes - length behind) bytes = rw (← c.rest-rest.ensures) c.passed-bytes-in-Clears.ensures in
-    answered lists left callers bytes rest behind front st ys op more c.in-Clears.mask c.in-Clears.operands.items now (settled_width now.width) read moves becomes c.skip.ensures is_front
+    (answered lists left callers bytes rest behind front st ys op more c.in-Clears.mask taken (cleared now.stems width) width read moves refl c.skip.ensures is_front, ap (λ (s : State). s.width) becomes)
 
 pub returns-then-self-eq0-clause-advances : goal.returns-then-self-eq0-clause-advances
 returns-then-self-eq0-clause-advances c =
@@ -178,9 +180,10 @@ returns-then-not-are_used_up-clause-advances c =
     let read : IsRead bytes rest st ys op more = record { some = some; spelled = c.in_ok-operator.ensures.1; behind = c.in_ok-operator.ensures.2 } in
     let does = c.in_ok-act.ensures.value rest (sym c.len-behind.ensures) in
     let now : State = state_of c.act.new.self in
-    let moves : effect lists op rest (stacked ys st) ≡ Ends c.in-Ends.width = does.0 ∙ ap (λ done. move_of done now) c.in-Ends.is in
+    let width : Option ℤ = settled now.width now.stack c.in-Ends.counted in
+    let moves : effect lists op rest (stacked ys st) ≡ Ends width = does.0 ∙ ap (λ done. move_of done now) c.in-Ends.is in
     let becomes : now ≡ stacked ys st = does.1 ∙ ap (λ move. after_move move (stacked ys st)) moves in
-    (inr (trailing lists left callers bytes rest st ys op more c.in-Ends.width read moves c.if-not-are_used_up.ensures), ap (λ (s : State). s.width) becomes)
+    (inr (trailing lists left callers bytes rest st ys op more width read moves c.if-not-are_used_up.ensures), ap (λ (s : State). s.width) becomes)
 
 pub returns-else-not-are_used_up-clause-advances : goal.returns-else-not-are_used_up-clause-advances
 returns-else-not-are_used_up-clause-advances c =
@@ -199,5 +202,6 @@ returns-else-not-are_used_up-clause-advances c =
     let front : c.passed-bytes.result.now ≡ take (more + 1) bytes = front-of bytes rest c.passed-bytes.result.now (more + 1) c.in_ok-operator.ensures.2 is_front in
     let does = c.in_ok-act.ensures.value rest (sym c.len-behind.ensures) in
     let now : State = state_of c.act.new.self in
-    let moves : effect lists op rest (stacked ys st) ≡ Ends c.in-Ends.width = does.0 ∙ ap (λ done. move_of done now) c.in-Ends.is in
-    (c.in-Ends.width, finished lists left callers bytes rest c.passed-bytes.result.now st ys op more c.in-Ends.width read moves c.if-not-are_used_up.ensures front, refl)
+    let width : Option ℤ = settled now.width now.stack c.in-Ends.counted in
+    let moves : effect lists op rest (stacked ys st) ≡ Ends width = does.0 ∙ ap (λ done. move_of done now) c.in-Ends.is in
+    (width, finished lists left callers bytes rest c.passed-bytes.result.now st ys op more width read moves c.if-not-are_used_up.ensures front, ap (λ (s : State). s.width) c.settle.ensures)
