@@ -9,6 +9,7 @@ use crate::tape::fixed;
 use crate::{Result, Tape};
 
 /// The next byte.
+#[inline(always)]
 #[tactic(auto, unfolding(crate::specs::Numbers::number))]
 pub fn byte<T: Tape>(tape: &mut T) -> Result<u8>
     ensures exact { Reads same (T.state tape.old) result (T.state tape.new) (number 1) }
@@ -19,6 +20,7 @@ pub fn byte<T: Tape>(tape: &mut T) -> Result<u8>
 }
 
 /// The next two bytes.
+#[inline(always)]
 #[tactic(auto, unfolding(crate::specs::Numbers::number))]
 pub fn word<T: Tape>(tape: &mut T) -> Result<u16>
     ensures exact { Reads same (T.state tape.old) result (T.state tape.new) (number 2) }
@@ -28,6 +30,7 @@ pub fn word<T: Tape>(tape: &mut T) -> Result<u16>
 }
 
 /// The next four bytes.
+#[inline(always)]
 #[tactic(auto, unfolding(crate::specs::Numbers::number))]
 pub fn long_word<T: Tape>(tape: &mut T) -> Result<u32>
     ensures exact { Reads same (T.state tape.old) result (T.state tape.new) (number 4) }

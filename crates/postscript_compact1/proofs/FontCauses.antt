@@ -300,8 +300,8 @@ module _ (d : ReadsDictionaries) where
     where
       by : (o : Outcome (List Dictionary)) → maps_of items bytes place ≡ o → RefusedAs e o → HasRefused items (refusal_of e)
       by (Got ms next) is h = absurd h
-      by (Fault r) is h = reads_items.refused_only items (refusal_of e) bytes place (is ∙ ap (λ k. Fault k) (sym h))
-      by Past is h = absurd (reads_items.never_past items bytes place is)
+      by (Fault r) is h = (reads_items d).refused_only items (refusal_of e) bytes place (is ∙ ap (λ k. Fault k) (sym h))
+      by Past is h = absurd ((reads_items d).never_past items bytes place is)
 
   no_tables : (e : Error) (bytes : List ℕ) (there place : ℕ) → RefusedAs e (tables there bytes place) → NoTables e bytes there
   unfolding tables names dictionaries
@@ -316,7 +316,7 @@ module _ (d : ReadsDictionaries) where
       mapped : (ms : List Dictionary) (from to : ℕ) → dictionaries bytes from ≡ Got ms to → (i : Index) × IsIndex bytes from i to × AreDictionaries i.items ms
       mapped ms from to is =
           let h = accepted (Step index (λ i. Last (maps_of i.items))) bytes from ms to is in
-          let maps = reads_items.only h.0.items ms bytes h.1 to h.3 in
+          let maps = (reads_items d).only h.0.items ms bytes h.1 to h.3 in
           (h.0, subst (λ k. IsIndex bytes from h.0 k) (sym maps.1) (index_is from h.0 h.1 h.2), maps.0)
 
       no_names : Stops e (Step (at there index) (λ i. Done (map text i.items))) bytes place → NoTables e bytes there

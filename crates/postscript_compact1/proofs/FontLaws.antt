@@ -312,7 +312,7 @@ module _ (d : ReadsDictionaries) where
         index_at_is there bytes place h.names h.names_next h.are_names,
         sym h.texts,
         reads_indices.all bytes h.names_next h.dictionaries h.dictionaries_next h.are_items,
-        reads_items.all h.dictionaries.items t.dictionaries bytes h.dictionaries_next h.are_dictionaries,
+        (reads_items d).all h.dictionaries.items t.dictionaries bytes h.dictionaries_next h.are_dictionaries,
         reads_indices.all bytes h.dictionaries_next t.strings h.strings_next h.are_strings,
         reads_indices.all bytes h.strings_next t.subroutines next h.are_subroutines,
       ) refl
@@ -324,7 +324,7 @@ module _ (d : ReadsDictionaries) where
       let n = accepted (Step (at there index) (λ i. Done (map text i.items))) bytes place h.0 h.1 h.2 in
       let ds = h.3 in
       let m = accepted (Step index (λ i. Last (maps_of i.items))) bytes h.1 ds.0 ds.1 ds.2 in
-      let maps = reads_items.only m.0.items ds.0 bytes m.1 ds.1 m.3 in
+      let maps = (reads_items d).only m.0.items ds.0 bytes m.1 ds.1 m.3 in
       let s = ds.3 in
       let g = s.3 in
       let q : Tables = record { names = h.0; dictionaries = ds.0; strings = s.0; subroutines = g.0 } in

@@ -16,6 +16,7 @@ pub mod OperandLaws
 pub mod FontLaws
 pub mod CharSetRefused
 pub mod ItemsAre
+pub mod TextsAre
 pub mod FontClauses
 pub mod FontCauses
 pub mod FontRows

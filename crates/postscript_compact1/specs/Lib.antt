@@ -7,4 +7,5 @@ pub mod Encodings
 pub mod CharSets
 pub mod ItemsLaw
 pub mod Texts
+pub mod TextsLaw
 pub mod CharSetLaw

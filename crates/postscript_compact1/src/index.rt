@@ -203,6 +203,7 @@ impl Source for Length {
 
     ghost refusals = { 1 ∷ 2 ∷ 3 ∷ [] };
 
+    #[inline(always)]
     fn read<T: Tape>(&self, alloc: Global, tape: &mut T, _given: ()) -> Result<Vec<u8>> {
         Vec::<u8>::read(alloc, tape, self.0 as usize)
     }
@@ -224,7 +225,7 @@ fn lengths_from(alloc: Global, first: Offset, others: &[Offset]) -> Result<Vec<L
     ensures lengths { IfOk result (λ found. map (λ length. length.0) found.items ≡ lengths_from first others.now) }
     ensures listed { IsListed (3 ∷ []) result }
 {
-    let mut lengths = Vec::new(alloc);
+    let mut lengths = Vec::with_capacity(alloc, others.len())?;
     let mut low = first;
     for high in others {
         lengths.push(Length(high.0.saturating_sub(low.0)))?;

@@ -32,6 +32,7 @@ pub fn read<T: Tape>(alloc: Global, tape: &mut T) -> Result<Operand>
 }
 
 /// Reads a number behind its first byte.
+#[inline(always)]
 pub(super) fn begun<T: Tape>(alloc: Global, tape: &mut T, first: u8) -> Result<Operand>
     ensures exact { Reads same (T.state tape.old) result (T.state tape.new) (the_begun first) }
     ensures listed { IsListed (1 ∷ 2 ∷ 3 ∷ 7 ∷ 8 ∷ []) result }
@@ -44,6 +45,7 @@ pub(super) fn begun<T: Tape>(alloc: Global, tape: &mut T, first: u8) -> Result<O
 }
 
 /// Reads an integer behind its first byte.
+#[inline(always)]
 #[tactic(auto, unfolding(crate::specs::Compact1::Number::number))]
 fn integer<T: Tape>(tape: &mut T, first: u8) -> Result<Operand>
     requires { first ≢ 0x1e }

@@ -32,6 +32,7 @@ impl Value for Operation {
 
     ghost refusals = { 1 ∷ 2 ∷ 3 ∷ 7 ∷ 8 ∷ 9 ∷ [] };
 
+    #[inline(always)]
     fn read<T: Tape>(alloc: Global, tape: &mut T) -> Result<Operation> {
         let mut operands = Vec::new(alloc);
         'operands: loop {
@@ -43,6 +44,7 @@ impl Value for Operation {
 }
 
 /// Reads one operand more, or the operator.
+#[inline(always)]
 #[tactic(auto, unfolding(crate::specs::Compact1::Operation::step))]
 fn step<T: Tape>(
     alloc: Global,
@@ -71,6 +73,7 @@ fn begins_operand(first: u8) -> bool
 }
 
 /// Reads an operator behind its first byte.
+#[inline(always)]
 #[tactic(auto, using(crate::proofs::Outcomes::refused_after, crate::proofs::Known::known_answers, crate::proofs::Known::known_listed))]
 fn operator<T: Tape>(tape: &mut T, first: u8) -> Result<Operator>
     ensures exact { Reads same (T.state tape.old) result (T.state tape.new) (operator_begun first) }

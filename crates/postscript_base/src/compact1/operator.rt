@@ -67,6 +67,7 @@ pub enum Operator {
 
 impl Operator {
     /// The operator of a code. A code of two bytes is 0x0c00 and the second.
+    #[inline(always)]
     #[tactic(auto, unfolding(crate::specs::Compact1::Operators::operator_of))]
     pub fn from(code: u16) -> Result<Self>
         ensures { result ≡ ok_or (operator_of code) errors.UnknownOperator }

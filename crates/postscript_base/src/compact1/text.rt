@@ -32,6 +32,7 @@ pub(crate) fn read_text<T: Tape>(alloc: Global, tape: &mut T) -> Result<Vec<u8>>
 }
 
 /// Reads one byte of a text, and says whether this was the last.
+#[inline(always)]
 #[tactic(auto, unfolding(crate::specs::Compact1::Nibbles::step))]
 fn step<T: Tape>(tape: &mut T, text: &mut Vec<u8>) -> Result<bool>
     ensures exact { Reads (λ ended. (ended, text.new.items)) (T.state tape.old) result (T.state tape.new) (the_step text.old.items) }
@@ -46,6 +47,7 @@ fn step<T: Tape>(tape: &mut T, text: &mut Vec<u8>) -> Result<bool>
 }
 
 /// Takes one nibble more, and says whether it ends the text.
+#[inline(always)]
 fn push(text: &mut Vec<u8>, nibble: u8) -> Result<bool>
     ensures exact { MatchResult result (λ ended. one_nibble text.old.items nibble ≡ Some (ended, text.new.items)) (λ e. (e ≡ errors.Memory) ⊎ ((e ≡ errors.MalformedNumber) × (one_nibble text.old.items nibble ≡ None))) }
     ensures longer { MatchResult result (λ ended. ended ≡ false → vec_len text.old < vec_len text.new) (λ _. Unit {0}) }

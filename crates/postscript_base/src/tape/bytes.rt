@@ -1,5 +1,5 @@
 //! So many bytes, as a list.
-ghost use Rattle.std.specs.Prelude.{◌≡◌, ℕ, ◌+◌, ◌<◌, ◌^◌, List, [], ◌∷◌, OnOk, vec_len, map, refl};
+ghost use Rattle.std.specs.Prelude.{◌≡◌, ℕ, ◌+◌, List, [], ◌∷◌, OnOk, vec_len, map, refl};
 ghost use Rattle.postscript_base.specs.Error.{IsListed};
 ghost use Rattle.postscript_base.specs.Tape.{Reads};
 ghost use Rattle.postscript_base.specs.Numbers.{slice, slice_behind};
@@ -28,6 +28,7 @@ impl Walue for Vec<u8> {
 
     ghost refusals = { 1 ∷ 2 ∷ 3 ∷ [] };
 
+    #[inline(always)]
     fn read<T: Tape>(alloc: Global, tape: &mut T, count: usize) -> Result<Vec<u8>> {
         let mut bytes = Vec::new(alloc);
         while bytes.len() < count {
@@ -39,16 +40,12 @@ impl Walue for Vec<u8> {
 }
 
 /// Reads so many more bytes onto the end.
-#[tactic(auto, unfolding(crate::specs::Numbers::slice))]
+#[inline(always)]
 fn append<T: Tape>(tape: &mut T, bytes: &mut Vec<u8>, more: usize) -> Result<()>
-    requires { vec_len bytes.old + more < 2 ^ 64 }
     ensures exact { Reads (λ _. bytes.new.items) (T.state tape.old) result (T.state tape.new)
         (slice_behind bytes.old.items more) }
     ensures listed { IsListed (1 ∷ 2 ∷ 3 ∷ []) result }
     ensures len { OnOk result (vec_len bytes.new ≡ vec_len bytes.old + more) }
 {
-    let start = bytes.len();
-    bytes.resize(start + more, 0)?;
-    tape.read_full(&mut bytes[start..])?;
-    Ok(())
+    tape.read_onto(bytes, more)
 }

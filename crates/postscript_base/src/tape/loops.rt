@@ -142,6 +142,7 @@ pub fn read_to_end<V: Value + Drop, T: Tape>(alloc: Global, tape: &mut T) -> Res
 }
 
 /// Reads a value, or nothing where it is cut by the end.
+#[inline(always)]
 fn next<V: Value, T: Tape>(alloc: Global, tape: &mut T) -> Result<Option<V>>
     requires { TakesBytes V.reading }
     ensures exact { IsHonest (T.state tape.old) → Kept (T.state tape.old) (T.state tape.new)

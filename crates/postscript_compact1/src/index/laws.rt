@@ -6,6 +6,9 @@ ghost use Rattle.postscript_compact1.specs.Index.{index};
 ghost use Rattle.postscript_compact1.specs.IndexLaw.{ReadsIndices};
 ghost use Rattle.postscript_compact1.specs.ItemsLaw.{ReadsItems};
 ghost use Rattle.postscript_compact1.specs.Kinds.{char_strings};
+ghost use Rattle.postscript_compact1.specs.TextsLaw.{AgreesWithStd, KeepsUtf8};
+
+use postscript_base::compact1::laws::reads_dictionaries;
 
 /// An INDEX is read where the bytes at a place are one: a count, the size of the offsets, offsets that begin with 1 and
 /// rise, and the slices between them. Past the end bytes are wanting.
@@ -22,4 +25,13 @@ pub fn reads_indices()
 #[tactic(auto, using(crate::proofs::ItemsAre::reads_items))]
 pub fn reads_items()
     ensures law { ReadsItems }
+{
+    reads_dictionaries();
+}
+
+/// Bytes that are UTF-8 are their own text, and of any bytes the text is the one that `String::from_utf8_lossy` makes.
+#[tactic(auto, using(crate::proofs::TextsAre::keeps_utf8, crate::proofs::TextsAre::agrees_with_std))]
+pub fn reads_texts()
+    ensures law { KeepsUtf8 }
+    ensures same { AgreesWithStd }
 {}

@@ -1,0 +1,23 @@
+use Rattle.std.proofs.Common.{◌≡◌, List, ℕ, ◌+◌, ◌-◌, ◌++◌, length, take, drop, Option, Some, None, IfSome, option_map, vec_len, arith, rules, ◌∙◌, ap, sym}
+use Rattle.std.proofs.Math.Seq.{drop-append_seam}
+use Rattle.std.proofs.lemmas.List.{take-append-drop, drop-drop}
+use Rattle.std.specs.Io.KnownBytes.{Consumes}
+use Rattle.postscript_base.proofs.tape.read_seek.CursorReadSeek.read_onto.Goals as goal
+
+-- what stands behind the bytes in front
+behind : (xs ys zs : List ℕ) (n : ℕ) → zs ≡ xs ++ ys → n ≡ length xs → drop n zs ≡ ys
+behind xs ys zs n whole front = rw (whole, front) (drop-append_seam xs ys)
+
+-- so many bytes at a place are what is passed on the way behind them
+passed : (known : Option (List ℕ)) (all : List ℕ) (place more : ℕ) → IfSome known (λ bytes. all ≡ bytes)
+    → Consumes (option_map (drop place) known) (option_map (drop (place + more)) known) (take (place + more - place) (drop place all))
+passed None all place more is = tt
+passed (Some bytes) all place more is =
+    let count : place + more - place ≡ more = omega arith in
+    rw (count, is) (sym (take-append-drop more (drop place bytes)) ∙ ap (λ rest. take more (drop place bytes) ++ rest) (drop-drop more place bytes))
+
+pub returns-clause-bytes : goal.returns-clause-bytes
+returns-clause-bytes g c =
+    let front : vec_len c.args.bytes.now ≡ length c.args.bytes.now.items = search rules in
+    let read = behind _ _ _ _ c.in_ok-extend_from_slice.ensures.items front in
+    rw (read, c.set_position.ensures.inner, c.set_position.ensures.position, ← c.get_ref.ensures, ← c.position-place.ensures) (passed _ _ _ c.args.more c.as_byte_slice-all.ensures.bytes)
