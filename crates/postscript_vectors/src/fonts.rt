@@ -5,7 +5,7 @@ use postscript::Tape;
 use postscript::compact1::FontSet;
 use std::alloc::Global;
 use std::io;
-use std::io::{Cursor, Write};
+use std::io::{BufReader, Cursor, Write};
 use std::test::Fail;
 
 /// What a helper gives, or the error that fails its test.
@@ -86,6 +86,7 @@ const CHANGES: &[Change] = &[
     (19, 0x13, Err(14)),
     (30, 0x6c, Err(15)),
     (30, 0x6d, Err(6)),
+    // The local subroutines are the same slice as the strings.
     (30, 0x81, Ok(OF_FONT)),
     (31, 0x14, Err(14)),
     // A size of 0 reads no bytes, and the empty private dictionary has no Subrs.
@@ -204,8 +205,13 @@ fn fonts_behind_other_bytes(rt: HostRuntime) -> Outcome<()> {
     let read: FontSet = tape.take(rt.alloc())?;
     assert!(rt; summary(rt.alloc(), &read)?.as_slice() == OF_FONT.as_bytes());
     assert!(rt; tape.position() == 37);
+    let copy = read.clone()?;
+    assert!(rt; summary(rt.alloc(), &copy)?.as_slice() == OF_FONT.as_bytes());
     let mut one_byte = TroubledTape::new(font.as_slice(), Trouble::OneByte);
     let read: FontSet = one_byte.take(rt.alloc())?;
+    assert!(rt; summary(rt.alloc(), &read)?.as_slice() == OF_FONT.as_bytes());
+    let mut buffered = BufReader::new(rt.alloc(), Cursor::new(font.as_slice()))?;
+    let read: FontSet = buffered.take(rt.alloc())?;
     assert!(rt; summary(rt.alloc(), &read)?.as_slice() == OF_FONT.as_bytes());
     Ok(())
 }
