@@ -9,8 +9,10 @@ Each word is an installed Debian package, of which each file .otf is taken, or a
 a file of its own, and `psfont font FILE` is asked what it holds. Where it answers, every line has to be what fontTools
 reads: the header's four bytes, the names, how many strings, global subroutines and dictionaries there are, and of each
 dictionary the encoding, the format of the char set, and how many glyphs and local subroutines it has. Where it refuses,
-the refusal has to be the first of these causes that fontTools sees in a dictionary: an encoding of the font's own (16), a
-char set of format 2 (16), no Private (14), no Subrs (14). The refusals are counted by their cause. The status is 1 where
+the refusal has to be the first of these causes that fontTools sees, in the order of the reading: an item of no bytes among the
+strings or the global subroutines (6); of a dictionary, an encoding of the font's own (16), an item of no bytes among the char
+strings (6), a char set of format 2 (16), no Private (14), no Subrs (14), an item of no bytes among the local subroutines (6).
+The refusals are counted by their cause. The status is 1 where
 something differs.
 """
 
@@ -28,12 +30,21 @@ from fontTools.ttLib import TTFont
 PSFONT = pathlib.Path(__file__).resolve().parent.parent / "crates" / "psfont" / "out" / "psfont"
 ENCODINGS = ["Standard", "Expert"]
 CHAR_SETS = ["ISOAdobe", "Expert", "ExpertSubset"]
+EMPTY = "an item of no bytes", 6
+
+
+def has_empty(index):
+    """Whether an INDEX has an item of no bytes."""
+    offsets = getattr(index, "offsets", [])
+    return any(low == high for low, high in zip(offsets, offsets[1:]))
 
 
 def cause_of(top, table):
     """Why a dictionary's font is refused, and the refusal's number; None where it is not."""
     if top.rawDict.get("Encoding", 0) not in (0, 1):
         return "an encoding of its own", 16
+    if has_empty(top.CharStrings.charStringsIndex):
+        return EMPTY
     char_set = top.rawDict.get("charset", 0)
     if char_set > 2 and table[char_set] == 2:
         return "a char set of format 2", 16
@@ -41,6 +52,8 @@ def cause_of(top, table):
         return "no Private", 14
     if "Subrs" not in top.Private.rawDict:
         return "no Subrs", 14
+    if has_empty(top.Private.Subrs):
+        return EMPTY
     return None
 
 
@@ -60,8 +73,8 @@ def expected(font, table):
     """The lines that psfont has to print, the status, and the cause of a refusal."""
     cff = font["CFF "].cff
     tops = [cff.topDictIndex[i] for i in range(len(cff.topDictIndex))]
-    for top in tops:
-        cause = cause_of(top, table)
+    empty = "" in cff.strings.strings or has_empty(cff.GlobalSubrs)
+    for cause in [EMPTY if empty else None] + [cause_of(top, table) for top in tops]:
         if cause:
             return [f"psfont: fault {cause[1]}"], 1, cause[0]
     lines = ["header {} {} {} {}".format(*table[:4]), f"names {len(cff.fontNames)}"]
