@@ -26,35 +26,29 @@ fn every_glyph_of_the_predefined_sets(rt: HostRuntime) -> std::result::Result<()
     let strings = words(rt.alloc(), STRINGS)?;
     let experts = words(rt.alloc(), EXPERT)?;
     let subset = words(rt.alloc(), EXPERT_SUBSET)?;
-    assert_eq!(rt;
-        (strings.len(), experts.len(), subset.len()),
-        (391, 165, 86)
-    );
+    assert!(rt; (strings.len(), experts.len(), subset.len()) == (391, 165, 86));
     for number in 0..=u16::MAX {
         let place = usize::from(number);
-        assert_eq!(rt; get_standard_string(number), strings.get(place).copied());
+        assert!(rt; get_standard_string(number) == strings.get(place).copied());
         let named = if place <= 228 { place } else { 0 };
         let string = if named > 0 {
             strings.get(named).copied()
         } else {
             None
         };
-        assert_eq!(rt; CharSet::ISOAdobe.get(number), string);
+        assert!(rt; CharSet::ISOAdobe.get(number) == string);
         let before = place.wrapping_sub(1);
-        assert_eq!(rt; CharSet::Expert.get(number), experts.get(before).copied());
-        assert_eq!(rt;
-            CharSet::ExpertSubset.get(number),
-            subset.get(before).copied()
-        );
+        assert!(rt; CharSet::Expert.get(number) == experts.get(before).copied());
+        assert!(rt; CharSet::ExpertSubset.get(number) == subset.get(before).copied());
     }
     // Some by themselves.
-    assert_eq!(rt; get_standard_string(390), Some("Semibold"));
-    assert_eq!(rt; CharSet::Expert.get(2), Some("exclamsmall"));
-    assert_eq!(rt; CharSet::Expert.get(12), Some("comma"));
-    assert_eq!(rt; CharSet::Expert.get(165), Some("Ydieresissmall"));
-    assert_eq!(rt; CharSet::Expert.get(166), None);
-    assert_eq!(rt; CharSet::ExpertSubset.get(2), Some("dollaroldstyle"));
-    assert_eq!(rt; CharSet::ISOAdobe.get(0), None);
+    assert!(rt; get_standard_string(390) == Some("Semibold"));
+    assert!(rt; CharSet::Expert.get(2) == Some("exclamsmall"));
+    assert!(rt; CharSet::Expert.get(12) == Some("comma"));
+    assert!(rt; CharSet::Expert.get(165) == Some("Ydieresissmall"));
+    assert!(rt; CharSet::Expert.get(166) == None);
+    assert!(rt; CharSet::ExpertSubset.get(2) == Some("dollaroldstyle"));
+    assert!(rt; CharSet::ISOAdobe.get(0) == None);
     Ok(())
 }
 
@@ -64,22 +58,21 @@ fn every_code_of_the_encodings(rt: HostRuntime) -> std::result::Result<(), Fail>
         (Encoding::Standard, "Standard", STANDARD_ENCODING),
         (Encoding::Expert, "Expert", EXPERT_ENCODING),
     ] {
-        assert_eq!(rt; encoding.name(), name);
+        assert!(rt; encoding.name() == name);
         let mut codes = 0u16;
         for word in text.split(' ') {
-            assert_eq!(rt;
-                encoding.get(codes),
-                word.parse::<u16>().ok(),
+            assert!(rt;
+                encoding.get(codes) == word.parse::<u16>().ok(),
                 "{name} at {codes}"
             );
             codes = codes.saturating_add(1);
         }
-        assert_eq!(rt; codes, 256);
+        assert!(rt; codes == 256);
         for code in 256..=u16::MAX {
-            assert_eq!(rt; encoding.get(code), None);
+            assert!(rt; encoding.get(code) == None);
         }
     }
-    assert_eq!(rt; Encoding::Standard.get(42), Some(11));
+    assert!(rt; Encoding::Standard.get(42) == Some(11));
     Ok(())
 }
 
@@ -138,22 +131,21 @@ fn rows_of_char_sets(rt: HostRuntime) -> std::result::Result<(), Fail> {
         let read: Result<CharSet> = tape.take_given(rt.alloc(), *glyphs);
         match (read, wanted) {
             (Ok(set), Ok(wanted)) => {
-                assert_eq!(rt; text_of(rt.alloc(), &set)?.as_str(), *wanted, "at {row}");
-                assert_eq!(rt;
-                    text_of(rt.alloc(), &set.clone()?)?.as_str(),
-                    *wanted,
+                assert!(rt; text_of(rt.alloc(), &set)?.as_str() == *wanted, "at {row}");
+                assert!(rt;
+                    text_of(rt.alloc(), &set.clone()?)?.as_str() == *wanted,
                     "at {row}"
                 );
                 assert!(rt; !set.is_predefined(), "at {row}");
-                assert_eq!(rt; tape.position(), bytes.len() as u64, "at {row}");
+                assert!(rt; tape.position() == bytes.len() as u64, "at {row}");
                 // Cut at each length.
                 for length in 0..bytes.len() {
                     let mut cut = Cursor::new(&bytes[..length]);
                     let refused: Result<CharSet> = cut.take_given(rt.alloc(), *glyphs);
-                    assert_eq!(rt; code_of(refused), 1, "at {row}");
+                    assert!(rt; code_of(refused) == 1, "at {row}");
                 }
             }
-            (Err(e), Err(code)) => assert_eq!(rt; e.code(), *code, "at {row}"),
+            (Err(e), Err(code)) => assert!(rt; e.code() == *code, "at {row}"),
             _ => assert!(rt; false, "at {row}"),
         }
     }
@@ -163,17 +155,17 @@ fn rows_of_char_sets(rt: HostRuntime) -> std::result::Result<(), Fail> {
 #[test]
 fn sets_of_one_format(rt: HostRuntime) -> std::result::Result<(), Fail> {
     let refused: Result<CharSet0> = Cursor::new([1].as_slice()).take_given(rt.alloc(), 1);
-    assert_eq!(rt; code_of(refused), 10);
+    assert!(rt; code_of(refused) == 10);
     let refused: Result<CharSet1> = Cursor::new([0].as_slice()).take_given(rt.alloc(), 1);
-    assert_eq!(rt; code_of(refused), 10);
+    assert!(rt; code_of(refused) == 10);
     let set: CharSet0 = Cursor::new([0, 1, 1].as_slice()).take_given(rt.alloc(), 2)?;
-    assert_eq!(rt; set.clone()?.glyphs.as_slice(), [257].as_slice());
+    assert!(rt; set.clone()?.glyphs.as_slice() == [257].as_slice());
     let mut tape = Cursor::new([1, 2, 3].as_slice());
     let range: Range1 = Tape::take(&mut tape, rt.alloc())?;
-    assert_eq!(rt; (range.first, range.left), (258, 3));
+    assert!(rt; (range.first, range.left) == (258, 3));
     for set in [CharSet::ISOAdobe, CharSet::Expert, CharSet::ExpertSubset] {
         assert!(rt; set.is_predefined());
-        assert_eq!(rt; set.clone()?.name(), set.name());
+        assert!(rt; set.clone()?.name() == set.name());
     }
     // 65,535 glyphs, in ranges of 256 and of 1.
     for (left, count) in [(255, 256), (0, 65_535)] {
@@ -186,7 +178,7 @@ fn sets_of_one_format(rt: HostRuntime) -> std::result::Result<(), Fail> {
             bytes.extend_from_slice(&[0, 7, 253])?;
         }
         let set: CharSet1 = Cursor::new(bytes.as_slice()).take_given(rt.alloc(), 65_535)?;
-        assert_eq!(rt; set.clone()?.ranges.len() * 3 + 1, bytes.len());
+        assert!(rt; set.clone()?.ranges.len() * 3 + 1 == bytes.len());
     }
     Ok(())
 }

@@ -138,11 +138,14 @@ fn numbers(rt: HostRuntime) -> Result<(), Fail> {
         match (number::read(rt.alloc(), &mut tape), wanted) {
             (Ok(operand), Ok((text, whole))) => {
                 let shown = operand.to_string(rt.alloc())?;
-                assert_eq!(rt; shown.as_str(), *text);
+                assert!(rt; shown.as_str() == *text);
                 assert!(rt; operand.to_i32() == *whole, "at {text}");
-                assert_eq!(rt; Tape::position(&mut tape)?, bytes.len() as u64, "at {text}");
+                assert!(rt;
+                    Tape::position(&mut tape)? == bytes.len() as u64,
+                    "at {text}"
+                );
             }
-            (Err(fault), Err(code)) => assert_eq!(rt; fault.code(), *code, "at {bytes:?}"),
+            (Err(fault), Err(code)) => assert!(rt; fault.code() == *code, "at {bytes:?}"),
             _ => assert!(rt; false, "at {bytes:?}"),
         }
     }

@@ -75,22 +75,21 @@ fn rows_of_dictionaries(rt: HostRuntime) -> Result<(), Fail> {
         let mut tape = Cursor::new(*bytes);
         match (Tape::take::<Operations>(&mut tape, rt.alloc()), wanted) {
             (Ok(map), Ok(wanted)) => {
-                assert_eq!(rt; map.0.len(), wanted.len(), "at {row}");
+                assert!(rt; map.0.len() == wanted.len(), "at {row}");
                 for (operator, operands) in *wanted {
                     let Some(found) = map.0.get(operator) else {
                         assert!(rt; false, "at {row}");
                         continue;
                     };
-                    assert_eq!(rt;
-                        texts(rt.alloc(), found.as_slice())?.as_str(),
-                        *operands,
+                    assert!(rt;
+                        texts(rt.alloc(), found.as_slice())?.as_str() == *operands,
                         "at {row}"
                     );
                 }
                 // The tape stands at its end.
-                assert_eq!(rt; tape.position(), bytes.len() as u64, "at {row}");
+                assert!(rt; tape.position() == bytes.len() as u64, "at {row}");
             }
-            (Err(e), Err(code)) => assert_eq!(rt; e.code(), *code, "at {row}"),
+            (Err(e), Err(code)) => assert!(rt; e.code() == *code, "at {row}"),
             _ => assert!(rt; false, "at {row}"),
         }
     }
@@ -161,19 +160,19 @@ fn each_operator_and_its_defaults(rt: HostRuntime) -> Result<(), Fail> {
         let row = OPERATORS.iter().find(|row| row.0 == code);
         match (Operator::from(code), row) {
             (Ok(operator), Some((_, name, wanted))) => {
-                assert_eq!(rt; operator.name(), *name);
+                assert!(rt; operator.name() == *name);
                 let found = match operator.default() {
                     Some(operands) => texts(rt.alloc(), operands.as_slice())?,
                     None => String::from_str(rt.alloc(), "-")?,
                 };
-                assert_eq!(rt; found.as_str(), *wanted, "at {name}");
+                assert!(rt; found.as_str() == *wanted, "at {name}");
                 let looked_up = match none.get(operator) {
                     Some(operands) => texts(rt.alloc(), operands.as_slice())?,
                     None => String::from_str(rt.alloc(), "-")?,
                 };
-                assert_eq!(rt; looked_up.as_str(), *wanted, "at {name}");
+                assert!(rt; looked_up.as_str() == *wanted, "at {name}");
             }
-            (Err(e), None) => assert_eq!(rt; e.code(), 9),
+            (Err(e), None) => assert!(rt; e.code() == 9),
             _ => assert!(rt; false, "at {code}"),
         }
     }
@@ -185,7 +184,7 @@ fn looked_up_and_cloned(rt: HostRuntime) -> Result<(), Fail> {
     let bytes: &[u8] = &[0x8c, 0x8d, 0x12, 0x8b, 0x12, 0x8e, 0x8f, 0x90, 0x05];
     let map = Tape::take::<Operations>(&mut Cursor::new(bytes), rt.alloc())?;
     for map in [map.clone()?, map] {
-        assert_eq!(rt; map.0.len(), 2);
+        assert!(rt; map.0.len() == 2);
         let first = map
             .get_single(Operator::Private)
             .and_then(|operand| operand.to_i32());
@@ -211,7 +210,7 @@ fn looked_up_and_cloned(rt: HostRuntime) -> Result<(), Fail> {
     let version: &[u8] = &[0x8c, 0x00];
     let (operator, operands) = Tape::take::<Operation>(&mut Cursor::new(version), rt.alloc())?;
     assert!(rt; operator == Operator::Version);
-    assert_eq!(rt; texts(rt.alloc(), operands.as_slice())?.as_str(), "1");
+    assert!(rt; texts(rt.alloc(), operands.as_slice())?.as_str() == "1");
     Ok(())
 }
 
@@ -228,11 +227,11 @@ fn first_bytes_long_dictionaries_and_tapes_that_stand_still(rt: HostRuntime) -> 
             Ok(map) => {
                 assert!(rt; stands_alone(byte), "at {byte}");
                 let operators = if byte <= 0x15 && byte != 0x0c { 1 } else { 0 };
-                assert_eq!(rt; map.0.len(), operators, "at {byte}");
+                assert!(rt; map.0.len() == operators, "at {byte}");
             }
             Err(e) => {
                 assert!(rt; !stands_alone(byte), "at {byte}");
-                assert_eq!(rt; e.code(), 9, "at {byte}");
+                assert!(rt; e.code() == 9, "at {byte}");
             }
         }
     }
@@ -243,7 +242,7 @@ fn first_bytes_long_dictionaries_and_tapes_that_stand_still(rt: HostRuntime) -> 
     }
     bytes.extend_from_slice(&[0x8d, 0x00])?;
     let map = Tape::take::<Operations>(&mut Cursor::new(bytes), rt.alloc())?;
-    assert_eq!(rt; map.0.len(), 1);
+    assert!(rt; map.0.len() == 1);
     assert!(rt;
         map.get_single(Operator::Version)
             .and_then(|operand| operand.to_i32())
@@ -252,7 +251,7 @@ fn first_bytes_long_dictionaries_and_tapes_that_stand_still(rt: HostRuntime) -> 
     // A tape that goes on for ever and stands still.
     match Tape::take::<Operations>(&mut Still, rt.alloc()) {
         Ok(_) => assert!(rt; false),
-        Err(e) => assert_eq!(rt; e.code(), 4),
+        Err(e) => assert!(rt; e.code() == 4),
     }
     Ok(())
 }

@@ -79,9 +79,9 @@ fn rows_of_indices(rt: HostRuntime) -> Outcome<()> {
         match (Tape::take::<Index>(&mut tape, rt.alloc()), wanted) {
             (Ok(index), Ok((items, next))) => {
                 assert!(rt; has_items(&index, items), "at {row}");
-                assert_eq!(rt; tape.position(), *next, "at {row}");
+                assert!(rt; tape.position() == *next, "at {row}");
             }
-            (Err(e), Err(code)) => assert_eq!(rt; e.code(), *code, "at {row}"),
+            (Err(e), Err(code)) => assert!(rt; e.code() == *code, "at {row}"),
             _ => assert!(rt; false, "at {row}"),
         }
     }
@@ -92,14 +92,14 @@ fn rows_of_indices(rt: HostRuntime) -> Outcome<()> {
 fn cut_copied_and_empty_indices(rt: HostRuntime) -> Outcome<()> {
     for length in 0..TWO.len() {
         let mut cut = Cursor::new(&TWO[..length]);
-        assert_eq!(rt; code_of(cut.take::<Index>(rt.alloc())), 1, "at {length}");
+        assert!(rt; code_of(cut.take::<Index>(rt.alloc())) == 1, "at {length}");
     }
     let index: Index = Cursor::new(TWO).take(rt.alloc())?;
     assert!(rt; is_two(&index));
     assert!(rt; is_two(&index.clone()?));
     let empty = Index::empty(rt.alloc());
-    assert_eq!(rt; empty.count, 0);
-    assert_eq!(rt; empty.offset_size, 0);
+    assert!(rt; empty.count == 0);
+    assert!(rt; empty.offset_size == 0);
     assert!(rt; empty.offsets.is_empty());
     assert!(rt; has_items(&empty, &[]));
     Ok(())
@@ -112,8 +112,8 @@ fn indices_on_troubled_tapes(rt: HostRuntime) -> Outcome<()> {
         let mut tape = TroubledTape::new(TWO, Trouble::FailsAfter(calls));
         let code = code_of(tape.take::<Index>(rt.alloc()));
         let failed = if calls < 7 { 1 } else { 0 };
-        assert_eq!(rt; tape.failures(), failed, "at {calls}");
-        assert_eq!(rt; u32::from(code), 2 * failed, "at {calls}");
+        assert!(rt; tape.failures() == failed, "at {calls}");
+        assert!(rt; u32::from(code) == 2 * failed, "at {calls}");
     }
     for trouble in [Trouble::Interrupted, Trouble::OneByte] {
         let mut tape = TroubledTape::new(TWO, trouble);
@@ -136,10 +136,10 @@ fn long_items(rt: HostRuntime) -> Outcome<()> {
         bytes.extend_from_slice(item.as_slice())?;
     }
     let index: Index = Cursor::new(bytes).take(rt.alloc())?;
-    assert_eq!(rt; index.len(), 4);
+    assert!(rt; index.len() == 4);
     for (i, long) in LONG.iter().enumerate() {
         let item = index.item(i).unwrap_or(&[]);
-        assert_eq!(rt; item.len(), *long);
+        assert!(rt; item.len() == *long);
         assert!(rt; item.iter().all(|byte| *byte == i as u8), "at {i}");
     }
     Ok(())
@@ -150,8 +150,8 @@ fn char_strings_of_two(rt: HostRuntime) -> Outcome<()> {
     let mut tape = Cursor::new(TWO);
     for format in [1, 0, -1, 3, i32::MIN, i32::MAX] {
         let refused: Result<CharStrings> = tape.take_given(rt.alloc(), format);
-        assert_eq!(rt; code_of(refused), 12, "at {format}");
-        assert_eq!(rt; tape.position(), 0, "at {format}");
+        assert!(rt; code_of(refused) == 12, "at {format}");
+        assert!(rt; tape.position() == 0, "at {format}");
     }
     let char_strings: CharStrings = tape.take_given(rt.alloc(), 2)?;
     assert!(rt; is_two(&*char_strings));
@@ -178,7 +178,7 @@ fn strings_and_subroutines_of_two(rt: HostRuntime) -> Outcome<()> {
     let subroutines: Subroutines = Cursor::new(TWO).take(rt.alloc())?;
     assert!(rt; is_two(&*subroutines));
     assert!(rt; is_two(&*subroutines.clone()?));
-    assert_eq!(rt; Subroutines::empty(rt.alloc()).len(), 0);
+    assert!(rt; Subroutines::empty(rt.alloc()).len() == 0);
     Ok(())
 }
 
@@ -245,7 +245,7 @@ fn texts_of_names(rt: HostRuntime) -> Outcome<()> {
     let bytes = index_of_texts(rt.alloc())?;
     let names: Names = Cursor::new(bytes).take(rt.alloc())?;
     let names = names.into(rt.alloc())?;
-    assert_eq!(rt; names.len(), TEXTS.len());
+    assert!(rt; names.len() == TEXTS.len());
     for (i, (_, text)) in TEXTS.iter().enumerate() {
         assert!(rt;
             names.get(i).map(|name| name.as_str()) == Some(*text),
@@ -279,7 +279,7 @@ fn dictionaries_of_items(rt: HostRuntime) -> Outcome<()> {
     let bytes = index_of(rt.alloc(), items)?;
     let dictionaries: Dictionaries = Cursor::new(bytes).take(rt.alloc())?;
     let maps = dictionaries.clone()?.into(rt.alloc())?;
-    assert_eq!(rt; maps.len(), 3);
+    assert!(rt; maps.len() == 3);
     for (i, operator, operand) in [(0, Operator::Version, 1), (1, Operator::Private, 2)] {
         let map = dictionaries.operations(rt.alloc(), i)?;
         for map in [map.as_ref(), maps.get(i)] {
@@ -303,10 +303,10 @@ fn dictionaries_of_items(rt: HostRuntime) -> Outcome<()> {
     for (item, code) in refused {
         let bytes = index_of(rt.alloc(), &[&[0x8c, 0x00], item, &[0x8b, 0x0c, 0x1d]])?;
         let dictionaries: Dictionaries = Cursor::new(bytes).take(rt.alloc())?;
-        assert_eq!(rt; code_of(dictionaries.operations(rt.alloc(), 0)), 0);
-        assert_eq!(rt; code_of(dictionaries.operations(rt.alloc(), 1)), code);
-        assert_eq!(rt; code_of(dictionaries.operations(rt.alloc(), 2)), 9);
-        assert_eq!(rt; code_of(dictionaries.into(rt.alloc())), code);
+        assert!(rt; code_of(dictionaries.operations(rt.alloc(), 0)) == 0);
+        assert!(rt; code_of(dictionaries.operations(rt.alloc(), 1)) == code);
+        assert!(rt; code_of(dictionaries.operations(rt.alloc(), 2)) == 9);
+        assert!(rt; code_of(dictionaries.into(rt.alloc())) == code);
     }
     Ok(())
 }

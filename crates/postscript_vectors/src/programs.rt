@@ -107,7 +107,7 @@ fn check<R: AllocGlobal + Abort>(rt: &R, rows: &[Row]) -> Outcome<()> {
     for (code, local, wanted) in rows {
         let local = routines_of(rt.alloc(), local)?;
         let found = told(rt.alloc(), code, &[], local.as_slice())?;
-        assert_eq!(rt; found.as_str(), *wanted, "at {code}");
+        assert!(rt; found.as_str() == *wanted, "at {code}");
     }
     Ok(())
 }
@@ -135,12 +135,12 @@ fn runs(rt: HostRuntime) -> Outcome<()> {
         let global = routines_of(rt.alloc(), global)?;
         let local = routines_of(rt.alloc(), local)?;
         let found = told(rt.alloc(), code, global.as_slice(), local.as_slice())?;
-        assert_eq!(rt; found.as_str(), *wanted, "at {code}");
+        assert!(rt; found.as_str() == *wanted, "at {code}");
     }
     for (code, count, wanted) in LONG_LISTS {
         let local = long_list(rt.alloc(), *count)?;
         let found = told(rt.alloc(), code, &[], local.as_slice())?;
-        assert_eq!(rt; found.as_str(), *wanted, "at {code} with {count}");
+        assert!(rt; found.as_str() == *wanted, "at {code} with {count}");
     }
     let local = routines_of(rt.alloc(), DOUBLING)?;
     let found = told(rt.alloc(), "200a0e", &[], local.as_slice())?;
@@ -150,7 +150,7 @@ fn runs(rt: HostRuntime) -> Outcome<()> {
         let code = charstring(rt.alloc(), count)?;
         let answers = type2::run(rt.alloc(), code.as_slice(), &[], &[])?;
         assert!(rt; answers.fault.is_none(), "at {count}");
-        assert_eq!(rt; answers.operations.len(), count);
+        assert!(rt; answers.operations.len() == count);
     }
     Ok(())
 }
@@ -217,7 +217,7 @@ fn step_by_step(rt: HostRuntime) -> Outcome<()> {
         assert!(rt; program.width().is_none(), "at {code}");
         for wanted in *answers {
             let found = step(rt.alloc(), &mut program)?;
-            assert_eq!(rt; found.as_str(), *wanted, "at {code}");
+            assert!(rt; found.as_str() == *wanted, "at {code}");
         }
     }
     Ok(())
@@ -232,7 +232,7 @@ fn check_run<R: AllocGlobal + Abort>(rt: &R, digits: &str, operand: Operand) -> 
         &[],
     )?;
     let wanted = format!(in rt.alloc(); "HLineTo {operand} | end | width none")?;
-    assert_eq!(rt; found.as_str(), wanted.as_str(), "at {digits}");
+    assert!(rt; found.as_str() == wanted.as_str(), "at {digits}");
     Ok(())
 }
 
@@ -243,10 +243,10 @@ fn check_numbers<R: AllocGlobal + Abort>(rt: &R) -> Outcome<()> {
         let mut tape = Cursor::new(bytes.as_slice());
         match (number::read(&mut tape), wanted) {
             (Ok(operand), Ok(bits)) => {
-                assert_eq!(rt; operand.bits(), *bits, "at {digits}");
+                assert!(rt; operand.bits() == *bits, "at {digits}");
                 check_run(rt, digits, operand)?;
             }
-            (Err(fault), Err(code)) => assert_eq!(rt; fault.code(), *code, "at {digits}"),
+            (Err(fault), Err(code)) => assert!(rt; fault.code() == *code, "at {digits}"),
             _ => assert!(rt; false, "at {digits}"),
         }
     }
@@ -256,23 +256,26 @@ fn check_numbers<R: AllocGlobal + Abort>(rt: &R) -> Outcome<()> {
 /// Each code, and no other, has its operator.
 fn check_operators<R: Abort>(rt: &R) -> Outcome<()> {
     for (code, name) in OPERATORS {
-        assert_eq!(rt; Operator::from(*code)?.name(), *name, "at {code}");
+        assert!(rt; Operator::from(*code)?.name() == *name, "at {code}");
     }
     let mut known = 0usize;
     for code in 0..=u16::MAX {
         match Operator::from(code) {
             Ok(_) => known = known.saturating_add(1),
-            Err(fault) => assert_eq!(rt; fault.code(), 9, "at {code}"),
+            Err(fault) => assert!(rt; fault.code() == 9, "at {code}"),
         }
     }
-    assert_eq!(rt; known, OPERATORS.len());
+    assert!(rt; known == OPERATORS.len());
     Ok(())
 }
 
 /// Asks each operator how many operands it takes.
 fn check_lengths<R: Abort>(rt: &R) -> Outcome<()> {
     for (code, length, wanted) in LENGTHS {
-        assert_eq!(rt; Operator::from(*code)?.taken(*length), *wanted, "at {code}");
+        assert!(rt;
+            Operator::from(*code)?.taken(*length) == *wanted,
+            "at {code}"
+        );
     }
     Ok(())
 }
@@ -281,13 +284,13 @@ fn check_lengths<R: Abort>(rt: &R) -> Outcome<()> {
 fn check_operands<R: AllocGlobal + Abort>(rt: &R) -> Outcome<()> {
     for (bits, whole, text) in OPERANDS {
         let operand = Operand::from_bits(*bits);
-        assert_eq!(rt; operand.bits(), *bits);
-        assert_eq!(rt; operand.to_int(), *whole, "at {bits}");
+        assert!(rt; operand.bits() == *bits);
+        assert!(rt; operand.to_int() == *whole, "at {bits}");
         if let Some(number) = whole {
             assert!(rt; Operand::from_int(*number) == operand, "at {bits}");
         }
         let shown = operand.to_string(rt.alloc())?;
-        assert_eq!(rt; shown.as_str(), *text);
+        assert!(rt; shown.as_str() == *text);
     }
     assert!(rt; Operand::from_int(-1) < Operand::from_bits(-1));
     Ok(())

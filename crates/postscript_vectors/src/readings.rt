@@ -54,21 +54,24 @@ fn read_twelve<R: AllocGlobal + Abort, T: Tape>(rt: &R, tape: &mut T, name: &str
         "at {name}"
     );
     for (place, byte, number, two, four) in PLACES {
-        assert!(rt; tape.jump(place)? == place, "at {name}");
-        assert!(rt; Tape::position(tape)? == place, "at {name}");
-        assert!(rt; tape.peek::<u8>(rt.alloc())? == byte, "at {name}");
+        let arrived = (tape.jump(place)?, Tape::position(tape)?);
+        assert!(rt; arrived == (place, place), "at {name}");
+        let seen = (
+            tape.peek::<u8>(rt.alloc())?,
+            tape.peek::<u16>(rt.alloc()).unwrap_or(0),
+        );
+        let refused = (
+            code_of(tape.peek::<u16>(rt.alloc())),
+            code_of(tape.peek::<u32>(rt.alloc())),
+        );
         assert!(rt;
-            tape.peek::<u16>(rt.alloc()).unwrap_or(0) == number,
+            seen == (byte, number) && refused == (two, four),
             "at {name}"
         );
-        assert!(rt; code_of(tape.peek::<u16>(rt.alloc())) == two, "at {name}");
-        assert!(rt; code_of(tape.peek::<u32>(rt.alloc())) == four, "at {name}");
-        assert!(rt; Tape::position(tape)? == place, "at {name}");
-        assert!(rt; Tape::take::<u8>(tape, rt.alloc())? == byte, "at {name}");
-        assert!(rt;
-            Tape::position(tape)? == place.saturating_add(1),
-            "at {name}"
-        );
+        let still_there = Tape::position(tape)?;
+        let taken = (Tape::take::<u8>(tape, rt.alloc())?, Tape::position(tape)?);
+        assert!(rt; still_there == place, "at {name}");
+        assert!(rt; taken == (byte, place.saturating_add(1)), "at {name}");
     }
     Ok(())
 }
