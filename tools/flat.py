@@ -1,0 +1,56 @@
+#!/usr/bin/env python3
+"""A table of how long four ways through the glyphs of fonts take, and how often they ask for memory.
+
+    tools/flat.py OURS RUST COUNTS
+
+OURS is what tools/flat_main.txt printed, RUST what tools/charstrings_rust.txt printed, each line after the font's name. A
+line of COUNTS is a font's name, a way, and how often the program asked for memory; the way `none` is that of no glyph.
+"""
+
+import pathlib
+import sys
+
+WAYS = ["next", "run", "flat_len", "flatten"]
+
+
+def lines_of(path):
+    """The words of each line of a file."""
+    return [line.split() for line in pathlib.Path(path).read_text().splitlines()]
+
+
+def least_of(path):
+    """The number of operations of each font, and the least of each of its times."""
+    least = {}
+    for name, count, *nanos in lines_of(path):
+        times = [int(nano) for nano in nanos]
+        before = least.get(name, (count, times))
+        if before[0] != count:
+            sys.exit("a program did not answer the same number of operations")
+        least[name] = (count, [min(pair) for pair in zip(before[1], times)])
+    return least
+
+
+def counts_of(path):
+    """How often each way through a font asked for memory."""
+    asked = {}
+    for name, way, count in lines_of(path):
+        asked.setdefault(name, {})[way] = int(count)
+    return {name: [ways[way] - ways["none"] for way in WAYS] for name, ways in asked.items()}
+
+
+def print_table(ours, rust, asked):
+    print("| font | operations | `run` / the Rust loop | `run` / `next` | `flat_len` / `run` | `flatten` / `run` | asks: `next` | `run` | `flat_len` | `flatten` |")
+    print("|---|---|---|---|---|---|---|---|---|---|")
+    for name, (count, (next_, run, flat_len, flatten)) in ours.items():
+        other, (loop,) = rust[name]
+        if other != count:
+            sys.exit("the programs did not answer the same number of operations")
+        ratios = [run / loop, run / next_, flat_len / run, flatten / run]
+        cells = [name, count] + [f"{ratio:.2f}" for ratio in ratios] + asked[name]
+        print("| " + " | ".join(str(cell) for cell in cells) + " |")
+
+
+if __name__ == "__main__":
+    if len(sys.argv) != 4:
+        sys.exit(__doc__)
+    print_table(least_of(sys.argv[1]), least_of(sys.argv[2]), counts_of(sys.argv[3]))
