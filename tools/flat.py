@@ -11,6 +11,7 @@ import pathlib
 import sys
 
 WAYS = ["next", "run", "flat_len", "flatten"]
+CALLS = "calls"
 
 
 def lines_of(path):
@@ -38,16 +39,30 @@ def counts_of(path):
     return {name: [ways[way] - ways["none"] for way in WAYS] for name, ways in asked.items()}
 
 
+def row(name, count, loop, times, asked):
+    """A row of the table."""
+    next_, run, flat_len, flatten = times
+    ratios = [run / loop, run / next_, flat_len / run, flatten / run]
+    cells = [name, count] + [f"{ratio:.2f}" for ratio in ratios] + asked
+    return "| " + " | ".join(str(cell) for cell in cells) + " |"
+
+
+def sums(lists):
+    """Place by place, the sums of lists."""
+    return [sum(items) for items in zip(*lists)]
+
+
 def print_table(ours, rust, asked):
-    print("| font | operations | `run` / the Rust loop | `run` / `next` | `flat_len` / `run` | `flatten` / `run` | asks: `next` | `run` | `flat_len` | `flatten` |")
+    if [(name, count) for name, (count, _) in ours.items()] != [(name, count) for name, (count, _) in rust.items()]:
+        sys.exit("the programs did not answer the same number of operations")
+    print("| font | operations | `run` / the Rust loop | `run` / `next` | `flat_len` / `run` | `flatten` / `run` | requests: `next` | `run` | `flat_len` | `flatten` |")
     print("|---|---|---|---|---|---|---|---|---|---|")
-    for name, (count, (next_, run, flat_len, flatten)) in ours.items():
-        other, (loop,) = rust[name]
-        if other != count:
-            sys.exit("the programs did not answer the same number of operations")
-        ratios = [run / loop, run / next_, flat_len / run, flatten / run]
-        cells = [name, count] + [f"{ratio:.2f}" for ratio in ratios] + asked[name]
-        print("| " + " | ".join(str(cell) for cell in cells) + " |")
+    for name, (count, times) in ours.items():
+        print(row(name, count, rust[name][1][0], times, asked[name]))
+    fonts = [name for name in ours if name != CALLS]
+    count = sum(int(ours[name][0]) for name in fonts)
+    loop = sum(rust[name][1][0] for name in fonts)
+    print(row("all fonts", count, loop, sums(ours[name][1] for name in fonts), sums(asked[name] for name in fonts)))
 
 
 if __name__ == "__main__":

@@ -32,7 +32,7 @@ cp "$tools/flat_main.txt" "$own/src/main.rt"
 : > "$own/specs/Lib.antt"
 : > "$own/proofs/Lib.antt"
 printf 'postscript_base: thiserror\npostscript_type2: postscript_base\nflat: postscript_type2 postscript_base hex anyhow\n' > "$copy/crates.txt"
-(cd "$own" && rt run < /dev/null 2> "$copy/messages") || { cat "$copy/messages" >&2; exit 1; }
+(cd "$own" && rt run < /dev/null > "$copy/printed" 2> "$copy/messages") || { cat "$copy/messages" >&2; exit 1; }
 
 for font in "$copy/fonts"/*; do
     name=$(basename "$font")
