@@ -9,12 +9,12 @@ use std::io::{BufReader, Cursor, Write};
 use std::test::Fail;
 
 /// What a helper gives, or the error that fails its test.
-type Outcome<T> = std::result::Result<T, Fail>;
+pub type Outcome<T> = std::result::Result<T, Fail>;
 
 /// The smallest font with a name, a glyph, a private dictionary and local subroutines.
-const FONT: &str = "01000401000101010241000101 0106a3118da912000000000001010102 0e8d130000";
+pub const FONT: &str = "01000401000101010241000101 0106a3118da912000000000001010102 0e8d130000";
 
-const OF_FONT: &str =
+pub const OF_FONT: &str =
     "header 1 0 4 1|name A|strings 0|globals 0|font Standard ISOAdobe glyphs 1 locals 0";
 
 const TWO_DICTIONARIES: &str =
@@ -94,7 +94,7 @@ const CHANGES: &[Change] = &[
 ];
 
 /// The bytes that digits with spaces spell.
-fn bytes_of(alloc: Global, digits: &str) -> Outcome<Vec<u8>> {
+pub fn bytes_of(alloc: Global, digits: &str) -> Outcome<Vec<u8>> {
     let mut plain = Vec::new(alloc);
     for digit in digits.as_bytes() {
         if *digit != b' ' {
@@ -115,7 +115,7 @@ fn add(out: &mut Vec<u8>, word: &str, number: usize) -> Outcome<()> {
 
 /// The fields of the header, the names, how many strings and global subroutines there are, and for each dictionary its
 /// encoding, its char set, and how many glyphs and local subroutines it has.
-fn summary(alloc: Global, font: &FontSet) -> Outcome<Vec<u8>> {
+pub fn summary(alloc: Global, font: &FontSet) -> Outcome<Vec<u8>> {
     let mut out = Vec::new(alloc);
     let header = &font.header;
     add(&mut out, "header", usize::from(header.major))?;

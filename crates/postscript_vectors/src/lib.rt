@@ -14,6 +14,8 @@ mod flat;
 #[cfg(test)]
 mod fonts;
 #[cfg(test)]
+mod hostile;
+#[cfg(test)]
 mod indices;
 #[cfg(test)]
 mod parts;
