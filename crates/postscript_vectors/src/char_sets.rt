@@ -29,27 +29,47 @@ fn every_glyph_of_the_predefined_sets(rt: HostRuntime) -> std::result::Result<()
     assert!(rt; (strings.len(), experts.len(), subset.len()) == (391, 165, 86));
     for number in 0..=u16::MAX {
         let place = usize::from(number);
-        assert!(rt; get_standard_string(number) == strings.get(place).copied());
-        let named = if place <= 228 { place } else { 0 };
-        let string = if named > 0 {
-            strings.get(named).copied()
+        let named = if 0 < place && place <= 228 {
+            strings.get(place).copied()
         } else {
             None
         };
-        assert!(rt; CharSet::ISOAdobe.get(number) == string);
         let before = place.wrapping_sub(1);
-        assert!(rt; CharSet::Expert.get(number) == experts.get(before).copied());
-        assert!(rt; CharSet::ExpertSubset.get(number) == subset.get(before).copied());
+        let found = (
+            get_standard_string(number),
+            CharSet::ISOAdobe.get(number),
+            CharSet::Expert.get(number),
+            CharSet::ExpertSubset.get(number),
+        );
+        let wanted = (
+            strings.get(place).copied(),
+            named,
+            experts.get(before).copied(),
+            subset.get(before).copied(),
+        );
+        assert!(rt; found == wanted, "at {number}");
     }
-    // Some by themselves.
-    assert!(rt; get_standard_string(390) == Some("Semibold"));
-    assert!(rt; CharSet::Expert.get(2) == Some("exclamsmall"));
-    assert!(rt; CharSet::Expert.get(12) == Some("comma"));
-    assert!(rt; CharSet::Expert.get(165) == Some("Ydieresissmall"));
-    assert!(rt; CharSet::Expert.get(166) == None);
+    Ok(())
+}
+
+#[test]
+fn some_glyphs_of_the_predefined_sets(rt: HostRuntime) {
+    let experts = (
+        CharSet::Expert.get(2),
+        CharSet::Expert.get(12),
+        CharSet::Expert.get(165),
+        CharSet::Expert.get(166),
+    );
+    let wanted = (
+        Some("exclamsmall"),
+        Some("comma"),
+        Some("Ydieresissmall"),
+        None,
+    );
+    assert!(rt; experts == wanted);
     assert!(rt; CharSet::ExpertSubset.get(2) == Some("dollaroldstyle"));
     assert!(rt; CharSet::ISOAdobe.get(0) == None);
-    Ok(())
+    assert!(rt; get_standard_string(390) == Some("Semibold"));
 }
 
 #[test]
@@ -163,10 +183,19 @@ fn sets_of_one_format(rt: HostRuntime) -> std::result::Result<(), Fail> {
     let mut tape = Cursor::new([1, 2, 3].as_slice());
     let range: Range1 = Tape::take(&mut tape, rt.alloc())?;
     assert!(rt; (range.first, range.left) == (258, 3));
+    Ok(())
+}
+
+#[test]
+fn predefined_sets_and_their_clones(rt: HostRuntime) -> std::result::Result<(), Fail> {
     for set in [CharSet::ISOAdobe, CharSet::Expert, CharSet::ExpertSubset] {
-        assert!(rt; set.is_predefined());
-        assert!(rt; set.clone()?.name() == set.name());
+        assert!(rt; set.is_predefined() && set.clone()?.name() == set.name());
     }
+    Ok(())
+}
+
+#[test]
+fn long_char_sets(rt: HostRuntime) -> std::result::Result<(), Fail> {
     // 65,535 glyphs, in ranges of 256 and of 1.
     for (left, count) in [(255, 256), (0, 65_535)] {
         let mut bytes = Vec::new(rt.alloc());

@@ -179,38 +179,46 @@ fn each_operator_and_its_defaults(rt: HostRuntime) -> Result<(), Fail> {
     Ok(())
 }
 
+/// The whole number of an operator's one operand.
+fn single(map: &Operations, operator: Operator) -> Option<i32> {
+    map.get_single(operator)?.to_i32()
+}
+
+/// Whether a map has Private 0 and the font's box from 3, 4 on, and answers the defaults where it has nothing.
+fn is_looked_up(map: &Operations) -> bool {
+    let box_front = map
+        .get_double(Operator::FontBBox)
+        .map(|two| (two.0.to_i32(), two.1.to_i32()));
+    let line = map
+        .get_single(Operator::UnderlinePosition)
+        .map(|operand| (operand.mantissa(), operand.exponent()));
+    map.0.len() == 2
+        && single(map, Operator::Private) == Some(0)
+        && map.get_double(Operator::Private).is_none()
+        && box_front == Some((Some(3), Some(4)))
+        && single(map, Operator::CharStringType) == Some(2)
+        && map.get(Operator::Version).is_none()
+        && line == Some((-1, 2))
+}
+
 #[test]
 fn looked_up_and_cloned(rt: HostRuntime) -> Result<(), Fail> {
     let bytes: &[u8] = &[0x8c, 0x8d, 0x12, 0x8b, 0x12, 0x8e, 0x8f, 0x90, 0x05];
     let map = Tape::take::<Operations>(&mut Cursor::new(bytes), rt.alloc())?;
-    for map in [map.clone()?, map] {
-        assert!(rt; map.0.len() == 2);
-        let first = map
-            .get_single(Operator::Private)
-            .and_then(|operand| operand.to_i32());
-        assert!(rt; first == Some(0));
-        assert!(rt; map.get_double(Operator::Private).is_none());
-        let box_front = map.get_double(Operator::FontBBox);
-        assert!(rt;
-            box_front.map(|two| (two.0.to_i32(), two.1.to_i32())) == Some((Some(3), Some(4)))
-        );
-        // The defaults, where the map has nothing.
-        let kind = map
-            .get_single(Operator::CharStringType)
-            .and_then(|operand| operand.to_i32());
-        assert!(rt; kind == Some(2));
-        assert!(rt; map.get(Operator::Version).is_none());
-        let line = map.get_single(Operator::UnderlinePosition);
-        assert!(rt; line.map(|operand| (operand.mantissa(), operand.exponent())) == Some((-1, 2)));
-    }
+    assert!(rt; is_looked_up(&map) && is_looked_up(&map.clone()?));
     // Operands that are written, and none of them, are not the defaults.
     let bare: &[u8] = &[0x0c, 0x06];
     let map = Tape::take::<Operations>(&mut Cursor::new(bare), rt.alloc())?;
     assert!(rt; map.get_single(Operator::CharStringType).is_none());
+    Ok(())
+}
+
+#[test]
+fn one_operation(rt: HostRuntime) -> Result<(), Fail> {
     let version: &[u8] = &[0x8c, 0x00];
     let (operator, operands) = Tape::take::<Operation>(&mut Cursor::new(version), rt.alloc())?;
-    assert!(rt; operator == Operator::Version);
-    assert!(rt; texts(rt.alloc(), operands.as_slice())?.as_str() == "1");
+    let text = texts(rt.alloc(), operands.as_slice())?;
+    assert!(rt; operator == Operator::Version && text.as_str() == "1");
     Ok(())
 }
 

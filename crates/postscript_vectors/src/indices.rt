@@ -2,7 +2,7 @@
 use crate::readings::code_of;
 use crate::tapes::{Trouble, TroubledTape};
 use postscript::compact1::index::{CharStrings, Dictionaries, Names, Strings, Subroutines};
-use postscript::compact1::{Index, Offset, Operator};
+use postscript::compact1::{Index, Offset, Operations, Operator};
 use postscript::{Result, Tape};
 use std::alloc::Global;
 use std::io::Cursor;
@@ -145,39 +145,49 @@ fn long_items(rt: HostRuntime) -> Outcome<()> {
     Ok(())
 }
 
-#[test]
-fn char_strings_of_two(rt: HostRuntime) -> Outcome<()> {
+/// Whether the two items are char strings, in a clone too, and those of another format are refused before a byte is read.
+fn are_char_strings(alloc: Global) -> Outcome<bool> {
     let mut tape = Cursor::new(TWO);
+    let mut same = true;
     for format in [1, 0, -1, 3, i32::MIN, i32::MAX] {
-        let refused: Result<CharStrings> = tape.take_given(rt.alloc(), format);
-        assert!(rt; code_of(refused) == 12, "at {format}");
-        assert!(rt; tape.position() == 0, "at {format}");
+        let code = code_of(Tape::take_given::<CharStrings>(&mut tape, alloc, format));
+        same = same && code == 12 && tape.position() == 0;
     }
-    let char_strings: CharStrings = tape.take_given(rt.alloc(), 2)?;
-    assert!(rt; is_two(&*char_strings));
-    assert!(rt; is_two(&*char_strings.clone()?));
-    Ok(())
+    let char_strings: CharStrings = tape.take_given(alloc, 2)?;
+    Ok(same && is_two(&*char_strings) && is_two(&*char_strings.clone()?))
+}
+
+/// Whether the two items are dictionaries, in a clone too.
+fn are_dictionaries(alloc: Global) -> Outcome<bool> {
+    let dictionaries: Dictionaries = Cursor::new(TWO).take(alloc)?;
+    Ok(is_two(&*dictionaries) && is_two(&*dictionaries.clone()?))
+}
+
+/// Whether the two items are names, in a clone too.
+fn are_names(alloc: Global) -> Outcome<bool> {
+    let names: Names = Cursor::new(TWO).take(alloc)?;
+    Ok(is_two(&*names) && is_two(&*names.clone()?))
+}
+
+/// Whether the two items are strings, in a clone too.
+fn are_strings(alloc: Global) -> Outcome<bool> {
+    let strings: Strings = Cursor::new(TWO).take(alloc)?;
+    Ok(is_two(&*strings) && is_two(&*strings.clone()?))
+}
+
+/// Whether the two items are subroutines, in a clone too.
+fn are_subroutines(alloc: Global) -> Outcome<bool> {
+    let subroutines: Subroutines = Cursor::new(TWO).take(alloc)?;
+    Ok(is_two(&*subroutines) && is_two(&*subroutines.clone()?))
 }
 
 #[test]
-fn dictionaries_and_names_of_two(rt: HostRuntime) -> Outcome<()> {
-    let dictionaries: Dictionaries = Cursor::new(TWO).take(rt.alloc())?;
-    assert!(rt; is_two(&*dictionaries));
-    assert!(rt; is_two(&*dictionaries.clone()?));
-    let names: Names = Cursor::new(TWO).take(rt.alloc())?;
-    assert!(rt; is_two(&*names));
-    assert!(rt; is_two(&*names.clone()?));
-    Ok(())
-}
-
-#[test]
-fn strings_and_subroutines_of_two(rt: HostRuntime) -> Outcome<()> {
-    let strings: Strings = Cursor::new(TWO).take(rt.alloc())?;
-    assert!(rt; is_two(&*strings));
-    assert!(rt; is_two(&*strings.clone()?));
-    let subroutines: Subroutines = Cursor::new(TWO).take(rt.alloc())?;
-    assert!(rt; is_two(&*subroutines));
-    assert!(rt; is_two(&*subroutines.clone()?));
+fn what_two_items_are_read_as(rt: HostRuntime) -> Outcome<()> {
+    assert!(rt; are_char_strings(rt.alloc())?);
+    assert!(rt; are_dictionaries(rt.alloc())?);
+    assert!(rt; are_names(rt.alloc())?);
+    assert!(rt; are_strings(rt.alloc())?);
+    assert!(rt; are_subroutines(rt.alloc())?);
     assert!(rt; Subroutines::empty(rt.alloc()).len() == 0);
     Ok(())
 }
@@ -255,58 +265,91 @@ fn texts_of_names(rt: HostRuntime) -> Outcome<()> {
     Ok(())
 }
 
+/// Whether the string of a number has this text.
+fn has_text(alloc: Global, strings: &Strings, sid: u16, text: Option<&str>) -> Outcome<bool> {
+    let string = strings.get(alloc, sid)?;
+    Ok(string.as_deref() == text)
+}
+
 #[test]
 fn texts_of_strings(rt: HostRuntime) -> Outcome<()> {
     let bytes = index_of_texts(rt.alloc())?;
     let strings: Strings = Cursor::new(bytes).take(rt.alloc())?;
     for (i, (_, text)) in TEXTS.iter().enumerate() {
-        let string = strings.get(rt.alloc(), 391 + u16::from(short(i)))?;
-        assert!(rt; string.as_deref() == Some(*text), "at {i}");
+        let sid = 391 + u16::from(short(i));
+        assert!(rt; has_text(rt.alloc(), &strings, sid, Some(*text))?, "at {i}");
     }
     for (sid, text) in [(0, ".notdef"), (175, "Aring"), (390, "Semibold")] {
-        let string = strings.get(rt.alloc(), sid)?;
-        assert!(rt; string.as_deref() == Some(text), "at {sid}");
+        assert!(rt; has_text(rt.alloc(), &strings, sid, Some(text))?);
     }
     for sid in [400, 401, u16::MAX] {
-        assert!(rt; strings.get(rt.alloc(), sid)?.is_none(), "at {sid}");
+        assert!(rt; has_text(rt.alloc(), &strings, sid, None)?);
     }
     Ok(())
+}
+
+/// The dictionaries of an INDEX of short items.
+fn dictionaries_of(alloc: Global, items: &[&[u8]]) -> Outcome<Dictionaries> {
+    let bytes = index_of(alloc, items)?;
+    Ok(Cursor::new(bytes).take(alloc)?)
+}
+
+/// Whether a map has this operation alone, of this operand.
+fn is_single(map: &Operations, operator: Operator, operand: i32) -> bool {
+    match map.get_single(operator) {
+        Some(found) => map.0.len() == 1 && found.to_i32() == Some(operand),
+        None => false,
+    }
 }
 
 #[test]
 fn dictionaries_of_items(rt: HostRuntime) -> Outcome<()> {
     let items: &[&[u8]] = &[&[0x8c, 0x00], &[0x8d, 0x12], &[0x8b]];
-    let bytes = index_of(rt.alloc(), items)?;
-    let dictionaries: Dictionaries = Cursor::new(bytes).take(rt.alloc())?;
-    let maps = dictionaries.clone()?.into(rt.alloc())?;
-    assert!(rt; maps.len() == 3);
+    let dictionaries = dictionaries_of(rt.alloc(), items)?;
     for (i, operator, operand) in [(0, Operator::Version, 1), (1, Operator::Private, 2)] {
-        let map = dictionaries.operations(rt.alloc(), i)?;
-        for map in [map.as_ref(), maps.get(i)] {
-            let found = map.and_then(|map| map.get_single(operator));
-            assert!(rt;
-                found.and_then(|operand| operand.to_i32()) == Some(operand),
-                "at {i}"
-            );
-            assert!(rt; map.map(|map| map.0.len()) == Some(1), "at {i}");
+        match dictionaries.operations(rt.alloc(), i)? {
+            Some(map) => assert!(rt; is_single(&map, operator, operand), "at {i}"),
+            None => assert!(rt; false, "at {i}"),
         }
     }
     for i in [3, usize::MAX] {
         assert!(rt; dictionaries.operations(rt.alloc(), i)?.is_none());
     }
-    // An item that is refused, behind one that is not.
-    let refused: [(&[u8], u8); 3] = [
-        (&[0xff], 9),
-        (&[0x1e, 0xd0], 7),
-        (&[0x1e, 0x1b, 0x10, 0x01, 0xff], 8),
-    ];
-    for (item, code) in refused {
-        let bytes = index_of(rt.alloc(), &[&[0x8c, 0x00], item, &[0x8b, 0x0c, 0x1d]])?;
-        let dictionaries: Dictionaries = Cursor::new(bytes).take(rt.alloc())?;
-        assert!(rt; code_of(dictionaries.operations(rt.alloc(), 0)) == 0);
-        assert!(rt; code_of(dictionaries.operations(rt.alloc(), 1)) == code);
-        assert!(rt; code_of(dictionaries.operations(rt.alloc(), 2)) == 9);
-        assert!(rt; code_of(dictionaries.into(rt.alloc())) == code);
+    let maps = dictionaries.clone()?.into(rt.alloc())?;
+    assert!(rt;
+        match maps.as_slice() {
+            [first, second, _] => is_single(first, Operator::Version, 1)
+                && is_single(second, Operator::Private, 2),
+            _ => false,
+        }
+    );
+    Ok(())
+}
+
+/// An item that is refused, and the number of the refusal.
+const REFUSED: &[(&[u8], u8)] = &[
+    (&[0xff], 9),
+    (&[0x1e, 0xd0], 7),
+    (&[0x1e, 0x1b, 0x10, 0x01, 0xff], 8),
+];
+
+/// The numbers of the refusals of three items, one by one, the second being this one, and of all of them.
+fn codes_around(alloc: Global, item: &[u8]) -> Outcome<[u8; 4]> {
+    let items: [&[u8]; 3] = [&[0x8c, 0x00], item, &[0x8b, 0x0c, 0x1d]];
+    let dictionaries = dictionaries_of(alloc, &items)?;
+    let first = code_of(dictionaries.operations(alloc, 0));
+    let second = code_of(dictionaries.operations(alloc, 1));
+    let third = code_of(dictionaries.operations(alloc, 2));
+    Ok([first, second, third, code_of(dictionaries.into(alloc))])
+}
+
+#[test]
+fn refused_dictionaries_of_items(rt: HostRuntime) -> Outcome<()> {
+    for (item, code) in REFUSED {
+        assert!(rt;
+            codes_around(rt.alloc(), item)? == [0, *code, 9, *code],
+            "at {code}"
+        );
     }
     Ok(())
 }
