@@ -175,7 +175,10 @@ fn answers_lines(rt: HostRuntime) -> Result<(), Fail> {
         let mut writer = Vec::new(rt.alloc());
         let outcome = session(rt.alloc(), &mut reader, &mut writer);
         assert!(rt; outcome.is_ok(), "at {input:?}");
-        assert_eq!(rt; str::from_utf8(writer.as_slice())?, output, "at {input:?}");
+        assert!(rt;
+            str::from_utf8(writer.as_slice())? == output,
+            "at {input:?}"
+        );
     }
     Ok(())
 }
@@ -224,14 +227,12 @@ fn meets_faults_of_the_reader(rt: HostRuntime) -> Result<(), Fail> {
         };
         let mut writer = Vec::new(rt.alloc());
         let outcome = session(rt.alloc(), &mut reader, &mut writer);
-        assert_eq!(rt;
-            code_of(outcome),
-            code,
+        assert!(rt;
+            code_of(outcome) == code,
             "at {fault:?} after {looks_before_fault}"
         );
-        assert_eq!(rt;
-            writer.as_slice(),
-            output.as_bytes(),
+        assert!(rt;
+            writer.as_slice() == output.as_bytes(),
             "at {fault:?} after {looks_before_fault}"
         );
     }
@@ -250,8 +251,8 @@ fn meets_faults_of_the_writer(rt: HostRuntime) -> Result<(), Fail> {
                 kind,
             };
             let outcome = session(rt.alloc(), &mut reader, &mut writer);
-            assert_eq!(rt; code_of(outcome), code, "with room for {room}");
-            assert_eq!(rt; writer.taken.as_slice(), &output.as_bytes()[..room]);
+            assert!(rt; code_of(outcome) == code, "with room for {room}");
+            assert!(rt; writer.taken.as_slice() == &output.as_bytes()[..room]);
         }
     }
     Ok(())
@@ -278,15 +279,13 @@ fn starts_by_its_words(rt: HostRuntime) -> Result<(), Fail> {
             output: RefCell::new(Vec::new(rt.alloc())),
             errors: RefCell::new(Vec::new(rt.alloc())),
         };
-        assert_eq!(rt; start(&memory, words.as_slice()), status, "at {text:?}");
-        assert_eq!(rt;
-            memory.output.into_inner().as_slice(),
-            output.as_bytes(),
+        assert!(rt; start(&memory, words.as_slice()) == status, "at {text:?}");
+        assert!(rt;
+            memory.output.into_inner().as_slice() == output.as_bytes(),
             "at {text:?}"
         );
-        assert_eq!(rt;
-            memory.errors.into_inner().as_slice(),
-            errors.as_bytes(),
+        assert!(rt;
+            memory.errors.into_inner().as_slice() == errors.as_bytes(),
             "at {text:?}"
         );
     }
