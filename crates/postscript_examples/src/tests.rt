@@ -7,7 +7,7 @@ use std::test::Fail;
 
 #[test]
 fn numbers_and_bytes(rt: HostRuntime) -> Result<(), Fail> {
-    assert_eq!(rt; first_number(rt.alloc(), &[0x12, 0x34, 0x56])?, 0x1234);
+    assert!(rt; first_number(rt.alloc(), &[0x12, 0x34, 0x56])? == 0x1234);
     assert!(rt; matches!(first_number(rt.alloc(), &[0x12]), Err(Error::UnexpectedEof)));
     let bytes = Vec::from_slice(rt.alloc(), &[7])?;
     assert!(rt; first_byte_twice(rt.alloc(), bytes)? == (7, 7));
@@ -23,10 +23,10 @@ fn a_glyph(rt: HostRuntime) -> Result<(), Fail> {
     let (operations, width) = glyph(rt.alloc(), &code, &[], local.as_slice())?;
     assert!(rt; width == Some(Operand::from_int(3)));
     let wanted: [(Operator, &[i16]); 2] = [(Operator::RMoveTo, &[1, 2]), (Operator::HLineTo, &[1])];
-    assert_eq!(rt; operations.len(), wanted.len());
+    assert!(rt; operations.len() == wanted.len());
     for ((operator, operands), (name, numbers)) in operations.iter().zip(wanted) {
         assert!(rt; *operator == name);
-        assert_eq!(rt; operands.len(), numbers.len());
+        assert!(rt; operands.len() == numbers.len());
         for (operand, number) in operands.iter().zip(numbers) {
             assert!(rt; operand.to_int() == Some(*number));
         }

@@ -60,7 +60,7 @@ fn check_length<R: AllocGlobal + Abort>(
 ) -> Outcome<()> {
     let bytes = bytes_of(rt.alloc(), code)?;
     let len = Program::flat_len(rt.alloc(), bytes.as_slice(), &[], local)?;
-    assert_eq!(rt; len, wanted, "at {code}");
+    assert!(rt; len == wanted, "at {code}");
     Ok(())
 }
 
@@ -71,14 +71,14 @@ fn check<R: AllocGlobal + Abort>(rt: &R, row: &Row) -> Outcome<()> {
     let local = routines_of(rt.alloc(), local)?;
     let wanted = bytes_of(rt.alloc(), wanted)?;
     let flat = Program::flatten(rt.alloc(), bytes.as_slice(), &[], local.as_slice())?;
-    assert_eq!(rt; flat.as_slice(), wanted.as_slice(), "at {code}");
+    assert!(rt; flat.as_slice() == wanted.as_slice(), "at {code}");
     check_length(rt, code, local.as_slice(), wanted.len())?;
     let again = Program::flatten(rt.alloc(), flat.as_slice(), &[], &[])?;
-    assert_eq!(rt; again.as_slice(), flat.as_slice(), "at {code}");
+    assert!(rt; again.as_slice() == flat.as_slice(), "at {code}");
     let answers = type2::run(rt.alloc(), bytes.as_slice(), &[], local.as_slice())?;
     let before = text_of(rt.alloc(), &answers)?;
     let after = told_alone(rt.alloc(), flat.as_slice())?;
-    assert_eq!(rt; after.as_str(), before.as_str(), "at {code}");
+    assert!(rt; after.as_str() == before.as_str(), "at {code}");
     Ok(())
 }
 
@@ -93,11 +93,11 @@ fn check_faulty<R: AllocGlobal + Abort>(
     let local = routines_of(rt.alloc(), local)?;
     match Program::flatten(rt.alloc(), bytes.as_slice(), &[], local.as_slice()) {
         Ok(_) => assert!(rt; false, "at {code}"),
-        Err(fault) => assert_eq!(rt; fault.code(), number, "at {code}"),
+        Err(fault) => assert!(rt; fault.code() == number, "at {code}"),
     }
     match Program::flat_len(rt.alloc(), bytes.as_slice(), &[], local.as_slice()) {
         Ok(_) => assert!(rt; false, "at {code}"),
-        Err(fault) => assert_eq!(rt; fault.code(), number, "at {code}"),
+        Err(fault) => assert!(rt; fault.code() == number, "at {code}"),
     }
     Ok(())
 }
@@ -118,7 +118,7 @@ fn flat_codes(rt: HostRuntime) -> Outcome<()> {
     let code = bytes_of(rt.alloc(), "200a0e")?;
     let local = routines_of(rt.alloc(), DOUBLING)?;
     let flat = Program::flatten(rt.alloc(), code.as_slice(), &[], local.as_slice())?;
-    assert_eq!(rt; flat.len(), 7163);
+    assert!(rt; flat.len() == 7163);
     let again = Program::flatten(rt.alloc(), flat.as_slice(), &[], &[])?;
     assert!(rt; again.as_slice() == flat.as_slice());
     Ok(())

@@ -176,7 +176,10 @@ fn answers_lines(rt: HostRuntime) -> Result<(), Fail> {
         let mut writer = Vec::new(rt.alloc());
         let outcome = session(rt.alloc(), &mut reader, &mut writer);
         assert!(rt; outcome.is_ok(), "at {input:?}");
-        assert_eq!(rt; str::from_utf8(writer.as_slice())?, output, "at {input:?}");
+        assert!(rt;
+            str::from_utf8(writer.as_slice())? == output,
+            "at {input:?}"
+        );
     }
     Ok(())
 }
@@ -225,14 +228,12 @@ fn meets_faults_of_the_reader(rt: HostRuntime) -> Result<(), Fail> {
         };
         let mut writer = Vec::new(rt.alloc());
         let outcome = session(rt.alloc(), &mut reader, &mut writer);
-        assert_eq!(rt;
-            code_of(outcome),
-            code,
+        assert!(rt;
+            code_of(outcome) == code,
             "at {fault:?} after {looks_before_fault}"
         );
-        assert_eq!(rt;
-            writer.as_slice(),
-            output.as_bytes(),
+        assert!(rt;
+            writer.as_slice() == output.as_bytes(),
             "at {fault:?} after {looks_before_fault}"
         );
     }
@@ -251,8 +252,8 @@ fn meets_faults_of_the_writer(rt: HostRuntime) -> Result<(), Fail> {
                 kind,
             };
             let outcome = session(rt.alloc(), &mut reader, &mut writer);
-            assert_eq!(rt; code_of(outcome), code, "with room for {room}");
-            assert_eq!(rt; writer.taken.as_slice(), &output.as_bytes()[..room]);
+            assert!(rt; code_of(outcome) == code, "with room for {room}");
+            assert!(rt; writer.taken.as_slice() == &output.as_bytes()[..room]);
         }
     }
     Ok(())
@@ -284,7 +285,7 @@ fn flushes_before_it_waits(rt: HostRuntime) -> Result<(), Fail> {
         let outcome = session(rt.alloc(), &mut reader, &mut writer);
         assert!(rt; outcome.is_ok(), "at {step}");
         assert!(rt; !reader.late && !waits.get(), "at {step}");
-        assert_eq!(rt; writer.flushes > 2, often, "at {step}");
+        assert!(rt; writer.flushes > 2 == often, "at {step}");
     }
     Ok(())
 }
@@ -306,10 +307,10 @@ fn starts_by_its_words(rt: HostRuntime) -> Result<(), Fail> {
             words.push(String::from_str(rt.alloc(), word)?)?;
         }
         let memory = Memory::new(&rt, b"code\nfont");
-        assert_eq!(rt; start(&memory, words.as_slice()), status, "at {text:?}");
+        assert!(rt; start(&memory, words.as_slice()) == status, "at {text:?}");
         let (printed, told) = memory.printed();
-        assert_eq!(rt; printed.as_slice(), output.as_bytes(), "at {text:?}");
-        assert_eq!(rt; told.as_slice(), errors.as_bytes(), "at {text:?}");
+        assert!(rt; printed.as_slice() == output.as_bytes(), "at {text:?}");
+        assert!(rt; told.as_slice() == errors.as_bytes(), "at {text:?}");
     }
     Ok(())
 }

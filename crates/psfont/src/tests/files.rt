@@ -163,10 +163,10 @@ fn shows_the_font_of_a_file(rt: HostRuntime) -> Result<(), Fail> {
         let bytes = hex::decode(rt.alloc(), digits.as_bytes()).map_err(|_| ErrorKind::InvalidData)?;
         fs::write(&rt, "font.cff", bytes.as_slice())?;
         let memory = Memory::new(&rt, b"");
-        assert_eq!(rt; start(&memory, words.as_slice()), status, "at {digits}");
+        assert!(rt; start(&memory, words.as_slice()) == status, "at {digits}");
         let (printed, told) = memory.printed();
-        assert_eq!(rt; printed.as_slice(), output.as_bytes(), "at {digits}");
-        assert_eq!(rt; told.as_slice(), errors.as_bytes(), "at {digits}");
+        assert!(rt; printed.as_slice() == output.as_bytes(), "at {digits}");
+        assert!(rt; told.as_slice() == errors.as_bytes(), "at {digits}");
     }
     fs::remove_file(&rt, "font.cff")?;
     Ok(())
