@@ -3,7 +3,7 @@ use Rattle.std.proofs.Common.{◌≡◌, refl, ℕ, List, [], ◌∷◌, Some, N
 use Rattle.postscript_base.specs.Refusal.{missing_subroutine}
 use Rattle.postscript_type2.specs.declared.operation.Operator.TheVariants.{HStem, HintMask, HMoveTo, RLineTo}
 use Rattle.postscript_type2.specs.Program.Evaluation.{run_of}
-use Rattle.postscript_type2.specs.Program.Flat.{flat_text}
+use Rattle.postscript_type2.specs.Program.Flat.{flat_text, flat_len}
 use Rattle.postscript_type2.specs.Number.{whole}
 use Rattle.postscript_type2.specs.Program.Routines.{Lists}
 use Rattle.postscript_type2.proofs.Meant.{Tells, meant}
@@ -30,6 +30,9 @@ flat =
 
 flat_of_code : flat_text (run_of with_calls code).trace ≡ flat
 flat_of_code = refl
+
+length_of_code : flat_len (run_of with_calls code).trace ≡ 21
+length_of_code = refl
 
 code_tells : Tells with_calls code ((HStem, n 1 ∷ n 2 ∷ []) ∷ (HintMask, []) ∷ (HMoveTo, n 1 ∷ []) ∷ (RLineTo, n 2 ∷ n 4 ∷ []) ∷ [], None, Some (n 3))
 code_tells = meant _ _ refl
