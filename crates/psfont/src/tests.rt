@@ -285,7 +285,7 @@ fn flushes_before_it_waits(rt: HostRuntime) -> Result<(), Fail> {
         let outcome = session(rt.alloc(), &mut reader, &mut writer);
         assert!(rt; outcome.is_ok(), "at {step}");
         assert!(rt; !reader.late && !waits.get(), "at {step}");
-        assert!(rt; writer.flushes > 2 == often, "at {step}");
+        assert!(rt; (writer.flushes > 2) == often, "at {step}");
     }
     Ok(())
 }

@@ -13,4 +13,5 @@ returns-clause-equal c = rw (
   each_same _ _ c.in_ok-clone-6.ensures.cases.0,
   c.in_ok-clone-7.ensures.equal,
   each_same _ _ c.in_ok-clone-8.ensures.cases.0,
-  each_same _ _ c.in_ok-clone-9.ensures.cases.0) refl
+  each_same _ _ c.in_ok-clone-9.ensures.cases.0,
+) refl
