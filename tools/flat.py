@@ -1,10 +1,11 @@
 #!/usr/bin/env python3
-"""A table of how long four ways through the glyphs of fonts take, and how often they ask for memory.
+"""Tables of how long four ways through the glyphs of fonts take, and how often and how much they ask for memory.
 
-    tools/flat.py OURS RUST COUNTS
+    tools/flat.py OURS RUST COUNTS MEMORY
 
 OURS is what tools/flat_main.txt printed, RUST what tools/charstrings_rust.txt printed, each line after the font's name. A
-line of COUNTS is a font's name, a way, and how often the program asked for memory; the way `none` is that of no glyph.
+line of COUNTS is a font's name, a way, and how often the program asked for memory; the way `none` is that of no glyph. A line
+of MEMORY is a font's name, the length of its longest flat code, and the most bytes that each way asked for at one time.
 """
 
 import pathlib
@@ -65,7 +66,16 @@ def print_table(ours, rust, asked):
     print(row("all fonts", count, loop, sums(ours[name][1] for name in fonts), sums(asked[name] for name in fonts)))
 
 
+def print_memory(lines):
+    print("| font | longest flat code | most bytes at one time: `next` | `run` | `flat_len` | `flatten` | beside that flat code |")
+    print("|---|---|---|---|---|---|---|")
+    for name, longest, *most in lines:
+        print("| " + " | ".join([name, longest] + most + [str(int(most[-1]) - int(longest))]) + " |")
+
+
 if __name__ == "__main__":
-    if len(sys.argv) != 4:
+    if len(sys.argv) != 5:
         sys.exit(__doc__)
     print_table(least_of(sys.argv[1]), least_of(sys.argv[2]), counts_of(sys.argv[3]))
+    print()
+    print_memory(lines_of(sys.argv[4]))
