@@ -1,8 +1,8 @@
 #!/usr/bin/env python3
 """The dictionaries of fonts, and the tables of the times of their readings.
 
-    tools/dictionaries.py fonts WORD..      prints a line for the top and one for the Private dictionary of each font
-    tools/dictionaries.py table OURS RUST   prints a table of what the two programs printed
+    tools/dictionaries.py fonts WORD..            prints a line for the top and one for the Private dictionary of each font
+    tools/dictionaries.py table OURS RUST MAPS   prints a table of what the three programs printed
 
 Each WORD is an installed Debian package, of which each file .otf is taken, or a font file. Fonts without a table `CFF `
 are left out. The bytes are those of the first item of the Top DICT INDEX, and those that its operator Private points to.
@@ -55,24 +55,25 @@ def times_of(path):
     return times
 
 
-def print_table(ours, rust):
+def print_table(ours, rust, maps):
     if [(name, count) for name, (_, count) in ours.items()] != [(name, count) for name, (_, count) in rust.items()]:
         sys.exit("the programs did not read the same operators")
-    print("| font | dictionary | operators | Rattle | Rust | ratio |")
-    print("|---|---|---|---|---|---|")
+    print("| font | dictionary | operators | Rattle | Rust | ratio | maps alone |")
+    print("|---|---|---|---|---|---|---|")
     for name, (nanos, count) in ours.items():
         font, dictionary = name.split(":")
         other = rust[name][0]
-        print(f"| {font} | {dictionary} | {count} | {nanos} ns | {other} ns | {nanos / other:.2f} |")
-    nanos, other = (sum(time for time, _ in times.values()) for times in (ours, rust))
-    print(f"| all | | | {nanos} ns | {other} ns | {nanos / other:.2f} |")
+        part = maps[name][0] / other
+        print(f"| {font} | {dictionary} | {count} | {nanos} ns | {other} ns | {nanos / other:.2f} | {part:.2f} |")
+    nanos, other, least = (sum(time for time, _ in times.values()) for times in (ours, rust, maps))
+    print(f"| all | | | {nanos} ns | {other} ns | {nanos / other:.2f} | {least / other:.2f} |")
 
 
 def main(words):
     if words[:1] == ["fonts"] and len(words) > 1:
         print_fonts(words[1:])
-    elif words[:1] == ["table"] and len(words) == 3:
-        print_table(times_of(words[1]), times_of(words[2]))
+    elif words[:1] == ["table"] and len(words) == 4:
+        print_table(times_of(words[1]), times_of(words[2]), times_of(words[3]))
     else:
         sys.exit(__doc__)
 
