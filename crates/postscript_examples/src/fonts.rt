@@ -1,9 +1,12 @@
 //! Fonts from their bytes.
-ghost use Rattle.std.specs.Prelude.{◌≡◌, ◌≢◌, ℕ, IfOk, IfErr, map, string_bytes};
+ghost use Rattle.std.specs.Prelude.{◌≡◌, ◌≢◌, ℕ, IfOk, IfErr, map, slice_get, string_bytes};
+ghost use Rattle.postscript_compact1.specs.Index.{Index};
 ghost use Rattle.postscript_compact1.specs.FontSet.Font.{Font};
 ghost use Rattle.postscript_compact1.specs.FontSet.Layout.{IsFont};
 ghost use Rattle.postscript_compact1.specs.FontSet.Shown.{font_shown};
+ghost use Rattle.postscript_examples.specs.Glyphs.{drawn, drawn_by, lists};
 
+use crate::glyphs::{Glyph, each_glyph};
 use postscript::compact1::FontSet;
 use postscript::{Error, Result, Value};
 use std::alloc::Global;
@@ -24,4 +27,26 @@ pub fn names_of(alloc: Global, bytes: &[u8]) -> Result<Vec<String>>
 {
     let font = font_of(alloc, bytes)?;
     Ok(font.names)
+}
+
+/// The operations and the width of each glyph of one of a font's dictionaries, counted from 0; none where there is no such
+/// dictionary.
+pub fn glyphs_of(alloc: Global, font: &FontSet, dictionary: usize) -> Result<Vec<Glyph>>
+    ensures drawn { (codes local : Index) →
+        slice_get (font_shown font.now).char_strings dictionary ≡ Some codes →
+        slice_get (font_shown font.now).local_subroutines dictionary ≡ Some local →
+        IfOk result (λ glyphs. map drawn glyphs.items ≡ map (drawn_by (lists (font_shown font.now).global_subroutines local)) codes.items) }
+{
+    let (Some(codes), Some(local)) = (
+        font.char_strings.get(dictionary),
+        font.local_subroutines.get(dictionary),
+    ) else {
+        return Ok(Vec::new(alloc));
+    };
+    each_glyph(
+        alloc,
+        codes.data(),
+        font.global_subroutines.data(),
+        local.data(),
+    )
 }

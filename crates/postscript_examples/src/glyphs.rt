@@ -1,26 +1,21 @@
 //! Glyphs from their charstrings.
 ghost use Rattle.std.specs.Prelude.{◌≡◌, ◌⊎◌, None, Some, map, IfOk, IfErr};
 ghost use Rattle.postscript_type2.specs.Program.Evaluation.{run_of};
-ghost use Rattle.postscript_type2.specs.Program.Runs.{operation, fault_of, width_of};
+ghost use Rattle.postscript_type2.specs.Program.Runs.{fault_of};
 ghost use Rattle.postscript_base.specs.Refusal.{refusal_of};
 ghost use Rattle.postscript_type2.specs.Program.Routines.{subroutines};
-ghost use Rattle.postscript_type2.specs.Program.Whole.{operation_of};
+ghost use Rattle.postscript_examples.specs.Glyphs.{drawn, drawn_by};
 
 use postscript::type2::{self, Operand, Operations, Program};
 use postscript::{Error, Result};
 use std::alloc::Global;
 
 /// The operations of a glyph, and its width.
-pub fn glyph(
-    alloc: Global,
-    code: &[u8],
-    global: &[Vec<u8>],
-    local: &[Vec<u8>],
-) -> Result<(Operations, Option<Operand>)>
-    ensures operations { let run = run_of (subroutines global.now local.now) code.now in
-        IfOk result (λ glyph. map operation_of glyph.0.items ≡ map operation run.answers) }
-    ensures width { let run = run_of (subroutines global.now local.now) code.now in
-        IfOk result (λ glyph. glyph.1 ≡ width_of run) }
+pub type Glyph = (Operations, Option<Operand>);
+
+/// The operations of a glyph, and its width.
+pub fn glyph(alloc: Global, code: &[u8], global: &[Vec<u8>], local: &[Vec<u8>]) -> Result<Glyph>
+    ensures drawn { IfOk result (λ glyph. drawn glyph ≡ drawn_by (subroutines global.now local.now) code.now) }
     ensures refused { let run = run_of (subroutines global.now local.now) code.now in
         IfErr result (λ e. (e ≡ Error.Memory) ⊎ (fault_of run.end ≡ Some (refusal_of e))) }
 {
@@ -29,6 +24,22 @@ pub fn glyph(
         None => Ok((answers.operations, answers.width)),
         Some(fault) => Err(fault),
     }
+}
+
+/// The operations and the width of each of these glyphs.
+pub fn each_glyph(
+    alloc: Global,
+    codes: &[Vec<u8>],
+    global: &[Vec<u8>],
+    local: &[Vec<u8>],
+) -> Result<Vec<Glyph>>
+    ensures drawn { IfOk result (λ glyphs. map drawn glyphs.items ≡ map (λ code. drawn_by (subroutines global.now local.now) code.items) codes.now) }
+{
+    let mut glyphs = Vec::new(alloc);
+    for code in codes {
+        glyphs.push(glyph(alloc, code, global, local)?)?;
+    }
+    Ok(glyphs)
 }
 
 /// How many operands a glyph's operations have, and its width, one operation at a time.

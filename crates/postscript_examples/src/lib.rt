@@ -1,8 +1,11 @@
 //! Examples of use. Each is proved from the library's public contracts alone.
 #![tactic(auto)]
 
+pub mod dictionaries;
+pub mod flat;
 pub mod fonts;
 pub mod glyphs;
+pub mod own_tapes;
 pub mod readers;
 pub mod tapes;
 #[cfg(test)]

@@ -1,0 +1,8 @@
+use Rattle.std.proofs.Common.{◌≡◌, [], map, take}
+use Rattle.postscript_type2.specs.Program.Routines.{subroutines}
+use Rattle.postscript_examples.specs.Glyphs.{drawn_by}
+use Rattle.postscript_examples.proofs.flat.each_flat.Given as goal
+
+-- the codes so far
+abbrev pub invariant-loop-code : goal.invariant-loop-code
+invariant-loop-code l = map (λ code. drawn_by (subroutines [] []) code.items) l.flat_codes.items ≡ map (λ code. drawn_by (subroutines l.fn.global l.fn.local) code.items) (take l.code-index l.codes)

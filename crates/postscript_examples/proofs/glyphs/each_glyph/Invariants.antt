@@ -1,0 +1,8 @@
+use Rattle.std.proofs.Common.{◌≡◌, map, take}
+use Rattle.postscript_type2.specs.Program.Routines.{subroutines}
+use Rattle.postscript_examples.specs.Glyphs.{drawn, drawn_by}
+use Rattle.postscript_examples.proofs.glyphs.each_glyph.Given as goal
+
+-- the glyphs so far
+abbrev pub invariant-loop-code : goal.invariant-loop-code
+invariant-loop-code l = map drawn l.glyphs.items ≡ map (λ code. drawn_by (subroutines l.fn.global l.fn.local) code.items) (take l.code-index l.codes)

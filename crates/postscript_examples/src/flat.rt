@@ -1,0 +1,50 @@
+//! Glyphs that need no subroutines any more.
+ghost use Rattle.std.specs.Prelude.{◌≡◌, [], map, IfOk};
+ghost use Rattle.postscript_type2.specs.Program.Routines.{Lists, subroutines};
+ghost use Rattle.postscript_examples.specs.Glyphs.{drawn_by};
+
+use postscript::Result;
+use postscript::compact1::FontSet;
+use postscript::type2::Program;
+use std::alloc::Global;
+
+/// The code of a glyph without calls: over any subroutines, and over none, it draws the same.
+pub fn flat(alloc: Global, code: &[u8], global: &[Vec<u8>], local: &[Vec<u8>]) -> Result<Vec<u8>>
+    ensures same { IfOk result (λ flat. (other : Lists) → drawn_by other flat.items ≡ drawn_by (subroutines global.now local.now) code.now) }
+    ensures alone { IfOk result (λ flat. drawn_by (subroutines [] []) flat.items ≡ drawn_by (subroutines global.now local.now) code.now) }
+{
+    Program::flatten(alloc, code, global, local)
+}
+
+/// The codes of glyphs without calls: a font's lists of subroutines can then be dropped.
+pub fn each_flat(
+    alloc: Global,
+    codes: &[Vec<u8>],
+    global: &[Vec<u8>],
+    local: &[Vec<u8>],
+) -> Result<Vec<Vec<u8>>>
+    ensures same { IfOk result (λ flat. map (λ code. drawn_by (subroutines [] []) code.items) flat.items ≡ map (λ code. drawn_by (subroutines global.now local.now) code.items) codes.now) }
+{
+    let mut flat_codes = Vec::new(alloc);
+    for code in codes {
+        flat_codes.push(flat(alloc, code, global, local)?)?;
+    }
+    Ok(flat_codes)
+}
+
+/// The glyphs of one of a font's dictionaries, counted from 0, as codes without calls; none where there is no such
+/// dictionary.
+pub fn flat_glyphs_of(alloc: Global, font: &FontSet, dictionary: usize) -> Result<Vec<Vec<u8>>> {
+    let (Some(codes), Some(local)) = (
+        font.char_strings.get(dictionary),
+        font.local_subroutines.get(dictionary),
+    ) else {
+        return Ok(Vec::new(alloc));
+    };
+    each_flat(
+        alloc,
+        codes.data(),
+        font.global_subroutines.data(),
+        local.data(),
+    )
+}
