@@ -14,37 +14,38 @@ pub type Result<T> = std::result::Result<T, Error>;
 /// A refusal.
 #[derive(Debug, Drop, Error)]
 pub enum Error {
-    /// Bytes were wanting, or the tape answered a fault of this kind.
+    /// Bytes were wanting: something is cut off, or its place lies past the end. Also a fault of this kind of a reader, a seek
+    /// or a writer.
     #[error("failed to fill whole buffer")]
     UnexpectedEof,
-    /// The tape answered a fault of another kind.
+    /// A reader, a seek or a writer answered another fault.
     #[error("found a fault of the tape")]
     Io(io::Error),
-    /// A growth was refused.
+    /// Memory was asked for and refused.
     #[error("failed to find memory")]
     Memory,
-    /// The tape goes on, and its place does not rise.
+    /// A tape goes on giving operations of a dictionary, and its place does not rise.
     #[error("found a tape that stands still")]
     TapeStuck,
-    /// An offset has no such size.
+    /// Offsets of an INDEX of no byte, or of more than four.
     #[error("found a malformed offset")]
     MalformedOffset,
-    /// The offsets of an INDEX do not begin with 1, or do not rise.
+    /// The offsets of an INDEX do not begin with 1, or one is not greater than the one before it.
     #[error("found a malformed index")]
     MalformedIndex,
     /// The bytes spell no number.
     #[error("found a malformed number")]
     MalformedNumber,
-    /// The number has no operand.
+    /// A real of more than 18 digits that count, or of an exponent that is not from -1000 to 1000.
     #[error("found a number out of range")]
     OutOfRangeNumber,
     /// The code names no operator.
     #[error("found an unknown operator")]
     UnknownOperator,
-    /// A char set is of another format, or its ranges do not meet the number of glyphs.
+    /// Ranges of a char set cover more glyphs than there are, there are no glyphs, or it is of another format than is read.
     #[error("found a malformed char set")]
     MalformedCharSet,
-    /// No char set has the format.
+    /// No char set has the format that its first byte names.
     #[error("found an unknown char-set format")]
     UnknownCharSetFormat,
     /// Char strings of another type than 2.
@@ -56,25 +57,25 @@ pub enum Error {
     /// This operator is missing, or has too few operands.
     #[error("failed to find an operation with operator {}", .0.name())]
     MissingOperation(Operator),
-    /// An offset is negative, or 64 bits do not count the place.
+    /// A size, an offset or a sum of offsets is negative, or 64 bits do not count the place.
     #[error("found an offset out of range")]
     OutOfRangeOffset,
     /// A part of the format that this library does not follow.
     #[error("found an unsupported part")]
     Unsupported(Part),
-    /// An operand was wanted of an empty stack.
+    /// An operator takes an operand off an empty stack.
     #[error("expected an operand")]
     ExpectedOperand,
-    /// A whole number was wanted of an empty stack, or of another number.
+    /// The number of a subroutine, or a number that an operator counts by, is wanting or no whole number.
     #[error("expected an operand of a different type")]
     ExpectedInteger,
-    /// The stack has fewer operands than the operator names.
+    /// The stack is shallower than `dup`, `index` or `roll` reaches.
     #[error("expected more operands")]
     ExpectedMoreOperands,
-    /// The stack has no length that the operator takes.
+    /// The stack has too few operands for an operator that draws or declares stems.
     #[error("found malformed operands")]
     MalformedOperands,
-    /// The operator cannot follow an operand.
+    /// An operand that its operator cannot follow: the span of a `roll` is negative.
     #[error("found an invalid operand")]
     InvalidOperand,
     /// No subroutine has the number.
@@ -83,13 +84,13 @@ pub enum Error {
     /// The outermost code returns.
     #[error("found a return operator without a caller")]
     ReturnWithoutCaller,
-    /// Bytes follow in a subroutine where the glyph ends.
+    /// `endchar` in a subroutine while bytes follow in it, or in a subroutine that led to it.
     #[error("found trailing data after the end operator")]
     TrailingData,
     /// An eleventh nested call.
     #[error("found calls nested too deep")]
     TooDeep,
-    /// A number is beyond the range of operands.
+    /// A sum, a difference, a product, a quotient, an opposite or an absolute value beyond 16.16 bits.
     #[error("found an overflow")]
     Overflow,
     /// A division by zero.
@@ -98,10 +99,10 @@ pub enum Error {
     /// The root of a negative number.
     #[error("found a root of a negative number")]
     NegativeRoot,
-    /// 32 bits do not count the stems.
+    /// More stems than 32 bits count.
     #[error("found too many stems")]
     TooManyStems,
-    /// An earlier call of this program was refused.
+    /// An earlier call of `next` of this program was refused.
     #[error("the program has failed before")]
     AlreadyFailed,
 }

@@ -61,7 +61,8 @@ impl<'l> Model for Program<'l> {
 }
 
 impl<'l> Program<'l> {
-    /// Creates a program of a code, and of the global and the local subroutines.
+    /// Creates a program of a code, and of the global and the local subroutines: the bytes of each, in the order of their
+    /// lists.
     pub fn new(alloc: Global, code: &'l [u8], global: &'l [Vec<u8>], local: &'l [Vec<u8>]) -> Self
         ensures value { result ≡ begun (run_of (subroutines global.now local.now) code.now) }
         ensures meant { (run : Run) × IsRunOf (subroutines global.now local.now) code.now run × (result ≡ begun run) }
@@ -73,6 +74,8 @@ impl<'l> Program<'l> {
     }
 
     /// Returns the next operation, None at the end.
+    ///
+    /// Refused: `UnexpectedEof`, `UnknownOperator`, those from `Unsupported` to `TooManyStems`, `Memory`, `AlreadyFailed`.
     ///
     /// Once it has answered None it answers None from then on. Once it has been refused it is refused with
     /// `AlreadyFailed` from then on, and the width stays as it was before.
@@ -111,7 +114,7 @@ impl<'l> Program<'l> {
 
     /// How many bytes the flat code of `flatten` has; `usize::MAX` where it has more.
     ///
-    /// Refused: what the run is refused with, `Memory`.
+    /// Refused: what the run is refused with, which is one of those of `next` but `AlreadyFailed`; `Memory`.
     pub fn flat_len(
         alloc: Global,
         code: &'l [u8],
@@ -134,7 +137,7 @@ impl<'l> Program<'l> {
     /// masks. A call keeps its number and drops it again (`0c 12` stands for its operator), and a return drops a zero
     /// (`8b 0c 12`). It ends where the run ends, and has as many bytes as `flat_len` tells.
     ///
-    /// Refused: what the run is refused with, `Memory`.
+    /// Refused: what the run is refused with, which is one of those of `next` but `AlreadyFailed`; `Memory`.
     pub fn flatten(
         alloc: Global,
         code: &'l [u8],
@@ -171,7 +174,9 @@ pub struct Answers {
     pub width: Option<Operand>,
 }
 
-/// Runs a code to its end. Want of memory is the only error.
+/// Runs a code, with the global and the local subroutines, to its end.
+///
+/// Refused: `Memory`. What the run itself is refused with stands in the answers, behind the operations before it.
 pub fn run(alloc: Global, code: &[u8], global: &[Vec<u8>], local: &[Vec<u8>]) -> Result<Answers>
     ensures listed { IfOk result (λ told. IfSome told.fault (λ e. IsOneOf run_refusals (number e))) }
     ensures meant { IfOk result (λ told. (run : Run) × IsRunOf (subroutines global.now local.now) code.now run × Tells told run) }
