@@ -115,10 +115,6 @@ pub enum Part {
     CharSetFormat2,
     /// The charstring operator `random`.
     Random,
-    /// The charstring operator `put`.
-    Put,
-    /// The charstring operator `get`.
-    Get,
 }
 
 impl Error {
