@@ -1,5 +1,6 @@
 #!/usr/bin/env python3
-"""Refuses each request for memory in turn: of psfont's stored run, of runs and flat codes, and of readings of fonts.
+"""Refuses each request for memory in turn: of psfont's stored run, of runs and flat codes, and of readings of fonts; and counts
+what stored numbers ask for.
 
     (cd crates/psfont && rt run < stdin)
     tools/allocations.py
@@ -11,8 +12,9 @@ stored input, on sessions with codes and fonts, and with the words `font PATH`. 
 - with status 0 and those answers, but that `fault 3` stands in place of one answer;
 - with status 0 and those answers.
 
-It goes on until ten numbers, one after the other, gave the answers without a refusal: then no request has the number N. The
-status is 1 where a run ended in another way. Nothing is drawn at random.
+It goes on until ten numbers, one after the other, gave the answers without a refusal: then no request has the number N. Then
+it compares the requests and their bytes of a code that stores 32 numbers and fetches them with those of a code as long that
+pushes and drops as many. The status is 1 where a run ended in another way, or where these differ. Nothing is drawn at random.
 """
 
 import collections
@@ -43,7 +45,13 @@ CODES = [
     ("8c" * 200 + "05", []),
     ("8c8e0c0c16" * 20, []),
     ("8c8d18", []),
+    ("200a8b0c1516", ["908b0c140b"]),
 ]
+
+# The numbers from 0 to 31, each stored in the place of its number and all fetched; and dropped and pushed again.
+NUMBERS = [f"{0x8b + k:02x}" for k in range(32)]
+STORED = "".join(number * 2 + "0c14" for number in NUMBERS) + "".join(number + "0c15" for number in NUMBERS) + "06"
+DROPPED = "".join(number * 2 + "0c120c12" for number in NUMBERS) + "".join(NUMBERS) + "06"
 
 
 def sessions():
@@ -106,13 +114,31 @@ def refuse_each(library, name, words, given):
     return True
 
 
+def asked(library, code):
+    """What the run of a code answers, the number of requests that were made for it and for its flat code, and their bytes."""
+    with tempfile.NamedTemporaryFile("r") as told:
+        done = subprocess.run(
+            [PSFONT], input=f"code {code}\nrun\nflat\n".encode(), capture_output=True, check=True,
+            env=dict(os.environ, LD_PRELOAD=str(library), TOLD=told.name),
+        )
+        return done.stdout.splitlines()[:-1], *map(int, told.read().split())
+
+
+def compare_stored(library):
+    """Whether stored numbers ask for no memory."""
+    stored, dropped = asked(library, STORED), asked(library, DROPPED)
+    print(f"32 stored numbers: {stored[1]} requests, {stored[2]} bytes; as many dropped: {dropped[1]} requests, {dropped[2]} bytes")
+    return stored == dropped and stored[1] > 0
+
+
 def main():
     with tempfile.TemporaryDirectory() as folder:
         library = pathlib.Path(folder) / "refused.so"
         subprocess.run(["gcc", "-shared", "-fPIC", "-O2", TOOLS / "refused.c", "-o", library], check=True)
         fine = [refuse_each(library, *session) for session in sessions()]
+        alike = compare_stored(library)
     print(f"all: {len(fine)} sessions, {fine.count(False)} ended otherwise")
-    return 0 if all(fine) else 1
+    return 0 if all(fine) and alike else 1
 
 
 if __name__ == "__main__":

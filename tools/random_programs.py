@@ -6,8 +6,9 @@ Each program is a code with a list of global and a list of local subroutines. It
 built program (crates/psfont/out/psfont when it is left out), by the lines `code`, `global`, `local`, `run`
 and `flat`, and PSFONT's answers are compared line for line with those of `second_interpreter.py`. One process
 answers some thousand programs. Drawn are random bytes, programs that mostly follow the grammar (numbers of
-every form, operators with right and wrong operands, arithmetic near the limits, stems and masks, nested calls
-through short and very long lists, every way to end a routine), and these with some bytes cut or changed.
+every form, operators with right and wrong operands, arithmetic near the limits, numbers stored in one routine and
+fetched in another, stems and masks, nested calls through short and very long lists, every way to end a routine),
+and these with some bytes cut or changed.
 Programs that take more than 20000 phrases are left out and counted.
 
 Every difference is printed with the lines that were handed over and both answers. The last lines give the
@@ -58,6 +59,8 @@ SHORT_LISTS = [0, 0, 1, 1, 1, 2, 2, 3, 4, 5, 8, 12]
 LONG_LISTS = [107, 108, 214, 215, 216, 1238, 1239, 1240, 1241, 2263]
 LONGEST_LISTS = [33899, 33900, 33900, 33901, 65535, 65537]
 MANY_STEMS = [127, 128, 129, 255, 256, 257, 1000, 2047, 2048, 32767, 32768, 65535, 65536, 70000]
+PLACES = [0, 0, 0, 1, 1, 2, 3, 5, 15, 30, 31, 31]
+NO_PLACES = [-1, -1, 32, 32, 33, 64, 255, 256, -32, -32768, 32767]
 CUT_NUMBERS = [b"\x0c", b"\x1c", b"\x1c\x01", b"\xf7", b"\xfe", b"\xff", b"\xff\0\1\2"]
 
 
@@ -291,6 +294,31 @@ class Drawer:
         """A whole number, or where the program slips one that is not whole."""
         return self.spell(clamp(value * ONE + (self.choice([1, -1, ONE // 2]) if self.slip() else 0)))
 
+    def place(self):
+        """The place of a stored number, mostly one of a few; or where the program slips, none of them."""
+        if self.slip():
+            return self.argument(self.choice(NO_PLACES))
+        return self.argument(self.choice(PLACES) if self.chance(0.9) else self.random.randint(0, 31))
+
+    def store(self):
+        """Some numbers, the last of which is stored."""
+        count = 0 if self.slip() else self.choice([1, 1, 1, 2])
+        return self.numbers(count) + self.place() + CODES["Put"]
+
+    def fetch(self):
+        return self.place() + CODES["Get"]
+
+    def storage_part(self):
+        """Numbers that are stored, fetched and changed; what stands on the stack is shown or stays."""
+        draws = [
+            (4, self.store),
+            (4, self.fetch),
+            (2, lambda: self.fetch() + self.numbers(1) + CODES["Add"] + self.place() + CODES["Put"]),
+            (1, lambda: self.fetch() + self.fetch() + self.place() + CODES["Put"] + self.place() + CODES["Put"]),
+        ]
+        part = b"".join(self.choice_by(draws) for _ in range(self.random.randint(1, 4)))
+        return part if self.chance(0.3) else part + self.fetch() + CODES[self.choice(["HLineTo", "VLineTo"])]
+
     def change_part(self):
         """Some operators that change the end of the stack, then one that shows the stack."""
         changes = [self.plain_change] * 6 + [self.shuffle] * 3 + [
@@ -304,7 +332,7 @@ class Drawer:
         if self.chance(0.3):
             return self.choice(UNKNOWN)
         if self.chance(0.3):
-            return self.numbers(self.random.randint(0, 4)) + CODES[self.choice(["Random", "Put", "Get"])]
+            return self.numbers(self.random.randint(0, 4)) + CODES["Random"]
         return self.numbers(self.random.randint(0, 14)) + self.choice(list(CODES.values()))
 
     # Calls and routines.
@@ -337,8 +365,10 @@ class Drawer:
             kind = self.random.random()
             if kind < 0.30:
                 body += self.path()
-            elif kind < 0.50:
+            elif kind < 0.44:
                 body += self.change_part()
+            elif kind < 0.50:
+                body += self.storage_part()
             elif kind < 0.65:
                 body += self.stem_part()
             elif kind < 0.92:

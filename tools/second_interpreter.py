@@ -17,6 +17,7 @@ LEAST = -(1 << 31)
 GREATEST = (1 << 31) - 1
 MOST_STEMS = (1 << 32) - 1
 DEEPEST = 10
+STORED_NUMBERS = 32
 
 CUT_SHORT = 1
 UNKNOWN_OPERATOR = 9
@@ -264,6 +265,25 @@ def roll(stack):
         stack[bottom + (place + shift) % span] = operand
 
 
+def place_of(number):
+    """A number as a place of the stored numbers."""
+    if not 0 <= number < STORED_NUMBERS:
+        raise Fault(INVALID_OPERAND)
+    return number
+
+
+def put(stack, stored):
+    number = pop_whole(stack)
+    if not stack:
+        raise Fault(EXPECTED_OPERAND)
+    operand = stack.pop()
+    stored[place_of(number)] = operand
+
+
+def get(stack, stored):
+    stack.append(stored[place_of(pop_whole(stack))])
+
+
 def bias(count):
     """What is added to a call's operand, by the count of subroutines in the list."""
     if count < 1240:
@@ -284,6 +304,7 @@ class Meaning:
         self.subroutines = {"CallGSubr": global_, "CallSubr": local}
         self.phrases_left = limit
         self.stack = []
+        self.stored = [0] * STORED_NUMBERS
         self.stems = 0
         self.width = None
         self.width_settled = False
@@ -360,6 +381,10 @@ class Meaning:
             index(self.stack)
         elif name == "Roll":
             roll(self.stack)
+        elif name == "Put":
+            put(self.stack, self.stored)
+        elif name == "Get":
+            get(self.stack, self.stored)
         else:
             raise Fault(UNSUPPORTED)
         return place

@@ -75,7 +75,7 @@ pub enum Error {
     /// The stack has too few operands for an operator that draws or declares stems.
     #[error("found malformed operands")]
     MalformedOperands,
-    /// An operand that its operator cannot follow: the span of a `roll` is negative.
+    /// The span of a `roll` is negative, or the place of a stored number is not from 0 to 31.
     #[error("found an invalid operand")]
     InvalidOperand,
     /// No subroutine has the number.
@@ -116,10 +116,6 @@ pub enum Part {
     CharSetFormat2,
     /// The charstring operator `random`.
     Random,
-    /// The charstring operator `put`.
-    Put,
-    /// The charstring operator `get`.
-    Get,
 }
 
 impl Error {

@@ -8,7 +8,7 @@ use Rattle.postscript_type2.specs.declared.refused.Refused.TheVariants.{Memory}
 use Rattle.postscript_base.specs.Refusal.{Refusal, return_without_caller, trailing_data, too_deep}
 use Rattle.postscript_type2.specs.Refused.{reason}
 use Rattle.postscript_type2.specs.declared.operation.Operator.{Operator}
-use Rattle.postscript_type2.specs.Program.Effects.{State, Move, Keeps, Clears, Calls, Returns, Ends, Refuses, effect, stacked, cleared}
+use Rattle.postscript_type2.specs.Program.Effects.{State, Move, Keeps, Clears, Calls, Returns, Ends, Refuses, effect, stacked, holding, cleared}
 use Rattle.postscript_type2.specs.Program.Evaluation.{with_phrase, with_answer, at_end, said, moved, stride}
 use Rattle.postscript_type2.specs.Program.Parsing.{Complete, NoPhrase, phrase, fronted}
 use Rattle.postscript_type2.specs.Program.Routines.{Lists}
@@ -53,19 +53,19 @@ stepped lists left cs bytes rest st ys op more move read does =
 abbrev with : Operator → List ℕ → Said
 with op front = record { operator = op; bytes = front }
 
--- a stack is left
+-- a stack and stored numbers are left
 pub kept : (lists : Lists) (left : ℕ) (cs : List (List ℕ)) (bytes rest front : List ℕ) (st : State) (ys : List ℤ) (op : Operator) (more : ℕ) (now : State) →
-    IsRead bytes rest st ys op more → effect lists op rest (stacked ys st) ≡ Keeps now.stack → now ≡ stacked now.stack st → front ≡ take (more + 1) bytes →
+    IsRead bytes rest st ys op more → effect lists op rest (stacked ys st) ≡ Keeps now.stack now.stored → now ≡ holding now.stack now.stored st → front ≡ take (more + 1) bytes →
     still lists left bytes cs st ≡ with_phrase (with op front) (still lists left rest cs now)
 kept lists left cs bytes rest front st ys op more now read does is there =
-    stepped lists left cs bytes rest st ys op more (Keeps now.stack) read does
-    ∙ ap (λ after. with_phrase (said op more bytes) (still lists left after cs (stacked now.stack st))) (sym read.behind)
+    stepped lists left cs bytes rest st ys op more (Keeps now.stack now.stored) read does
+    ∙ ap (λ after. with_phrase (said op more bytes) (still lists left after cs (holding now.stack now.stored st))) (sym read.behind)
     ∙ ap (λ s. with_phrase (said op more bytes) (still lists left rest cs s)) (sym is)
     ∙ ap (λ front'. with_phrase (with op front') (still lists left rest cs now)) (sym there)
 
 -- an operation is answered, and the bytes of its mask are passed
 pub answered : (lists : Lists) (left : ℕ) (cs : List (List ℕ)) (bytes rest behind front : List ℕ) (st : State) (ys : List ℤ) (op : Operator) (more mask : ℕ) (taken : List ℤ) (now : State) (width : Option ℤ) →
-    IsRead bytes rest st ys op more → effect lists op rest (stacked ys st) ≡ Clears taken now.stems width mask → now ≡ cleared now.stems width → behind ≡ drop mask rest →
+    IsRead bytes rest st ys op more → effect lists op rest (stacked ys st) ≡ Clears taken now.stems width mask → now ≡ cleared now.stems width st → behind ≡ drop mask rest →
     front ≡ take (length bytes - length behind) bytes →
     still lists left bytes cs st ≡ with_phrase (with op front) (with_answer (record { operator = op; operands = taken; width = width }) (still lists left behind cs now))
 answered lists left cs bytes rest behind front st ys op more mask taken now width read does is past is_front =
@@ -73,7 +73,7 @@ answered lists left cs bytes rest behind front st ys op more mask taken now widt
     let answer : Answer = record { operator = op; operands = taken; width = width } in
     let there : behind ≡ drop (more + mask + 1) bytes =
     past ∙ ap (drop mask) read.behind ∙ drop-drop mask (more + 1) bytes ∙ ap (λ n. drop n bytes) (omega arith) in
-    step ∙ ap (λ after. with_phrase (said op (more + mask) bytes) (with_answer answer (still lists left after cs (cleared now.stems width)))) (sym there)
+    step ∙ ap (λ after. with_phrase (said op (more + mask) bytes) (with_answer answer (still lists left after cs (cleared now.stems width st)))) (sym there)
     ∙ ap (λ s. with_phrase (said op (more + mask) bytes) (with_answer answer (still lists left behind cs s))) (sym is)
     ∙ ap (λ front'. with_phrase (with op front') (with_answer answer (still lists left behind cs now))) (sym (front-of bytes behind front (more + mask + 1) there is_front))
 

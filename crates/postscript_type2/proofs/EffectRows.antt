@@ -2,7 +2,7 @@
 use Rattle.std.proofs.Common.{◌≡◌, refl, ℕ, List, [], ◌∷◌, Some, None, ℤ, pos, neg_ℤ, ◌-◌, ◌^◌, replicate}
 use Rattle.postscript_base.specs.Refusal.{unexpected_eof, malformed_operands, expected_operand, expected_integer, expected_more_operands, invalid_operand, missing_subroutine, trailing_data, too_deep, overflow, zero_divisor, negative_root, too_many_stems}
 use Rattle.postscript_type2.specs.declared.operation.Operator.{Operator}
-use Rattle.postscript_type2.specs.declared.operation.Operator.TheVariants.{HStem, RLineTo, RRCurveTo, CallSubr, Return, EndChar, HintMask, CntrMask, RCurveLine, RLineCurve, HHCurveTo, CallGSubr, HVCurveTo, And, Or, Not, Abs, Add, Sub, Div, Neg, Eq, Drop, IfElse, Mul, Sqrt, Dup, Exch, Index, Roll, Flex}
+use Rattle.postscript_type2.specs.declared.operation.Operator.TheVariants.{HStem, RLineTo, RRCurveTo, CallSubr, Return, EndChar, HintMask, CntrMask, RCurveLine, RLineCurve, HHCurveTo, CallGSubr, HVCurveTo, And, Or, Not, Abs, Add, Sub, Div, Neg, Eq, Drop, IfElse, Mul, Sqrt, Dup, Exch, Index, Roll, Put, Get, Flex}
 use Rattle.postscript_type2.specs.Program.Effects.{State, start, Move, Keeps, Clears, Calls, Refuses, bias, effect}
 use Rattle.postscript_type2.specs.Program.Evaluation.{Back, moved, said}
 use Rattle.postscript_type2.specs.Program.Flat.{flat_text}
@@ -18,7 +18,7 @@ no_lists = record { global = []; local = [] }
 
 -- a stack, before any operation
 abbrev with_stack : List ℤ → State
-with_stack stack = record { stack = stack; stems = 0; width = None }
+with_stack stack = record { stack = stack; stems = 0; width = None; stored = [] }
 
 -- an operator on a stack
 abbrev on : Operator → List ℤ → Move
@@ -36,44 +36,44 @@ abbrev bits_minus : ℕ → ℤ
 bits_minus k = neg_ℤ (pos k)
 
 -- numbers
-add : on Add (n 1 ∷ n 2 ∷ []) ≡ Keeps (n 3 ∷ [])
+add : on Add (n 1 ∷ n 2 ∷ []) ≡ Keeps (n 3 ∷ []) []
 add = refl
 
 add_past : on Add (n 32767 ∷ n 1 ∷ []) ≡ Refuses overflow
 add_past = refl
 
-sub : on Sub (n 1 ∷ n 3 ∷ []) ≡ Keeps (minus 2 ∷ [])
+sub : on Sub (n 1 ∷ n 3 ∷ []) ≡ Keeps (minus 2 ∷ []) []
 sub = refl
 
 sub_past : on Sub (minus 32768 ∷ pos 1 ∷ []) ≡ Refuses overflow
 sub_past = refl
 
-abs : on Abs (minus 3 ∷ []) ≡ Keeps (n 3 ∷ [])
+abs : on Abs (minus 3 ∷ []) ≡ Keeps (n 3 ∷ []) []
 abs = refl
 
 abs_past : on Abs (minus 32768 ∷ []) ≡ Refuses overflow
 abs_past = refl
 
-neg : on Neg (n 3 ∷ []) ≡ Keeps (minus 3 ∷ [])
+neg : on Neg (n 3 ∷ []) ≡ Keeps (minus 3 ∷ []) []
 neg = refl
 
 neg_past : on Neg (minus 32768 ∷ []) ≡ Refuses overflow
 neg_past = refl
 
-mul : on Mul (n 7 ∷ minus 2 ∷ n 3 ∷ []) ≡ Keeps (n 7 ∷ minus 6 ∷ [])
+mul : on Mul (n 7 ∷ minus 2 ∷ n 3 ∷ []) ≡ Keeps (n 7 ∷ minus 6 ∷ []) []
 mul = refl
 
 -- the least bits times a half: cut towards zero
-mul_cut : on Mul (bits_minus 1 ∷ pos 32768 ∷ []) ≡ Keeps (pos 0 ∷ [])
+mul_cut : on Mul (bits_minus 1 ∷ pos 32768 ∷ []) ≡ Keeps (pos 0 ∷ []) []
 mul_cut = refl
 
 mul_past : on Mul (n 32767 ∷ n 2 ∷ []) ≡ Refuses overflow
 mul_past = refl
 
-div : on Div (n 1 ∷ n 3 ∷ []) ≡ Keeps (pos 21845 ∷ [])
+div : on Div (n 1 ∷ n 3 ∷ []) ≡ Keeps (pos 21845 ∷ []) []
 div = refl
 
-div_cut : on Div (minus 1 ∷ n 3 ∷ []) ≡ Keeps (bits_minus 21845 ∷ [])
+div_cut : on Div (minus 1 ∷ n 3 ∷ []) ≡ Keeps (bits_minus 21845 ∷ []) []
 div_cut = refl
 
 div_zero : on Div (n 1 ∷ n 0 ∷ []) ≡ Refuses zero_divisor
@@ -93,48 +93,48 @@ root_none : on Sqrt [] ≡ Refuses expected_operand
 root_none = refl
 
 -- truth
-and : on And (n 2 ∷ pos 1 ∷ []) ≡ Keeps (n 1 ∷ [])
+and : on And (n 2 ∷ pos 1 ∷ []) ≡ Keeps (n 1 ∷ []) []
 and = refl
 
-or : on Or (n 0 ∷ n 0 ∷ []) ≡ Keeps (n 0 ∷ [])
+or : on Or (n 0 ∷ n 0 ∷ []) ≡ Keeps (n 0 ∷ []) []
 or = refl
 
-not : on Not (n 0 ∷ []) ≡ Keeps (n 1 ∷ [])
+not : on Not (n 0 ∷ []) ≡ Keeps (n 1 ∷ []) []
 not = refl
 
-equal : on Eq (n 2 ∷ n 2 ∷ []) ≡ Keeps (n 1 ∷ [])
+equal : on Eq (n 2 ∷ n 2 ∷ []) ≡ Keeps (n 1 ∷ []) []
 equal = refl
 
-unequal : on Eq (n 2 ∷ pos 2 ∷ []) ≡ Keeps (n 0 ∷ [])
+unequal : on Eq (n 2 ∷ pos 2 ∷ []) ≡ Keeps (n 0 ∷ []) []
 unequal = refl
 
-if_equal : on IfElse (n 1 ∷ n 2 ∷ n 3 ∷ n 3 ∷ []) ≡ Keeps (n 1 ∷ [])
+if_equal : on IfElse (n 1 ∷ n 2 ∷ n 3 ∷ n 3 ∷ []) ≡ Keeps (n 1 ∷ []) []
 if_equal = refl
 
-if_above : on IfElse (n 1 ∷ n 2 ∷ n 4 ∷ n 3 ∷ []) ≡ Keeps (n 2 ∷ [])
+if_above : on IfElse (n 1 ∷ n 2 ∷ n 4 ∷ n 3 ∷ []) ≡ Keeps (n 2 ∷ []) []
 if_above = refl
 
 if_three : on IfElse (n 2 ∷ n 4 ∷ n 3 ∷ []) ≡ Refuses expected_operand
 if_three = refl
 
 -- the stack
-drop_top : on Drop (n 1 ∷ n 2 ∷ []) ≡ Keeps (n 1 ∷ [])
+drop_top : on Drop (n 1 ∷ n 2 ∷ []) ≡ Keeps (n 1 ∷ []) []
 drop_top = refl
 
-exchange : on Exch (n 1 ∷ n 2 ∷ n 3 ∷ []) ≡ Keeps (n 1 ∷ n 3 ∷ n 2 ∷ [])
+exchange : on Exch (n 1 ∷ n 2 ∷ n 3 ∷ []) ≡ Keeps (n 1 ∷ n 3 ∷ n 2 ∷ []) []
 exchange = refl
 
-double : on Dup (n 1 ∷ n 2 ∷ []) ≡ Keeps (n 1 ∷ n 2 ∷ n 2 ∷ [])
+double : on Dup (n 1 ∷ n 2 ∷ []) ≡ Keeps (n 1 ∷ n 2 ∷ n 2 ∷ []) []
 double = refl
 
 double_none : on Dup [] ≡ Refuses expected_more_operands
 double_none = refl
 
-index_two : on Index (n 7 ∷ n 8 ∷ n 9 ∷ n 2 ∷ []) ≡ Keeps (n 7 ∷ n 8 ∷ n 9 ∷ n 7 ∷ [])
+index_two : on Index (n 7 ∷ n 8 ∷ n 9 ∷ n 2 ∷ []) ≡ Keeps (n 7 ∷ n 8 ∷ n 9 ∷ n 7 ∷ []) []
 index_two = refl
 
 -- below zero it is the top
-index_negative : on Index (n 1 ∷ n 2 ∷ minus 1 ∷ []) ≡ Keeps (n 1 ∷ n 2 ∷ n 2 ∷ [])
+index_negative : on Index (n 1 ∷ n 2 ∷ minus 1 ∷ []) ≡ Keeps (n 1 ∷ n 2 ∷ n 2 ∷ []) []
 index_negative = refl
 
 index_none : on Index [] ≡ Refuses expected_integer
@@ -146,13 +146,13 @@ index_half = refl
 index_past : on Index (n 1 ∷ []) ≡ Refuses expected_more_operands
 index_past = refl
 
-roll_one : on Roll (n 1 ∷ n 2 ∷ n 3 ∷ n 3 ∷ n 1 ∷ []) ≡ Keeps (n 3 ∷ n 1 ∷ n 2 ∷ [])
+roll_one : on Roll (n 1 ∷ n 2 ∷ n 3 ∷ n 3 ∷ n 1 ∷ []) ≡ Keeps (n 3 ∷ n 1 ∷ n 2 ∷ []) []
 roll_one = refl
 
-roll_back : on Roll (n 9 ∷ n 1 ∷ n 2 ∷ n 3 ∷ n 3 ∷ minus 4 ∷ []) ≡ Keeps (n 9 ∷ n 2 ∷ n 3 ∷ n 1 ∷ [])
+roll_back : on Roll (n 9 ∷ n 1 ∷ n 2 ∷ n 3 ∷ n 3 ∷ minus 4 ∷ []) ≡ Keeps (n 9 ∷ n 2 ∷ n 3 ∷ n 1 ∷ []) []
 roll_back = refl
 
-roll_none : on Roll (n 1 ∷ n 0 ∷ minus 1 ∷ []) ≡ Keeps (n 1 ∷ [])
+roll_none : on Roll (n 1 ∷ n 0 ∷ minus 1 ∷ []) ≡ Keeps (n 1 ∷ []) []
 roll_none = refl
 
 roll_negative : on Roll (n 1 ∷ minus 1 ∷ n 1 ∷ []) ≡ Refuses invalid_operand
@@ -163,6 +163,23 @@ roll_past = refl
 
 roll_half : on Roll (n 1 ∷ pos 1 ∷ n 1 ∷ []) ≡ Refuses expected_integer
 roll_half = refl
+
+-- stored numbers: one is written, and one is fetched
+abbrev on_stored : Operator → List ℤ → Move
+on_stored op stack = effect no_lists op [] (record { stack = stack; stems = 0; width = None; stored = n 4 ∷ n 5 ∷ n 6 ∷ [] })
+
+put_second : on_stored Put (n 7 ∷ n 8 ∷ n 1 ∷ []) ≡ Keeps (n 7 ∷ []) (n 4 ∷ n 8 ∷ n 6 ∷ [])
+put_second = refl
+
+get_third : on_stored Get (n 7 ∷ n 2 ∷ []) ≡ Keeps (n 7 ∷ n 6 ∷ []) (n 4 ∷ n 5 ∷ n 6 ∷ [])
+get_third = refl
+
+-- the place is looked at once both are popped
+put_nothing_past : on_stored Put (n 3 ∷ []) ≡ Refuses expected_operand
+put_nothing_past = refl
+
+put_past : on_stored Put (n 7 ∷ n 3 ∷ []) ≡ Refuses invalid_operand
+put_past = refl
 
 -- lengths: the longest that fits
 curves_of_eleven : taken HVCurveTo 11 ≡ Some 9
@@ -223,14 +240,14 @@ mask_cut : mask_before [] (with_stack (n 3 ∷ n 1 ∷ n 2 ∷ [])) ≡ Refuses 
 mask_cut = refl
 
 -- nine stems have two bytes
-mask_of_nine : mask_before (0x80 ∷ 0x80 ∷ []) (record { stack = n 1 ∷ n 2 ∷ []; stems = 8; width = Some None }) ≡ Clears [] 9 None 2
+mask_of_nine : mask_before (0x80 ∷ 0x80 ∷ []) (record { stack = n 1 ∷ n 2 ∷ []; stems = 8; width = Some None; stored = [] }) ≡ Clears [] 9 None 2
 mask_of_nine = refl
 
-mask_of_nine_cut : mask_before (0x80 ∷ []) (record { stack = n 1 ∷ n 2 ∷ []; stems = 8; width = Some None }) ≡ Refuses unexpected_eof
+mask_of_nine_cut : mask_before (0x80 ∷ []) (record { stack = n 1 ∷ n 2 ∷ []; stems = 8; width = Some None; stored = [] }) ≡ Refuses unexpected_eof
 mask_of_nine_cut = refl
 
 -- the count of stems comes before the bytes of the mask
-mask_past : mask_before [] (record { stack = n 1 ∷ n 2 ∷ []; stems = 2 ^ 32 - 1; width = None }) ≡ Refuses too_many_stems
+mask_past : mask_before [] (record { stack = n 1 ∷ n 2 ∷ []; stems = 2 ^ 32 - 1; width = None; stored = [] }) ≡ Refuses too_many_stems
 mask_past = refl
 
 -- calls

@@ -1,6 +1,6 @@
 -- Runs end in no other refusal than those of the list.
 use Rattle.std.proofs.lemmas.Bool.Decides.{nat_tests}
-use Rattle.std.proofs.Common.{◌≡◌, refl, ap, sym, subst, ℕ, zero, suc, ◌+◌, ◌-◌, ◌⊎◌, inl, inr, ℤ, pos, negsuc, ◌-ℤ◌, ◌+ℤ◌, ◌*ℤ◌, neg_ℤ, nat_abs, int_lt, int_le, Bool, true, false, ◌||◌, ◌&&◌, not, nat_lt, ◌==◌, List, [], ◌∷◌, length, drop, take, slice_get, Option, Some, None, Result, Ok, Err, IfErr, IfSome, if◌then◌else◌, arith}
+use Rattle.std.proofs.Common.{◌≡◌, refl, ap, sym, subst, ℕ, zero, suc, ◌+◌, ◌-◌, ◌⊎◌, inl, inr, ℤ, pos, negsuc, ◌-ℤ◌, ◌+ℤ◌, ◌*ℤ◌, neg_ℤ, nat_abs, int_lt, int_le, Bool, true, false, ◌||◌, ◌&&◌, not, nat_lt, ◌==◌, List, [], ◌∷◌, length, drop, take, slice_get, slice_set, Option, Some, None, Result, Ok, Err, IfErr, IfSome, if◌then◌else◌, arith}
 use Rattle.std.specs.Option.{ok_or, option_map}
 use Rattle.std.specs.Ordering.{int_eq}
 use Rattle.postscript_base.specs.declared.error.Error.{Error}
@@ -11,16 +11,16 @@ use Rattle.postscript_type2.specs.Refused.{error_of, reason}
 use Rattle.postscript_base.specs.Error.{code, IsOneOf, IsListed}
 use Rattle.postscript_base.specs.Numbers.{slice, number as unsigned, big_endian, two_sided, above, below}
 use Rattle.postscript_base.specs.Tape.Outcome.{Outcome, Got, Fault as Cut, Past, Reading, after as chained, ◌>>=◌ as ◌>>>◌, pure, fault}
-use Rattle.postscript_base.specs.Refusal.{Refusal, refusal_of, number_of, unexpected_eof, malformed_number, return_without_caller, trailing_data, expected_operand, expected_integer, expected_more_operands, missing_subroutine}
+use Rattle.postscript_base.specs.Refusal.{Refusal, refusal_of, number_of, unexpected_eof, malformed_number, return_without_caller, trailing_data, expected_operand, expected_integer, expected_more_operands, invalid_operand, missing_subroutine}
 use Rattle.postscript_type2.specs.declared.operation.Operator.{Operator}
-use Rattle.postscript_type2.specs.declared.operation.Operator.TheVariants.{And, Or, Not, Abs, Add, Sub, Div, Neg, Eq, Drop, IfElse, Mul, Sqrt, Dup, Exch, Index, Roll}
+use Rattle.postscript_type2.specs.declared.operation.Operator.TheVariants.{And, Or, Not, Abs, Add, Sub, Div, Neg, Eq, Drop, IfElse, Mul, Sqrt, Dup, Exch, Index, Roll, Put, Get}
 use Rattle.postscript_type2.specs.declared.program.machine.Machine.{Machine}
 use Rattle.postscript_type2.specs.Program.Callers.{rests}
-use Rattle.postscript_type2.specs.Program.Effects.{State, start, Move, Keeps, Clears, Calls, Returns, Ends, Refuses, clearing, stems_after, mask_len, mask_clearing, work_move, named, subroutine, call_move, effect_of, effect, pushed}
+use Rattle.postscript_type2.specs.Program.Effects.{State, start, Move, Keeps, Clears, Calls, Returns, Ends, Refuses, clearing, stems_after, mask_len, mask_clearing, work_move, store_move, named, subroutine, call_move, effect_of, effect, pushed}
 use Rattle.postscript_type2.specs.Program.Endings.{run_refusals, flatten_refusals, next_refusals, IsRunsEnd, RunsEndSo}
 use Rattle.postscript_type2.specs.Program.Evaluation.{with_any_answer, is_empty, after_call, Stride, On, Into, Back, Over, Faults, moved, stride_by, stride, Callee, called, paced, routine, callee, mean, run_of}
 use Rattle.postscript_type2.specs.Program.FixedPoint.{cut, fit, absolute_value, opposite, root, sum, difference, product, quotient, both, either, denial, same_bits}
-use Rattle.postscript_type2.specs.Operation.Kinds.{Kind, Draws, DeclaresStems, Masks, Works, CallsFrom, GoesBack, EndsGlyph, IsRefused, kind, taken}
+use Rattle.postscript_type2.specs.Operation.Kinds.{Kind, Draws, DeclaresStems, Masks, Works, Stores, CallsFrom, GoesBack, EndsGlyph, IsRefused, kind, taken}
 use Rattle.postscript_type2.specs.Program.Machines.{still_of}
 use Rattle.postscript_type2.specs.Number.{to_int, spelled, whole}
 use Rattle.postscript_type2.specs.Operation.Operators.{operator_of}
@@ -28,9 +28,10 @@ use Rattle.postscript_type2.specs.Program.Parsing.{Phrase, Complete, NoPhrase, i
 use Rattle.postscript_type2.specs.Program.Routines.{Lists}
 use Rattle.postscript_type2.specs.Program.Runs.{Answer, End, UsedUp, Returned, Finished, Fault, Run, fault_of}
 use Rattle.postscript_type2.specs.Program.Stacks.{one_to_one, two_to_one, distance, roll_by}
+use Rattle.postscript_type2.specs.Program.Storage.{stored_at}
 use Rattle.postscript_type2.specs.Program.Still.{through, still}
 use Rattle.postscript_type2.specs.Program.Working.{lists_of, state_of}
-use Rattle.postscript_type2.specs.Program.Works.{Work, ◌>>=◌, given, after, top_of, pop, operand, whole_operand, operand_below, push}
+use Rattle.postscript_type2.specs.Program.Works.{Work, ◌>>=◌, given, after, top_of, pop, operand, whole_operand, operand_below, at, push}
 
 abbrev Listed : Refusal → Type 0
 Listed e = IsOneOf run_refusals (number_of e)
@@ -227,9 +228,13 @@ roll_by-listed : (shift span : ℤ) → WorkListed (roll_by shift span)
 roll_by-listed shift (pos span) stack = if-listed (nat_lt (length stack) span) _ _ at19 tt
 roll_by-listed shift (negsuc span) stack = at21
 
+stored-listed : (stored : List ℤ) (i : ℤ) → WorkListed (given (stored_at stored i))
+stored-listed stored i = given-listed (stored_at stored i) (ok_or-listed (at stored i) invalid_operand at21)
+
 -- operators
 abbrev KindListed : Kind → Type 0
 KindListed (Works work) = WorkListed work
+KindListed (Stores work) = (stored : List ℤ) → WorkListed (work stored)
 KindListed k = Unit {0}
 
 operators-listed : (op : Operator) → KindListed (kind op)
@@ -251,6 +256,10 @@ operators-listed Exch = bind operand _ operand-listed (λ b. bind operand _ oper
 operators-listed Dup = bind (operand_below 0) _ (below-listed 0) (λ top. push-listed top)
 operators-listed Index = bind whole_operand _ whole-listed (λ i. bind (operand_below (distance i)) _ (below-listed (distance i)) (λ x. push-listed x))
 operators-listed Roll = bind whole_operand _ whole-listed (λ shift. bind whole_operand _ whole-listed (λ span. roll_by-listed shift span))
+operators-listed Put =
+    λ stored. bind whole_operand _ whole-listed (λ i. bind operand _ operand-listed (λ a. bind (given (stored_at stored i)) _ (stored-listed stored i) (λ old. given-listed (Ok (slice_set stored (nat_abs i) a)) tt)))
+operators-listed Get =
+    λ stored. bind whole_operand _ whole-listed (λ i. bind (given (stored_at stored i)) _ (stored-listed stored i) (λ x. bind (push x) (λ _. given (Ok stored)) (push-listed x) (λ _. given-listed (Ok stored) tt)))
 operators-listed op = tt
 
 abbrev MoveListed : Move → Type 0
@@ -269,9 +278,13 @@ if-move : (b : Bool) (x y : Move) → MoveListed x → MoveListed y → MoveList
 if-move true x y p q = p
 if-move false x y p q = q
 
-work-listed : (r : Result (Unit {0} × List ℤ) Refusal) → ResultListed r → MoveListed (work_move r)
-work-listed (Ok x) h = tt
-work-listed (Err e) h = h
+work-listed : (stored : List ℤ) (r : Result (Unit {0} × List ℤ) Refusal) → ResultListed r → MoveListed (work_move stored r)
+work-listed stored (Ok x) h = tt
+work-listed stored (Err e) h = h
+
+store-listed : (r : Result (List ℤ × List ℤ) Refusal) → ResultListed r → MoveListed (store_move r)
+store-listed (Ok x) h = tt
+store-listed (Err e) h = h
 
 call-listed : (r : Result (List ℕ × List ℤ) Refusal) → ResultListed r → MoveListed (call_move r)
 call-listed (Ok x) h = tt
@@ -288,7 +301,8 @@ kind-listed (DeclaresStems takes) h lists op after st =
     if-move (nat_lt (stems_after st) 4294967296) _ _ (clearing-listed st (stems_after st) (taken op (length st.stack))) at29
 kind-listed (Masks takes) h lists op after st =
     if-move (nat_lt (stems_after st) 4294967296) _ _ (if-move (nat_lt (length after) (mask_len (stems_after st))) _ _ at1 (mask-listed st (stems_after st) (taken op (length st.stack)))) at29
-kind-listed (Works work) h lists op after st = work-listed (work st.stack) (h st.stack)
+kind-listed (Works work) h lists op after st = work-listed st.stored (work st.stack) (h st.stack)
+kind-listed (Stores work) h lists op after st = store-listed (work st.stored st.stack) (h st.stored st.stack)
 kind-listed (CallsFrom routines) h lists op after st = call-listed (subroutine (routines lists) st.stack) (subroutine-listed (routines lists) st.stack)
 kind-listed GoesBack h lists op after st = tt
 kind-listed EndsGlyph h lists op after st = tt
@@ -304,7 +318,7 @@ StrideListed s = Unit {0}
 
 moved-listed : (op : Operator) (more : ℕ) (bytes : List ℕ) (st : State) (m : Move) → MoveListed m → StrideListed (moved op more bytes st m)
 moved-listed op more bytes st (Refuses e) h = h
-moved-listed op more bytes st (Keeps stack) h = tt
+moved-listed op more bytes st (Keeps stack stored) h = tt
 moved-listed op more bytes st (Clears taken stems width mask) h = tt
 moved-listed op more bytes st (Calls sub stack) h = tt
 moved-listed op more bytes st Returns h = tt

@@ -7,10 +7,10 @@ use Rattle.std.specs.Option.{ok_or}
 use Rattle.postscript_base.specs.Refusal.{Refusal, unexpected_eof, expected_operand, expected_integer, missing_subroutine, too_many_stems}
 use Rattle.postscript_type2.specs.declared.operation.Operator.{Operator}
 use Rattle.postscript_type2.specs.declared.operation.Operator.TheVariants.{Drop}
-use Rattle.postscript_type2.specs.Program.Effects.{State, Move, Keeps, Clears, Calls, Returns, Ends, Refuses, clearing, stems_after, with_stems, mask_len, mask_clearing, work_move, named, subroutine, call_move, end_move, effect_of, effect, pushed, stacked, cleared}
+use Rattle.postscript_type2.specs.Program.Effects.{State, Move, Keeps, Clears, Calls, Returns, Ends, Refuses, clearing, stems_after, with_stems, mask_len, mask_clearing, work_move, store_move, named, subroutine, call_move, end_move, effect_of, effect, pushed, stacked, holding, cleared}
 use Rattle.postscript_type2.specs.Program.Evaluation.{with_phrase, with_answer, with_any_answer, at_end, Stride, On, Into, Back, Over, Faults, said, moved, stride_by, stride, mean}
 use Rattle.postscript_type2.specs.Program.Flat.{without_operator, dropping, flat_of, flat_by, flat_said}
-use Rattle.postscript_type2.specs.Operation.Kinds.{Kind, Draws, DeclaresStems, Masks, Works, CallsFrom, GoesBack, EndsGlyph, IsRefused, kind, taken}
+use Rattle.postscript_type2.specs.Operation.Kinds.{Kind, Draws, DeclaresStems, Masks, Works, Stores, CallsFrom, GoesBack, EndsGlyph, IsRefused, kind, taken}
 use Rattle.postscript_type2.specs.Number.{to_int}
 use Rattle.postscript_type2.specs.Program.Parsing.{Phrase, Complete, NoPhrase, phrase, fronted}
 use Rattle.postscript_type2.specs.Program.Routines.{Lists}
@@ -36,9 +36,9 @@ InFlat other left st (Faults e) = Unit {0}
 
 -- the same by an operator's move, where it neither calls nor returns
 abbrev MeansInFlat : (other : Lists) (left : ℕ) → State → Said → Operator → State → Move → Type 0
-MeansInFlat other left st said op st' (Keeps stack) = Tells other left st said (λ x. mean other left false x (stacked stack st'))
+MeansInFlat other left st said op st' (Keeps stack stored) = Tells other left st said (λ x. mean other left false x (holding stack stored st'))
 MeansInFlat other left st said op st' (Clears taken stems width mask) =
-    Tells other left st said (λ x. with_answer (record { operator = op; operands = taken; width = width }) (mean other left false x (cleared stems width)))
+    Tells other left st said (λ x. with_answer (record { operator = op; operands = taken; width = width }) (mean other left false x (cleared stems width st')))
 MeansInFlat other left st said op st' (Calls routine stack) = ⊥
 MeansInFlat other left st said op st' Returns = ⊥
 MeansInFlat other left st said op st' (Ends width) = Tells other left st said (λ x. at_end (Finished width))
@@ -59,7 +59,7 @@ extent more (Clears taken stems width mask) = more + mask
 extent more move = more
 
 extent-is : (more : ℕ) (move : Move) → extent more move ≡ more + mask_of move
-extent-is more (Keeps stack) = omega arith
+extent-is more (Keeps stack stored) = omega arith
 extent-is more (Clears taken stems width mask) = refl
 extent-is more (Calls routine stack) = omega arith
 extent-is more Returns = omega arith
@@ -87,10 +87,10 @@ phrase-in other left bytes st ns op more move own reads does long = by_move move
     by_move : (move : Move) → IsOwn move → length bytes ≡ extent more move + 1 →
         ((x : List ℕ) → mean other left false (bytes ++ x) st ≡ next_still other left (λ k. drop (k + 1) (bytes ++ x)) [] (moved op more (bytes ++ x) (pushed ns st) move)) →
         MeansInFlat other left st (record { operator = op; bytes = bytes }) op (pushed ns st) move
-    by_move (Keeps stack) own l is = λ x.
-        is x ∙ cut (λ t d. with_phrase (record { operator = op; bytes = t }) (mean other left false d (stacked stack (pushed ns st)))) bytes x (more + 1) l
+    by_move (Keeps stack stored) own l is = λ x.
+        is x ∙ cut (λ t d. with_phrase (record { operator = op; bytes = t }) (mean other left false d (holding stack stored (pushed ns st)))) bytes x (more + 1) l
     by_move (Clears taken stems width mask) own l is = λ x.
-        is x ∙ cut (λ t d. with_phrase (record { operator = op; bytes = t }) (with_answer (record { operator = op; operands = taken; width = width }) (mean other left false d (cleared stems width)))) bytes x (more + mask + 1) l
+        is x ∙ cut (λ t d. with_phrase (record { operator = op; bytes = t }) (with_answer (record { operator = op; operands = taken; width = width }) (mean other left false d (cleared stems width st)))) bytes x (more + mask + 1) l
     by_move (Calls routine stack) own l is = own
     by_move Returns own l is = own
     by_move (Ends width) own l is = λ x. is x ∙ cut (λ t d. with_phrase (record { operator = op; bytes = t }) (at_end (Finished width))) bytes x (more + 1) l
@@ -135,7 +135,7 @@ own-in other left b r st ns op more l move own flat room does =
     means = phrase-in other left bytes st ns op more move own (λ x. ap phrase (parts x) ∙ l.stands (mask ++ x)) (λ x. does (drop (more + 1) (bytes ++ x)) (enough x)) long
 
     by_move : (move : Move) → IsOwn move → MeansInFlat other left st (flat_by op (take (extent more move + 1) (b ∷ r))) op (pushed ns st) move → InFlat other left st (moved op more (b ∷ r) (pushed ns st) move)
-    by_move (Keeps stack) own m = m
+    by_move (Keeps stack stored) own m = m
     by_move (Clears taken stems width mask) own m = m
     by_move (Calls routine stack) own m = absurd own
     by_move Returns own m = absurd own
@@ -192,10 +192,10 @@ drop-in other left b r st ns op more l short extra zs reads rest removes =
     let bytes : List ℕ = (numbers ++ extra) ++ 0x0c ∷ 0x12 ∷ [] in
     let numbers-long : length numbers ≡ more = let h : more < length (b ∷ r) = l.room in length-take-le more (b ∷ r) (omega arith) in
     let long : length bytes ≡ more + (length extra + 1) + 1 = omega (arith, numbers-long, length-append (numbers ++ extra) (0x0c ∷ 0x12 ∷ []), length-append numbers extra) in
-    phrase-in other left bytes st (ns ++ zs) Drop (more + (length extra + 1)) (Keeps rest) tt (λ x.
+    phrase-in other left bytes st (ns ++ zs) Drop (more + (length extra + 1)) (Keeps rest st.stored) tt (λ x.
     ap phrase (append_assoc (numbers ++ extra) (0x0c ∷ 0x12 ∷ []) x ∙ append_assoc numbers extra (0x0c ∷ 0x12 ∷ x))
     ∙ l.fronts short (extra ++ 0x0c ∷ 0x12 ∷ x) ∙ ap (fronted ns more) (reads x))
-    (λ x. ap work_move removes) long
+    (λ x. ap (work_move st.stored) removes) long
 
 call-in : (other : Lists) (left : ℕ) (b : ℕ) (r : List ℕ) (st : State) (ns : List ℤ) (op : Operator) (more : ℕ) → IsLocal 0 (b ∷ r) ns op more →
     (routines : Lists → List (List ℕ)) → kind op ≡ CallsFrom routines → (lists : Lists) (result : Result (List ℕ × List ℤ) Refusal) →
@@ -237,9 +237,13 @@ stems-bare stems move bare = by_room (nat_lt stems (2 ^ 32))
     by_room true = bare
     by_room false = (tt, refl)
 
-work-bare : (result : Result (Unit {0} × List ℤ) Refusal) → IsBare (work_move result)
-work-bare (Ok done) = (tt, refl)
-work-bare (Err e) = (tt, refl)
+work-bare : (stored : List ℤ) (result : Result (Unit {0} × List ℤ) Refusal) → IsBare (work_move stored result)
+work-bare stored (Ok done) = (tt, refl)
+work-bare stored (Err e) = (tt, refl)
+
+store-bare : (result : Result (List ℤ × List ℤ) Refusal) → IsBare (store_move result)
+store-bare (Ok done) = (tt, refl)
+store-bare (Err e) = (tt, refl)
 
 -- one phrase
 pub in-flat : (lists other : Lists) (left : ℕ) (b : ℕ) (r : List ℕ) (st : State) → InFlat other left st (stride lists (b ∷ r) st)
@@ -276,7 +280,8 @@ in-flat lists other left b r st = by_phrase (phrase (b ∷ r)) (local 0 (b ∷ r
         let stems : ℕ = stems_after (pushed ns st) in
         bare-in ns op more l (DeclaresStems takes) is refl _ (stems-bare stems _ (clearing-bare (pushed ns st) stems (taken op (length (st.stack ++ ns))))) (λ after. refl)
     by_kind ns op more l (Masks takes) is = mask-in ns op more l takes is _ refl _ _ refl refl
-    by_kind ns op more l (Works work) is = bare-in ns op more l (Works work) is refl _ (work-bare (work (st.stack ++ ns))) (λ after. refl)
+    by_kind ns op more l (Works work) is = bare-in ns op more l (Works work) is refl _ (work-bare st.stored (work (st.stack ++ ns))) (λ after. refl)
+    by_kind ns op more l (Stores work) is = bare-in ns op more l (Stores work) is refl _ (store-bare (work st.stored (st.stack ++ ns))) (λ after. refl)
     by_kind ns op more l (CallsFrom routines) is = call-in other left b r st ns op more l routines is lists (subroutine (routines lists) (st.stack ++ ns)) refl
     by_kind ns op more l GoesBack is = return-in other left b r st ns op more l is
     by_kind ns op more l EndsGlyph is = bare-in ns op more l EndsGlyph is refl (end_move (pushed ns st)) (tt, refl) (λ after. refl)

@@ -6,9 +6,9 @@ use Rattle.std.proofs.lemmas.Bool.Decides.{nat_tests}
 use Rattle.postscript_base.specs.Refusal.{Refusal, unexpected_eof, return_without_caller, trailing_data, too_deep}
 use Rattle.postscript_type2.specs.declared.operation.Operator.{Operator}
 use Rattle.postscript_type2.specs.Program.Computed.{is_inner, MeaningIsComputed, RunIsMeant}
-use Rattle.postscript_type2.specs.Program.Effects.{State, start, Move, Keeps, Clears, Calls, Returns, Ends, Refuses, clearing, stems_after, mask_len, mask_clearing, work_move, subroutine, call_move, effect_of, effect, pushed, stacked, cleared}
+use Rattle.postscript_type2.specs.Program.Effects.{State, start, Move, Keeps, Clears, Calls, Returns, Ends, Refuses, clearing, stems_after, mask_len, mask_clearing, work_move, store_move, subroutine, call_move, effect_of, effect, pushed, stacked, holding, cleared}
 use Rattle.postscript_type2.specs.Program.Evaluation.{at_end, with_phrase, with_answer, with_any_answer, followed, finish, after_call, Stride, On, Into, Back, Over, Faults, moved, stride_by, stride, called, paced, routine, callee, mean}
-use Rattle.postscript_type2.specs.Operation.Kinds.{Kind, Draws, DeclaresStems, Masks, Works, CallsFrom, GoesBack, EndsGlyph, IsRefused, kind, taken}
+use Rattle.postscript_type2.specs.Operation.Kinds.{Kind, Draws, DeclaresStems, Masks, Works, Stores, CallsFrom, GoesBack, EndsGlyph, IsRefused, kind, taken}
 use Rattle.postscript_type2.specs.Program.Meaning as rules
 use Rattle.postscript_type2.specs.Program.Meaning.{answer, Closes, Stops, Means, MeansRun}
 use Rattle.postscript_type2.specs.Program.Parsing.{Phrase, Complete, NoPhrase, phrase}
@@ -49,9 +49,9 @@ mean-acted lists left inner (b ∷ r) st h = paced-acted lists left inner b r (s
 
 -- a phrase, by its operator's move, and what follows it
 abbrev goes : Lists → (left : ℕ) → (inner : Bool) → (p behind : List ℕ) → Operator → State → Move → Run
-goes lists left inner p behind op st (Keeps stack) = with_phrase (by op p) (mean lists left inner behind (stacked stack st))
+goes lists left inner p behind op st (Keeps stack stored) = with_phrase (by op p) (mean lists left inner behind (holding stack stored st))
 goes lists left inner p behind op st (Clears taken stems width mask) =
-    with_phrase (by op (p ++ take mask behind)) (with_answer (answer op taken width) (mean lists left inner (drop mask behind) (cleared stems width)))
+    with_phrase (by op (p ++ take mask behind)) (with_answer (answer op taken width) (mean lists left inner (drop mask behind) (cleared stems width st)))
 goes lists left inner p behind op st (Calls sub stack) =
     with_phrase (by op p) (called (callee lists left) sub (stacked stack st) (after_call inner behind (λ st'. mean lists left inner behind st')))
 goes lists left inner p behind op st Returns = with_phrase (by op p) (at_end (if inner then Returned st else Fault return_without_caller))
@@ -67,14 +67,14 @@ acted-goes lists left inner p behind op st more long m =
   where
     by_move : (m : Move) → take (more + 1) (p ++ behind) ≡ p → drop (more + 1) (p ++ behind) ≡ behind →
         acted lists left inner (p ++ behind) (moved op more (p ++ behind) st m) ≡ goes lists left inner p behind op st m
-    by_move (Keeps stack) front rest =
-        ap (λ bytes. with_phrase (by op bytes) (mean lists left inner (drop (more + 1) (p ++ behind)) (stacked stack st))) front
-        ∙ ap (λ bytes. with_phrase (by op p) (mean lists left inner bytes (stacked stack st))) rest
+    by_move (Keeps stack stored) front rest =
+        ap (λ bytes. with_phrase (by op bytes) (mean lists left inner (drop (more + 1) (p ++ behind)) (holding stack stored st))) front
+        ∙ ap (λ bytes. with_phrase (by op p) (mean lists left inner bytes (holding stack stored st))) rest
     by_move (Clears taken stems width mask) front rest =
         let n : more + mask + 1 ≡ length p + mask = omega (arith, long) in
-        ap (λ k. with_phrase (by op (take k (p ++ behind))) (with_answer (answer op taken width) (mean lists left inner (drop k (p ++ behind)) (cleared stems width)))) n
-        ∙ ap (λ bytes. with_phrase (by op bytes) (with_answer (answer op taken width) (mean lists left inner (drop (length p + mask) (p ++ behind)) (cleared stems width)))) (take-append-add p behind mask)
-        ∙ ap (λ bytes. with_phrase (by op (p ++ take mask behind)) (with_answer (answer op taken width) (mean lists left inner bytes (cleared stems width)))) (drop-append-add p behind mask)
+        ap (λ k. with_phrase (by op (take k (p ++ behind))) (with_answer (answer op taken width) (mean lists left inner (drop k (p ++ behind)) (cleared stems width st)))) n
+        ∙ ap (λ bytes. with_phrase (by op bytes) (with_answer (answer op taken width) (mean lists left inner (drop (length p + mask) (p ++ behind)) (cleared stems width st)))) (take-append-add p behind mask)
+        ∙ ap (λ bytes. with_phrase (by op (p ++ take mask behind)) (with_answer (answer op taken width) (mean lists left inner bytes (cleared stems width st)))) (drop-append-add p behind mask)
     by_move (Calls sub stack) front rest =
         ap (λ bytes. with_phrase (by op bytes) (called (callee lists left) sub (stacked stack st) (after_call inner (drop (more + 1) (p ++ behind)) (λ st'. mean lists left inner (drop (more + 1) (p ++ behind)) st')))) front
         ∙ ap (λ bytes. with_phrase (by op p) (called (callee lists left) sub (stacked stack st) (after_call inner bytes (λ st'. mean lists left inner bytes st')))) rest
@@ -154,12 +154,12 @@ sound lists (rules.unread d rest st e some none) left h =
     mean-acted lists left (is_inner d) rest st (some-bytes rest some)
     ∙ ap (λ q. acted lists left (is_inner d) rest (stride_by lists rest st q)) (reads-no_phrase rest e none)
 sound lists (rules.refused d p behind ns op st e moves) left h = mean-goes lists left (is_inner d) p behind ns op st (Refuses e) moves.spelled moves.does
-sound lists (rules.keeps d p behind ns op st stack xs ts end moves later) left h =
-    mean-goes lists left (is_inner d) p behind ns op st (Keeps stack) moves.spelled moves.does ∙ ap (with_phrase (by op p)) (sound lists later left h)
+sound lists (rules.keeps d p behind ns op st stack stored xs ts end moves later) left h =
+    mean-goes lists left (is_inner d) p behind ns op st (Keeps stack stored) moves.spelled moves.does ∙ ap (with_phrase (by op p)) (sound lists later left h)
 sound lists (rules.clears d p mask behind ns op st taken stems width xs ts end moves later) left h =
     mean-goes lists left (is_inner d) p (mask ++ behind) ns op st (Clears taken stems width (length mask)) moves.spelled moves.does
-    ∙ ap (λ q. with_phrase (by op (p ++ q)) (with_answer (answer op taken width) (mean lists left (is_inner d) (drop (length mask) (mask ++ behind)) (cleared stems width)))) (take-append_seam mask behind)
-    ∙ ap (λ q. with_phrase (by op (p ++ mask)) (with_answer (answer op taken width) (mean lists left (is_inner d) q (cleared stems width)))) (drop-append_seam mask behind)
+    ∙ ap (λ q. with_phrase (by op (p ++ q)) (with_answer (answer op taken width) (mean lists left (is_inner d) (drop (length mask) (mask ++ behind)) (cleared stems width st)))) (take-append_seam mask behind)
+    ∙ ap (λ q. with_phrase (by op (p ++ mask)) (with_answer (answer op taken width) (mean lists left (is_inner d) q (cleared stems width st)))) (drop-append_seam mask behind)
     ∙ ap (λ run. with_phrase (by op (p ++ mask)) (with_answer (answer op taken width) run)) (sound lists later left h)
 sound lists (rules.calls_too_deep d p behind ns op st sub stack moves deep) left h =
     mean-goes lists left (is_inner d) p behind ns op st (Calls sub stack) moves.spelled moves.does ∙ ap (with_phrase (by op p)) (called-deep lists left d h deep sub (stacked stack st) _)
@@ -207,9 +207,13 @@ mask-fits after st o true h = tt
 mask-fits after st (Some n) false h = grind (arith, nat_tests)
 mask-fits after st None false h = tt
 
-work-fits : (after : List ℕ) (r : Result (Unit {0} × List ℤ) Refusal) → MaskFits after (work_move r)
-work-fits after (Ok x) = tt
-work-fits after (Err e) = tt
+work-fits : (after : List ℕ) (stored : List ℤ) (r : Result (Unit {0} × List ℤ) Refusal) → MaskFits after (work_move stored r)
+work-fits after stored (Ok x) = tt
+work-fits after stored (Err e) = tt
+
+store-fits : (after : List ℕ) (r : Result (List ℤ × List ℤ) Refusal) → MaskFits after (store_move r)
+store-fits after (Ok x) = tt
+store-fits after (Err e) = tt
 
 call-fits : (after : List ℕ) (r : Result (List ℕ × List ℤ) Refusal) → MaskFits after (call_move r)
 call-fits after (Ok x) = tt
@@ -221,7 +225,8 @@ kind-fits (DeclaresStems takes) lists op after st =
     if-fits after (nat_lt (stems_after st) 4294967296) _ _ (clearing-fits after st (stems_after st) (taken op (length st.stack)))
 kind-fits (Masks takes) lists op after st =
     if-fits after (nat_lt (stems_after st) 4294967296) _ _ (mask-fits after st (taken op (length st.stack)) (nat_lt (length after) (mask_len (stems_after st))) refl)
-kind-fits (Works work) lists op after st = work-fits after (work st.stack)
+kind-fits (Works work) lists op after st = work-fits after st.stored (work st.stack)
+kind-fits (Stores work) lists op after st = store-fits after (work st.stored st.stack)
 kind-fits (CallsFrom routines) lists op after st = call-fits after (subroutine (routines lists) st.stack)
 kind-fits GoesBack lists op after st = tt
 kind-fits EndsGlyph lists op after st = tt
@@ -259,8 +264,8 @@ called-goes lists left d p behind ns op st sub stack is does room ih xs ts (Fini
 goes-means : (lists : Lists) (left d : ℕ) → left + d ≡ 10 → SubsMean lists left d → (p behind : List ℕ) (ns : List ℤ) (op : Operator) (st : State) → IsPhrase p ns op →
     ((rest : List ℕ) (st' : State) → length rest ≤ length behind → MeansRun lists d rest st' (mean lists left (is_inner d) rest st')) →
     (m : Move) → effect lists op behind (pushed ns st) ≡ m → MeansRun lists d (p ++ behind) st (goes lists left (is_inner d) p behind op (pushed ns st) m)
-goes-means lists left d h subs p behind ns op st is ih (Keeps stack) does =
-    rules.keeps d p behind ns op st stack _ _ _ (record { spelled = is; does = does }) (ih behind (stacked stack st) (omega arith))
+goes-means lists left d h subs p behind ns op st is ih (Keeps stack stored) does =
+    rules.keeps d p behind ns op st stack stored _ _ _ (record { spelled = is; does = does }) (ih behind (holding stack stored st) (omega arith))
 goes-means lists left d h subs p behind ns op st is ih (Clears taken stems width mask) does =
     let q = take mask behind in
     let rest = drop mask behind in
@@ -270,8 +275,8 @@ goes-means lists left d h subs p behind ns op st is ih (Clears taken stems width
     let fewer : length rest ≡ length behind - mask = length-drop mask behind in
     let does' : effect lists op (q ++ rest) (pushed ns st) ≡ Clears taken stems width (length q) =
     ap (λ bytes. effect lists op bytes (pushed ns st)) whole ∙ does ∙ ap (Clears taken stems width) (sym long) in
-    subst (λ bytes. MeansRun lists d (p ++ bytes) st (with_phrase (by op (p ++ q)) (with_answer (answer op taken width) (mean lists left (is_inner d) rest (cleared stems width))))) whole
-    (rules.clears d p q rest ns op st taken stems width _ _ _ (record { spelled = is; does = does' }) (ih rest (cleared stems width) (omega (arith, fewer))))
+    subst (λ bytes. MeansRun lists d (p ++ bytes) st (with_phrase (by op (p ++ q)) (with_answer (answer op taken width) (mean lists left (is_inner d) rest (cleared stems width st))))) whole
+    (rules.clears d p q rest ns op st taken stems width _ _ _ (record { spelled = is; does = does' }) (ih rest (cleared stems width st) (omega (arith, fewer))))
 goes-means lists zero d h subs p behind ns op st is ih (Calls sub stack) does = rules.calls_too_deep d p behind ns op st sub stack (record { spelled = is; does = does }) (omega (arith, h))
 goes-means lists (suc left) d h subs p behind ns op st is ih (Calls sub stack) does =
     called-goes lists (suc left) d p behind ns op st sub stack is does (omega (arith, h)) (λ st'. ih behind st' (omega arith)) _ _ _ (subs sub (stacked stack st))

@@ -5,7 +5,7 @@ use Rattle.postscript_type2.specs.declared.refused.Refused.TheVariants.{Memory}
 use Rattle.postscript_type2.specs.Refused.{reason}
 use Rattle.postscript_type2.specs.declared.operation.Operator.{Operator}
 use Rattle.postscript_type2.specs.Program.Effects.{State, Refuses, work_move, effect_of}
-use Rattle.postscript_type2.specs.Operation.Kinds.{Kind, Draws, DeclaresStems, Masks, Works, CallsFrom, GoesBack, EndsGlyph, IsRefused}
+use Rattle.postscript_type2.specs.Operation.Kinds.{Kind, Draws, DeclaresStems, Masks, Works, Stores, CallsFrom, GoesBack, EndsGlyph, IsRefused}
 use Rattle.postscript_type2.specs.Program.Performing.{PerformsKind}
 use Rattle.postscript_type2.specs.Program.Routines.{Lists}
 
@@ -13,7 +13,8 @@ use Rattle.postscript_type2.specs.Program.Routines.{Lists}
 pub work-refused : (k : Kind) (lists : Lists) (op : Operator) (bytes : List ℕ) (st : State) (stack : List ℤ) (e : Refused) → PerformsKind k st.stack (Some (Err e)) stack →
     (e ≡ Memory) ⊎ (effect_of k lists op bytes st ≡ Refuses (reason e))
 work-refused (Works work) lists op bytes st stack e (inl memory) = inl memory
-work-refused (Works work) lists op bytes st stack e (inr refused) = inr (ap work_move refused)
+work-refused (Works work) lists op bytes st stack e (inr refused) = inr (ap (work_move st.stored) refused)
+work-refused (Stores work) lists op bytes st stack e h = absurd h
 work-refused (Draws takes) lists op bytes st stack e h = absurd h
 work-refused (DeclaresStems takes) lists op bytes st stack e h = absurd h
 work-refused (Masks takes) lists op bytes st stack e h = absurd h

@@ -43,5 +43,5 @@ root_of_nothing = ap (λ r. Ok (pos r)) (whole_root-is 0 0 (omega arith) (omega 
 root_of_most : root (pos 0x7fffffff) ≡ Ok (pos 11863283)
 root_of_most = ap (λ r. Ok (pos r)) (whole_root-is (0x7fffffff * 65536) 11863283 (omega arith) (omega arith))
 
-root_operator : effect (record { global = []; local = [] }) Sqrt [] (record { stack = whole (pos 7) ∷ whole (pos 2) ∷ []; stems = 0; width = None }) ≡ Keeps (whole (pos 7) ∷ pos 92681 ∷ [])
-root_operator = ap (λ r. Keeps (whole (pos 7) ∷ pos r ∷ [])) (whole_root-is (2 * 65536 * 65536) 92681 (omega arith) (omega arith))
+root_operator : effect (record { global = []; local = [] }) Sqrt [] (record { stack = whole (pos 7) ∷ whole (pos 2) ∷ []; stems = 0; width = None; stored = [] }) ≡ Keeps (whole (pos 7) ∷ pos 92681 ∷ []) []
+root_operator = ap (λ r. Keeps (whole (pos 7) ∷ pos r ∷ []) []) (whole_root-is (2 * 65536 * 65536) 92681 (omega arith) (omega arith))

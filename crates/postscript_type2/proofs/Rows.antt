@@ -2,7 +2,7 @@
 use Rattle.std.proofs.Common.{◌≡◌, refl, ℕ, List, [], ◌∷◌, Some, None, ℤ, pos, neg_ℤ}
 use Rattle.postscript_base.specs.declared.error.Part.TheVariants as parts
 use Rattle.postscript_base.specs.Numbers.{slice, number}
-use Rattle.postscript_base.specs.Refusal.{OfPart, unexpected_eof, unknown_operator, malformed_operands}
+use Rattle.postscript_base.specs.Refusal.{OfPart, unexpected_eof, unknown_operator, expected_operand, expected_integer, malformed_operands, invalid_operand}
 use Rattle.postscript_type2.specs.declared.operation.Operator.TheVariants.{HStem, VMoveTo, RLineTo, HLineTo, VLineTo, HintMask, CntrMask, RMoveTo, HMoveTo, HVCurveTo}
 use Rattle.postscript_type2.specs.Program.Evaluation.{run_of}
 use Rattle.postscript_type2.specs.Number.{whole}
@@ -117,12 +117,39 @@ cut_number : Tells (0x8c ∷ 0x16 ∷ 0xff ∷ 0x00 ∷ 0x01 ∷ 0x04 ∷ []) ((
 unfolding slice number
 cut_number = meant no_lists _ refl
 
--- operators that are refused for good
+-- the operator that is refused for good
 random : Tells (0x0c ∷ 0x17 ∷ []) ([], Some (OfPart parts.Random), None)
 random = meant no_lists _ refl
 
-put : Tells (0x8c ∷ 0x8d ∷ 0x0c ∷ 0x14 ∷ []) ([], Some (OfPart parts.Put), None)
-put = meant no_lists _ refl
+-- a number is stored and fetched
+stored : Tells (0x90 ∷ 0x8b ∷ 0x0c ∷ 0x14 ∷ 0x8b ∷ 0x0c ∷ 0x15 ∷ 0x16 ∷ []) ((HMoveTo, n 5 ∷ []) ∷ [], None, None)
+stored = meant no_lists _ refl
 
-get : Tells (0x0c ∷ 0x15 ∷ []) ([], Some (OfPart parts.Get), None)
-get = meant no_lists _ refl
+-- zeros stand there at the start
+zero_at_start : Tells (0x8b ∷ 0x0c ∷ 0x15 ∷ 0x16 ∷ []) ((HMoveTo, n 0 ∷ []) ∷ [], None, None)
+zero_at_start = meant no_lists _ refl
+
+-- the last place is 31
+last_place : Tells (0x8c ∷ 0xaa ∷ 0x0c ∷ 0x14 ∷ 0xaa ∷ 0x0c ∷ 0x15 ∷ 0x16 ∷ []) ((HMoveTo, n 1 ∷ []) ∷ [], None, None)
+last_place = meant no_lists _ refl
+
+past_last_place : Tells (0x8c ∷ 0xab ∷ 0x0c ∷ 0x14 ∷ []) ([], Some invalid_operand, None)
+past_last_place = meant no_lists _ refl
+
+before_first_place : Tells (0x8a ∷ 0x0c ∷ 0x15 ∷ []) ([], Some invalid_operand, None)
+before_first_place = meant no_lists _ refl
+
+-- no place, and one that is no whole number
+put_nowhere : Tells (0x0c ∷ 0x14 ∷ []) ([], Some expected_integer, None)
+put_nowhere = meant no_lists _ refl
+
+get_nowhere : Tells (0x0c ∷ 0x15 ∷ []) ([], Some expected_integer, None)
+get_nowhere = meant no_lists _ refl
+
+put_at_a_half : Tells (0x8c ∷ 0xff ∷ 0x00 ∷ 0x00 ∷ 0x80 ∷ 0x00 ∷ 0x0c ∷ 0x14 ∷ []) ([], Some expected_integer, None)
+unfolding slice number
+put_at_a_half = meant no_lists _ refl
+
+-- nothing to store
+put_nothing : Tells (0x8b ∷ 0x0c ∷ 0x14 ∷ []) ([], Some expected_operand, None)
+put_nothing = meant no_lists _ refl

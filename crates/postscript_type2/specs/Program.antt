@@ -4,6 +4,7 @@ pub mod Parsing
 pub mod FixedPoint
 pub mod Works
 pub mod Stacks
+pub mod Storage
 pub mod Routines
 pub mod Effects
 pub mod Runs

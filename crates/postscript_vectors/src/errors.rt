@@ -54,16 +54,6 @@ const REFUSALS: &[(Error, u8, &str)] = &[
         16,
         "found an unsupported part",
     ),
-    (
-        Error::Unsupported(Part::Put),
-        16,
-        "found an unsupported part",
-    ),
-    (
-        Error::Unsupported(Part::Get),
-        16,
-        "found an unsupported part",
-    ),
     (Error::ExpectedOperand, 17, "expected an operand"),
     (
         Error::ExpectedInteger,

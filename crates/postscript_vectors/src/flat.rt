@@ -23,6 +23,8 @@ const FLAT: &[Row] = &[
     ("8e8c8d13800e", "", "8e8c8d13800e"),
     // Operands in front of a call and of a return.
     ("8e8c200a150e", "8d0b", "8e8c200c128d8b0c12150e"),
+    // What a routine stores, flat code stores.
+    ("200a8b0c1516", "908b0c140b", "200c12908b0c148b0c128b0c1516"),
 ];
 
 /// A code in hex, its local subroutines in hex, and the length of its flat code.
@@ -43,6 +45,7 @@ const FAULTY: &[(&str, &str, u8)] = &[
     ("0b", "", 23),
     ("200a", "200a", 25),
     ("06", "", 20),
+    ("8cab0c14", "", 21),
 ];
 
 /// The answers of a code without subroutines, as text.

@@ -4,6 +4,7 @@ mod calls;
 mod codes;
 mod paths;
 mod steps;
+mod storage;
 
 use crate::synthetic::charstring;
 use arithmetic::ARITHMETIC;
@@ -17,6 +18,7 @@ use std::io::Cursor;
 use std::process::Abort;
 use std::test::Fail;
 use steps::STEPS;
+use storage::STORAGE;
 
 /// What a helper gives, or the error that fails its test.
 pub type Outcome<T> = Result<T, Fail>;
@@ -128,7 +130,13 @@ fn many_moves(alloc: Global) -> Result<String, AllocError> {
 
 #[test]
 fn runs(rt: HostRuntime) -> Outcome<()> {
-    for rows in [PATHS_AND_NUMBERS, CALLS, PATHS_AND_HINTS, ARITHMETIC] {
+    for rows in [
+        PATHS_AND_NUMBERS,
+        CALLS,
+        PATHS_AND_HINTS,
+        ARITHMETIC,
+        STORAGE,
+    ] {
         check(&rt, rows)?;
     }
     for (code, global, local, wanted) in GLOBAL_CALLS {
@@ -187,7 +195,13 @@ fn check_fronts<R: AllocGlobal + Abort>(rt: &R, code: &str, local: &str) -> Outc
 
 #[test]
 fn fronts(rt: HostRuntime) -> Outcome<()> {
-    for rows in [PATHS_AND_NUMBERS, CALLS, PATHS_AND_HINTS, ARITHMETIC] {
+    for rows in [
+        PATHS_AND_NUMBERS,
+        CALLS,
+        PATHS_AND_HINTS,
+        ARITHMETIC,
+        STORAGE,
+    ] {
         for (code, local, _) in rows {
             check_fronts(&rt, code, local)?;
         }

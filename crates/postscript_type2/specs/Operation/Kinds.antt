@@ -1,6 +1,6 @@
 -- The operators, by their kinds (Technical Note 5177, "Path Construction Operators", "Operator for Finishing a Path", "Hint
--- Operators", "Arithmetic Operators", "Conditional Operators", "Subroutine Operators"). A comment has the operands before an operator.
-use Rattle.std.specs.Prelude.{ℕ, Bool, false, List, Option}
+-- Operators", "Arithmetic Operators", "Conditional Operators", "Subroutine Operators", "Storage Operators"). A comment has the operands before an operator.
+use Rattle.std.specs.Prelude.{ℕ, ℤ, Bool, false, List, Option}
 use Rattle.postscript_base.specs.declared.error.Part.{Part}
 use Rattle.postscript_base.specs.declared.error.Part.TheVariants as parts
 use Rattle.postscript_type2.specs.declared.operation.Operator.{Operator}
@@ -9,6 +9,7 @@ use Rattle.postscript_type2.specs.Program.FixedPoint.{absolute_value, opposite, 
 use Rattle.postscript_type2.specs.Operation.Lengths.{exactly, some, groups_and, groups, curves_of_four, greatest}
 use Rattle.postscript_type2.specs.Program.Routines.{Lists}
 use Rattle.postscript_type2.specs.Program.Stacks.{one_to_one, two_to_one, choice, removal, exchange, duplication, copy, roll}
+use Rattle.postscript_type2.specs.Program.Storage.{storing, fetching}
 use Rattle.postscript_type2.specs.Program.Works.{Work}
 
 -- The kinds of operators. takes: how many operands one that clears may take.
@@ -17,6 +18,7 @@ pub data Kind : Type 0 where
   DeclaresStems : (takes : ℕ → Bool) → Kind
   Masks : (takes : ℕ → Bool) → Kind
   Works : Work (Unit {0}) → Kind
+  Stores : ((stored : List ℤ) → Work (List ℤ)) → Kind
   CallsFrom : (Lists → List (List ℕ)) → Kind
   GoesBack : Kind
   EndsGlyph : Kind
@@ -88,9 +90,9 @@ kind Exch = Works exchange
 kind Dup = Works duplication
 kind Index = Works copy
 kind Roll = Works roll
+kind Put = Stores storing
+kind Get = Stores fetching
 kind Random = IsRefused parts.Random
-kind Put = IsRefused parts.Put
-kind Get = IsRefused parts.Get
 
 -- the lengths of a kind: one that does not clear has none
 abbrev pub lengths : Kind → ℕ → Bool
@@ -98,6 +100,7 @@ lengths (Draws takes) n = takes n
 lengths (DeclaresStems takes) n = takes n
 lengths (Masks takes) n = takes n
 lengths (Works work) n = false
+lengths (Stores work) n = false
 lengths (CallsFrom routines) n = false
 lengths GoesBack n = false
 lengths EndsGlyph n = false

@@ -1,35 +1,41 @@
 -- What each operator does.
 use Rattle.std.specs.Option.{ok_or}
-use Rattle.std.specs.Prelude.{ℕ, ◌+◌, ◌-◌, ◌/◌, ◌%◌, ◌^◌, ℤ, pos, negsuc, ◌+ℤ◌, nat_lt, ◌==◌, List, [], ◌++◌, drop, length, slice_get, Option, Some, None, Result, Ok, Err, if◌then◌else◌}
+use Rattle.std.specs.Prelude.{ℕ, ◌+◌, ◌-◌, ◌/◌, ◌%◌, ◌^◌, ℤ, pos, ◌+ℤ◌, nat_lt, ◌==◌, List, [], ◌++◌, drop, length, slice_get, replicate, Option, Some, None, Result, Ok, Err, if◌then◌else◌}
 use Rattle.postscript_base.specs.Refusal.{Refusal, OfPart, unexpected_eof, malformed_operands, missing_subroutine, too_many_stems}
 use Rattle.postscript_type2.specs.declared.operation.Operator.{Operator}
-use Rattle.postscript_type2.specs.Operation.Kinds.{Kind, Draws, DeclaresStems, Masks, Works, CallsFrom, GoesBack, EndsGlyph, IsRefused, kind, taken}
+use Rattle.postscript_type2.specs.Operation.Kinds.{Kind, Draws, DeclaresStems, Masks, Works, Stores, CallsFrom, GoesBack, EndsGlyph, IsRefused, kind, taken}
 use Rattle.postscript_type2.specs.Program.Routines.{Lists}
-use Rattle.postscript_type2.specs.Program.Works.{Work, ◌>>=◌, given, whole_operand}
+use Rattle.postscript_type2.specs.Program.Works.{Work, ◌>>=◌, given, whole_operand, at}
 
--- the operands, the top last; the stems so far; and the width, once it is settled
+-- the operands, the top last; the stems so far; the width, once it is settled; and the stored numbers, which last for the
+-- whole run
 pub record State : Type 0 where
   pub stack : List ℤ
   pub stems : ℕ
   pub width : Option (Option ℤ)
+  pub stored : List ℤ
 
+-- the note leaves open what is stored at the start: 32 zeros
 abbrev pub start : State
-start = record { stack = []; stems = 0; width = None }
+start = record { stack = []; stems = 0; width = None; stored = replicate 32 (pos 0) }
 
--- the state with numbers on its stack, with another stack, and after a clearing operator
+-- the state with numbers on its stack, with another stack, with other stored numbers too, and after a clearing operator
 abbrev pub pushed : List ℤ → State → State
-pushed numbers st = record { stack = st.stack ++ numbers; stems = st.stems; width = st.width }
+pushed numbers st = record { stack = st.stack ++ numbers; stems = st.stems; width = st.width; stored = st.stored }
 
 abbrev pub stacked : List ℤ → State → State
-stacked stack st = record { stack = stack; stems = st.stems; width = st.width }
+stacked stack st = record { stack = stack; stems = st.stems; width = st.width; stored = st.stored }
 
-abbrev pub cleared : (stems : ℕ) → Option ℤ → State
-cleared stems width = record { stack = []; stems = stems; width = Some width }
+abbrev pub holding : (stack stored : List ℤ) → State → State
+holding stack stored st = record { stack = stack; stems = st.stems; width = st.width; stored = stored }
 
--- What an operator does: it leaves a stack; it clears the stack, is answered with the operands taken, and so many bytes of
--- a mask are its own; it calls a routine; it returns; it ends the run; or it is refused.
+abbrev pub cleared : (stems : ℕ) → Option ℤ → State → State
+cleared stems width st = record { stack = []; stems = stems; width = Some width; stored = st.stored }
+
+-- What an operator does: it leaves a stack and stored numbers; it clears the stack, is answered with the operands taken, and so
+-- many bytes of a mask are its own; it calls a routine; it returns; it ends the run; or it is refused.
 pub data Move : Type 0 where
-  Keeps : (stack : List ℤ) → Move
+  Keeps : (stack stored : List ℤ) → Move
   Clears : (taken : List ℤ) (stems : ℕ) (width : Option ℤ) (mask : ℕ) → Move
   Calls : (routine : List ℕ) (stack : List ℤ) → Move
   Returns : Move
@@ -74,17 +80,18 @@ mask_clearing st stems (Some n) = Clears (last_of st.stack n) stems (settled st.
 mask_clearing st stems None = Refuses malformed_operands
 
 -- an operator that works on the stack alone
-abbrev pub work_move : Result (Unit {0} × List ℤ) Refusal → Move
-work_move (Ok done) = Keeps done.1
-work_move (Err e) = Refuses e
+abbrev pub work_move : (stored : List ℤ) → Result (Unit {0} × List ℤ) Refusal → Move
+work_move stored (Ok done) = Keeps done.1 stored
+work_move stored (Err e) = Refuses e
+
+-- one that gives the stored numbers after it
+abbrev pub store_move : Result (List ℤ × List ℤ) Refusal → Move
+store_move (Ok done) = Keeps done.1 done.0
+store_move (Err e) = Refuses e
 
 -- subroutines are numbered from this number below zero on ("Subroutine Operators")
 abbrev pub bias : (count : ℕ) → ℤ
 bias count = if nat_lt count 1240 then pos 107 else if nat_lt count 33900 then pos 1131 else pos 32768
-
-abbrev pub at : {A : Type 0} → List A → ℤ → Option A
-at xs (pos n) = slice_get xs n
-at xs (negsuc n) = None
 
 -- the subroutine that a number names
 abbrev pub named : List (List ℕ) → ℤ → Option (List ℕ)
@@ -123,7 +130,8 @@ abbrev pub effect_of : Kind → Lists → Operator → (behind : List ℕ) → S
 effect_of (Draws takes) lists op behind st = path_move op st
 effect_of (DeclaresStems takes) lists op behind st = stem_move op st
 effect_of (Masks takes) lists op behind st = mask_move op behind st
-effect_of (Works work) lists op behind st = work_move (work st.stack)
+effect_of (Works work) lists op behind st = work_move st.stored (work st.stack)
+effect_of (Stores work) lists op behind st = store_move (work st.stored st.stack)
 effect_of (CallsFrom routines) lists op behind st = call_move (subroutine (routines lists) st.stack)
 effect_of GoesBack lists op behind st = Returns
 effect_of EndsGlyph lists op behind st = end_move st

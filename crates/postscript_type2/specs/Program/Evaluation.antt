@@ -2,7 +2,7 @@
 use Rattle.std.specs.Prelude.{ℕ, zero, suc, ◌+◌, ℤ, Bool, true, false, ◌&&◌, not, List, [], ◌∷◌, ◌++◌, take, drop, Option, Some, None, if◌then◌else◌}
 use Rattle.postscript_base.specs.Refusal.{Refusal, return_without_caller, trailing_data, too_deep}
 use Rattle.postscript_type2.specs.declared.operation.Operator.{Operator}
-use Rattle.postscript_type2.specs.Program.Effects.{State, start, Move, Keeps, Clears, Calls, Returns, Ends, Refuses, pushed, stacked, cleared, effect}
+use Rattle.postscript_type2.specs.Program.Effects.{State, start, Move, Keeps, Clears, Calls, Returns, Ends, Refuses, pushed, stacked, holding, cleared, effect}
 use Rattle.postscript_type2.specs.Program.Parsing.{Phrase, Complete, NoPhrase, phrase}
 use Rattle.postscript_type2.specs.Program.Routines.{Lists}
 use Rattle.postscript_type2.specs.Program.Runs.{Answer, Said, End, UsedUp, Returned, Finished, Fault, Run}
@@ -58,9 +58,9 @@ said op more bytes = record { operator = op; bytes = take (more + 1) bytes }
 
 -- the stride of a phrase at the front of these bytes, by its operator's move
 abbrev pub moved : Operator → (more : ℕ) → (bytes : List ℕ) → State → Move → Stride
-moved op more bytes st (Keeps stack) = On (said op more bytes) None (stacked stack st) more
+moved op more bytes st (Keeps stack stored) = On (said op more bytes) None (holding stack stored st) more
 moved op more bytes st (Clears taken stems width mask) =
-    On (said op (more + mask) bytes) (Some (record { operator = op; operands = taken; width = width })) (cleared stems width) (more + mask)
+    On (said op (more + mask) bytes) (Some (record { operator = op; operands = taken; width = width })) (cleared stems width st) (more + mask)
 moved op more bytes st (Calls routine stack) = Into (said op more bytes) routine (stacked stack st) more
 moved op more bytes st Returns = Back (said op more bytes) st
 moved op more bytes st (Ends width) = Over (said op more bytes) width more

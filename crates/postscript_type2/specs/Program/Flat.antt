@@ -3,7 +3,7 @@ use Rattle.std.specs.List.{flat_map}
 use Rattle.std.specs.Prelude.{ℕ, ◌-◌, ◌^◌, List, [], ◌∷◌, ◌++◌, take, length, min}
 use Rattle.postscript_type2.specs.declared.operation.Operator.{Operator}
 use Rattle.postscript_type2.specs.declared.operation.Operator.TheVariants.{Drop}
-use Rattle.postscript_type2.specs.Operation.Kinds.{Kind, Draws, DeclaresStems, Masks, Works, CallsFrom, GoesBack, EndsGlyph, IsRefused, kind}
+use Rattle.postscript_type2.specs.Operation.Kinds.{Kind, Draws, DeclaresStems, Masks, Works, Stores, CallsFrom, GoesBack, EndsGlyph, IsRefused, kind}
 use Rattle.postscript_type2.specs.Program.Runs.{Said, by}
 
 -- a phrase without its operator, which has one byte
@@ -22,6 +22,7 @@ flat_of (Draws takes) op bytes = by op bytes
 flat_of (DeclaresStems takes) op bytes = by op bytes
 flat_of (Masks takes) op bytes = by op bytes
 flat_of (Works work) op bytes = by op bytes
+flat_of (Stores work) op bytes = by op bytes
 flat_of EndsGlyph op bytes = by op bytes
 flat_of (IsRefused part) op bytes = by op bytes
 

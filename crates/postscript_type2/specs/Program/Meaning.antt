@@ -3,7 +3,7 @@
 use Rattle.std.specs.Prelude.{◌≡◌, ◌≢◌, ℕ, suc, ◌<◌, ◌≤◌, ℤ, List, [], ◌∷◌, ◌++◌, length, Option}
 use Rattle.postscript_base.specs.Refusal.{Refusal, return_without_caller, trailing_data, too_deep}
 use Rattle.postscript_type2.specs.declared.operation.Operator.{Operator}
-use Rattle.postscript_type2.specs.Program.Effects.{State, start, Move, Keeps, Clears, Calls, Returns, Ends, Refuses, effect, pushed, stacked, cleared}
+use Rattle.postscript_type2.specs.Program.Effects.{State, start, Move, Keeps, Clears, Calls, Returns, Ends, Refuses, effect, pushed, stacked, holding, cleared}
 use Rattle.postscript_type2.specs.Program.Phrases.{IsPhrase, HasNoPhrase}
 use Rattle.postscript_type2.specs.Program.Routines.{Lists}
 use Rattle.postscript_type2.specs.Program.Runs.{Answer, Said, by, End, UsedUp, Returned, Finished, Fault, Run}
@@ -39,17 +39,17 @@ pub data Means (lists : Lists) : (depth : ℕ) → (rest : List ℕ) → State �
   refused : (depth : ℕ) (phrase behind : List ℕ) (numbers : List ℤ) (op : Operator) (st : State) (e : Refusal) →
       Moves lists st phrase numbers op behind (Refuses e) →
       Means lists depth (phrase ++ behind) st [] [] (Fault e)
-  -- the operator leaves a stack, and what follows it goes on with that
-  keeps : (depth : ℕ) (phrase behind : List ℕ) (numbers : List ℤ) (op : Operator) (st : State) (stack : List ℤ)
+  -- the operator leaves a stack and stored numbers, and what follows it goes on with them
+  keeps : (depth : ℕ) (phrase behind : List ℕ) (numbers : List ℤ) (op : Operator) (st : State) (stack stored : List ℤ)
       (answers : List Answer) (trace : List Said) (end : End) →
-      Moves lists st phrase numbers op behind (Keeps stack) →
-      Means lists depth behind (stacked stack st) answers trace end →
+      Moves lists st phrase numbers op behind (Keeps stack stored) →
+      Means lists depth behind (holding stack stored st) answers trace end →
       Means lists depth (phrase ++ behind) st answers (by op phrase ∷ trace) end
   -- the operator clears the stack and is answered, the bytes of a mask are its own, and what follows them goes on
   clears : (depth : ℕ) (phrase mask behind : List ℕ) (numbers : List ℤ) (op : Operator) (st : State)
       (taken : List ℤ) (stems : ℕ) (width : Option ℤ) (answers : List Answer) (trace : List Said) (end : End) →
       Moves lists st phrase numbers op (mask ++ behind) (Clears taken stems width (length mask)) →
-      Means lists depth behind (cleared stems width) answers trace end →
+      Means lists depth behind (cleared stems width st) answers trace end →
       Means lists depth (phrase ++ (mask ++ behind)) st (answer op taken width ∷ answers) (by op (phrase ++ mask) ∷ trace) end
   -- a call where ten are open
   calls_too_deep : (depth : ℕ) (phrase behind : List ℕ) (numbers : List ℤ) (op : Operator) (st : State)

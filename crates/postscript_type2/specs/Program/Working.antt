@@ -8,7 +8,7 @@ use Rattle.postscript_type2.specs.declared.program.state.Effect.TheVariants as e
 use Rattle.postscript_type2.specs.declared.program.state.State as code
 use Rattle.postscript_type2.specs.declared.program.state.Taken.{Taken}
 use Rattle.postscript_type2.specs.declared.program.subroutines.Subroutines as code_lists
-use Rattle.postscript_type2.specs.Program.Effects.{State, Move, Keeps, Clears, Calls, Returns, Ends, Refuses, stacked, cleared, settled, last_of}
+use Rattle.postscript_type2.specs.Program.Effects.{State, Move, Keeps, Clears, Calls, Returns, Ends, Refuses, stacked, holding, cleared, settled, last_of}
 use Rattle.postscript_type2.specs.Program.Routines.{Lists, texts}
 
 -- the code's subroutines and state
@@ -16,7 +16,7 @@ abbrev pub lists_of : code_lists.Subroutines → Lists
 lists_of lists = record { global = texts lists.global.now; local = texts lists.local.now }
 
 abbrev pub state_of : code.State → State
-state_of st = record { stack = st.stack.items; stems = st.stems; width = st.width }
+state_of st = record { stack = st.stack.items; stems = st.stems; width = st.width; stored = st.stored }
 
 -- the width where it is settled, else none
 abbrev pub settled_width : Option (Option ℤ) → Option ℤ
@@ -25,14 +25,14 @@ settled_width None = None
 
 -- the width settled where so many operands count as taken, and then the stack cleared of what is taken
 abbrev pub settled_by : (counted : ℕ) → State → State
-settled_by counted st = record { stack = st.stack; stems = st.stems; width = Some (settled st.width st.stack counted) }
+settled_by counted st = record { stack = st.stack; stems = st.stems; width = Some (settled st.width st.stack counted); stored = st.stored }
 
 abbrev pub cleared_of : Taken → State → State
-cleared_of taken st = cleared st.stems (settled st.width st.stack taken.counted)
+cleared_of taken st = cleared st.stems (settled st.width st.stack taken.counted) st
 
 -- what the code answers of an operator, with the state after it
 abbrev pub move_of : Effect → State → Move
-move_of effects.Keeps st = Keeps st.stack
+move_of effects.Keeps st = Keeps st.stack st.stored
 move_of (effects.Clears taken mask) st = Clears (last_of st.stack taken.count) st.stems (settled st.width st.stack taken.counted) mask
 move_of (effects.Calls routine) st = Calls routine.now st.stack
 move_of effects.Returns st = Returns
@@ -45,8 +45,8 @@ mask_of effect = 0
 
 -- the state after a move, before what is taken is cleared off the stack
 abbrev pub after_move : Move → State → State
-after_move (Keeps stack) st = stacked stack st
-after_move (Clears taken stems width mask) st = record { stack = st.stack; stems = stems; width = st.width }
+after_move (Keeps stack stored) st = holding stack stored st
+after_move (Clears taken stems width mask) st = record { stack = st.stack; stems = stems; width = st.width; stored = st.stored }
 after_move (Calls routine stack) st = stacked stack st
 after_move Returns st = st
 after_move (Ends width) st = st

@@ -1,6 +1,6 @@
 -- Works on a stack of operands, whose top is written last.
 use Rattle.std.specs.Option.{ok_or}
-use Rattle.std.specs.Prelude.{ℕ, ◌-◌, ℤ, nat_lt, List, [], ◌∷◌, ◌++◌, length, take, slice_get, Option, Some, None, Result, Ok, Err, if◌then◌else◌}
+use Rattle.std.specs.Prelude.{ℕ, ◌-◌, ℤ, pos, negsuc, nat_lt, List, [], ◌∷◌, ◌++◌, length, take, slice_get, Option, Some, None, Result, Ok, Err, if◌then◌else◌}
 use Rattle.postscript_base.specs.Refusal.{Refusal, expected_operand, expected_integer, expected_more_operands}
 use Rattle.postscript_type2.specs.Number.{to_int}
 
@@ -48,6 +48,11 @@ whole_operand = do
 abbrev pub operand_below : ℕ → Work ℤ
 operand_below i stack =
     given (ok_or (if nat_lt i (length stack) then slice_get stack (length stack - 1 - i) else None) expected_more_operands) stack
+
+-- the item that a number names, counted from 0
+abbrev pub at : {A : Type 0} → List A → ℤ → Option A
+at xs (pos n) = slice_get xs n
+at xs (negsuc n) = None
 
 abbrev pub push : ℤ → Work (Unit {0})
 push x stack = Ok (tt, stack ++ x ∷ [])

@@ -6,9 +6,9 @@ ghost use Rattle.postscript_type2.specs.Program.Routines.{subroutines};
 
 use super::callers::{Callers, are_used_up};
 use super::routine::Routine;
-use super::state::{Effect, State, Taken};
+use super::state::{Effect, STORED_NUMBERS, State, Taken};
 use super::subroutines::Subroutines;
-use crate::operation::{Operation, Operator};
+use crate::operation::{Operand, Operation, Operator};
 use crate::refused::{Refused, Result};
 use std::alloc::Global;
 use std::mem;
@@ -63,6 +63,7 @@ impl<'l> Machine<'l> {
             stack: Vec::new(alloc),
             stems: 0,
             width: None,
+            stored: [Operand::from_int(0); STORED_NUMBERS],
         };
         Machine {
             alloc,

@@ -11,7 +11,7 @@ use crate::operation::{Operand, Operator};
 use crate::refused::{Refused, Result};
 
 /// The operand on top, which is popped.
-fn operand(stack: &mut Vec<Operand>) -> Result<Operand>
+pub(super) fn operand(stack: &mut Vec<Operand>) -> Result<Operand>
     ensures { Performs the_operand stack.old.items result stack.new.items }
 {
     match stack.pop() {
@@ -44,7 +44,8 @@ fn operand_below(stack: &[Operand], distance: usize) -> Result<Operand>
     }
 }
 
-fn push(stack: &mut Vec<Operand>, operand: Operand) -> Result<()>
+/// Puts an operand on top.
+pub(super) fn push(stack: &mut Vec<Operand>, operand: Operand) -> Result<()>
     ensures { Performs (the_push operand) stack.old.items result stack.new.items }
 {
     stack.push(operand)?;

@@ -1,25 +1,30 @@
-//! What an operator does with the stack.
+//! What an operator does with the stack and the stored numbers.
 ghost use Rattle.std.specs.Prelude.{◌≡◌, ◌≤◌, ℕ, List, length, IfOk, IfErr};
 ghost use Rattle.postscript_type2.specs.declared.refused.Refused.TheVariants.{Memory};
-ghost use Rattle.postscript_type2.specs.Program.Effects.{settled as the_settled, path_move, last_of, effect, subroutine, call_move};
+ghost use Rattle.postscript_type2.specs.Program.Effects.{settled as the_settled, path_move, last_of, effect, subroutine, call_move, store_move};
 ghost use Rattle.postscript_type2.specs.Operation.Kinds.{kind};
-ghost use Rattle.postscript_type2.specs.Program.Performing.{WorksOrDraws};
+ghost use Rattle.postscript_type2.specs.Program.Performing.{Gives, WorksOrDraws};
 ghost use Rattle.postscript_type2.specs.Program.Routines.{Lists, texts};
+ghost use Rattle.postscript_type2.specs.Program.Storage.{stored_at, storing, fetching};
 ghost use Rattle.postscript_type2.specs.Program.Working.{lists_of, state_of, mask_of, settled_by, cleared_of, Does};
 
-use super::stack::{perform, whole_operand};
+use super::stack::{operand, perform, push, whole_operand};
 use super::subroutines::{Subroutines, named};
 use crate::operation::{Operand, Operator};
 use crate::refused::{Refused, Result};
 use postscript_base::error::Part;
 use std::alloc::Global;
 
-/// The operands, the top last; the stems so far; and the width, once it is settled.
+/// How many numbers a program may store (Technical Note 5177, Appendix B, "Type 2 Charstring Implementation Limits").
+pub(crate) const STORED_NUMBERS: usize = 32;
+
+/// The operands, the top last; the stems so far; the width, once it is settled; and the stored numbers.
 #[derive(Drop)]
 pub(crate) struct State {
     pub(crate) stack: Vec<Operand>,
     pub(crate) stems: u32,
     pub(crate) width: Option<Option<Operand>>,
+    pub(crate) stored: [Operand; STORED_NUMBERS],
 }
 
 /// What an operator takes off the stack: so many operands, the last ones; and how many count as taken for the width.
@@ -29,8 +34,9 @@ pub(crate) struct Taken {
     pub(crate) counted: usize,
 }
 
-/// What an operator does: it leaves a stack; it takes operands, which stand on the stack until it is cleared, and so many
-/// bytes of a mask are its own; it calls a subroutine; it returns; or it ends the run, where so many operands count as taken.
+/// What an operator does: it leaves a stack and stored numbers; it takes operands, which stand on the stack until it is
+/// cleared, and so many bytes of a mask are its own; it calls a subroutine; it returns; or it ends the run, where so many
+/// operands count as taken.
 #[derive(Drop)]
 pub(crate) enum Effect<'l> {
     Keeps,
@@ -129,6 +135,39 @@ impl State {
         }
     }
 
+    /// The stored number that a number names.
+    fn stored(&self, number: i16) -> Result<Operand>
+        ensures { Gives (stored_at self.now.stored number) result }
+    {
+        if number < 0 || number as usize >= STORED_NUMBERS {
+            return Err(Refused::InvalidOperand);
+        }
+        Ok(self.stored[number as usize])
+    }
+
+    /// val i put (12 20)
+    fn put<'l>(&mut self) -> Result<Effect<'l>>
+        ensures value { Does (store_move (storing self.old.stored self.old.stack.items)) self.old result self.new }
+        ensures room { IfOk result (λ effect. mask_of effect ≡ 0) }
+    {
+        let number = whole_operand(&mut self.stack)?;
+        let value = operand(&mut self.stack)?;
+        self.stored(number)?;
+        self.stored[number as usize] = value;
+        Ok(Effect::Keeps)
+    }
+
+    /// i get (12 21) val
+    fn get<'l>(&mut self) -> Result<Effect<'l>>
+        ensures value { Does (store_move (fetching self.old.stored self.old.stack.items)) self.old result self.new }
+        ensures room { IfOk result (λ effect. mask_of effect ≡ 0) }
+    {
+        let number = whole_operand(&mut self.stack)?;
+        let value = self.stored(number)?;
+        push(&mut self.stack, value)?;
+        Ok(Effect::Keeps)
+    }
+
     /// What the operator does, where so many bytes are behind it.
     pub(crate) fn act<'l>(
         &mut self,
@@ -153,8 +192,8 @@ impl State {
             ),
             Operator::HintMask | Operator::CntrMask => self.mask(operator, behind),
             Operator::Random => Err(Refused::Unsupported(Part::Random)),
-            Operator::Put => Err(Refused::Unsupported(Part::Put)),
-            Operator::Get => Err(Refused::Unsupported(Part::Get)),
+            Operator::Put => self.put(),
+            Operator::Get => self.get(),
             _ => self.work(operator),
         }
     }

@@ -93,6 +93,13 @@ pub(super) const GLOBAL_CALLS: &[(&str, &str, &str, &str)] = &[
         "HMoveTo 1 | HMoveTo 2 | HMoveTo 3 | end | width none",
     ),
     ("200a", "200a", "201d", "fault 25 | width none"),
+    // What a global subroutine stores, a local one fetches.
+    (
+        "201d200a0e",
+        "908b0c140b",
+        "8b0c15160b",
+        "HMoveTo 5 | end | width none",
+    ),
 ];
 
 /// So many subroutines, the last one moving and the others empty.

@@ -76,10 +76,8 @@ pub(super) const PATHS_AND_NUMBERS: &[Row] = &[
     ("0c26", "", "fault 9 | width none"),
     ("0cff", "", "fault 9 | width none"),
     ("8c8d1500", "", "RMoveTo 1 2 | fault 9 | width none"),
-    // The operators that are refused.
+    // The operator that is refused.
     ("0c17", "", "fault 16 | width none"),
-    ("0c14", "", "fault 16 | width none"),
-    ("8b8b0c15", "", "fault 16 | width none"),
 ];
 
 /// The other operators that draw, stems and masks.

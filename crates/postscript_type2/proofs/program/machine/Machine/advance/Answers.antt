@@ -1,7 +1,7 @@
 use Rattle.std.proofs.Common.{◌≡◌, ◌∙◌, ◌+◌, ◌-◌, ◌<◌, suc, ap, sym, refl, ℕ, ℤ, Option, List, ◌∷◌, take, length, inr, add-one, arith}
 use Rattle.std.proofs.lemmas.Result.{err_from_is_err_and}
 use Rattle.postscript_type2.specs.Program.Callers.{rests}
-use Rattle.postscript_type2.specs.Program.Effects.{State, Keeps, Clears, Calls, Returns, Ends, effect, cleared, stacked, settled, last_of}
+use Rattle.postscript_type2.specs.Program.Effects.{State, Keeps, Clears, Calls, Returns, Ends, effect, cleared, stacked, holding, settled, last_of}
 use Rattle.postscript_type2.specs.Program.Routines.{Lists}
 use Rattle.postscript_type2.specs.Program.Working.{lists_of, state_of, move_of, after_move}
 use Rattle.postscript_type2.proofs.Arms.{IsRead, some-of, none-of, front-of, used-up, kept, answered, entered, too-deep-call, returned, no-caller, finished, trailing, refused-or-memory, unread-or-memory}
@@ -52,8 +52,8 @@ returns-in-Keeps-clause-advances c =
     let front : c.passed-bytes.result.now ≡ take (more + 1) bytes = front-of bytes rest c.passed-bytes.result.now (more + 1) c.in_ok-operator.ensures.2 is_front in
     let does = c.in_ok-act.ensures.value rest (sym c.len-behind.ensures) in
     let now : State = state_of c.act.new.self in
-    let moves : effect lists op rest (stacked ys st) ≡ Keeps now.stack = does.0 ∙ ap (λ done. move_of done now) c.in-Keeps.is in
-    let becomes : now ≡ stacked now.stack st = does.1 ∙ ap (λ move. after_move move (stacked ys st)) moves in
+    let moves : effect lists op rest (stacked ys st) ≡ Keeps now.stack now.stored = does.0 ∙ ap (λ done. move_of done now) c.in-Keeps.is in
+    let becomes : now ≡ holding now.stack now.stored st = does.1 ∙ ap (λ move. after_move move (stacked ys st)) moves in
     (kept lists left callers bytes rest c.passed-bytes.result.now st ys op more now read moves becomes front, ap (λ (s : State). s.width) becomes)
 
 pub returns-in-Clears-clause-advances : goal.returns-in-Clears-clause-advances
@@ -74,11 +74,11 @@ returns-in-Clears-clause-advances c =
     let taken : List ℤ = last_of now.stack c.in-Clears.taken.count in
     let width : Option ℤ = settled now.width now.stack c.in-Clears.taken.counted in
     let moves : effect lists op rest (stacked ys st) ≡ Clears taken now.stems width c.in-Clears.mask = does.0 ∙ ap (λ done. move_of done now) c.in-Clears.is in
-    let becomes : now ≡ record { stack = ys; stems = now.stems; width = st.width } = does.1 ∙ ap (λ move. after_move move (stacked ys st)) moves in
+    let becomes : now ≡ record { stack = ys; stems = now.stems; width = st.width; stored = st.stored } = does.1 ∙ ap (λ move. after_move move (stacked ys st)) moves in
     let behind : List ℕ = c.skip.new.self in
     let front : List ℕ = c.passed-bytes-in-Clears.result.now in
     let is_front : front ≡ take (length bytes - length behind) bytes = rw (← c.rest-rest.ensures) c.passed-bytes-in-Clears.ensures in
-    (answered lists left callers bytes rest behind front st ys op more c.in-Clears.mask taken (cleared now.stems width) width read moves refl c.skip.ensures is_front, ap (λ (s : State). s.width) becomes)
+    (answered lists left callers bytes rest behind front st ys op more c.in-Clears.mask taken (cleared now.stems width now) width read moves (ap (λ (s : State). cleared now.stems width s) becomes) c.skip.ensures is_front, ap (λ (s : State). s.width) becomes)
 
 pub returns-then-self-eq0-clause-advances : goal.returns-then-self-eq0-clause-advances
 returns-then-self-eq0-clause-advances c =
