@@ -212,18 +212,19 @@ def random_text(draw):
 
 
 def char_set(draw, glyphs):
-    """A char set for as many glyphs: of format 0, of format 1, or of one that is not read."""
+    """A char set for as many glyphs: of format 0, 1 or 2, or of one that is not read."""
     if one_in(draw, 25):
-        return bytes([draw.choice([2, 2, 3, 0x80, 0xFF])]) + bytes(2 * glyphs)
-    if one_in(draw, 2):
+        return bytes([draw.choice([3, 4, 0x80, 0xFF])]) + bytes(2 * glyphs)
+    form = draw.randrange(3)
+    if form == 0:
         return b"\x00" + b"".join(draw.randrange(400).to_bytes(2, "big") for _ in range(glyphs - 1))
     ranges = b""
     wanting = glyphs - 1 + one_in(draw, 30)
     while wanting > 0:
-        left = draw.randint(0, min(wanting - 1, 255))
-        ranges += draw.randrange(400).to_bytes(2, "big") + bytes([left])
+        left = draw.randint(0, min(wanting - 1, 256 ** form - 1))
+        ranges += draw.randrange(400).to_bytes(2, "big") + left.to_bytes(form, "big")
         wanting -= left + 1
-    return b"\x01" + ranges
+    return bytes([form]) + ranges
 
 
 def other_operation(draw):

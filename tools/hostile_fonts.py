@@ -75,6 +75,12 @@ def shapes():
     ranges = b"\x01" + b"".join(first.to_bytes(2, "big") + b"\xff" for first in range(1, 65_281, 256)) + b"\xff\x01\xfd"
     top, parts = whole(65_535, ranges)
     yield "65,535 glyphs in ranges", font([top], parts), summary(1, 65_535, "Format1")
+    top, parts = whole(65_535, b"\x02\x00\x01\xff\xfd")
+    yield "65,535 glyphs in a range of format 2", font([top], parts), summary(1, 65_535, "Format2")
+    top, parts = whole(65_535, b"\x02" + b"\x00\x01\x00\x00" * 65_534)
+    yield "65,535 glyphs in 65,534 ranges of format 2", font([top], parts), summary(1, 65_535, "Format2")
+    top, parts = whole(2, b"\x02" + b"\x00\x01\xff\xff" * 2)
+    yield "two glyphs, and ranges of format 2 for 131,072", font([top], parts), fault(10)
     top, parts = whole(1000)
     yield "100 dictionaries over the same 1,000 glyphs", font([top] * 100, parts), summary(100, 1000)
     top, parts = whole(1)

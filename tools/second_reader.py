@@ -279,8 +279,8 @@ def read_index(cursor):
 def read_char_set(cursor, glyphs):
     """The name of the char set's format."""
     form = cursor.number(1)
-    if form > 1:
-        raise Refused(UNSUPPORTED if form == 2 else UNKNOWN_CHAR_SET)
+    if form > 2:
+        raise Refused(UNKNOWN_CHAR_SET)
     if glyphs == 0:
         raise Refused(BAD_CHAR_SET)
     if form == 0:
@@ -289,10 +289,10 @@ def read_char_set(cursor, glyphs):
     covered = 1
     while covered < glyphs:
         cursor.take(2)
-        covered += cursor.number(1) + 1
+        covered += cursor.number(form) + 1
     if covered != glyphs:
         raise Refused(BAD_CHAR_SET)
-    return "Format1"
+    return f"Format{form}"
 
 
 class Font:

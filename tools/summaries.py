@@ -11,8 +11,8 @@ reads: the header's four bytes, the names, how many strings, global subroutines 
 dictionary the encoding, the format of the char set, and how many glyphs and local subroutines it has. Where it refuses,
 the refusal has to be the first of these causes that fontTools sees, in the order of the reading: an item of no bytes among the
 strings or the global subroutines (6); of a dictionary, an encoding of the font's own (16), an item of no bytes among the char
-strings (6), a char set of format 2 (16), no Private (14), no Subrs (14), an item of no bytes among the local subroutines (6).
-The refusals are counted by their cause. The status is 1 where
+strings (6), no Private (14), no Subrs (14), an item of no bytes among the local subroutines (6).
+The refusals are counted by their cause, and the fonts that are read by the formats of their char sets. The status is 1 where
 something differs.
 """
 
@@ -39,15 +39,12 @@ def has_empty(index):
     return any(low == high for low, high in zip(offsets, offsets[1:]))
 
 
-def cause_of(top, table):
+def cause_of(top):
     """Why a dictionary's font is refused, and the refusal's number; None where it is not."""
     if top.rawDict.get("Encoding", 0) not in (0, 1):
         return "an encoding of its own", 16
     if has_empty(top.CharStrings.charStringsIndex):
         return EMPTY
-    char_set = top.rawDict.get("charset", 0)
-    if char_set > 2 and table[char_set] == 2:
-        return "a char set of format 2", 16
     if "Private" not in top.rawDict:
         return "no Private", 14
     if "Subrs" not in top.Private.rawDict:
@@ -57,12 +54,16 @@ def cause_of(top, table):
     return None
 
 
+def set_of(top, table):
+    """The name of a dictionary's char set."""
+    char_set = top.rawDict.get("charset", 0)
+    return CHAR_SETS[char_set] if char_set < 3 else f"Format{table[char_set]}"
+
+
 def line_of(top, table):
     """What psfont has to tell of a dictionary."""
-    char_set = top.rawDict.get("charset", 0)
-    of_set = CHAR_SETS[char_set] if char_set < 3 else f"Format{table[char_set]}"
     encoding = ENCODINGS[top.rawDict.get("Encoding", 0)]
-    return f"font {encoding} {of_set} glyphs {len(top.CharStrings)} locals {len(top.Private.Subrs)}"
+    return f"font {encoding} {set_of(top, table)} glyphs {len(top.CharStrings)} locals {len(top.Private.Subrs)}"
 
 
 def shown(name):
@@ -74,14 +75,14 @@ def expected(font, table):
     cff = font["CFF "].cff
     tops = [cff.topDictIndex[i] for i in range(len(cff.topDictIndex))]
     empty = "" in cff.strings.strings or has_empty(cff.GlobalSubrs)
-    for cause in [EMPTY if empty else None] + [cause_of(top, table) for top in tops]:
+    for cause in [EMPTY if empty else None] + [cause_of(top) for top in tops]:
         if cause:
             return [f"psfont: fault {cause[1]}"], 1, cause[0]
     lines = ["header {} {} {} {}".format(*table[:4]), f"names {len(cff.fontNames)}"]
     lines += [f"name {shown(name)}" for name in cff.fontNames]
     lines += [f"strings {len(cff.strings.strings)}", f"globals {len(cff.GlobalSubrs)}", f"dictionaries {len(tops)}"]
     lines += [line_of(top, table) for top in tops]
-    return lines + ["end"], 0, "read"
+    return lines + ["end"], 0, "read, " + " ".join(set_of(top, table) for top in tops)
 
 
 def told(table, folder):

@@ -112,8 +112,6 @@ pub enum Error {
 pub enum Part {
     /// An encoding other than Standard and Expert.
     CustomEncoding,
-    /// A char set of format 2.
-    CharSetFormat2,
     /// The charstring operator `random`.
     Random,
 }

@@ -4,20 +4,20 @@ use Rattle.std.specs.Prelude.{sum_by}
 use Rattle.std.proofs.lemmas.Bool.Decides.{nat_tests}
 use Rattle.std.proofs.lemmas.List.Sums.{sum_by-cons}
 use Rattle.postscript_base.specs.Numbers.{number}
-use Rattle.postscript_base.specs.Refusal.{OfPart, malformed_char_set, unknown_char_set_format}
-use Rattle.postscript_base.specs.declared.error.Part.TheVariants.{CharSetFormat2}
+use Rattle.postscript_base.specs.Refusal.{malformed_char_set, unknown_char_set_format}
 use Rattle.postscript_base.specs.Tape.At.{NeedsBytes}
 use Rattle.postscript_base.proofs.Onward.{needs_after, number_needs}
 use Rattle.postscript_base.specs.Tape.Loops.{many, until, until_from}
 use Rattle.postscript_base.specs.Tape.Onward.{MovesOn, TakesBytes}
 use Rattle.postscript_base.specs.Tape.Outcome.{Outcome, Got, Fault, Past, Reading, after, pure, fault}
-use Rattle.postscript_compact1.specs.CharSets.{char_set, char_set_0, char_set_1, covered, covering, glyphs_of, listed, none_wanting, range, ranges, uncovered}
+use Rattle.postscript_compact1.specs.CharSets.{char_set, char_set_0, char_set_of, covered, covered_1, covered_2, covering, glyphs_of_1, glyphs_of_2, if_any, listed, none_wanting, range_1, range_2, ranges, uncovered}
 use Rattle.postscript_compact1.specs.CharSets.Formats.{Listed, Covered}
 use Rattle.postscript_compact1.specs.CharSetLaw.{CoversGlyphs, IsCharSet, ListsGlyphs, StandAt}
 use Rattle.postscript_compact1.specs.declared.char_set.CharSet.{CharSet}
-use Rattle.postscript_compact1.specs.declared.char_set.CharSet.TheVariants.{ISOAdobe, Expert, ExpertSubset, Format0, Format1}
+use Rattle.postscript_compact1.specs.declared.char_set.CharSet.TheVariants.{ISOAdobe, Expert, ExpertSubset, Format0, Format1, Format2}
 use Rattle.postscript_compact1.specs.declared.char_set.range.Range1.{Range1}
-use Rattle.postscript_compact1.proofs.Ranges.{range_takes}
+use Rattle.postscript_compact1.specs.declared.char_set.range.Range2.{Range2}
+use Rattle.postscript_compact1.proofs.Ranges.{range_1_takes, range_2_takes}
 
 -- what holds of a value, and of where it ends
 abbrev pub Gives : {A : Type 0} → (A → ℕ → Type 0) → Outcome A → Type 0
@@ -108,9 +108,6 @@ gives_more Past P Q each h = tt
 abbrev pub Lists : ℕ → List ℕ → ℕ → Listed → ℕ → Type 0
 Lists glyphs bytes place set next = (set.format ≡ 0) × StandAt (number 2) bytes place set.glyphs next × (1 + length set.glyphs ≡ glyphs)
 
-abbrev pub CoversAll : ℕ → List ℕ → ℕ → Covered Range1 → ℕ → Type 0
-CoversAll glyphs bytes place set next = (set.format ≡ 1) × StandAt range bytes place set.ranges next × (1 + sum_by glyphs_of set.ranges ≡ glyphs)
-
 one_more : (glyphs count : ℕ) → (glyphs == 0) ≡ false → count ≡ glyphs - 1 → 1 + count ≡ glyphs
 one_more glyphs count some e = let other : 0 < glyphs = grind (arith, nat_tests) in omega arith
 
@@ -124,16 +121,6 @@ listed_gives glyphs bytes place = by (glyphs == 0) refl
         let h = subst (Gives (λ values next. StandAt (number 2) bytes place values next × (length values ≡ glyphs - 1))) g (many_gives (number 2) (glyphs - 1) bytes place) in
         (refl, h.0, one_more glyphs (length values) e h.1))
 
-covered_gives : (glyphs : ℕ) (bytes : List ℕ) (place : ℕ) → Gives (CoversAll glyphs bytes place) (covered glyphs bytes place)
-unfolding covered until
-covered_gives glyphs bytes place = by (glyphs == 0) refl
-  where
-    by : (b : Bool) → (glyphs == 0) ≡ b → Gives (CoversAll glyphs bytes place) ((if b then fault malformed_char_set else (λ bytes place. after (ranges glyphs_of range (glyphs - 1) bytes place) (λ ranges next. Got (record { format = 1; ranges = ranges }) next))) bytes place)
-    by true e = tt
-    by false e = gives_after (ranges glyphs_of range (glyphs - 1) bytes place) _ _ (λ values next g.
-        let h = subst (Gives (Covers glyphs_of range (glyphs - 1) bytes place)) g (until_gives glyphs_of range (suc (length bytes)) (glyphs - 1) bytes place) in
-        (refl, h.0, one_more glyphs (sum_by glyphs_of values) e h.1))
-
 listed_all : (glyphs : ℕ) (bytes : List ℕ) (place : ℕ) (set : Listed) (next : ℕ) → Lists glyphs bytes place set next → listed glyphs bytes place ≡ Got set next
 unfolding listed
 listed_all glyphs bytes place set next h =
@@ -142,23 +129,9 @@ listed_all glyphs bytes place set next h =
     let count : glyphs - 1 ≡ length set.glyphs = omega arith in
     rw (some, count, many_all (number 2) set.glyphs bytes place next h.1) (ap (λ format. Got (record { format = format; glyphs = set.glyphs }) next) (sym h.0))
 
-pub covers_some : (range : Range1) → 0 < glyphs_of range
-covers_some range = omega arith
-
-covered_all : (glyphs : ℕ) (bytes : List ℕ) (place : ℕ) (set : Covered Range1) (next : ℕ) → CoversAll glyphs bytes place set next → covered glyphs bytes place ≡ Got set next
-unfolding covered until
-covered_all glyphs bytes place set next h =
-    let each = h.2 in
-    let some : (glyphs == 0) ≡ false = grind (arith, nat_tests) in
-    let count : sum_by glyphs_of set.ranges ≡ glyphs - 1 = omega arith in
-    rw (some, until_all glyphs_of range range_takes covers_some (suc (length bytes)) (glyphs - 1) bytes place set.ranges next h.1 count (omega arith)) (ap (λ format. Got (record { format = format; ranges = set.ranges }) next) (sym h.0))
-
 -- behind the byte, what is read is told whole
 lists_whole : (bytes : List ℕ) (place glyphs format behind : ℕ) → number 1 bytes place ≡ Got format behind → format ≡ 0 → (set : Listed) (next : ℕ) → Lists glyphs bytes behind set next → ListsGlyphs bytes place glyphs set next
 lists_whole bytes place glyphs format behind e is set next h = record { format = h.0; behind = behind; byte = e ∙ ap (λ format. Got format behind) is; identifiers = h.1; each = h.2 }
-
-covers_whole : (bytes : List ℕ) (place glyphs format behind : ℕ) → number 1 bytes place ≡ Got format behind → format ≡ 1 → (set : Covered Range1) (next : ℕ) → CoversAll glyphs bytes behind set next → CoversGlyphs bytes place glyphs set next
-covers_whole bytes place glyphs format behind e is set next h = record { format = h.0; behind = behind; byte = e ∙ ap (λ format. Got format behind) is; ranges = h.1; each = h.2 }
 
 pub is_format : (format n : ℕ) → (format == n) ≡ true → format ≡ n
 is_format format n e = grind (arith, nat_tests)
@@ -171,32 +144,73 @@ gives_0 glyphs bytes place = gives_after (number 1 bytes place) _ _ (λ format b
     by format behind e true is = gives_more (listed glyphs bytes behind) _ _ (lists_whole bytes place glyphs format behind e (is_format format 0 is)) (listed_gives glyphs bytes behind)
     by format behind e false is = tt
 
-pub gives_1 : (glyphs : ℕ) (bytes : List ℕ) (place : ℕ) → Gives (CoversGlyphs bytes place glyphs) (char_set_1 glyphs bytes place)
-unfolding char_set_1
-gives_1 glyphs bytes place = gives_after (number 1 bytes place) _ _ (λ format behind e. by format behind e (format == 1) refl)
-  where
-    by : (format behind : ℕ) → number 1 bytes place ≡ Got format behind → (b : Bool) → (format == 1) ≡ b → Gives (CoversGlyphs bytes place glyphs) ((if b then covered glyphs else fault malformed_char_set) bytes behind)
-    by format behind e true is = gives_more (covered glyphs bytes behind) _ _ (covers_whole bytes place glyphs format behind e (is_format format 1 is)) (covered_gives glyphs bytes behind)
-    by format behind e false is = tt
+-- char sets of ranges, whatever their format
+module _ {A : Type 0} (format : ℕ) (size : A → ℕ) (one : Reading A) where
+  -- what stands behind the byte of the format
+  abbrev pub CoversAll : ℕ → List ℕ → ℕ → Covered A → ℕ → Type 0
+  CoversAll glyphs bytes place set next = (set.format ≡ format) × StandAt one bytes place set.ranges next × (1 + sum_by size set.ranges ≡ glyphs)
+
+  covered_gives : (glyphs : ℕ) (bytes : List ℕ) (place : ℕ) → Gives (CoversAll glyphs bytes place) (covered format size one glyphs bytes place)
+  unfolding covered if_any until
+  covered_gives glyphs bytes place = by (glyphs == 0) refl
+    where
+      by : (b : Bool) → (glyphs == 0) ≡ b → Gives (CoversAll glyphs bytes place) (after ((if b then fault malformed_char_set else ranges size one (glyphs - 1)) bytes place) (λ ranges next. Got (record { format = format; ranges = ranges }) next))
+      by true e = tt
+      by false e = gives_after (ranges size one (glyphs - 1) bytes place) _ _ (λ values next g.
+          let h = subst (Gives (Covers size one (glyphs - 1) bytes place)) g (until_gives size one (suc (length bytes)) (glyphs - 1) bytes place) in
+          (refl, h.0, one_more glyphs (sum_by size values) e h.1))
+
+  covers_whole : (bytes : List ℕ) (place glyphs first behind : ℕ) → number 1 bytes place ≡ Got first behind → first ≡ format → (set : Covered A) (next : ℕ) → CoversAll glyphs bytes behind set next → CoversGlyphs format size one bytes place glyphs set next
+  covers_whole bytes place glyphs first behind e is set next h = record { same = h.0; behind = behind; byte = e ∙ ap (λ first. Got first behind) is; ranges = h.1; each = h.2 }
+
+  pub gives_of : (glyphs : ℕ) (bytes : List ℕ) (place : ℕ) → Gives (CoversGlyphs format size one bytes place glyphs) (char_set_of format size one glyphs bytes place)
+  unfolding char_set_of
+  gives_of glyphs bytes place = gives_after (number 1 bytes place) _ _ (λ first behind e. by first behind e (first == format) refl)
+    where
+      by : (first behind : ℕ) → number 1 bytes place ≡ Got first behind → (b : Bool) → (first == format) ≡ b → Gives (CoversGlyphs format size one bytes place glyphs) ((if b then covered format size one glyphs else fault malformed_char_set) bytes behind)
+      by first behind e true is = gives_more (covered format size one glyphs bytes behind) _ _ (covers_whole bytes place glyphs first behind e (is_format first format is)) (covered_gives glyphs bytes behind)
+      by first behind e false is = tt
+
+  -- past the end the byte of the format is wanting
+  pub char_set_of_needs : (glyphs : ℕ) → NeedsBytes (char_set_of format size one glyphs)
+  unfolding char_set_of
+  char_set_of_needs glyphs = needs_after (number 1) _ (number_needs 1 (omega arith))
+
+  module _ (takes : TakesBytes one) (some : (value : A) → 0 < size value) where
+    pub covered_all : (glyphs : ℕ) (bytes : List ℕ) (place : ℕ) (set : Covered A) (next : ℕ) → CoversAll glyphs bytes place set next → covered format size one glyphs bytes place ≡ Got set next
+    unfolding covered if_any until
+    covered_all glyphs bytes place set next h =
+        let each = h.2 in
+        let any : (glyphs == 0) ≡ false = grind (arith, nat_tests) in
+        let count : sum_by size set.ranges ≡ glyphs - 1 = omega arith in
+        rw (any, until_all size one takes some (suc (length bytes)) (glyphs - 1) bytes place set.ranges next h.1 count (omega arith)) (ap (λ named. Got (record { format = named; ranges = set.ranges }) next) (sym h.0))
+
+    pub all_of : (glyphs : ℕ) (bytes : List ℕ) (place : ℕ) (set : Covered A) (next : ℕ) → CoversGlyphs format size one bytes place glyphs set next → char_set_of format size one glyphs bytes place ≡ Got set next
+    unfolding char_set_of
+    all_of glyphs bytes place set next h =
+        let is : (format == format) ≡ true = grind (arith, nat_tests) in
+        rw (h.byte, is) (covered_all glyphs bytes h.behind set next (h.same, h.ranges, h.each))
+
+pub covers_some_1 : (range : Range1) → 0 < glyphs_of_1 range
+covers_some_1 range = omega arith
+
+pub covers_some_2 : (range : Range2) → 0 < glyphs_of_2 range
+covers_some_2 range = omega arith
 
 pub gives_any : (glyphs : ℕ) (bytes : List ℕ) (place : ℕ) → Gives (IsCharSet bytes place glyphs) (char_set glyphs bytes place)
 unfolding char_set
-gives_any glyphs bytes place = gives_after (number 1 bytes place) _ _ (λ format behind e. by format behind e (format == 0) (format == 1) (format == 2) refl refl)
+gives_any glyphs bytes place = gives_after (number 1 bytes place) _ _ (λ format behind e. by format behind e (format == 0) (format == 1) (format == 2) refl refl refl)
   where
-    by : (format behind : ℕ) → number 1 bytes place ≡ Got format behind → (zeroth first second : Bool) → (format == 0) ≡ zeroth → (format == 1) ≡ first
-        → Gives (IsCharSet bytes place glyphs) ((if zeroth then (λ bytes place. after (listed glyphs bytes place) (λ set next. Got (Format0 set) next)) else if first then (λ bytes place. after (covered glyphs bytes place) (λ set next. Got (Format1 set) next)) else if second then fault (OfPart CharSetFormat2) else fault unknown_char_set_format) bytes behind)
-    by format behind e true first second is other = gives_after (listed glyphs bytes behind) _ _ (λ set next g. lists_whole bytes place glyphs format behind e (is_format format 0 is) set next (subst (Gives (Lists glyphs bytes behind)) g (listed_gives glyphs bytes behind)))
-    by format behind e false true second other is = gives_after (covered glyphs bytes behind) _ _ (λ set next g. covers_whole bytes place glyphs format behind e (is_format format 1 is) set next (subst (Gives (CoversAll glyphs bytes behind)) g (covered_gives glyphs bytes behind)))
-    by format behind e false false true other is = tt
-    by format behind e false false false other is = tt
+    by : (format behind : ℕ) → number 1 bytes place ≡ Got format behind → (zeroth first second : Bool) → (format == 0) ≡ zeroth → (format == 1) ≡ first → (format == 2) ≡ second
+        → Gives (IsCharSet bytes place glyphs) ((if zeroth then (λ bytes place. after (listed glyphs bytes place) (λ set next. Got (Format0 set) next)) else if first then (λ bytes place. after (covered_1 glyphs bytes place) (λ set next. Got (Format1 set) next)) else if second then (λ bytes place. after (covered_2 glyphs bytes place) (λ set next. Got (Format2 set) next)) else fault unknown_char_set_format) bytes behind)
+    by format behind e true first second is other others = gives_after (listed glyphs bytes behind) _ _ (λ set next g. lists_whole bytes place glyphs format behind e (is_format format 0 is) set next (subst (Gives (Lists glyphs bytes behind)) g (listed_gives glyphs bytes behind)))
+    by format behind e false true second other is others = gives_after (covered_1 glyphs bytes behind) _ _ (λ set next g. covers_whole 1 glyphs_of_1 range_1 bytes place glyphs format behind e (is_format format 1 is) set next (subst (Gives (CoversAll 1 glyphs_of_1 range_1 glyphs bytes behind)) g (covered_gives 1 glyphs_of_1 range_1 glyphs bytes behind)))
+    by format behind e false false true other others is = gives_after (covered_2 glyphs bytes behind) _ _ (λ set next g. covers_whole 2 glyphs_of_2 range_2 bytes place glyphs format behind e (is_format format 2 is) set next (subst (Gives (CoversAll 2 glyphs_of_2 range_2 glyphs bytes behind)) g (covered_gives 2 glyphs_of_2 range_2 glyphs bytes behind)))
+    by format behind e false false false other others is = tt
 
 pub all_0 : (glyphs : ℕ) (bytes : List ℕ) (place : ℕ) (set : Listed) (next : ℕ) → ListsGlyphs bytes place glyphs set next → char_set_0 glyphs bytes place ≡ Got set next
 unfolding char_set_0
 all_0 glyphs bytes place set next h = rw h.byte (listed_all glyphs bytes h.behind set next (h.format, h.identifiers, h.each))
-
-pub all_1 : (glyphs : ℕ) (bytes : List ℕ) (place : ℕ) (set : Covered Range1) (next : ℕ) → CoversGlyphs bytes place glyphs set next → char_set_1 glyphs bytes place ≡ Got set next
-unfolding char_set_1
-all_1 glyphs bytes place set next h = rw h.byte (covered_all glyphs bytes h.behind set next (h.format, h.ranges, h.each))
 
 pub all : (glyphs : ℕ) (bytes : List ℕ) (place : ℕ) (set : CharSet) (next : ℕ) → IsCharSet bytes place glyphs set next → char_set glyphs bytes place ≡ Got set next
 unfolding char_set
@@ -204,7 +218,8 @@ all glyphs bytes place ISOAdobe next h = absurd h
 all glyphs bytes place Expert next h = absurd h
 all glyphs bytes place ExpertSubset next h = absurd h
 all glyphs bytes place (Format0 set) next h = rw (h.byte, listed_all glyphs bytes h.behind set next (h.format, h.identifiers, h.each)) refl
-all glyphs bytes place (Format1 set) next h = rw (h.byte, covered_all glyphs bytes h.behind set next (h.format, h.ranges, h.each)) refl
+all glyphs bytes place (Format1 set) next h = rw (h.byte, covered_all 1 glyphs_of_1 range_1 range_1_takes covers_some_1 glyphs bytes h.behind set next (h.same, h.ranges, h.each)) refl
+all glyphs bytes place (Format2 set) next h = rw (h.byte, covered_all 2 glyphs_of_2 range_2 range_2_takes covers_some_2 glyphs bytes h.behind set next (h.same, h.ranges, h.each)) refl
 
 -- past the end the byte of the format is wanting
 pub char_set_needs : (glyphs : ℕ) → NeedsBytes (char_set glyphs)
@@ -214,7 +229,3 @@ char_set_needs glyphs = needs_after (number 1) _ (number_needs 1 (omega arith))
 pub char_set_0_needs : (glyphs : ℕ) → NeedsBytes (char_set_0 glyphs)
 unfolding char_set_0
 char_set_0_needs glyphs = needs_after (number 1) _ (number_needs 1 (omega arith))
-
-pub char_set_1_needs : (glyphs : ℕ) → NeedsBytes (char_set_1 glyphs)
-unfolding char_set_1
-char_set_1_needs glyphs = needs_after (number 1) _ (number_needs 1 (omega arith))

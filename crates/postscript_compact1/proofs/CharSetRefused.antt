@@ -4,20 +4,18 @@ use Rattle.std.specs.Prelude.{sum_by}
 use Rattle.std.proofs.lemmas.Bool.Decides.{nat_tests}
 use Rattle.std.proofs.lemmas.List.Sums.{sum_by-cons}
 use Rattle.postscript_base.specs.Numbers.{number}
-use Rattle.postscript_base.specs.Refusal.{Refusal, OfPart, malformed_char_set, unknown_char_set_format}
+use Rattle.postscript_base.specs.Refusal.{Refusal, malformed_char_set, unknown_char_set_format}
 use Rattle.postscript_base.specs.Tape.Loops.{many, until, until_from}
 use Rattle.postscript_base.specs.Tape.Onward.{MovesOn, TakesBytes}
 use Rattle.postscript_base.specs.Tape.Outcome.{Outcome, Got, Fault, Past, Reading, after, pure, fault}
-use Rattle.postscript_base.specs.declared.error.Part.TheVariants.{CharSetFormat2}
 use Rattle.postscript_base.proofs.Onward.{number_takes}
-use Rattle.postscript_compact1.specs.CharSets.{char_set, covered, covering, glyphs_of, listed, none_wanting, range, ranges, uncovered}
+use Rattle.postscript_compact1.specs.CharSets.{char_set, covered, covered_1, covered_2, covering, glyphs_of_1, glyphs_of_2, if_any, listed, none_wanting, range_1, range_2, ranges, uncovered}
 use Rattle.postscript_compact1.specs.CharSets.Formats.{Listed, Covered}
-use Rattle.postscript_compact1.specs.CharSetLaw.{CutIdentifier, CutRange, NoCharSet, NoFormat, NoGlyphs, OtherFormat, ReadsCharSets, SecondFormat, StandAt, TooManyGlyphs, ListsGlyphs, CoversGlyphs, IsCharSet}
+use Rattle.postscript_compact1.specs.CharSetLaw.{CutIdentifier, CutRange, NoCharSet, NoCover, NoFormat, NoGlyphs, NoRanges1, NoRanges2, OtherFormat, ReadsCharSets, StandAt, TooManyGlyphs, ListsGlyphs, CoversGlyphs1, CoversGlyphs2, IsCharSet}
 use Rattle.postscript_compact1.specs.declared.char_set.CharSet.{CharSet}
-use Rattle.postscript_compact1.specs.declared.char_set.CharSet.TheVariants.{Format0, Format1}
-use Rattle.postscript_compact1.specs.declared.char_set.range.Range1.{Range1}
-use Rattle.postscript_compact1.proofs.Ranges.{range_takes}
-use Rattle.postscript_compact1.proofs.CharSetIs.{Gives, all, all_0, all_1, all_until, covering_all, covering_gives, gives_0, gives_1, gives_any, is_format}
+use Rattle.postscript_compact1.specs.declared.char_set.CharSet.TheVariants.{Format0, Format1, Format2}
+use Rattle.postscript_compact1.proofs.Ranges.{range_1_takes, range_2_takes}
+use Rattle.postscript_compact1.proofs.CharSetIs.{Gives, all, all_0, all_of, all_until, covering_all, covering_gives, covers_some_1, covers_some_2, gives_0, gives_any, gives_of, is_format}
 
 -- what holds of a refusal; no place past the end is sought
 abbrev pub Fails : {A : Type 0} → (Refusal → Type 0) → Outcome A → Type 0
@@ -137,44 +135,67 @@ listed_fails glyphs bytes place = by (glyphs == 0) refl
     by true e = inl (is_format glyphs 0 e, refl)
     by false e = fails_after (many (number 2) (glyphs - 1) bytes place) _ _ _ (many_fails (number 2) (number_takes 2 (omega arith)) (glyphs - 1) bytes place) (λ refusal h. inr h) (λ values next g. tt)
 
-covered_fails : (glyphs : ℕ) (bytes : List ℕ) (place : ℕ) → Fails (NoneOr glyphs (StopsBehind glyphs_of range range_takes (glyphs - 1) bytes place)) (covered glyphs bytes place)
-unfolding covered until
-covered_fails glyphs bytes place = by (glyphs == 0) refl
-  where
-    by : (b : Bool) → (glyphs == 0) ≡ b → Fails {A = Covered Range1} (NoneOr glyphs (StopsBehind glyphs_of range range_takes (glyphs - 1) bytes place)) ((if b then fault malformed_char_set else (λ bytes place. after (ranges glyphs_of range (glyphs - 1) bytes place) (λ ranges next. Got (record { format = 1; ranges = ranges }) next))) bytes place)
-    by true e = inl (is_format glyphs 0 e, refl)
-    by false e = fails_after (ranges glyphs_of range (glyphs - 1) bytes place) _ _ _ (until_fails glyphs_of range range_takes (suc (length bytes)) (glyphs - 1) bytes place (omega arith)) (λ refusal h. inr h) (λ values next g. tt)
-
 no_list : (bytes : List ℕ) (place glyphs format behind : ℕ) → number 1 bytes place ≡ Got format behind → format ≡ 0 → (refusal : Refusal) → NoneOr glyphs (CutBehind (number 2) (glyphs - 1) bytes behind) refusal → NoCharSet bytes place glyphs refusal
 no_list bytes place glyphs format behind e is refusal (inl h) = NoGlyphs format behind e (omega arith) h.0 h.1
 no_list bytes place glyphs format behind e is refusal (inr h) = let fewer = h.3 in CutIdentifier behind h.0 h.1 (e ∙ ap (λ format. Got format behind) is) h.2 (omega arith) h.4
 
-no_cover : (bytes : List ℕ) (place glyphs format behind : ℕ) → number 1 bytes place ≡ Got format behind → format ≡ 1 → (refusal : Refusal) → NoneOr glyphs (StopsBehind glyphs_of range range_takes (glyphs - 1) bytes behind) refusal → NoCharSet bytes place glyphs refusal
-no_cover bytes place glyphs format behind e is refusal (inl h) = NoGlyphs format behind e (omega arith) h.0 h.1
-no_cover bytes place glyphs format behind e is refusal (inr h) = by h.4
-  where
-    by : StopsAt glyphs_of range range_takes ((glyphs - 1) - sum_by glyphs_of h.0) bytes h.1 refusal → NoCharSet bytes place glyphs refusal
-    by (inl cut) = let fewer = h.3 in CutRange behind h.0 h.1 (e ∙ ap (λ format. Got format behind) is) h.2 (omega arith) cut
-    by (inr last) = let fewer = h.3 in let more = last.3 in TooManyGlyphs behind h.0 h.1 last.0 last.1 (e ∙ ap (λ format. Got format behind) is) h.2 (omega arith) last.2 (omega arith) last.4
+-- char sets of ranges, whatever their format
+module _ {A : Type 0} (format : ℕ) (size : A → ℕ) (one : Reading A) (takes : TakesBytes one) where
+  pub covered_fails : (glyphs : ℕ) (bytes : List ℕ) (place : ℕ) → Fails (NoneOr glyphs (StopsBehind size one takes (glyphs - 1) bytes place)) (covered format size one glyphs bytes place)
+  unfolding covered if_any until
+  covered_fails glyphs bytes place = by (glyphs == 0) refl
+    where
+      by : (b : Bool) → (glyphs == 0) ≡ b → Fails {A = Covered A} (NoneOr glyphs (StopsBehind size one takes (glyphs - 1) bytes place)) (after ((if b then fault malformed_char_set else ranges size one (glyphs - 1)) bytes place) (λ ranges next. Got (record { format = format; ranges = ranges }) next))
+      by true e = inl (is_format glyphs 0 e, refl)
+      by false e = fails_after (ranges size one (glyphs - 1) bytes place) _ _ _ (until_fails size one takes (suc (length bytes)) (glyphs - 1) bytes place (omega arith)) (λ refusal h. inr h) (λ values next g. tt)
+
+  -- what refuses behind the byte is a char set without glyphs, or ranges that do not cover them
+  pub no_cover : (bytes : List ℕ) (place glyphs first behind : ℕ) → number 1 bytes place ≡ Got first behind → first ≡ format → (Q : Refusal → Type 0)
+      → ((refusal : Refusal) → glyphs ≡ 0 → refusal ≡ malformed_char_set → Q refusal) → ((refusal : Refusal) → NoCover format size one bytes place glyphs refusal → Q refusal)
+      → (refusal : Refusal) → NoneOr glyphs (StopsBehind size one takes (glyphs - 1) bytes behind) refusal → Q refusal
+  no_cover bytes place glyphs first behind e is Q none stop refusal (inl h) = none refusal h.0 h.1
+  no_cover bytes place glyphs first behind e is Q none stop refusal (inr h) = stop refusal (by h.4)
+    where
+      by : StopsAt size one takes ((glyphs - 1) - sum_by size h.0) bytes h.1 refusal → NoCover format size one bytes place glyphs refusal
+      by (inl cut) = let fewer = h.3 in CutRange behind h.0 h.1 (e ∙ ap (λ first. Got first behind) is) h.2 (omega arith) cut
+      by (inr last) = let fewer = h.3 in let more = last.3 in TooManyGlyphs behind h.0 h.1 last.0 last.1 (e ∙ ap (λ first. Got first behind) is) h.2 (omega arith) last.2 (omega arith) last.4
+
+  pub covered_none : (glyphs : ℕ) (bytes : List ℕ) (place : ℕ) → glyphs ≡ 0 → covered format size one glyphs bytes place ≡ Fault malformed_char_set
+  unfolding covered if_any
+  covered_none glyphs bytes place none = rw none refl
+
+  covered_stops : (glyphs : ℕ) (bytes : List ℕ) (place : ℕ) (values : List A) (next : ℕ) (refusal : Refusal) → StandAt one bytes place values next → 1 + sum_by size values < glyphs
+      → StopsAt size one takes ((glyphs - 1) - sum_by size values) bytes next refusal → covered format size one glyphs bytes place ≡ Fault refusal
+  unfolding covered if_any until
+  covered_stops glyphs bytes place values next refusal h fewer stop =
+      let any : (glyphs == 0) ≡ false = grind (arith, nat_tests) in
+      rw (any, until_stops size one takes (suc (length bytes)) (glyphs - 1) bytes place values next refusal h (omega arith) stop (omega arith)) refl
+
+  -- where ranges do not cover the glyphs, they are refused behind the byte
+  pub covered_refused : (glyphs : ℕ) (bytes : List ℕ) (place : ℕ) (refusal : Refusal) → NoCover format size one bytes place glyphs refusal → (behind : ℕ) × (number 1 bytes place ≡ Got format behind) × (covered format size one glyphs bytes behind ≡ Fault refusal)
+  covered_refused glyphs bytes place refusal (CutRange behind values next e h fewer cut) = (behind, e, covered_stops glyphs bytes behind values next refusal h fewer (inl cut))
+  covered_refused glyphs bytes place refusal (TooManyGlyphs behind values next last end e h fewer got more is) = (behind, e, covered_stops glyphs bytes behind values next refusal h fewer (inr (last, end, got, omega arith, is)))
 
 any_fails : (glyphs : ℕ) (bytes : List ℕ) (place : ℕ) → Fails (NoCharSet bytes place glyphs) (char_set glyphs bytes place)
 unfolding char_set
 any_fails glyphs bytes place = fails_after (number 1 bytes place) _ _ _ (moves_fails (number 1 bytes place) place (length bytes) (number_takes 1 (omega arith) bytes place)) (λ refusal e. NoFormat e) (λ format behind e. by format behind e (format == 0) (format == 1) (format == 2) refl refl refl)
   where
     by : (format behind : ℕ) → number 1 bytes place ≡ Got format behind → (zeroth first second : Bool) → (format == 0) ≡ zeroth → (format == 1) ≡ first → (format == 2) ≡ second
-        → Fails {A = CharSet} (NoCharSet bytes place glyphs) ((if zeroth then (λ bytes place. after (listed glyphs bytes place) (λ set next. Got (Format0 set) next)) else if first then (λ bytes place. after (covered glyphs bytes place) (λ set next. Got (Format1 set) next)) else if second then fault (OfPart CharSetFormat2) else fault unknown_char_set_format) bytes behind)
+        → Fails {A = CharSet} (NoCharSet bytes place glyphs) ((if zeroth then (λ bytes place. after (listed glyphs bytes place) (λ set next. Got (Format0 set) next)) else if first then (λ bytes place. after (covered_1 glyphs bytes place) (λ set next. Got (Format1 set) next)) else if second then (λ bytes place. after (covered_2 glyphs bytes place) (λ set next. Got (Format2 set) next)) else fault unknown_char_set_format) bytes behind)
     by format behind e true first second is other others = fails_after (listed glyphs bytes behind) _ _ _ (listed_fails glyphs bytes behind) (no_list bytes place glyphs format behind e (is_format format 0 is)) (λ set next g. tt)
-    by format behind e false true second other is others = fails_after (covered glyphs bytes behind) _ _ _ (covered_fails glyphs bytes behind) (no_cover bytes place glyphs format behind e (is_format format 1 is)) (λ set next g. tt)
-    by format behind e false false true other others is = SecondFormat behind (e ∙ ap (λ format. Got format behind) (is_format format 2 is)) refl
+    by format behind e false true second other is others =
+        let first = is_format format 1 is in
+        fails_after (covered_1 glyphs bytes behind) _ _ _ (covered_fails 1 glyphs_of_1 range_1 range_1_takes glyphs bytes behind)
+        (no_cover 1 glyphs_of_1 range_1 range_1_takes bytes place glyphs format behind e first (NoCharSet bytes place glyphs) (λ refusal none is. NoGlyphs format behind e (omega arith) none is) (λ refusal h. NoRanges1 h)) (λ set next g. tt)
+    by format behind e false false true other others is =
+        let second = is_format format 2 is in
+        fails_after (covered_2 glyphs bytes behind) _ _ _ (covered_fails 2 glyphs_of_2 range_2 range_2_takes glyphs bytes behind)
+        (no_cover 2 glyphs_of_2 range_2 range_2_takes bytes place glyphs format behind e second (NoCharSet bytes place glyphs) (λ refusal none is. NoGlyphs format behind e (omega arith) none is) (λ refusal h. NoRanges2 h)) (λ set next g. tt)
     by format behind e false false false zeroth first second = OtherFormat format behind e (grind (arith, nat_tests)) refl
 
 listed_none : (glyphs : ℕ) (bytes : List ℕ) (place : ℕ) → glyphs ≡ 0 → listed glyphs bytes place ≡ Fault malformed_char_set
 unfolding listed
 listed_none glyphs bytes place none = rw none refl
-
-covered_none : (glyphs : ℕ) (bytes : List ℕ) (place : ℕ) → glyphs ≡ 0 → covered glyphs bytes place ≡ Fault malformed_char_set
-unfolding covered
-covered_none glyphs bytes place none = rw none refl
 
 listed_cut : (glyphs : ℕ) (bytes : List ℕ) (place : ℕ) (values : List ℕ) (next : ℕ) (refusal : Refusal) → StandAt (number 2) bytes place values next → 1 + length values < glyphs → number 2 bytes next ≡ Fault refusal → listed glyphs bytes place ≡ Fault refusal
 unfolding listed
@@ -182,23 +203,16 @@ listed_cut glyphs bytes place values next refusal h fewer cut =
     let some : (glyphs == 0) ≡ false = grind (arith, nat_tests) in
     rw (some, many_cut (number 2) values (glyphs - 1) bytes place next refusal h (omega arith) cut) refl
 
-covered_stops : (glyphs : ℕ) (bytes : List ℕ) (place : ℕ) (values : List Range1) (next : ℕ) (refusal : Refusal) → StandAt range bytes place values next → 1 + sum_by glyphs_of values < glyphs
-    → StopsAt glyphs_of range range_takes ((glyphs - 1) - sum_by glyphs_of values) bytes next refusal → covered glyphs bytes place ≡ Fault refusal
-unfolding covered until
-covered_stops glyphs bytes place values next refusal h fewer stop =
-    let some : (glyphs == 0) ≡ false = grind (arith, nat_tests) in
-    rw (some, until_stops glyphs_of range range_takes (suc (length bytes)) (glyphs - 1) bytes place values next refusal h (omega arith) stop (omega arith)) refl
-
 refused : (glyphs : ℕ) (bytes : List ℕ) (place : ℕ) (refusal : Refusal) → NoCharSet bytes place glyphs refusal → char_set glyphs bytes place ≡ Fault refusal
 unfolding char_set
 refused glyphs bytes place refusal (NoFormat e) = rw e refl
 refused glyphs bytes place refusal (NoGlyphs zero behind e first none is) = rw (e, listed_none glyphs bytes behind none) (ap Fault (sym is))
-refused glyphs bytes place refusal (NoGlyphs (suc zero) behind e first none is) = rw (e, covered_none glyphs bytes behind none) (ap Fault (sym is))
-refused glyphs bytes place refusal (NoGlyphs (suc (suc format)) behind e first none is) = absurd (omega arith)
+refused glyphs bytes place refusal (NoGlyphs (suc zero) behind e first none is) = rw (e, covered_none 1 glyphs_of_1 range_1 range_1_takes glyphs bytes behind none) (ap Fault (sym is))
+refused glyphs bytes place refusal (NoGlyphs (suc (suc zero)) behind e first none is) = rw (e, covered_none 2 glyphs_of_2 range_2 range_2_takes glyphs bytes behind none) (ap Fault (sym is))
+refused glyphs bytes place refusal (NoGlyphs (suc (suc (suc format))) behind e first none is) = absurd (omega arith)
 refused glyphs bytes place refusal (CutIdentifier behind values next e h fewer cut) = rw (e, listed_cut glyphs bytes behind values next refusal h fewer cut) refl
-refused glyphs bytes place refusal (CutRange behind values next e h fewer cut) = rw (e, covered_stops glyphs bytes behind values next refusal h fewer (inl cut)) refl
-refused glyphs bytes place refusal (TooManyGlyphs behind values next last end e h fewer got more is) = rw (e, covered_stops glyphs bytes behind values next refusal h fewer (inr (last, end, got, omega arith, is))) refl
-refused glyphs bytes place refusal (SecondFormat behind e is) = rw e (ap Fault (sym is))
+refused glyphs bytes place refusal (NoRanges1 h) = let stop = covered_refused 1 glyphs_of_1 range_1 range_1_takes glyphs bytes place refusal h in rw (stop.1, stop.2) refl
+refused glyphs bytes place refusal (NoRanges2 h) = let stop = covered_refused 2 glyphs_of_2 range_2 range_2_takes glyphs bytes place refusal h in rw (stop.1, stop.2) refl
 refused glyphs bytes place refusal (OtherFormat format behind e greater is) =
     let zeroth : (format == 0) ≡ false = grind (arith, nat_tests) in
     let first : (format == 1) ≡ false = grind (arith, nat_tests) in
@@ -214,6 +228,8 @@ reads_char_sets = record {
   never_past = λ glyphs bytes place e. subst (Fails (NoCharSet bytes place glyphs)) e (any_fails glyphs bytes place);
   all_0 = all_0;
   only_0 = λ glyphs bytes place set next e. subst (Gives (ListsGlyphs bytes place glyphs)) e (gives_0 glyphs bytes place);
-  all_1 = all_1;
-  only_1 = λ glyphs bytes place set next e. subst (Gives (CoversGlyphs bytes place glyphs)) e (gives_1 glyphs bytes place);
+  all_1 = all_of 1 glyphs_of_1 range_1 range_1_takes covers_some_1;
+  only_1 = λ glyphs bytes place set next e. subst (Gives (CoversGlyphs1 bytes place glyphs)) e (gives_of 1 glyphs_of_1 range_1 glyphs bytes place);
+  all_2 = all_of 2 glyphs_of_2 range_2 range_2_takes covers_some_2;
+  only_2 = λ glyphs bytes place set next e. subst (Gives (CoversGlyphs2 bytes place glyphs)) e (gives_of 2 glyphs_of_2 range_2 glyphs bytes place);
 }

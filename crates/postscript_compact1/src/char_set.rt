@@ -12,17 +12,19 @@ ghost use Rattle.postscript_compact1.specs.declared.char_set.CharSet.TheVariants
 
 mod format0;
 mod format1;
+mod format2;
 pub mod laws;
 mod predefined;
 mod range;
 
 pub use format0::CharSet0;
 pub use format1::CharSet1;
+pub use format2::CharSet2;
 use postscript_base::compact1::GlyphID;
-use postscript_base::error::{Error, Part, Result};
+use postscript_base::error::{Error, Result};
 use postscript_base::{Tape, Value, Walue};
 use predefined::{EXPERT, EXPERT_SUBSET, ISO_ADOBE, Run, name};
-pub use range::Range1;
+pub use range::{Range1, Range2};
 use std::alloc::{AllocError, Global};
 
 /// A char set: which string names each glyph (Technical Note 5176, "Charsets").
@@ -36,8 +38,10 @@ pub enum CharSet {
     ExpertSubset,
     /// A set that lists its glyphs.
     Format0(CharSet0),
-    /// A set of ranges.
+    /// A set of ranges of at most 256 glyphs.
     Format1(CharSet1),
+    /// A set of ranges of at most 65,536 glyphs.
+    Format2(CharSet2),
 }
 
 impl CharSet {
@@ -45,7 +49,10 @@ impl CharSet {
     pub fn is_predefined(&self) -> bool
         ensures { result ≡ is_predefined self.now }
     {
-        !matches!(self, CharSet::Format0(_) | CharSet::Format1(_))
+        !matches!(
+            self,
+            CharSet::Format0(_) | CharSet::Format1(_) | CharSet::Format2(_)
+        )
     }
 
     /// The name of the case.
@@ -58,6 +65,7 @@ impl CharSet {
             CharSet::ExpertSubset => "ExpertSubset",
             CharSet::Format0(_) => "Format0",
             CharSet::Format1(_) => "Format1",
+            CharSet::Format2(_) => "Format2",
         }
     }
 
@@ -80,7 +88,7 @@ impl CharSet {
             CharSet::ISOAdobe => &ISO_ADOBE,
             CharSet::Expert => &EXPERT,
             CharSet::ExpertSubset => &EXPERT_SUBSET,
-            CharSet::Format0(_) | CharSet::Format1(_) => &[],
+            CharSet::Format0(_) | CharSet::Format1(_) | CharSet::Format2(_) => &[],
         }
     }
 
@@ -95,6 +103,7 @@ impl CharSet {
             CharSet::ExpertSubset => CharSet::ExpertSubset,
             CharSet::Format0(set) => CharSet::Format0(set.clone()?),
             CharSet::Format1(set) => CharSet::Format1(set.clone()?),
+            CharSet::Format2(set) => CharSet::Format2(set.clone()?),
         })
     }
 }
@@ -113,7 +122,7 @@ impl Clone for CharSet {
 /// The parameter is the number of glyphs. The first byte names the format.
 ///
 /// Refused: `MalformedCharSet` for no glyphs, behind the first byte, and where ranges cover more glyphs than there are,
-/// `Unsupported` for format 2, `UnknownCharSetFormat` for another format than 0 and 1, `UnexpectedEof`, `Io`, `Memory`.
+/// `UnknownCharSetFormat` for another format than 0, 1 and 2, `UnexpectedEof`, `Io`, `Memory`.
 #[tactic(auto, unfolding(crate::specs::CharSets::char_set))]
 impl Walue for CharSet {
     ghost use Rattle.postscript_compact1.specs.declared.char_set.CharSet.{CharSet};
@@ -130,13 +139,13 @@ impl Walue for CharSet {
 
     ghost reading = { char_set };
 
-    ghost refusals = { 1 ∷ 2 ∷ 3 ∷ 10 ∷ 11 ∷ 16 ∷ [] };
+    ghost refusals = { 1 ∷ 2 ∷ 3 ∷ 10 ∷ 11 ∷ [] };
 
     fn read<T: Tape>(alloc: Global, tape: &mut T, glyphs: usize) -> Result<CharSet> {
         match u8::read(alloc, tape)? {
             0 => Ok(CharSet::Format0(format0::listed(alloc, tape, glyphs)?)),
             1 => Ok(CharSet::Format1(format1::covered(alloc, tape, glyphs)?)),
-            2 => Err(Error::Unsupported(Part::CharSetFormat2)),
+            2 => Ok(CharSet::Format2(format2::covered(alloc, tape, glyphs)?)),
             _ => Err(Error::UnknownCharSetFormat),
         }
     }

@@ -72,8 +72,8 @@ impl FontSet {
 /// Refused: `OutOfRangeOffset` where an offset, a size or a sum of offsets is negative, or 64 bits do not count a place;
 /// `MissingOperation` and `MalformedOperation` with the operator that is missing, has too few operands, or has one that
 /// is no whole number of `i32`; `UnknownCharStringFormat` for char strings of another type than 2; `Unsupported` for
-/// another encoding than Standard and Expert and for a char set of format 2; as indices, dictionaries and char sets are;
-/// `UnexpectedEof`, `Io`, `Memory`.
+/// another encoding than Standard and Expert; as indices, dictionaries and char sets are; `UnexpectedEof`, `Io`,
+/// `Memory`.
 impl Value for FontSet {
     ghost use Rattle.std.specs.Prelude.{◌≢◌, ℕ, [], ◌∷◌, map, refl, IfOk, IfErr};
     ghost use Rattle.postscript_base.specs.Error.{IsListed};

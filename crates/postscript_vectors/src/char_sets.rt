@@ -2,7 +2,7 @@
 mod tables;
 
 use crate::readings::code_of;
-use postscript::compact1::char_set::{CharSet0, CharSet1, Range1};
+use postscript::compact1::char_set::{CharSet0, CharSet1, CharSet2, Range1, Range2};
 use postscript::compact1::index::get_standard_string;
 use postscript::compact1::{CharSet, Encoding};
 use postscript::{Result, Tape};
@@ -115,8 +115,26 @@ const ROWS: &[Row] = &[
     (&[1, 0, 1, 255], 257, Ok("Format1 1: 1+255")),
     (&[1, 0, 1, 255], 256, Err(10)),
     (&[1, 0, 1, 255], usize::MAX, Err(1)),
-    (&[2], 4, Err(16)),
-    (&[2], 0, Err(16)),
+    (&[2, 0, 1, 0, 2], 4, Ok("Format2 2: 1+2")),
+    (&[2, 0, 1, 0, 2], 3, Err(10)),
+    (&[2, 0, 1, 0, 2], 5, Err(1)),
+    (&[2, 0, 1, 0, 2, 0, 9, 0, 0], 5, Ok("Format2 2: 1+2 9+0")),
+    (&[2, 0, 1, 1, 0], 258, Ok("Format2 2: 1+256")),
+    (&[2, 0, 1, 1, 0], 257, Err(10)),
+    (&[2], 1, Ok("Format2 2:")),
+    (&[2], 0, Err(10)),
+    (&[2], 4, Err(1)),
+    // Sums that 16 bits do not count.
+    (&[2, 0, 1, 255, 255], 65_537, Ok("Format2 2: 1+65535")),
+    (&[2, 0, 1, 255, 255], 65_536, Err(10)),
+    (&[2, 0, 1, 255, 255, 0, 1, 255, 255], 2, Err(10)),
+    (&[2, 0, 1, 255, 255, 0, 1, 255, 255], 65_540, Err(10)),
+    (
+        &[2, 0, 1, 255, 255, 0, 1, 255, 255],
+        131_073,
+        Ok("Format2 2: 1+65535 1+65535"),
+    ),
+    (&[2, 0, 1, 255, 255], usize::MAX, Err(1)),
     (&[3], 4, Err(11)),
     (&[255], 0, Err(11)),
     (&[], 0, Err(1)),
@@ -134,6 +152,12 @@ fn text_of(alloc: Global, set: &CharSet) -> std::result::Result<String, Fail> {
             }
         }
         CharSet::Format1(set) => {
+            write!(text, " {}:", set.format)?;
+            for range in &set.ranges {
+                write!(text, " {}+{}", range.first, range.left)?;
+            }
+        }
+        CharSet::Format2(set) => {
             write!(text, " {}:", set.format)?;
             for range in &set.ranges {
                 write!(text, " {}+{}", range.first, range.left)?;
@@ -183,6 +207,27 @@ fn sets_of_one_format(rt: HostRuntime) -> std::result::Result<(), Fail> {
     let mut tape = Cursor::new([1, 2, 3].as_slice());
     let range: Range1 = Tape::take(&mut tape, rt.alloc())?;
     assert!(rt; (range.first, range.left) == (258, 3));
+    Ok(())
+}
+
+#[test]
+fn sets_of_format_2(rt: HostRuntime) -> std::result::Result<(), Fail> {
+    for first in [0, 1, 3] {
+        let refused: Result<CharSet2> = Cursor::new([first].as_slice()).take_given(rt.alloc(), 1);
+        assert!(rt; code_of(refused) == 10);
+    }
+    let mut tape = Cursor::new([1, 2, 3, 4].as_slice());
+    let range: Range2 = Tape::take(&mut tape, rt.alloc())?;
+    assert!(rt; (range.first, range.left) == (258, 772));
+    assert!(rt; tape.position() == 4);
+    let bytes = [2, 0, 7, 1, 0, 0, 9, 0, 0];
+    let set: CharSet2 = Cursor::new(bytes.as_slice()).take_given(rt.alloc(), 259)?;
+    let same = set.clone()?;
+    assert!(rt; (set.format, same.format) == (2, 2));
+    assert!(rt; (set.ranges.len(), same.ranges.len()) == (2, 2));
+    for (range, other) in set.ranges.iter().zip(same.ranges.iter()) {
+        assert!(rt; (range.first, range.left) == (other.first, other.left));
+    }
     Ok(())
 }
 

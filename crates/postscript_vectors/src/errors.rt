@@ -45,11 +45,6 @@ const REFUSALS: &[(Error, u8, &str)] = &[
         "found an unsupported part",
     ),
     (
-        Error::Unsupported(Part::CharSetFormat2),
-        16,
-        "found an unsupported part",
-    ),
-    (
         Error::Unsupported(Part::Random),
         16,
         "found an unsupported part",

@@ -22,6 +22,10 @@ const TWO_DICTIONARIES: &str =
 
 const OWN_CHAR_SET: &str = "010004010000 0001010108a111a90f8da712 0000 0000 00010101020e8d130000";
 
+/// Its char set stands at 32, behind the local subroutines: the byte 2, and for one glyph no range.
+const CHAR_SET_OF_FORMAT_2: &str =
+    "010004010000 0001010108a111ab0f8da712 0000 0000 00010101020e8d130000 02";
+
 const PAIR: &str =
     "header 1 0 4 1|strings 0|globals 0|font Standard ISOAdobe glyphs 1 locals 0|font Standard ISOAdobe glyphs 1 locals 0";
 
@@ -46,6 +50,14 @@ const ROWS: &[Row] = &[
         0,
         Ok((
             "header 1 0 4 1|strings 0|globals 0|font Standard Format0 glyphs 1 locals 0",
+            32,
+        )),
+    ),
+    (
+        CHAR_SET_OF_FORMAT_2,
+        0,
+        Ok((
+            "header 1 0 4 1|strings 0|globals 0|font Standard Format2 glyphs 1 locals 0",
             32,
         )),
     ),

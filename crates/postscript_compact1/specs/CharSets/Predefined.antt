@@ -4,7 +4,7 @@ use Rattle.std.specs.List.{list_all, range_with_len}
 use Rattle.std.specs.Option.{option_and_then}
 use Rattle.postscript_compact1.specs.StandardStrings.{standard_string}
 use Rattle.postscript_compact1.specs.declared.char_set.CharSet.{CharSet}
-use Rattle.postscript_compact1.specs.declared.char_set.CharSet.TheVariants.{ISOAdobe, Expert, ExpertSubset, Format0, Format1}
+use Rattle.postscript_compact1.specs.declared.char_set.CharSet.TheVariants.{ISOAdobe, Expert, ExpertSubset, Format0, Format1, Format2}
 
 abbrev pub is_predefined : CharSet → Bool
 is_predefined ISOAdobe = true
@@ -12,6 +12,7 @@ is_predefined Expert = true
 is_predefined ExpertSubset = true
 is_predefined (Format0 set) = false
 is_predefined (Format1 set) = false
+is_predefined (Format2 set) = false
 
 -- what a case is called
 abbrev pub name_of : CharSet → List ℕ
@@ -20,6 +21,7 @@ name_of Expert = codes "Expert"
 name_of ExpertSubset = codes "ExpertSubset"
 name_of (Format0 set) = codes "Format0"
 name_of (Format1 set) = codes "Format1"
+name_of (Format2 set) = codes "Format2"
 
 -- a run of identifiers: the first and the last
 abbrev pub Run : Type 0
@@ -36,6 +38,7 @@ runs_of ExpertSubset =
     (163, 163) ∷ (320, 326) ∷ (150, 150) ∷ (164, 164) ∷ (169, 169) ∷ (327, 346) ∷ []
 runs_of (Format0 set) = []
 runs_of (Format1 set) = []
+runs_of (Format2 set) = []
 
 -- the identifiers of runs, in order
 abbrev pub identifiers : List Run → List ℕ

@@ -4,13 +4,12 @@ ghost use Rattle.postscript_base.specs.Error.{IsListed};
 ghost use Rattle.postscript_base.specs.Tape.{Reads};
 ghost use Rattle.postscript_base.specs.Tape.Outcome.{same};
 ghost use Rattle.postscript_base.specs.Tape.Seen.{each_as_it_is};
-ghost use Rattle.postscript_compact1.specs.CharSets.{char_set_1, covered as the_covered};
+ghost use Rattle.postscript_compact1.specs.CharSets.{char_set_1, covered_1};
 ghost use Rattle.postscript_compact1.specs.CharSets.Formats.{Covered};
 ghost use Rattle.postscript_compact1.specs.declared.char_set.range.Range1.{Range1};
 
-use super::range::Range1;
+use super::range::{Range1, ranges};
 use postscript_base::error::{Error, Result};
-use postscript_base::tape::read_until;
 use postscript_base::{Tape, Value, Walue};
 use std::alloc::Global;
 use std::marker::Model;
@@ -50,7 +49,7 @@ impl CharSet1 {
 ///
 /// Refused: `MalformedCharSet` for another first byte than 1 and for no glyphs, behind the first byte, and where the
 /// ranges cover more glyphs than there are, `UnexpectedEof`, `Io`, `Memory`.
-#[tactic(auto, unfolding(crate::specs::CharSets::char_set_1))]
+#[tactic(auto, unfolding(crate::specs::CharSets::char_set_of))]
 impl Walue for CharSet1 {
     type Parameter = usize;
 
@@ -75,16 +74,13 @@ impl Walue for CharSet1 {
 }
 
 /// What follows the byte of the format.
-#[tactic(auto, using(crate::proofs::Ranges::ranges_take), unfolding(crate::specs::CharSets::covered))]
+#[tactic(auto, using(crate::proofs::Ranges::ranges_1_take), unfolding(crate::specs::CharSets::covered))]
 pub(super) fn covered<T: Tape>(alloc: Global, tape: &mut T, glyphs: usize) -> Result<CharSet1>
-    ensures exact { Reads same (T.state tape.old) result (T.state tape.new) (the_covered glyphs) }
+    ensures exact { Reads same (T.state tape.old) result (T.state tape.new) (covered_1 glyphs) }
     ensures listed { IsListed (1 ∷ 2 ∷ 3 ∷ 10 ∷ []) result }
 {
-    if glyphs == 0 {
-        return Err(Error::MalformedCharSet);
-    }
     Ok(CharSet1 {
         format: 1,
-        ranges: read_until(alloc, tape, glyphs - 1)?,
+        ranges: ranges(alloc, tape, glyphs)?,
     })
 }

@@ -1,7 +1,7 @@
 //! What is told of the readings of char sets by themselves.
 ghost use Rattle.postscript_base.specs.Tape.At.{NeedsBytes};
 ghost use Rattle.postscript_compact1.specs.CharSetLaw.{ReadsCharSets};
-ghost use Rattle.postscript_compact1.specs.CharSets.{char_set, char_set_0, char_set_1};
+ghost use Rattle.postscript_compact1.specs.CharSets.{char_set, char_set_0, char_set_1, char_set_2};
 
 /// A char set is read where the bytes are one: behind the byte of the format identifiers stand, or ranges, for each glyph
 /// but the first.
@@ -11,11 +11,12 @@ pub fn reads_char_sets()
 {}
 
 /// Past the end bytes are wanting for a char set.
-#[tactic(auto, using(crate::proofs::CharSetIs::char_set_needs, crate::proofs::CharSetIs::char_set_0_needs, crate::proofs::CharSetIs::char_set_1_needs))]
+#[tactic(auto, using(crate::proofs::CharSetIs::char_set_needs, crate::proofs::CharSetIs::char_set_0_needs, crate::proofs::CharSetIs::char_set_of_needs))]
 pub fn char_sets_need_bytes(glyphs: usize)
     ensures any { NeedsBytes (char_set glyphs) }
     ensures format_0 { NeedsBytes (char_set_0 glyphs) }
     ensures format_1 { NeedsBytes (char_set_1 glyphs) }
+    ensures format_2 { NeedsBytes (char_set_2 glyphs) }
 {
     let _ = glyphs;
 }

@@ -1,12 +1,16 @@
 //! Ranges of glyphs.
-ghost use Rattle.std.specs.Prelude.{◌≡◌, [], ◌∷◌};
-ghost use Rattle.postscript_base.specs.Tape.Outcome.{same};
+ghost use Rattle.std.specs.Prelude.{◌≡◌, ℕ, ◌-◌, [], ◌∷◌};
+ghost use Rattle.postscript_base.specs.Error.{IsListed};
+ghost use Rattle.postscript_base.specs.Tape.{Reads};
+ghost use Rattle.postscript_base.specs.Tape.Loops.{until};
+ghost use Rattle.postscript_base.specs.Tape.Onward.{TakesBytes};
+ghost use Rattle.postscript_base.specs.Tape.Outcome.{Reading, same};
 ghost use Rattle.postscript_base.specs.Tape.Seen.{each_as_it_is};
-ghost use Rattle.postscript_compact1.specs.CharSets.{range, glyphs_of, covering, uncovered, none_wanting};
+ghost use Rattle.postscript_compact1.specs.CharSets.{range_1, range_2, glyphs_of_1, glyphs_of_2, covering, uncovered, none_wanting, if_any};
 
 use postscript_base::compact1::StringID;
 use postscript_base::error::{Error, Result};
-use postscript_base::tape::{Linked, Until};
+use postscript_base::tape::{Linked, Until, read_until};
 use postscript_base::{Tape, Value};
 use std::alloc::Global;
 
@@ -19,13 +23,90 @@ pub struct Range1 {
     pub left: u8,
 }
 
-impl Range1 {
+/// A range of glyphs that strings of consecutive identifiers name (Technical Note 5176, "Charsets", Table 21).
+#[derive(Clone, Copy, Debug)]
+pub struct Range2 {
+    /// The identifier of the first glyph.
+    pub first: StringID,
+    /// How many glyphs are left in the range.
+    pub left: u16,
+}
+
+/// A range, whatever its format.
+trait Range: Sized {
+    /// How many glyphs a range covers.
+    ghost size: { Self → ℕ };
+
+    /// What a reading of one gives.
+    ghost one: { Reading Self };
+
     /// How many glyphs the range covers.
     fn glyphs(&self) -> usize
-        ensures { result ≡ glyphs_of self.now }
-    {
+        ensures { result ≡ size self.now };
+
+    /// Reads a range.
+    fn read_one<T: Tape>(alloc: Global, tape: &mut T) -> Result<Self>
+        ensures exact { Reads same (T.state tape.old) result (T.state tape.new) one }
+        ensures listed { IsListed (1 ∷ 2 ∷ []) result };
+}
+
+impl Range for Range1 {
+    ghost size = { glyphs_of_1 };
+
+    ghost one = { range_1 };
+
+    fn glyphs(&self) -> usize {
         usize::from(self.left) + 1
     }
+
+    fn read_one<T: Tape>(alloc: Global, tape: &mut T) -> Result<Range1> {
+        <Range1 as Value>::read(alloc, tape)
+    }
+}
+
+impl Range for Range2 {
+    ghost size = { glyphs_of_2 };
+
+    ghost one = { range_2 };
+
+    fn glyphs(&self) -> usize {
+        usize::from(self.left) + 1
+    }
+
+    fn read_one<T: Tape>(alloc: Global, tape: &mut T) -> Result<Range2> {
+        <Range2 as Value>::read(alloc, tape)
+    }
+}
+
+/// Reads a range that covers no more glyphs than are still wanting.
+#[tactic(auto, unfolding(crate::specs::CharSets::covering))]
+fn read_covering<R: Range + Drop, T: Tape>(alloc: Global, tape: &mut T, wanting: usize) -> Result<R>
+    ensures exact { Reads same (T.state tape.old) result (T.state tape.new) (covering R.size R.one wanting) }
+    ensures listed { IsListed (1 ∷ 2 ∷ 10 ∷ []) result }
+{
+    let range = R::read_one(alloc, tape)?;
+    if range.glyphs() > wanting {
+        return Err(Error::MalformedCharSet);
+    }
+    Ok(range)
+}
+
+/// Reads the ranges that cover the glyphs from 1, of so many.
+#[tactic(auto, unfolding(crate::specs::CharSets::if_any))]
+pub(super) fn ranges<R: Linked<Given = usize> + Until + Drop, T: Tape>(
+    alloc: Global,
+    tape: &mut T,
+    glyphs: usize,
+) -> Result<Vec<R>>
+    requires { (wanting : ℕ) → TakesBytes (R.reading wanting) }
+    ensures exact { Reads (λ ranges. R.views ranges.items) (T.state tape.old) result (T.state tape.new)
+        (if_any glyphs (until R.is_last R.reading R.left (glyphs - 1))) }
+    ensures listed { IsListed (3 ∷ 10 ∷ R.refusals) result }
+{
+    if glyphs == 0 {
+        return Err(Error::MalformedCharSet);
+    }
+    read_until(alloc, tape, glyphs - 1)
 }
 
 /// Refused: `UnexpectedEof`, `Io`.
@@ -41,7 +122,7 @@ impl Value for Range1 {
 
     ghost views_each = { each_as_it_is };
 
-    ghost reading = { range };
+    ghost reading = { range_1 };
 
     ghost refusals = { 1 ∷ 2 ∷ [] };
 
@@ -53,8 +134,32 @@ impl Value for Range1 {
     }
 }
 
+/// Refused: `UnexpectedEof`, `Io`.
+#[tactic(auto, unfolding(crate::specs::CharSets::range))]
+impl Value for Range2 {
+    ghost use Rattle.postscript_compact1.specs.declared.char_set.range.Range2.{Range2};
+
+    ghost Shown = { Range2 };
+
+    ghost view = { same };
+
+    ghost views = { same };
+
+    ghost views_each = { each_as_it_is };
+
+    ghost reading = { range_2 };
+
+    ghost refusals = { 1 ∷ 2 ∷ [] };
+
+    fn read<T: Tape>(alloc: Global, tape: &mut T) -> Result<Range2> {
+        Ok(Range2 {
+            first: StringID::read(alloc, tape)?,
+            left: u16::read(alloc, tape)?,
+        })
+    }
+}
+
 /// A range is given how many glyphs are still wanting, and is refused where it covers more.
-#[tactic(auto, unfolding(crate::specs::CharSets::covering))]
 impl Linked for Range1 {
     ghost use Rattle.postscript_compact1.specs.declared.char_set.range.Range1.{Range1};
 
@@ -68,18 +173,43 @@ impl Linked for Range1 {
 
     ghost views_each = { each_as_it_is };
 
-    ghost reading = { covering glyphs_of range };
+    ghost reading = { covering glyphs_of_1 range_1 };
 
     ghost refusals = { 1 ∷ 2 ∷ 10 ∷ [] };
 
-    ghost left = { uncovered glyphs_of };
+    ghost left = { uncovered glyphs_of_1 };
 
     fn read<T: Tape>(alloc: Global, tape: &mut T, wanting: usize) -> Result<Range1> {
-        let range = <Range1 as Value>::read(alloc, tape)?;
-        if range.glyphs() > wanting {
-            return Err(Error::MalformedCharSet);
-        }
-        Ok(range)
+        read_covering(alloc, tape, wanting)
+    }
+
+    fn left(&self, wanting: usize) -> usize {
+        wanting.saturating_sub(self.glyphs())
+    }
+}
+
+/// A range is given how many glyphs are still wanting, and is refused where it covers more.
+impl Linked for Range2 {
+    ghost use Rattle.postscript_compact1.specs.declared.char_set.range.Range2.{Range2};
+
+    type Given = usize;
+
+    ghost Shown = { Range2 };
+
+    ghost view = { same };
+
+    ghost views = { same };
+
+    ghost views_each = { each_as_it_is };
+
+    ghost reading = { covering glyphs_of_2 range_2 };
+
+    ghost refusals = { 1 ∷ 2 ∷ 10 ∷ [] };
+
+    ghost left = { uncovered glyphs_of_2 };
+
+    fn read<T: Tape>(alloc: Global, tape: &mut T, wanting: usize) -> Result<Range2> {
+        read_covering(alloc, tape, wanting)
     }
 
     fn left(&self, wanting: usize) -> usize {
@@ -88,6 +218,14 @@ impl Linked for Range1 {
 }
 
 impl Until for Range1 {
+    ghost is_last = { none_wanting };
+
+    fn is_last(wanting: usize) -> bool {
+        wanting == 0
+    }
+}
+
+impl Until for Range2 {
     ghost is_last = { none_wanting };
 
     fn is_last(wanting: usize) -> bool {

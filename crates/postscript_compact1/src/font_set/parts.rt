@@ -74,7 +74,7 @@ fn glyphs<T: Tape>(
     dictionary: &Operations,
 ) -> Result<(CharStrings, CharSet)>
     ensures exact { Reads (λ r. (r.0, r.1)) (T.state tape.old) result (T.state tape.new) (the_glyphs start dictionary.now) }
-    ensures listed { IsListed (1 ∷ 2 ∷ 3 ∷ 5 ∷ 6 ∷ 10 ∷ 11 ∷ 12 ∷ 13 ∷ 14 ∷ 15 ∷ 16 ∷ []) result }
+    ensures listed { IsListed (1 ∷ 2 ∷ 3 ∷ 5 ∷ 6 ∷ 10 ∷ 11 ∷ 12 ∷ 13 ∷ 14 ∷ 15 ∷ []) result }
 {
     let char_strings = char_strings(alloc, tape, start, dictionary)?;
     let char_set = char_set(alloc, tape, start, char_strings.len(), dictionary)?;
@@ -109,7 +109,7 @@ fn char_set<T: Tape>(
     dictionary: &Operations,
 ) -> Result<CharSet>
     ensures exact { Reads same (T.state tape.old) result (T.state tape.new) (the_char_set start glyphs dictionary.now) }
-    ensures listed { IsListed (1 ∷ 2 ∷ 3 ∷ 10 ∷ 11 ∷ 13 ∷ 14 ∷ 15 ∷ 16 ∷ []) result }
+    ensures listed { IsListed (1 ∷ 2 ∷ 3 ∷ 10 ∷ 11 ∷ 13 ∷ 14 ∷ 15 ∷ []) result }
 {
     match char_set_offset(dictionary)? {
         0 => Ok(CharSet::ISOAdobe),
@@ -139,7 +139,7 @@ fn own_char_set<T: Tape>(
     glyphs: usize,
 ) -> Result<CharSet>
     ensures exact { Reads same (T.state tape.old) result (T.state tape.new) (the_own_char_set start glyphs offset) }
-    ensures listed { IsListed (1 ∷ 2 ∷ 3 ∷ 10 ∷ 11 ∷ 15 ∷ 16 ∷ []) result }
+    ensures listed { IsListed (1 ∷ 2 ∷ 3 ∷ 10 ∷ 11 ∷ 15 ∷ []) result }
 {
     let Some(place) = start.checked_add(u64::from(offset)) else {
         return Err(Error::OutOfRangeOffset);
