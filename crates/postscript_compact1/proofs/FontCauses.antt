@@ -3,21 +3,20 @@ use Rattle.std.proofs.Common.{◌≡◌, ◌⊎◌, inl, inr, ℕ, zero, suc, �
 use Rattle.std.proofs.lemmas.Int.{ints}
 use Rattle.std.proofs.lemmas.Bool.Decides.{nat_tests}
 use Rattle.postscript_base.specs.Numbers.{slice}
-use Rattle.postscript_base.specs.Refusal.{refusal_of, OfPart, OfMalformed, OfMissing, out_of_range_offset, unknown_char_string_format}
+use Rattle.postscript_base.specs.Refusal.{refusal_of, out_of_range_offset, unknown_char_string_format}
 use Rattle.postscript_base.specs.Tape.At.{at, bytes_at}
 use Rattle.postscript_base.specs.Tape.Loops.{each}
 use Rattle.postscript_base.specs.Tape.Outcome.{Outcome, Got, Fault, Past, Reading, RefusedAs, after, pure, fault}
 use Rattle.postscript_base.specs.Compact1.Decimal.{Decimal, to_i32}
 use Rattle.postscript_base.specs.Compact1.Defaults.{look, first_of, first_two_of}
-use Rattle.postscript_base.specs.Compact1.Dictionary.{Dictionary, dictionary}
+use Rattle.postscript_base.specs.Compact1.Dictionary.{Dictionary, dictionary, dictionary_of}
 use Rattle.postscript_base.specs.Compact1.DictionaryLaw.{IsRefused, ReadsDictionaries}
 use Rattle.postscript_base.specs.Compact1.Header.{header}
 use Rattle.postscript_base.specs.declared.compact1.header.Header.{Header}
 use Rattle.postscript_base.specs.declared.compact1.operator.Operator.{Operator}
 use Rattle.postscript_base.specs.declared.compact1.operator.Operator.TheVariants as operators
 use Rattle.postscript_base.specs.declared.error.Error.{Error}
-use Rattle.postscript_base.specs.declared.error.Part.TheVariants as unsupported
-use Rattle.postscript_compact1.specs.Index.{Index, index}
+use Rattle.postscript_compact1.specs.Index.{Index, index, empty}
 use Rattle.postscript_compact1.specs.Kinds.{map_of, maps_of}
 use Rattle.postscript_compact1.specs.Texts.{text}
 use Rattle.postscript_compact1.specs.CharSets.{char_set as the_set}
@@ -25,17 +24,17 @@ use Rattle.postscript_compact1.specs.IndexLaw.{IsIndex}
 use Rattle.postscript_compact1.specs.ItemsLaw.{AreDictionaries, HasRefused}
 use Rattle.postscript_compact1.specs.declared.char_set.CharSet.{CharSet}
 use Rattle.postscript_compact1.specs.declared.encoding.Encoding.{Encoding}
-use Rattle.postscript_compact1.specs.declared.encoding.Encoding.TheVariants as encodings
-use Rattle.postscript_compact1.specs.FontSet.Operands.{number_of, number_of_first, first, numbers_of_two, two, size_of, in_range, place_of, place_at, only_two, type_two, bounded, bounds}
+use Rattle.postscript_compact1.specs.declared.font_set.manner.Manner.{Manner}
+use Rattle.postscript_compact1.specs.FontSet.Operands.{goes_without, number_of, number_of_first, first, numbers_of_two, two, size_of, in_range, place_of, place_at, only_two, type_two, bounded, bounds}
 use Rattle.postscript_compact1.specs.FontSet.Font.{Part, Tables, Font, columns, font_of}
-use Rattle.postscript_compact1.specs.FontSet.Order.{encoding_of, encoding, char_strings, own_char_set, char_set_of, char_set_offset, char_set, glyphs, private, subroutines, locals, part, names, dictionaries, tables, behind, parts, font}
+use Rattle.postscript_compact1.specs.FontSet.Order.{encoding_of, encoding, char_strings, own_char_set, char_set_of, char_set_offset, char_set, glyphs, private, subroutines, own_subroutines, own_locals, locals, part, names, dictionaries, tables, behind, parts, font_by}
 use Rattle.postscript_compact1.specs.FontSet.Layout.{HasFirst, IsPlace, IsSlice, HasEncoding, HasCharStrings, HasCharSet, HasPrivate, AreTables}
-use Rattle.postscript_compact1.specs.FontSet.Causes.{RefusedAt, NoFirst, Missing, Malformed, NoPlace, NoOffset, OfOperand, OutOfRange, NoEncoding, EncodingOperand, OtherEncoding, NoCharStrings, StringsOffset, TypeOperand, OtherType, StringsRefused, NoCharSet, SetOperand, SetNegative, SetFar, SetRefused, NoBounds, TooFew, NotWhole, BoundsRange, NoPrivate, PrivateBounds, PrivateSlice, PrivateRefused, NoSubroutines, SubrsOffset, SubrsRefused, NoPart, OfEncoding, OfStrings, OfSet, OfPrivate, OfSubroutines, NoParts, NoTables, OfNames, OfItems, OfDictionaries, OfStringList, OfGlobalList, NoFont, OfHeader, HeaderSize, OfTables, OfParts}
+use Rattle.postscript_compact1.specs.FontSet.Causes.{RefusedAt, NoFirst, Missing, Malformed, NoPlace, NoOffset, OfOperand, OutOfRange, NoEncoding, EncodingOperand, OtherEncoding, NoCharStrings, StringsOffset, TypeOperand, OtherType, StringsRefused, NoCharSet, SetOperand, SetNegative, SetFar, SetRefused, NoBounds, TooFew, NotWhole, BoundsRange, NoPrivate, PrivateBounds, PrivateSlice, PrivateRefused, NoSubroutines, SubrsOffset, SubrsRefused, IsSought, NoPart, OfEncoding, OfStrings, OfSet, OfPrivate, OfSubroutines, NoParts, NoTables, OfNames, OfItems, OfDictionaries, OfStringList, OfGlobalList, NoFontBy, OfHeader, HeaderSize, OfTables, OfParts}
 use Rattle.postscript_compact1.proofs.IndexIs.{reads_indices}
 use Rattle.postscript_compact1.proofs.ItemsAre.{reads_items}
-use Rattle.postscript_compact1.proofs.OperandLaws.{first_has, two_has, size_has, in_range_has, placed_has, type_has, bounds_has}
+use Rattle.postscript_compact1.proofs.OperandLaws.{none_lacking, first_has, two_has, size_has, in_range_has, placed_has, type_has, bounds_has}
 use Rattle.postscript_compact1.proofs.FontLaws.{index_at_has, slice_has, encoding_has, char_strings_has, private_has, glyphs_have, part_has, tables_have}
-use Rattle.postscript_compact1.proofs.Steps.{Steps, Done, Last, Step, accepted, stopped, Stops}
+use Rattle.postscript_compact1.proofs.Steps.{Done, Last, Step, accepted, stopped, Stops}
 
 refused_at : {A : Type 0} (e : Error) (there : ℕ) (reading : Reading A) (bytes : List ℕ) (place : ℕ) → RefusedAs e (at there reading bytes place) → RefusedAt e reading bytes there
 unfolding at
@@ -186,6 +185,14 @@ no_subroutines e bytes start base local place h = by (stopped e (Step (place_at 
     by (inl h) = SubrsOffset (no_offset e start base local operators.Subrs bytes place h)
     by (inr h) = let p = placed_has start base local operators.Subrs h.0 bytes place h.1 h.2 in SubrsRefused p.0 p.1 p.2 p.3 p.5 (subst (RefusedAt e index bytes) p.4 (refused_at e h.0 index bytes h.1 h.3))
 
+no_own_subroutines : (manner : Manner) (e : Error) (bytes : List ℕ) (start base : ℕ) (local : Dictionary) (place : ℕ) → RefusedAs e (own_subroutines manner start base local bytes place) → IsSought manner (first_of (look local operators.Subrs)) × NoSubroutines e bytes start base local
+unfolding own_subroutines
+no_own_subroutines manner e bytes start base local place h = by (goes_without manner (first_of (look local operators.Subrs))) refl h
+  where
+    by : (b : Bool) → goes_without manner (first_of (look local operators.Subrs)) ≡ b → RefusedAs e ((if b then pure empty else subroutines start base local) bytes place) → IsSought manner (first_of (look local operators.Subrs)) × NoSubroutines e bytes start base local
+    by true t h = absurd h
+    by false t h = (none_lacking manner (first_of (look local operators.Subrs)) t, no_subroutines e bytes start base local place h)
+
 -- ---- the private dictionary
 no_two : (e : Error) (start : ℕ) (m : Dictionary) (bytes : List ℕ) (place : ℕ) → RefusedAs e (two m operators.Private bytes place) → NoBounds e start m
 unfolding two
@@ -257,41 +264,56 @@ module _ (d : ReadsDictionaries) where
           PrivateRefused b.0 b.1 held p.0 p.2 (subst (λ k. IsSlice bytes k b.0 held) p.1 (slice_has b.0 b.2 held bytes from to cut)) (no_map e held bytes to h)
       by (inr (b, from, is, inr (held, to, cut, inr h))) = absurd h.3
 
-  no_locals : (e : Error) (bytes : List ℕ) (start : ℕ) (m : Dictionary) (place : ℕ) → RefusedAs e (locals start m bytes place) → NoPrivate e bytes start m ⊎ ((offset : ℕ) × (local : Dictionary) × HasPrivate bytes start m offset local × NoSubroutines e bytes start offset local)
-  unfolding locals
-  no_locals e bytes start m place h = by (stopped {X = Dictionary × Index} e (Step (private start m) (λ p. Step (subroutines start p.0 p.1) (λ s. Done (p.1, s)))) bytes place h)
+  no_own_locals : (manner : Manner) (e : Error) (bytes : List ℕ) (start : ℕ) (m : Dictionary) (place : ℕ) → RefusedAs e (own_locals manner start m bytes place) → NoPrivate e bytes start m ⊎ ((offset : ℕ) × (local : Dictionary) × HasPrivate bytes start m offset local × IsSought manner (first_of (look local operators.Subrs)) × NoSubroutines e bytes start offset local)
+  unfolding own_locals
+  no_own_locals manner e bytes start m place h = by (stopped {X = Dictionary × Index} e (Step (private start m) (λ p. Step (own_subroutines manner start p.0 p.1) (λ s. Done (p.1, s)))) bytes place h)
     where
-      by : Stops {X = Dictionary × Index} e (Step (private start m) (λ p. Step (subroutines start p.0 p.1) (λ s. Done (p.1, s)))) bytes place → NoPrivate e bytes start m ⊎ ((offset : ℕ) × (local : Dictionary) × HasPrivate bytes start m offset local × NoSubroutines e bytes start offset local)
+      by : Stops {X = Dictionary × Index} e (Step (private start m) (λ p. Step (own_subroutines manner start p.0 p.1) (λ s. Done (p.1, s)))) bytes place → NoPrivate e bytes start m ⊎ ((offset : ℕ) × (local : Dictionary) × HasPrivate bytes start m offset local × IsSought manner (first_of (look local operators.Subrs)) × NoSubroutines e bytes start offset local)
       by (inl h) = inl (no_private e bytes start m place h)
-      by (inr (p, from, is, inl h)) = inr (p.0, p.1, private_has d start m p bytes place from is, no_subroutines e bytes start p.0 p.1 from h)
+      by (inr (p, from, is, inl h)) = let n = no_own_subroutines manner e bytes start p.0 p.1 from h in inr (p.0, p.1, private_has d start m p bytes place from is, n.0, n.1)
       by (inr (p, from, is, inr h)) = absurd h.3
 
-  no_part : (e : Error) (bytes : List ℕ) (start : ℕ) (m : Dictionary) (place : ℕ) → RefusedAs e (part start m bytes place) → NoPart e bytes start m
-  unfolding part
-  no_part e bytes start m place h = by (stopped {X = Part} e (Step (encoding m) (λ x. Step (glyphs start m) (λ g. Step (locals start m) (λ l. Done (record { encoding = x; char_strings = g.0; char_set = g.1; local_dictionary = l.0; local_subroutines = l.1 }))))) bytes place h)
+  no_locals : (manner : Manner) (e : Error) (bytes : List ℕ) (start : ℕ) (m : Dictionary) (place : ℕ) → RefusedAs e (locals manner start m bytes place)
+      → (IsSought manner (first_two_of (look m operators.Private)) × NoPrivate e bytes start m) ⊎ ((offset : ℕ) × (local : Dictionary) × HasPrivate bytes start m offset local × IsSought manner (first_of (look local operators.Subrs)) × NoSubroutines e bytes start offset local)
+  unfolding locals
+  no_locals manner e bytes start m place h = by (goes_without manner (first_two_of (look m operators.Private))) refl h
     where
-      of_glyphs : (x : Encoding) → HasEncoding m x → NoCharStrings e bytes start m ⊎ ((i : Index) × (next : ℕ) × HasCharStrings bytes start m i next × NoCharSet e bytes start (length i.items) m) → NoPart e bytes start m
+      own : IsSought manner (first_two_of (look m operators.Private)) → NoPrivate e bytes start m ⊎ ((offset : ℕ) × (local : Dictionary) × HasPrivate bytes start m offset local × IsSought manner (first_of (look local operators.Subrs)) × NoSubroutines e bytes start offset local)
+          → (IsSought manner (first_two_of (look m operators.Private)) × NoPrivate e bytes start m) ⊎ ((offset : ℕ) × (local : Dictionary) × HasPrivate bytes start m offset local × IsSought manner (first_of (look local operators.Subrs)) × NoSubroutines e bytes start offset local)
+      own sought (inl h) = inl (sought, h)
+      own sought (inr h) = inr h
+
+      by : (b : Bool) → goes_without manner (first_two_of (look m operators.Private)) ≡ b → RefusedAs e ((if b then pure (dictionary_of [], empty) else own_locals manner start m) bytes place)
+          → (IsSought manner (first_two_of (look m operators.Private)) × NoPrivate e bytes start m) ⊎ ((offset : ℕ) × (local : Dictionary) × HasPrivate bytes start m offset local × IsSought manner (first_of (look local operators.Subrs)) × NoSubroutines e bytes start offset local)
+      by true t h = absurd h
+      by false t h = own (none_lacking manner (first_two_of (look m operators.Private)) t) (no_own_locals manner e bytes start m place h)
+
+  no_part : (manner : Manner) (e : Error) (bytes : List ℕ) (start : ℕ) (m : Dictionary) (place : ℕ) → RefusedAs e (part manner start m bytes place) → NoPart manner e bytes start m
+  unfolding part
+  no_part manner e bytes start m place h = by (stopped {X = Part} e (Step (encoding m) (λ x. Step (glyphs start m) (λ g. Step (locals manner start m) (λ l. Done (record { encoding = x; char_strings = g.0; char_set = g.1; local_dictionary = l.0; local_subroutines = l.1 }))))) bytes place h)
+    where
+      of_glyphs : (x : Encoding) → HasEncoding m x → NoCharStrings e bytes start m ⊎ ((i : Index) × (next : ℕ) × HasCharStrings bytes start m i next × NoCharSet e bytes start (length i.items) m) → NoPart manner e bytes start m
       of_glyphs x has (inl h) = OfStrings x has h
       of_glyphs x has (inr h) = OfSet x h.0 h.1 has h.2 h.3
 
-      of_locals : (x : Encoding) (i : Index) (next : ℕ) (s : CharSet) → HasEncoding m x → HasCharStrings bytes start m i next → HasCharSet bytes start (length i.items) m s → NoPrivate e bytes start m ⊎ ((offset : ℕ) × (local : Dictionary) × HasPrivate bytes start m offset local × NoSubroutines e bytes start offset local) → NoPart e bytes start m
-      of_locals x i next s has strings set (inl h) = OfPrivate x i next s has strings set h
-      of_locals x i next s has strings set (inr h) = OfSubroutines x i next s h.0 h.1 has strings set h.2 h.3
+      of_locals : (x : Encoding) (i : Index) (next : ℕ) (s : CharSet) → HasEncoding m x → HasCharStrings bytes start m i next → HasCharSet bytes start (length i.items) m s → (IsSought manner (first_two_of (look m operators.Private)) × NoPrivate e bytes start m) ⊎ ((offset : ℕ) × (local : Dictionary) × HasPrivate bytes start m offset local × IsSought manner (first_of (look local operators.Subrs)) × NoSubroutines e bytes start offset local) → NoPart manner e bytes start m
+      of_locals x i next s has strings set (inl h) = OfPrivate x i next s has strings set h.0 h.1
+      of_locals x i next s has strings set (inr h) = OfSubroutines x i next s h.0 h.1 has strings set h.2 h.3 h.4
 
-      by : Stops {X = Part} e (Step (encoding m) (λ x. Step (glyphs start m) (λ g. Step (locals start m) (λ l. Done (record { encoding = x; char_strings = g.0; char_set = g.1; local_dictionary = l.0; local_subroutines = l.1 }))))) bytes place → NoPart e bytes start m
+      by : Stops {X = Part} e (Step (encoding m) (λ x. Step (glyphs start m) (λ g. Step (locals manner start m) (λ l. Done (record { encoding = x; char_strings = g.0; char_set = g.1; local_dictionary = l.0; local_subroutines = l.1 }))))) bytes place → NoPart manner e bytes start m
       by (inl h) = OfEncoding (no_encoding e m bytes place h)
       by (inr (x, from, is, inl h)) = of_glyphs x (encoding_has m x bytes place from is).0 (no_glyphs e bytes start m from h)
-      by (inr (x, from, is, inr (g, to, stand, inl h))) = let has = glyphs_have d bytes start m g from to stand in of_locals x g.0 has.0 g.1 (encoding_has m x bytes place from is).0 has.1 has.2 (no_locals e bytes start m to h)
+      by (inr (x, from, is, inr (g, to, stand, inl h))) = let has = glyphs_have d bytes start m g from to stand in of_locals x g.0 has.0 g.1 (encoding_has m x bytes place from is).0 has.1 has.2 (no_locals manner e bytes start m to h)
       by (inr (x, from, is, inr (g, to, stand, inr h))) = absurd h.3
 
-  no_parts : (e : Error) (bytes : List ℕ) (start : ℕ) (ms : List Dictionary) (place : ℕ) → RefusedAs e (each (part start) ms bytes place) → NoParts e bytes start ms
+  no_parts : (manner : Manner) (e : Error) (bytes : List ℕ) (start : ℕ) (ms : List Dictionary) (place : ℕ) → RefusedAs e (each (part manner start) ms bytes place) → NoParts manner e bytes start ms
   unfolding each
-  no_parts e bytes start [] place h = absurd h
-  no_parts e bytes start (m ∷ ms) place h = by (λ next. no_parts e bytes start ms next) (stopped e (Step (part start m) (λ p. Step (each (part start) ms) (λ ps. Done (p ∷ ps)))) bytes place h)
+  no_parts manner e bytes start [] place h = absurd h
+  no_parts manner e bytes start (m ∷ ms) place h = by (λ next. no_parts manner e bytes start ms next) (stopped e (Step (part manner start m) (λ p. Step (each (part manner start) ms) (λ ps. Done (p ∷ ps)))) bytes place h)
     where
-      by : ((next : ℕ) → RefusedAs e (each (part start) ms bytes next) → NoParts e bytes start ms) → Stops e (Step (part start m) (λ p. Step (each (part start) ms) (λ ps. Done (p ∷ ps)))) bytes place → NoParts e bytes start (m ∷ ms)
-      by rest (inl h) = inl (no_part e bytes start m place h)
-      by rest (inr (p, next, is, inl h)) = inr (p, next, part_has d bytes start m p place next is, rest next h)
+      by : ((next : ℕ) → RefusedAs e (each (part manner start) ms bytes next) → NoParts manner e bytes start ms) → Stops e (Step (part manner start m) (λ p. Step (each (part manner start) ms) (λ ps. Done (p ∷ ps)))) bytes place → NoParts manner e bytes start (m ∷ ms)
+      by rest (inl h) = inl (no_part manner e bytes start m place h)
+      by rest (inr (p, next, is, inl h)) = inr (p, next, part_has d manner bytes start m p place next is, rest next h)
       by rest (inr (p, next, is, inr h)) = absurd h.3
 
   -- ---- what stands behind the header
@@ -335,23 +357,23 @@ module _ (d : ReadsDictionaries) where
       by (inr (n, from, is, inr (ms, to, are, inr (s, there', stand, inr h)))) = absurd h.3
 
   -- ---- a font
-  pub no_font : (e : Error) (bytes : List ℕ) (start : ℕ) → RefusedAs e (font bytes start) → NoFont e bytes start
-  unfolding font behind parts
-  no_font e bytes start h = by (stopped {X = Font} e (Step header (λ hd. Step (behind start hd) (λ t. Step (parts start t.dictionaries) (λ c. Done (font_of hd t c))))) bytes start h)
+  pub no_font : (manner : Manner) (e : Error) (bytes : List ℕ) (start : ℕ) → RefusedAs e (font_by manner bytes start) → NoFontBy manner e bytes start
+  unfolding font_by behind parts
+  no_font manner e bytes start h = by (stopped {X = Font} e (Step header (λ hd. Step (behind start hd) (λ t. Step (parts manner start t.dictionaries) (λ c. Done (font_of hd t c))))) bytes start h)
     where
-      no_behind : (hd : Header) (from : ℕ) → header bytes start ≡ Got hd from → Stops e (Step (in_range (start + hd.header_size)) (λ there. Last (tables there))) bytes from → NoFont e bytes start
+      no_behind : (hd : Header) (from : ℕ) → header bytes start ≡ Got hd from → Stops e (Step (in_range (start + hd.header_size)) (λ there. Last (tables there))) bytes from → NoFontBy manner e bytes start
       no_behind hd from is (inl h) = let r = no_range e (start + hd.header_size) bytes from h in HeaderSize hd from is r.0 r.1
       no_behind hd from is (inr (there, to, here, h)) = let r = in_range_has (start + hd.header_size) there bytes from to here in OfTables hd from is r.1 (subst (NoTables e bytes) (sym r.0) (no_tables e bytes there to h))
 
-      no_columns : (hd : Header) (from : ℕ) (t : Tables) (to : ℕ) → header bytes start ≡ Got hd from → behind start hd bytes from ≡ Got t to → Stops e (Step (each (part start) t.dictionaries) (λ ps. Done (columns ps))) bytes to → NoFont e bytes start
+      no_columns : (hd : Header) (from : ℕ) (t : Tables) (to : ℕ) → header bytes start ≡ Got hd from → behind start hd bytes from ≡ Got t to → Stops e (Step (each (part manner start) t.dictionaries) (λ ps. Done (columns ps))) bytes to → NoFontBy manner e bytes start
       no_columns hd from t to is stand (inl h) =
           let b = accepted (Step (in_range (start + hd.header_size)) (λ there. Last (tables there))) bytes from t to stand in
           let r = in_range_has (start + hd.header_size) b.0 bytes from b.1 b.2 in
-          OfParts hd from t to is r.1 (subst (λ k. AreTables bytes k t to) (sym r.0) (tables_have d bytes b.0 t b.1 to b.3)) (no_parts e bytes start t.dictionaries to h)
+          OfParts hd from t to is r.1 (subst (λ k. AreTables bytes k t to) (sym r.0) (tables_have d bytes b.0 t b.1 to b.3)) (no_parts manner e bytes start t.dictionaries to h)
       no_columns hd from t to is stand (inr h) = absurd h.3
 
-      by : Stops {X = Font} e (Step header (λ hd. Step (behind start hd) (λ t. Step (parts start t.dictionaries) (λ c. Done (font_of hd t c))))) bytes start → NoFont e bytes start
+      by : Stops {X = Font} e (Step header (λ hd. Step (behind start hd) (λ t. Step (parts manner start t.dictionaries) (λ c. Done (font_of hd t c))))) bytes start → NoFontBy manner e bytes start
       by (inl h) = OfHeader h
       by (inr (hd, from, is, inl h)) = no_behind hd from is (stopped e (Step (in_range (start + hd.header_size)) (λ there. Last (tables there))) bytes from h)
-      by (inr (hd, from, is, inr (t, to, stand, inl h))) = no_columns hd from t to is stand (stopped e (Step (each (part start) t.dictionaries) (λ ps. Done (columns ps))) bytes to h)
+      by (inr (hd, from, is, inr (t, to, stand, inl h))) = no_columns hd from t to is stand (stopped e (Step (each (part manner start) t.dictionaries) (λ ps. Done (columns ps))) bytes to h)
       by (inr (hd, from, is, inr (t, to, stand, inr h))) = absurd h.3

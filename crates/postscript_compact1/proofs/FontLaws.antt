@@ -1,39 +1,40 @@
 -- The parts of a font are read exactly where they stand.
-use Rattle.std.proofs.Common.{◌≡◌, ◌⊎◌, inl, inr, ⊎_elim, ℕ, zero, suc, ◌+◌, ◌-◌, ◌<◌, ◌≤◌, Bool, true, false, ℤ, pos, negsuc, ◌+ℤ◌, List, [], ◌∷◌, length, take, drop, map, nat_lt, ◌==◌, if◌then◌else◌, refl, sym, ap, ◌∙◌, subst, arith}
+use Rattle.std.proofs.Common.{◌≡◌, ◌⊎◌, inl, inr, ℕ, zero, suc, ◌+◌, ◌-◌, ◌<◌, Bool, true, false, ℤ, pos, negsuc, ◌+ℤ◌, List, [], ◌∷◌, length, take, drop, map, nat_lt, ◌==◌, if◌then◌else◌, refl, sym, ap, ◌∙◌, subst, arith}
 use Rattle.std.proofs.lemmas.Int.{ints}
 use Rattle.std.proofs.lemmas.Bool.Decides.{nat_tests}
 use Rattle.postscript_base.specs.Numbers.{slice}
-use Rattle.postscript_base.specs.Refusal.{Refusal, OfPart, out_of_range_offset, unexpected_eof}
+use Rattle.postscript_base.specs.Refusal.{OfPart, unexpected_eof}
 use Rattle.postscript_base.specs.Tape.At.{at, bytes_at, NeedsBytes}
 use Rattle.postscript_base.specs.Tape.Loops.{each}
-use Rattle.postscript_base.specs.Tape.Outcome.{Outcome, Got, Fault, Past, Reading, after, end, pure, fault, position}
-use Rattle.postscript_base.specs.Compact1.Dictionary.{Dictionary, dictionary}
+use Rattle.postscript_base.specs.Tape.Outcome.{Outcome, Got, Fault, Past, Reading, after, end, pure, fault}
+use Rattle.postscript_base.specs.Compact1.Defaults.{look, first_of, first_two_of}
+use Rattle.postscript_base.specs.Compact1.Dictionary.{Dictionary, dictionary, dictionary_of}
 use Rattle.postscript_base.specs.Compact1.DictionaryLaw.{IsDictionary, ReadsDictionaries}
 use Rattle.postscript_base.specs.Compact1.Header.{header}
-use Rattle.postscript_base.specs.declared.compact1.header.Header.{Header}
 use Rattle.postscript_base.specs.declared.compact1.operator.Operator.TheVariants as operators
 use Rattle.postscript_base.specs.declared.error.Part.TheVariants as unsupported
-use Rattle.postscript_compact1.specs.Index.{Index, index}
+use Rattle.postscript_compact1.specs.Index.{Index, index, empty}
 use Rattle.postscript_compact1.specs.IndexLaw.{IsIndex}
 use Rattle.postscript_compact1.specs.Kinds.{map_of, maps_of}
 use Rattle.postscript_compact1.specs.Texts.{text}
 use Rattle.postscript_compact1.specs.CharSets.{char_set as the_set}
 use Rattle.postscript_compact1.specs.CharSetLaw.{IsCharSet}
 use Rattle.postscript_compact1.specs.declared.char_set.CharSet.{CharSet}
-use Rattle.postscript_compact1.specs.declared.char_set.CharSet.TheVariants as sets
 use Rattle.postscript_compact1.specs.declared.encoding.Encoding.{Encoding}
 use Rattle.postscript_compact1.specs.declared.encoding.Encoding.TheVariants as encodings
-use Rattle.postscript_compact1.specs.FontSet.Operands.{first, size_of, in_range, place_at, type_two, bounds}
-use Rattle.postscript_compact1.specs.FontSet.Font.{Part, Tables, Columns, Font, columns, font_of}
-use Rattle.postscript_compact1.specs.FontSet.Order.{encoding_of, encoding, char_strings, own_char_set, char_set_of, char_set_offset, char_set, glyphs, private, subroutines, locals, part, names, dictionaries, tables, behind, parts, font}
-use Rattle.postscript_compact1.specs.FontSet.Layout.{HasFirst, HasTwo, Stands, IsSlice, IsPlace, HasEncoding, HasCharStrings, HasCharSet, Is_0, Is_1, Is_2, Own, HasPrivate, HasSubroutines, IsPart, AreParts, AreTables, IsFont, ReadsLayout}
+use Rattle.postscript_compact1.specs.declared.font_set.manner.Manner.{Manner}
+use Rattle.postscript_compact1.specs.declared.font_set.manner.Manner.TheVariants.{Strict, Lenient}
+use Rattle.postscript_compact1.specs.FontSet.Operands.{goes_without, first, size_of, in_range, place_at, type_two, bounds}
+use Rattle.postscript_compact1.specs.FontSet.Font.{Part, Tables, Font, columns, font_of}
+use Rattle.postscript_compact1.specs.FontSet.Order.{encoding_of, encoding, char_strings, own_char_set, char_set_of, char_set_offset, char_set, glyphs, private, subroutines, own_subroutines, own_locals, locals, part, names, dictionaries, tables, behind, parts, font_by, font, lenient_font}
+use Rattle.postscript_compact1.specs.FontSet.Layout.{HasFirst, HasTwo, IsSlice, IsPlace, HasEncoding, HasCharStrings, HasCharSet, Is_0, Is_1, Is_2, Own, HasPrivate, HasSubroutines, IsLacking, HasLocals, WithBoth, WithoutSubrs, WithoutPrivate, IsPart, AreParts, AreTables, IsFontBy, IsFont, IsLenientFont, ReadsLayout, ReadsLeniently}
 use Rattle.postscript_compact1.proofs.CharSetIs.{char_set_needs}
 use Rattle.postscript_compact1.proofs.CharSetRefused.{reads_char_sets}
 use Rattle.postscript_compact1.proofs.IndexIs.{reads_indices}
 use Rattle.postscript_compact1.proofs.ItemsAre.{reads_items}
-use Rattle.postscript_compact1.proofs.OperandLaws.{faulty, first_is, first_has, size_has, in_range_is, in_range_has, placed_is, placed_has, type_is, type_has, bounds_is, bounds_has}
+use Rattle.postscript_compact1.proofs.OperandLaws.{faulty, lacking_is, lacking_has, there_is, first_is, first_has, size_has, in_range_is, in_range_has, placed_is, placed_has, type_is, type_has, bounds_is, bounds_has}
 use Rattle.postscript_compact1.proofs.Outcomes.{got}
-use Rattle.postscript_compact1.proofs.Steps.{Steps, Done, Last, Step, accepted}
+use Rattle.postscript_compact1.proofs.Steps.{Done, Last, Step, accepted}
 
 -- ---- other places
 pub at_has : {A : Type 0} (there : ℕ) (reading : Reading A) (bytes : List ℕ) (place : ℕ) (x : A) (next : ℕ) → at there reading bytes place ≡ Got x next → reading bytes there ≡ Got x next
@@ -191,6 +192,66 @@ subroutines_has start base local bytes s place next e =
     let p = placed_has start base local operators.Subrs h.0 bytes place h.1 h.2 in
     (p.0, p.1, p.2, p.3, p.5, subst (λ k. IsIndex bytes k s next) p.4 (index_at_has h.0 bytes h.1 s next h.3))
 
+-- the local subroutines, where they may be lacking
+own_subroutines_have : (manner : Manner) (start base : ℕ) (local : Dictionary) (bytes : List ℕ) (s : Index) (place next : ℕ) → own_subroutines manner start base local bytes place ≡ Got s next
+    → HasSubroutines bytes start base local s next ⊎ (IsLacking manner (first_of (look local operators.Subrs)) × (s ≡ empty))
+unfolding own_subroutines
+own_subroutines_have manner start base local bytes s place next e = by (goes_without manner (first_of (look local operators.Subrs))) refl e
+  where
+    by : (b : Bool) → goes_without manner (first_of (look local operators.Subrs)) ≡ b → (if b then pure empty else subroutines start base local) bytes place ≡ Got s next
+        → HasSubroutines bytes start base local s next ⊎ (IsLacking manner (first_of (look local operators.Subrs)) × (s ≡ empty))
+    by true t e = inr (lacking_has manner (first_of (look local operators.Subrs)) t, sym (got _ _ _ _ e).0)
+    by false t e = inl (subroutines_has start base local bytes s place next e)
+
+-- ---- the next place, which a lenient reading leaves open
+abbrev IsNext : Manner → ℕ → ℕ → Type 0
+IsNext Strict next to = next ≡ to
+IsNext Lenient next to = Unit {0}
+
+is_next : (manner : Manner) (next : ℕ) → IsNext manner next next
+is_next Strict next = refl
+is_next Lenient next = tt
+
+is_open : (manner : Manner) (next to : ℕ) → manner ≡ Lenient → IsNext manner next to
+is_open Strict next to is = absurd (cc)
+is_open Lenient next to is = tt
+
+-- ---- a font that lacks nothing is one that may lack something
+no_lack : {C : Type 0} → Strict ≡ Lenient → C
+no_lack is = absurd (cc)
+
+wider_locals : (bytes : List ℕ) (start : ℕ) (m local : Dictionary) (s : Index) (next : ℕ) → HasLocals Strict bytes start m local s next → HasLocals Lenient bytes start m local s next
+wider_locals bytes start m local s next (WithBoth offset private stands) = WithBoth offset private stands
+wider_locals bytes start m local s next (WithoutSubrs offset private lacking none) = no_lack lacking.0
+wider_locals bytes start m local s next (WithoutPrivate lacking no_operations none) = no_lack lacking.0
+
+wider_parts : (bytes : List ℕ) (start : ℕ) (ms : List Dictionary) (ps : List Part) (place next : ℕ) → AreParts Strict bytes start ms ps place next → AreParts Lenient bytes start ms ps place next
+wider_parts bytes start [] [] place next h = h
+wider_parts bytes start [] (p ∷ ps) place next h = absurd h
+wider_parts bytes start (m ∷ ms) [] place next h = absurd h
+wider_parts bytes start (m ∷ ms) (p ∷ ps) place next h =
+    let one : IsPart Lenient bytes start m p h.0 = record {
+      char_strings_next = h.1.char_strings_next;
+      encoding = h.1.encoding;
+      char_strings = h.1.char_strings;
+      char_set = h.1.char_set;
+      locals = wider_locals bytes start m p.local_dictionary p.local_subroutines h.0 h.1.locals;
+    } in
+    (h.0, one, wider_parts bytes start ms ps h.0 next h.2)
+
+wider_font : (bytes : List ℕ) (start : ℕ) (f : Font) (next : ℕ) → IsFont bytes start f next → IsFontBy Lenient bytes start f next
+wider_font bytes start f next h = record {
+  header_next = h.header_next;
+  tables = h.tables;
+  behind = h.behind;
+  parts = h.parts;
+  header = h.header;
+  place = h.place;
+  are_tables = h.are_tables;
+  are_parts = wider_parts bytes start h.tables.dictionaries h.parts h.behind next h.are_parts;
+  made_of = h.made_of;
+}
+
 -- ---- dictionaries, the readings of which are what the law says
 module _ (d : ReadsDictionaries) where
   pub map_is : (held : List ℕ) (m : Dictionary) (bytes : List ℕ) (place : ℕ) → IsDictionary held 0 m → map_of held bytes place ≡ Got m place
@@ -231,19 +292,37 @@ module _ (d : ReadsDictionaries) where
         subst (IsDictionary h.3.0 0) local l.0,
       )
 
+  -- ---- the private dictionary and the local subroutines
+  locals_are : (manner : Manner) (bytes : List ℕ) (start : ℕ) (m local : Dictionary) (s : Index) (place next : ℕ) → HasLocals manner bytes start m local s next → (to : ℕ) × (locals manner start m bytes place ≡ Got (local, s) to) × IsNext manner next to
+  unfolding locals own_locals own_subroutines
+  locals_are manner bytes start m local s place next (WithBoth offset private stands) =
+      let p = private_is start offset m local bytes place private in
+      let a = there_is manner (first_two_of (look m operators.Private)) _ private.2.2 in
+      let b = there_is manner (first_of (look local operators.Subrs)) _ stands.2.1 in
+      (next, rw (a, p.1, b, subroutines_is start offset local bytes s p.0 next stands) refl, is_next manner next)
+  locals_are manner bytes start m local s place next (WithoutSubrs offset private lacking none) =
+      let p = private_is start offset m local bytes place private in
+      let a = there_is manner (first_two_of (look m operators.Private)) _ private.2.2 in
+      let b = lacking_is manner (first_of (look local operators.Subrs)) lacking in
+      (p.0, rw (a, p.1, b, none) refl, is_open manner next p.0 lacking.0)
+  locals_are manner bytes start m local s place next (WithoutPrivate lacking no_operations none) =
+      let a = lacking_is manner (first_two_of (look m operators.Private)) lacking in
+      (place, rw (a, no_operations, none) refl, is_open manner next place lacking.0)
+
   -- ---- a part
-  pub part_is : (bytes : List ℕ) (start : ℕ) (m : Dictionary) (p : Part) (place next : ℕ) → IsPart bytes start m p next → part start m bytes place ≡ Got p next
-  unfolding part glyphs locals
-  part_is bytes start m p place next h =
+  part_is : (manner : Manner) (bytes : List ℕ) (start : ℕ) (m : Dictionary) (p : Part) (place next : ℕ) → IsPart manner bytes start m p next → (to : ℕ) × (part manner start m bytes place ≡ Got p to) × IsNext manner next to
+  unfolding part glyphs
+  part_is manner bytes start m p place next h =
       let set = char_set_is start (length p.char_strings.items) m bytes p.char_set h.char_strings_next h.char_set in
-      let l = private_is start h.private_offset m p.local_dictionary bytes set.0 h.private in
+      let l = locals_are manner bytes start m p.local_dictionary p.local_subroutines set.0 next h.locals in
+      let whole : part manner start m bytes place ≡ Got p l.0 =
       rw (
         encoding_is m p.encoding bytes place h.encoding,
         char_strings_is start m bytes p.char_strings place h.char_strings_next h.char_strings,
         set.1,
         l.1,
-        subroutines_is start h.private_offset p.local_dictionary bytes p.local_subroutines l.0 next h.local_subroutines,
-      ) refl
+      ) refl in
+      (l.0, whole, l.2)
 
   pub glyphs_have : (bytes : List ℕ) (start : ℕ) (m : Dictionary) (g : Index × CharSet) (place next : ℕ) → glyphs start m bytes place ≡ Got g next → (at : ℕ) × HasCharStrings bytes start m g.0 at × HasCharSet bytes start (length g.0.items) m g.1
   unfolding glyphs
@@ -256,53 +335,65 @@ module _ (d : ReadsDictionaries) where
         subst (λ k. HasCharSet bytes start (length g.0.items) m k) set (subst (λ k. HasCharSet bytes start (length k.items) m h.3.0) strings (char_set_has start (length h.0.items) m bytes h.3.0 h.1 h.3.1 h.3.2)),
       )
 
-  pub locals_have : (bytes : List ℕ) (start : ℕ) (m : Dictionary) (l : Dictionary × Index) (place next : ℕ) → locals start m bytes place ≡ Got l next → (offset : ℕ) × HasPrivate bytes start m offset l.0 × HasSubroutines bytes start offset l.0 l.1 next
-  unfolding locals
-  locals_have bytes start m l place next e =
-      let h = accepted (Step (private start m) (λ p. Step (subroutines start p.0 p.1) (λ s. Done (p.1, s)))) bytes place l next e in
-      let local = ap (λ p. p.0) h.3.3.0 in
-      let list = ap (λ p. p.1) h.3.3.0 in
-      let stands = subroutines_has start h.0.0 h.0.1 bytes h.3.0 h.1 h.3.1 h.3.2 in (
-        h.0.0,
-        subst (HasPrivate bytes start m h.0.0) local (private_has start m h.0 bytes place h.1 h.2),
-        subst (λ k. HasSubroutines bytes start h.0.0 l.0 l.1 k) h.3.3.1 (subst (λ k. HasSubroutines bytes start h.0.0 l.0 k h.3.1) list (subst (λ k. HasSubroutines bytes start h.0.0 k h.3.0 h.3.1) local stands)),
-      )
+  own_locals_have : (manner : Manner) (bytes : List ℕ) (start : ℕ) (m : Dictionary) (l : Dictionary × Index) (place next : ℕ) → own_locals manner start m bytes place ≡ Got l next → HasLocals manner bytes start m l.0 l.1 next
+  unfolding own_locals
+  own_locals_have manner bytes start m l place next e =
+      subst (λ k. HasLocals manner bytes start m l.0 l.1 k) h.3.3.1 (subst (λ (k : Dictionary × Index). HasLocals manner bytes start m k.0 k.1 h.3.1) h.3.3.0 (by (own_subroutines_have manner start h.0.0 h.0.1 bytes h.3.0 h.1 h.3.1 h.3.2)))
+    where
+      h : (p : ℕ × Dictionary) × (at : ℕ) × (private start m bytes place ≡ Got p at) × ((s : Index) × (to : ℕ) × (own_subroutines manner start p.0 p.1 bytes at ≡ Got s to) × (((p.1, s) ≡ l) × (to ≡ next)))
+      h = accepted (Step (private start m) (λ p. Step (own_subroutines manner start p.0 p.1) (λ s. Done (p.1, s)))) bytes place l next e
 
-  pub part_has : (bytes : List ℕ) (start : ℕ) (m : Dictionary) (p : Part) (place next : ℕ) → part start m bytes place ≡ Got p next → IsPart bytes start m p next
+      by : HasSubroutines bytes start h.0.0 h.0.1 h.3.0 h.3.1 ⊎ (IsLacking manner (first_of (look h.0.1 operators.Subrs)) × (h.3.0 ≡ empty)) → HasLocals manner bytes start m h.0.1 h.3.0 h.3.1
+      by (inl stands) = WithBoth h.0.0 (private_has start m h.0 bytes place h.1 h.2) stands
+      by (inr none) = WithoutSubrs h.0.0 (private_has start m h.0 bytes place h.1 h.2) none.0 none.1
+
+  locals_have : (manner : Manner) (bytes : List ℕ) (start : ℕ) (m : Dictionary) (l : Dictionary × Index) (place next : ℕ) → locals manner start m bytes place ≡ Got l next → HasLocals manner bytes start m l.0 l.1 next
+  unfolding locals
+  locals_have manner bytes start m l place next e = by (goes_without manner (first_two_of (look m operators.Private))) refl e
+    where
+      by : (b : Bool) → goes_without manner (first_two_of (look m operators.Private)) ≡ b → (if b then pure (dictionary_of [], empty) else own_locals manner start m) bytes place ≡ Got l next → HasLocals manner bytes start m l.0 l.1 next
+      by true t e =
+          let same : (dictionary_of [], empty) ≡ l = (got _ _ _ _ e).0 in
+          WithoutPrivate (lacking_has manner (first_two_of (look m operators.Private)) t) (sym (ap (λ k. k.0) same)) (sym (ap (λ k. k.1) same))
+      by false t e = own_locals_have manner bytes start m l place next e
+
+  pub part_has : (manner : Manner) (bytes : List ℕ) (start : ℕ) (m : Dictionary) (p : Part) (place next : ℕ) → part manner start m bytes place ≡ Got p next → IsPart manner bytes start m p next
   unfolding part
-  part_has bytes start m p place next e =
-      let h = accepted (Step (encoding m) (λ e. Step (glyphs start m) (λ g. Step (locals start m) (λ l. Done (record { encoding = e; char_strings = g.0; char_set = g.1; local_dictionary = l.0; local_subroutines = l.1 }))))) bytes place p next e in
+  part_has manner bytes start m p place next e =
+      let h = accepted (Step (encoding m) (λ e. Step (glyphs start m) (λ g. Step (locals manner start m) (λ l. Done (record { encoding = e; char_strings = g.0; char_set = g.1; local_dictionary = l.0; local_subroutines = l.1 }))))) bytes place p next e in
       let g = glyphs_have bytes start m h.3.0 h.1 h.3.1 h.3.2 in
-      let l = locals_have bytes start m h.3.3.0 h.3.1 h.3.3.1 h.3.3.2 in
+      let l = locals_have manner bytes start m h.3.3.0 h.3.1 h.3.3.1 h.3.3.2 in
       let q : Part = record { encoding = h.0; char_strings = h.3.0.0; char_set = h.3.0.1; local_dictionary = h.3.3.0.0; local_subroutines = h.3.3.0.1 } in
-      let whole : IsPart bytes start m q h.3.3.1 = record {
+      let whole : IsPart manner bytes start m q h.3.3.1 = record {
         char_strings_next = g.0;
-        private_offset = l.0;
         encoding = (encoding_has m h.0 bytes place h.1 h.2).0;
         char_strings = g.1;
         char_set = g.2;
-        private = l.1;
-        local_subroutines = l.2;
+        locals = l;
       } in
       let end = h.3.3.3 in
-      subst (λ k. IsPart bytes start m p k) end.1 (subst (λ k. IsPart bytes start m k h.3.3.1) end.0 whole)
+      subst (λ k. IsPart manner bytes start m p k) end.1 (subst (λ k. IsPart manner bytes start m k h.3.3.1) end.0 whole)
 
   -- ---- all parts
-  pub parts_are : (bytes : List ℕ) (start : ℕ) (ms : List Dictionary) (ps : List Part) (place next : ℕ) → AreParts bytes start ms ps place next → each (part start) ms bytes place ≡ Got ps next
+  parts_are : (manner : Manner) (bytes : List ℕ) (start : ℕ) (ms : List Dictionary) (ps : List Part) (place next : ℕ) → AreParts manner bytes start ms ps place next → (at : ℕ) → IsNext manner place at
+      → (to : ℕ) × (each (part manner start) ms bytes at ≡ Got ps to) × IsNext manner next to
   unfolding each
-  parts_are bytes start [] [] place next h = rw h refl
-  parts_are bytes start [] (p ∷ ps) place next h = absurd h
-  parts_are bytes start (m ∷ ms) [] place next h = absurd h
-  parts_are bytes start (m ∷ ms) (p ∷ ps) place next h = rw (part_is bytes start m p place h.0 h.1, parts_are bytes start ms ps h.0 next h.2) refl
+  parts_are manner bytes start [] [] place next h at here = (at, refl, subst (λ k. IsNext manner k at) h here)
+  parts_are manner bytes start [] (p ∷ ps) place next h at here = absurd h
+  parts_are manner bytes start (m ∷ ms) [] place next h at here = absurd h
+  parts_are manner bytes start (m ∷ ms) (p ∷ ps) place next h at here =
+      let one = part_is manner bytes start m p at h.0 h.1 in
+      let rest = parts_are manner bytes start ms ps h.0 next h.2 one.0 one.2 in
+      (rest.0, rw (one.1, rest.1) refl, rest.2)
 
-  pub parts_have : (bytes : List ℕ) (start : ℕ) (ms : List Dictionary) (ps : List Part) (place next : ℕ) → each (part start) ms bytes place ≡ Got ps next → AreParts bytes start ms ps place next
+  parts_have : (manner : Manner) (bytes : List ℕ) (start : ℕ) (ms : List Dictionary) (ps : List Part) (place next : ℕ) → each (part manner start) ms bytes place ≡ Got ps next → AreParts manner bytes start ms ps place next
   unfolding each
-  parts_have bytes start [] [] place next e = (got _ _ _ _ e).1
-  parts_have bytes start [] (p ∷ ps) place next e = absurd (cc)
-  parts_have bytes start (m ∷ ms) ps place next e =
-      let h = accepted (Step (part start m) (λ p. Step (each (part start) ms) (λ ps. Done (p ∷ ps)))) bytes place ps next e in
-      let rest = parts_have bytes start ms h.3.0 h.1 h.3.1 h.3.2 in
-      subst (λ k. AreParts bytes start (m ∷ ms) k place next) h.3.3.0 (subst (λ k. AreParts bytes start (m ∷ ms) (h.0 ∷ h.3.0) place k) h.3.3.1 (h.1, part_has bytes start m h.0 place h.1 h.2, rest))
+  parts_have manner bytes start [] [] place next e = (got _ _ _ _ e).1
+  parts_have manner bytes start [] (p ∷ ps) place next e = absurd (cc)
+  parts_have manner bytes start (m ∷ ms) ps place next e =
+      let h = accepted (Step (part manner start m) (λ p. Step (each (part manner start) ms) (λ ps. Done (p ∷ ps)))) bytes place ps next e in
+      let rest = parts_have manner bytes start ms h.3.0 h.1 h.3.1 h.3.2 in
+      subst (λ k. AreParts manner bytes start (m ∷ ms) k place next) h.3.3.0 (subst (λ k. AreParts manner bytes start (m ∷ ms) (h.0 ∷ h.3.0) place k) h.3.3.1 (h.1, part_has manner bytes start m h.0 place h.1 h.2, rest))
 
   -- ---- what stands behind the header
   pub tables_are : (bytes : List ℕ) (there : ℕ) (t : Tables) (place next : ℕ) → AreTables bytes there t next → tables there bytes place ≡ Got t next
@@ -345,25 +436,28 @@ module _ (d : ReadsDictionaries) where
       subst (λ k. AreTables bytes there t k) end.1 (subst (λ k. AreTables bytes there k g.1) end.0 whole)
 
   -- ---- a font
-  pub font_is : (bytes : List ℕ) (start : ℕ) (f : Font) (next : ℕ) → IsFont bytes start f next → font bytes start ≡ Got f next
-  unfolding font behind parts
-  font_is bytes start f next h =
+  font_by_is : (manner : Manner) (bytes : List ℕ) (start : ℕ) (f : Font) (next : ℕ) → IsFontBy manner bytes start f next → (to : ℕ) × (font_by manner bytes start ≡ Got f to) × IsNext manner next to
+  unfolding font_by behind parts
+  font_by_is manner bytes start f next h =
+      let ps = parts_are manner bytes start h.tables.dictionaries h.parts h.behind next h.are_parts h.behind (is_next manner h.behind) in
+      let whole : font_by manner bytes start ≡ Got f ps.0 =
       rw (
         h.header,
         in_range_is (start + f.header.header_size) bytes h.header_next h.place,
         tables_are bytes (start + f.header.header_size) h.tables h.header_next h.behind h.are_tables,
-        parts_are bytes start h.tables.dictionaries h.parts h.behind next h.are_parts,
+        ps.1,
         sym h.made_of,
-      ) refl
+      ) refl in
+      (ps.0, whole, ps.2)
 
-  pub font_has : (bytes : List ℕ) (start : ℕ) (f : Font) (next : ℕ) → font bytes start ≡ Got f next → IsFont bytes start f next
-  unfolding font behind parts
-  font_has bytes start f next e =
-      let h = accepted (Step header (λ hd. Step (behind start hd) (λ t. Step (parts start t.dictionaries) (λ c. Done (font_of hd t c))))) bytes start f next e in
+  font_by_has : (manner : Manner) (bytes : List ℕ) (start : ℕ) (f : Font) (next : ℕ) → font_by manner bytes start ≡ Got f next → IsFontBy manner bytes start f next
+  unfolding font_by behind parts
+  font_by_has manner bytes start f next e =
+      let h = accepted (Step header (λ hd. Step (behind start hd) (λ t. Step (parts manner start t.dictionaries) (λ c. Done (font_of hd t c))))) bytes start f next e in
       let t = accepted (Step (in_range (start + h.0.header_size)) (λ there. Last (tables there))) bytes h.1 h.3.0 h.3.1 h.3.2 in
       let r = in_range_has (start + h.0.header_size) t.0 bytes h.1 t.1 t.2 in
-      let c = accepted (Step (each (part start) h.3.0.dictionaries) (λ ps. Done (columns ps))) bytes h.3.1 h.3.3.0 h.3.3.1 h.3.3.2 in
-      let whole : IsFont bytes start (font_of h.0 h.3.0 (columns c.0)) c.1 = record {
+      let c = accepted (Step (each (part manner start) h.3.0.dictionaries) (λ ps. Done (columns ps))) bytes h.3.1 h.3.3.0 h.3.3.1 h.3.3.2 in
+      let whole : IsFontBy manner bytes start (font_of h.0 h.3.0 (columns c.0)) c.1 = record {
         header_next = h.1;
         tables = h.3.0;
         behind = h.3.1;
@@ -371,14 +465,34 @@ module _ (d : ReadsDictionaries) where
         header = h.2;
         place = r.1;
         are_tables = subst (λ k. AreTables bytes k h.3.0 h.3.1) (sym r.0) (tables_have bytes t.0 h.3.0 t.1 h.3.1 t.3);
-        are_parts = parts_have bytes start h.3.0.dictionaries c.0 h.3.1 c.1 c.2;
+        are_parts = parts_have manner bytes start h.3.0.dictionaries c.0 h.3.1 c.1 c.2;
         made_of = refl;
       } in
       let is : font_of h.0 h.3.0 (columns c.0) ≡ f = ap (font_of h.0 h.3.0) c.3.0 ∙ h.3.3.3.0 in
-      subst (λ k. IsFont bytes start f k) (c.3.1 ∙ h.3.3.3.1) (subst (λ k. IsFont bytes start k c.1) is whole)
+      subst (λ k. IsFontBy manner bytes start f k) (c.3.1 ∙ h.3.3.3.1) (subst (λ k. IsFontBy manner bytes start k c.1) is whole)
+
+  pub font_is : (bytes : List ℕ) (start : ℕ) (f : Font) (next : ℕ) → IsFont bytes start f next → font bytes start ≡ Got f next
+  font_is bytes start f next h = let s = font_by_is Strict bytes start f next h in s.1 ∙ ap (λ k. Got f k) (sym s.2)
+
+  pub font_has : (bytes : List ℕ) (start : ℕ) (f : Font) (next : ℕ) → font bytes start ≡ Got f next → IsFont bytes start f next
+  font_has bytes start f next e = font_by_has Strict bytes start f next e
 
   pub reads_layout : ReadsLayout
   reads_layout = record {
     both_ways = λ bytes start f next. (font_has bytes start f next, font_is bytes start f next);
     alone = λ bytes start f g next other a b. got f g next other (sym (font_is bytes start f next a) ∙ font_is bytes start g other b);
+  }
+
+  -- ---- a font that may lack private dictionaries and local subroutines
+  pub lenient_is : (bytes : List ℕ) (start : ℕ) (f : Font) → IsLenientFont bytes start f → (next : ℕ) × (lenient_font bytes start ≡ Got f next)
+  lenient_is bytes start f h = let s = font_by_is Lenient bytes start f h.0 h.1 in (s.0, s.1)
+
+  pub lenient_has : (bytes : List ℕ) (start : ℕ) (f : Font) (next : ℕ) → lenient_font bytes start ≡ Got f next → IsLenientFont bytes start f
+  lenient_has bytes start f next e = (next, font_by_has Lenient bytes start f next e)
+
+  pub reads_leniently : ReadsLeniently
+  reads_leniently = record {
+    both_ways = λ bytes start f. (λ h. lenient_has bytes start f h.0 h.1, lenient_is bytes start f);
+    alone = λ bytes start f g a b. let x = lenient_is bytes start f a in let y = lenient_is bytes start g b in (got f g x.0 y.0 (sym x.1 ∙ y.1)).0;
+    wider = λ bytes start f next h. (next, wider_font bytes start f next h);
   }

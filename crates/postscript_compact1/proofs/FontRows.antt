@@ -1,5 +1,5 @@
 -- Known fonts.
-use Rattle.std.proofs.Common.{◌≡◌, ◌∙◌, refl, true, Some, None, drop, sym, ap, inl, inr, ℕ, List, [], ◌∷◌, ℤ, pos, negsuc, arith}
+use Rattle.std.proofs.Common.{◌≡◌, ◌∙◌, refl, true, Option, Some, None, drop, sym, ap, inl, inr, ℕ, List, [], ◌∷◌, ℤ, pos, negsuc, arith}
 use lib.Utf8.{encode}
 use Rattle.std.specs.Option.{option_or}
 use Rattle.postscript_base.specs.Numbers.{number as unsigned, slice}
@@ -24,11 +24,13 @@ use Rattle.postscript_base.specs.declared.error.Part.TheVariants.{CustomEncoding
 use Rattle.postscript_base.proofs.DictionaryIs.{get_last}
 use Rattle.postscript_compact1.specs.Index.{Index, index, filled, offsets, empty}
 use Rattle.postscript_compact1.specs.FontSet.Font.{Part, Tables, columns, font_of}
-use Rattle.postscript_compact1.specs.FontSet.Causes.{NoFont, NoPart, OfParts, OfEncoding, OtherEncoding, OfPrivate, PrivateBounds, TooFew, BoundsRange, OfSubroutines, SubrsOffset, OutOfRange, SubrsRefused}
-use Rattle.postscript_compact1.specs.FontSet.Layout.{IsFont, AreTables, IsPart, HasFirst, HasTwo, HasEncoding, HasCharStrings, HasCharSet, HasPrivate, HasSubroutines, Is_0}
-use Rattle.postscript_compact1.specs.FontSet.Order.{names, dictionaries, tables, behind, parts, font}
+use Rattle.postscript_compact1.specs.FontSet.Causes.{NoFontBy, NoFont, IsSought, NoPart, OfParts, OfEncoding, OtherEncoding, OfPrivate, PrivateBounds, TooFew, BoundsRange, OfSubroutines, SubrsOffset, OfOperand, Missing, OutOfRange, SubrsRefused}
+use Rattle.postscript_compact1.specs.FontSet.Layout.{IsFontBy, IsFont, IsLenientFont, AreTables, HasLocals, WithBoth, WithoutSubrs, WithoutPrivate, IsPart, HasFirst, HasTwo, HasEncoding, HasCharStrings, HasCharSet, HasPrivate, HasSubroutines, Is_0}
+use Rattle.postscript_compact1.specs.FontSet.Order.{names, dictionaries, tables, behind, parts, font_by, font}
 use Rattle.postscript_compact1.specs.declared.char_set.CharSet.TheVariants.{ISOAdobe}
 use Rattle.postscript_compact1.specs.declared.encoding.Encoding.TheVariants.{Standard}
+use Rattle.postscript_compact1.specs.declared.font_set.manner.Manner.{Manner}
+use Rattle.postscript_compact1.specs.declared.font_set.manner.Manner.TheVariants.{Strict, Lenient}
 use Rattle.postscript_compact1.proofs.IndexIs.{reads_indices}
 use Rattle.postscript_compact1.proofs.TextsAre.{keeps_utf8}
 
@@ -45,20 +47,20 @@ none : font (0 ∷ 0 ∷ 0 ∷ 0 ∷ 0 ∷ 0 ∷ 0 ∷ 0 ∷ []) 0 ≡ Got (reco
   local_dictionaries = [];
   local_subroutines = [];
 }) 8
-unfolding font behind tables names dictionaries parts each index header unsigned slice at
+unfolding font_by behind tables names dictionaries parts each index header unsigned slice at
 none = refl
 
 -- one byte less
 cut : font (0 ∷ 0 ∷ 0 ∷ 0 ∷ 0 ∷ 0 ∷ 0 ∷ []) 0 ≡ end
-unfolding font behind tables names dictionaries parts each index header unsigned slice at
+unfolding font_by behind tables names dictionaries parts each index header unsigned slice at
 cut = refl
 
--- The font of 34 bytes: one name, one dictionary, one glyph, a private dictionary of two bytes, and no subroutines. Five of
--- its bytes are changed below: those at 16, 17, 18, 19 and 30.
-abbrev with_bytes : ℕ → ℕ → ℕ → ℕ → ℕ → List ℕ
-with_bytes a b c d e =
+-- The font of 34 bytes: one name, one dictionary, one glyph, a private dictionary of two bytes, and no subroutines. Six of
+-- its bytes are changed below: those at 16, 17, 18, 19, 30 and 31.
+abbrev with_bytes : ℕ → ℕ → ℕ → ℕ → ℕ → ℕ → List ℕ
+with_bytes a b c d e f =
     1 ∷ 0 ∷ 4 ∷ 1 ∷ 0 ∷ 1 ∷ 1 ∷ 1 ∷ 2 ∷ 0x41 ∷ 0 ∷ 1 ∷ 1 ∷ 1 ∷ 6 ∷ 0xa3 ∷ a ∷ b ∷ c ∷ d
-    ∷ 0 ∷ 0 ∷ 0 ∷ 0 ∷ 0 ∷ 1 ∷ 1 ∷ 1 ∷ 2 ∷ 0x0e ∷ e ∷ 0x13 ∷ 0 ∷ 0 ∷ []
+    ∷ 0 ∷ 0 ∷ 0 ∷ 0 ∷ 0 ∷ 1 ∷ 1 ∷ 1 ∷ 2 ∷ 0x0e ∷ e ∷ f ∷ 0 ∷ 0 ∷ []
 
 abbrev whole : ℤ → Decimal
 whole n = record { mantissa = n; exponent = pos 0 }
@@ -108,9 +110,9 @@ the_header = record { major = 1; minor = 0; header_size = 4; offset_size = 1 }
 abbrev tables_of : Dictionary → Tables
 tables_of map = record { names = (0x41 ∷ []) ∷ []; dictionaries = map ∷ []; strings = empty; subroutines = empty }
 
-tables_stand : (a b c d e : ℕ) (map : Dictionary) → IsDictionary (0xa3 ∷ a ∷ b ∷ c ∷ d ∷ []) 0 map → AreTables (with_bytes a b c d e) 4 (tables_of map) 24
+tables_stand : (a b c d e f : ℕ) (map : Dictionary) → IsDictionary (0xa3 ∷ a ∷ b ∷ c ∷ d ∷ []) 0 map → AreTables (with_bytes a b c d e f) 4 (tables_of map) 24
 unfolding index filled offsets unsigned slice chain each rising offset encode
-tables_stand a b c d e map is = record {
+tables_stand a b c d e f map is = record {
   names = alone (0x41 ∷ []) 2;
   names_next = 10;
   dictionaries = alone (0xa3 ∷ a ∷ b ∷ c ∷ d ∷ []) 6;
@@ -125,33 +127,40 @@ tables_stand a b c d e map is = record {
 }
 
 -- a font of one part
-font_stands : (a b c d e : ℕ) (map : Dictionary) (part : Part) (next : ℕ) → IsDictionary (0xa3 ∷ a ∷ b ∷ c ∷ d ∷ []) 0 map → IsPart (with_bytes a b c d e) 0 map part next
-    → IsFont (with_bytes a b c d e) 0 (font_of the_header (tables_of map) (columns (part ∷ []))) next
+font_stands : (manner : Manner) (a b c d e f : ℕ) (map : Dictionary) (part : Part) (next : ℕ) → IsDictionary (0xa3 ∷ a ∷ b ∷ c ∷ d ∷ []) 0 map → IsPart manner (with_bytes a b c d e f) 0 map part next
+    → IsFontBy manner (with_bytes a b c d e f) 0 (font_of the_header (tables_of map) (columns (part ∷ []))) next
 unfolding header unsigned slice
-font_stands a b c d e map part next is stands = record {
+font_stands manner a b c d e f map part next is stands = record {
   header_next = 4;
   tables = tables_of map;
   behind = 24;
   parts = part ∷ [];
   header = refl;
   place = omega arith;
-  are_tables = tables_stand a b c d e map is;
+  are_tables = tables_stand a b c d e f map is;
   are_parts = (next, stands, refl);
   made_of = refl;
 }
 
 -- a font whose part is refused
-font_refused : (e : Error) (a b c d x : ℕ) (map : Dictionary) → IsDictionary (0xa3 ∷ a ∷ b ∷ c ∷ d ∷ []) 0 map → NoPart e (with_bytes a b c d x) 0 map → NoFont e (with_bytes a b c d x) 0
+font_refused : (manner : Manner) (error : Error) (a b c d e f : ℕ) (map : Dictionary) → IsDictionary (0xa3 ∷ a ∷ b ∷ c ∷ d ∷ []) 0 map → NoPart manner error (with_bytes a b c d e f) 0 map → NoFontBy manner error (with_bytes a b c d e f) 0
 unfolding header unsigned slice
-font_refused e a b c d x map is refused = OfParts the_header 4 (tables_of map) 24 refl (omega arith) (tables_stand a b c d x map is) (inl refused)
+font_refused manner error a b c d e f map is refused = OfParts the_header 4 (tables_of map) 24 refl (omega arith) (tables_stand a b c d e f map is) (inl refused)
+
+-- nothing is lacking where the reading is strict, or where operands are there
+strictly : {A : Type 0} (o : Option A) → IsSought Strict o
+strictly o lacking = let no : Strict ≡ Lenient = lacking.0 in absurd (cc)
+
+sought : {A : Type 0} (manner : Manner) (o : Option A) (x : A) → o ≡ Some x → IsSought manner o
+sought manner o x is lacking = let none : o ≡ None = lacking.1 in absurd (cc)
 
 has_encoding : (os : List Operation) → last_of os ops.Encoding ≡ None → HasEncoding (dictionary_of os) Standard
 unfolding to_i32
 has_encoding os none = inl ((whole (pos 0), ap first_of (looked os ops.Encoding ∙ ap (λ found. option_or found (default_of ops.Encoding)) none), refl), refl)
 
-has_strings : (a b c d e : ℕ) (os : List Operation) → last_of os ops.CharStrings ≡ Some (whole (pos 24) ∷ []) → last_of os ops.CharStringType ≡ None → HasCharStrings (with_bytes a b c d e) 0 (dictionary_of os) (alone (0x0e ∷ []) 2) 30
+has_strings : (a b c d e f : ℕ) (os : List Operation) → last_of os ops.CharStrings ≡ Some (whole (pos 24) ∷ []) → last_of os ops.CharStringType ≡ None → HasCharStrings (with_bytes a b c d e f) 0 (dictionary_of os) (alone (0x0e ∷ []) 2) 30
 unfolding index filled offsets unsigned slice chain each rising offset to_i32
-has_strings a b c d e os place type = (
+has_strings a b c d e f os place type = (
   24,
   (whole (pos 24), ap first_of (looked os ops.CharStrings ∙ ap (λ found. option_or found (default_of ops.CharStrings)) place), refl),
   (whole (pos 2), ap first_of (looked os ops.CharStringType ∙ ap (λ found. option_or found (default_of ops.CharStringType)) type), refl),
@@ -167,53 +176,52 @@ top_stands : IsDictionary (0xa3 ∷ 0x11 ∷ 0x8d ∷ 0xa9 ∷ 0x12 ∷ []) 0 (d
 unfolding number unsigned slice canonical without_zeros operator_of
 top_stands = two_stand _ _ _ _ _ _ refl refl refl refl refl refl
 
-has_private : (e : ℕ) (map : Dictionary) → IsDictionary (e ∷ 0x13 ∷ []) 0 map → HasPrivate (with_bytes 0x11 0x8d 0xa9 0x12 e) 0 (dictionary_of top) 30 map
+has_private : (e f : ℕ) (map : Dictionary) → IsDictionary (e ∷ f ∷ []) 0 map → HasPrivate (with_bytes 0x11 0x8d 0xa9 0x12 e f) 0 (dictionary_of top) 30 map
 unfolding to_i32
-has_private e map is = (2, e ∷ 0x13 ∷ [], (whole (pos 2), tens (pos 3), ap first_two_of (looked top ops.Private), refl, refl), omega arith, (λ some. omega arith, refl), is)
+has_private e f map is = (2, e ∷ f ∷ [], (whole (pos 2), tens (pos 3), ap first_two_of (looked top ops.Private), refl, refl), omega arith, (λ some. omega arith, refl), is)
 
 abbrev part_of : Dictionary → Part
 part_of local = record { encoding = Standard; char_strings = alone (0x0e ∷ []) 2; char_set = ISOAdobe; local_dictionary = local; local_subroutines = empty }
 
-part_stands : (e : ℕ) (local : Dictionary) (next : ℕ) → IsDictionary (e ∷ 0x13 ∷ []) 0 local → HasSubroutines (with_bytes 0x11 0x8d 0xa9 0x12 e) 0 30 local empty next → IsPart (with_bytes 0x11 0x8d 0xa9 0x12 e) 0 (dictionary_of top) (part_of local) next
-part_stands e local next is subroutines = record {
+part_stands : (manner : Manner) (a b c d e f : ℕ) (os : List Operation) (local : Dictionary) (next : ℕ) → last_of os ops.Encoding ≡ None → last_of os ops.CharStrings ≡ Some (whole (pos 24) ∷ []) → last_of os ops.CharStringType ≡ None → last_of os ops.CharSet ≡ None
+    → HasLocals manner (with_bytes a b c d e f) 0 (dictionary_of os) local empty next → IsPart manner (with_bytes a b c d e f) 0 (dictionary_of os) (part_of local) next
+part_stands manner a b c d e f os local next no_encoding place no_type no_set locals = record {
   char_strings_next = 30;
-  private_offset = 30;
-  encoding = has_encoding top refl;
-  char_strings = has_strings 0x11 0x8d 0xa9 0x12 e top refl refl;
-  char_set = has_set _ _ top refl;
-  private = has_private e local is;
-  local_subroutines = subroutines;
+  encoding = has_encoding os no_encoding;
+  char_strings = has_strings a b c d e f os place no_type;
+  char_set = has_set _ _ os no_set;
+  locals = locals;
 }
 
--- the font itself
-pub small_font : IsFont (with_bytes 0x11 0x8d 0xa9 0x12 0x8d) 0 (font_of the_header (tables_of (dictionary_of top)) (columns (part_of (dictionary_of private) ∷ []))) 34
+-- the font itself, in each manner
+pub small_font : (manner : Manner) → IsFontBy manner (with_bytes 0x11 0x8d 0xa9 0x12 0x8d 0x13) 0 (font_of the_header (tables_of (dictionary_of top)) (columns (part_of (dictionary_of private) ∷ []))) 34
 unfolding number unsigned slice canonical without_zeros operator_of to_i32 index
-small_font =
+small_font manner =
     let is = one_stands (0x8d ∷ 0x13 ∷ []) ops.Subrs (whole (pos 2)) refl refl refl in
-    let subroutines : HasSubroutines (with_bytes 0x11 0x8d 0xa9 0x12 0x8d) 0 30 (dictionary_of private) empty 34 = (pos 2, 32, (whole (pos 2), ap first_of (looked private ops.Subrs), refl), refl, omega arith, reads_indices.only _ _ _ _ refl) in
-    font_stands _ _ _ _ _ _ _ _ top_stands (part_stands 0x8d (dictionary_of private) 34 is subroutines)
+    let subroutines : HasSubroutines (with_bytes 0x11 0x8d 0xa9 0x12 0x8d 0x13) 0 30 (dictionary_of private) empty 34 = (pos 2, 32, (whole (pos 2), ap first_of (looked private ops.Subrs), refl), refl, omega arith, reads_indices.only _ _ _ _ refl) in
+    font_stands manner _ _ _ _ _ _ _ _ _ top_stands (part_stands manner _ _ _ _ _ _ top (dictionary_of private) 34 refl refl refl refl (WithBoth 30 (has_private 0x8d 0x13 _ is) subroutines))
 
 -- the offset of its subroutines is -10: they are the strings
 abbrev back_ten : List Operation
 back_ten = (ops.Subrs, tens (negsuc 0) ∷ []) ∷ []
 
-pub subroutines_of_the_strings : IsFont (with_bytes 0x11 0x8d 0xa9 0x12 0x81) 0 (font_of the_header (tables_of (dictionary_of top)) (columns (part_of (dictionary_of back_ten) ∷ []))) 22
+pub subroutines_of_the_strings : IsFont (with_bytes 0x11 0x8d 0xa9 0x12 0x81 0x13) 0 (font_of the_header (tables_of (dictionary_of top)) (columns (part_of (dictionary_of back_ten) ∷ []))) 22
 unfolding number unsigned slice canonical without_zeros operator_of to_i32 index
 subroutines_of_the_strings =
     let is = one_stands (0x81 ∷ 0x13 ∷ []) ops.Subrs (tens (negsuc 0)) refl refl refl in
-    let subroutines : HasSubroutines (with_bytes 0x11 0x8d 0xa9 0x12 0x81) 0 30 (dictionary_of back_ten) empty 22 = (negsuc 9, 20, (tens (negsuc 0), ap first_of (looked back_ten ops.Subrs), refl), refl, omega arith, reads_indices.only _ _ _ _ refl) in
-    font_stands _ _ _ _ _ _ _ _ top_stands (part_stands 0x81 (dictionary_of back_ten) 22 is subroutines)
+    let subroutines : HasSubroutines (with_bytes 0x11 0x8d 0xa9 0x12 0x81 0x13) 0 30 (dictionary_of back_ten) empty 22 = (negsuc 9, 20, (tens (negsuc 0), ap first_of (looked back_ten ops.Subrs), refl), refl, omega arith, reads_indices.only _ _ _ _ refl) in
+    font_stands Strict _ _ _ _ _ _ _ _ _ top_stands (part_stands Strict _ _ _ _ _ _ top (dictionary_of back_ten) 22 refl refl refl refl (WithBoth 30 (has_private 0x81 0x13 _ is) subroutines))
 
 -- the operator of the first operation is Encoding
 abbrev encoded : List Operation
 encoded = (ops.Encoding, whole (pos 24) ∷ []) ∷ (ops.Private, whole (pos 2) ∷ tens (pos 3) ∷ []) ∷ []
 
-pub another_encoding : NoFont (errors.Unsupported CustomEncoding) (with_bytes 0x10 0x8d 0xa9 0x12 0x8d) 0
+pub another_encoding : NoFont (errors.Unsupported CustomEncoding) (with_bytes 0x10 0x8d 0xa9 0x12 0x8d 0x13) 0
 unfolding number unsigned slice canonical without_zeros operator_of to_i32
 another_encoding =
     let is = two_stand (0xa3 ∷ 0x10 ∷ 0x8d ∷ 0xa9 ∷ 0x12 ∷ []) ops.Encoding ops.Private (whole (pos 24)) (whole (pos 2)) (tens (pos 3)) refl refl refl refl refl refl in
     let first : HasFirst (dictionary_of encoded) ops.Encoding (pos 24) = (whole (pos 24), ap first_of (looked encoded ops.Encoding), refl) in
-    font_refused _ _ _ _ _ _ _ is (OfEncoding (OtherEncoding (pos 24) first (λ e. cc) (λ e. cc) refl))
+    font_refused Strict _ _ _ _ _ _ _ _ is (OfEncoding (OtherEncoding (pos 24) first (λ e. cc) (λ e. cc) refl))
 
 never : (n : ℕ) → negsuc 0 ≡ pos n → ⊥
 never n e = cc
@@ -222,57 +230,109 @@ never n e = cc
 abbrev of_size : List Operation
 of_size = (ops.CharStrings, whole (pos 24) ∷ []) ∷ (ops.Private, whole (negsuc 0) ∷ tens (pos 3) ∷ []) ∷ []
 
-pub a_negative_size : NoFont errors.OutOfRangeOffset (with_bytes 0x11 0x8a 0xa9 0x12 0x8d) 0
+pub a_negative_size : (manner : Manner) → NoFontBy manner errors.OutOfRangeOffset (with_bytes 0x11 0x8a 0xa9 0x12 0x8d 0x13) 0
 unfolding number unsigned slice canonical without_zeros operator_of to_i32
-a_negative_size =
+a_negative_size manner =
     let is = two_stand (0xa3 ∷ 0x11 ∷ 0x8a ∷ 0xa9 ∷ 0x12 ∷ []) ops.CharStrings ops.Private (whole (pos 24)) (whole (negsuc 0)) (tens (pos 3)) refl refl refl refl refl refl in
     let both : HasTwo (dictionary_of of_size) ops.Private (negsuc 0) (pos 30) = (whole (negsuc 0), tens (pos 3), ap first_two_of (looked of_size ops.Private), refl, refl) in
     let bounds = PrivateBounds (BoundsRange (negsuc 0) (pos 30) both refl (λ size offset m n place. never size m)) in
-    font_refused _ _ _ _ _ _ _ is (OfPrivate Standard _ _ ISOAdobe (has_encoding of_size refl) (has_strings _ _ _ _ _ of_size refl refl) (has_set _ _ of_size refl) bounds)
+    font_refused manner _ _ _ _ _ _ _ _ is (OfPrivate Standard _ _ ISOAdobe (has_encoding of_size refl) (has_strings _ _ _ _ _ _ of_size refl refl) (has_set _ _ of_size refl) (sought manner _ _ both.2) bounds)
 
 -- its offset is -1
 abbrev of_offset : List Operation
 of_offset = (ops.CharStrings, whole (pos 24) ∷ []) ∷ (ops.Private, whole (pos 2) ∷ whole (negsuc 0) ∷ []) ∷ []
 
-pub a_negative_offset : NoFont errors.OutOfRangeOffset (with_bytes 0x11 0x8d 0x8a 0x12 0x8d) 0
+pub a_negative_offset : (manner : Manner) → NoFontBy manner errors.OutOfRangeOffset (with_bytes 0x11 0x8d 0x8a 0x12 0x8d 0x13) 0
 unfolding number unsigned slice canonical without_zeros operator_of to_i32
-a_negative_offset =
+a_negative_offset manner =
     let is = two_stand (0xa3 ∷ 0x11 ∷ 0x8d ∷ 0x8a ∷ 0x12 ∷ []) ops.CharStrings ops.Private (whole (pos 24)) (whole (pos 2)) (whole (negsuc 0)) refl refl refl refl refl refl in
     let both : HasTwo (dictionary_of of_offset) ops.Private (pos 2) (negsuc 0) = (whole (pos 2), whole (negsuc 0), ap first_two_of (looked of_offset ops.Private), refl, refl) in
     let bounds = PrivateBounds (BoundsRange (pos 2) (negsuc 0) both refl (λ size offset m n place. never offset n)) in
-    font_refused _ _ _ _ _ _ _ is (OfPrivate Standard _ _ ISOAdobe (has_encoding of_offset refl) (has_strings _ _ _ _ _ of_offset refl refl) (has_set _ _ of_offset refl) bounds)
+    font_refused manner _ _ _ _ _ _ _ _ is (OfPrivate Standard _ _ ISOAdobe (has_encoding of_offset refl) (has_strings _ _ _ _ _ _ of_offset refl refl) (has_set _ _ of_offset refl) (sought manner _ _ both.2) bounds)
 
 -- the operator of the second operation is Subrs
 abbrev without_private : List Operation
 without_private = (ops.CharStrings, whole (pos 24) ∷ []) ∷ (ops.Subrs, whole (pos 2) ∷ tens (pos 3) ∷ []) ∷ []
 
-pub no_private : NoFont (errors.MissingOperation ops.Private) (with_bytes 0x11 0x8d 0xa9 0x13 0x8d) 0
+pub no_private : NoFont (errors.MissingOperation ops.Private) (with_bytes 0x11 0x8d 0xa9 0x13 0x8d 0x13) 0
 unfolding number unsigned slice canonical without_zeros operator_of
 no_private =
     let is = two_stand (0xa3 ∷ 0x11 ∷ 0x8d ∷ 0xa9 ∷ 0x13 ∷ []) ops.CharStrings ops.Subrs (whole (pos 24)) (whole (pos 2)) (tens (pos 3)) refl refl refl refl refl refl in
     let bounds = PrivateBounds (TooFew (ap first_two_of (looked without_private ops.Private)) refl) in
-    font_refused _ _ _ _ _ _ _ is (OfPrivate Standard _ _ ISOAdobe (has_encoding without_private refl) (has_strings _ _ _ _ _ without_private refl refl) (has_set _ _ without_private refl) bounds)
+    font_refused Strict _ _ _ _ _ _ _ _ is (OfPrivate Standard _ _ ISOAdobe (has_encoding without_private refl) (has_strings _ _ _ _ _ _ without_private refl refl) (has_set _ _ without_private refl) (strictly _) bounds)
 
 -- the offset of the local subroutines is -31: the sum is -1
 abbrev too_far_back : List Operation
 too_far_back = (ops.Subrs, whole (negsuc 30) ∷ []) ∷ []
 
-pub a_negative_sum : NoFont errors.OutOfRangeOffset (with_bytes 0x11 0x8d 0xa9 0x12 0x6c) 0
+pub a_negative_sum : NoFont errors.OutOfRangeOffset (with_bytes 0x11 0x8d 0xa9 0x12 0x6c 0x13) 0
 unfolding number unsigned slice canonical without_zeros operator_of to_i32
 a_negative_sum =
     let is = one_stands (0x6c ∷ 0x13 ∷ []) ops.Subrs (whole (negsuc 30)) refl refl refl in
     let first : HasFirst (dictionary_of too_far_back) ops.Subrs (negsuc 30) = (whole (negsuc 30), ap first_of (looked too_far_back ops.Subrs), refl) in
     let offset = SubrsOffset (OutOfRange (negsuc 30) first (refl, λ n e place. never n e)) in
-    font_refused _ _ _ _ _ _ _ top_stands (OfSubroutines Standard _ _ ISOAdobe 30 (dictionary_of too_far_back) (has_encoding top refl) (has_strings _ _ _ _ _ top refl refl) (has_set _ _ top refl) (has_private 0x6c _ is) offset)
+    font_refused Strict _ _ _ _ _ _ _ _ top_stands (OfSubroutines Standard _ _ ISOAdobe 30 (dictionary_of too_far_back) (has_encoding top refl) (has_strings _ _ _ _ _ _ top refl refl) (has_set _ _ top refl) (has_private 0x6c _ _ is) (strictly _) offset)
 
 -- it is -30: at the font's start no INDEX stands
 abbrev at_the_start : List Operation
 at_the_start = (ops.Subrs, tens (negsuc 2) ∷ []) ∷ []
 
-pub no_index_at_the_start : NoFont errors.MalformedIndex (with_bytes 0x11 0x8d 0xa9 0x12 0x6d) 0
+pub no_index_at_the_start : NoFont errors.MalformedIndex (with_bytes 0x11 0x8d 0xa9 0x12 0x6d 0x13) 0
 unfolding number unsigned slice canonical without_zeros operator_of to_i32 index filled offsets chain rising offset
 no_index_at_the_start =
     let is = one_stands (0x6d ∷ 0x13 ∷ []) ops.Subrs (tens (negsuc 2)) refl refl refl in
     let first : HasFirst (dictionary_of at_the_start) ops.Subrs (negsuc 29) = (tens (negsuc 2), ap first_of (looked at_the_start ops.Subrs), refl) in
     let refused = SubrsRefused (negsuc 29) 0 first refl (omega arith) (inr (omega arith, refl)) in
-    font_refused _ _ _ _ _ _ _ top_stands (OfSubroutines Standard _ _ ISOAdobe 30 (dictionary_of at_the_start) (has_encoding top refl) (has_strings _ _ _ _ _ top refl refl) (has_set _ _ top refl) (has_private 0x6d _ is) refused)
+    font_refused Strict _ _ _ _ _ _ _ _ top_stands (OfSubroutines Standard _ _ ISOAdobe 30 (dictionary_of at_the_start) (has_encoding top refl) (has_strings _ _ _ _ _ _ top refl refl) (has_set _ _ top refl) (has_private 0x6d _ _ is) (strictly _) refused)
+
+-- ---- what a lenient reading goes without
+-- no Private: no operations and no subroutines
+pub without_private_leniently : IsLenientFont (with_bytes 0x11 0x8d 0xa9 0x13 0x8d 0x13) 0 (font_of the_header (tables_of (dictionary_of without_private)) (columns (part_of (dictionary_of []) ∷ [])))
+unfolding number unsigned slice canonical without_zeros operator_of
+without_private_leniently =
+    let is = two_stand (0xa3 ∷ 0x11 ∷ 0x8d ∷ 0xa9 ∷ 0x13 ∷ []) ops.CharStrings ops.Subrs (whole (pos 24)) (whole (pos 2)) (tens (pos 3)) refl refl refl refl refl refl in
+    let locals = WithoutPrivate (refl, ap first_two_of (looked without_private ops.Private)) refl refl in
+    (0, font_stands Lenient _ _ _ _ _ _ _ _ _ is (part_stands Lenient _ _ _ _ _ _ without_private (dictionary_of []) 0 refl refl refl refl locals))
+
+-- the operator of the private dictionary is DefaultWidthX: it stays, and there are no subroutines
+abbrev of_width : List Operation
+of_width = (ops.DefaultWidthX, whole (pos 2) ∷ []) ∷ []
+
+pub without_subrs_leniently : IsLenientFont (with_bytes 0x11 0x8d 0xa9 0x12 0x8d 0x14) 0 (font_of the_header (tables_of (dictionary_of top)) (columns (part_of (dictionary_of of_width) ∷ [])))
+unfolding number unsigned slice canonical without_zeros operator_of
+without_subrs_leniently =
+    let is = one_stands (0x8d ∷ 0x14 ∷ []) ops.DefaultWidthX (whole (pos 2)) refl refl refl in
+    let locals = WithoutSubrs 30 (has_private 0x8d 0x14 _ is) (refl, ap first_of (looked of_width ops.Subrs)) refl in
+    (0, font_stands Lenient _ _ _ _ _ _ _ _ _ top_stands (part_stands Lenient _ _ _ _ _ _ top (dictionary_of of_width) 0 refl refl refl refl locals))
+
+pub no_subrs : NoFont (errors.MissingOperation ops.Subrs) (with_bytes 0x11 0x8d 0xa9 0x12 0x8d 0x14) 0
+unfolding number unsigned slice canonical without_zeros operator_of
+no_subrs =
+    let is = one_stands (0x8d ∷ 0x14 ∷ []) ops.DefaultWidthX (whole (pos 2)) refl refl refl in
+    let offset = SubrsOffset (OfOperand (Missing (ap first_of (looked of_width ops.Subrs)) refl)) in
+    font_refused Strict _ _ _ _ _ _ _ _ top_stands (OfSubroutines Standard _ _ ISOAdobe 30 (dictionary_of of_width) (has_encoding top refl) (has_strings _ _ _ _ _ _ top refl refl) (has_set _ _ top refl) (has_private 0x8d 0x14 _ is) (strictly _) offset)
+
+-- the private dictionary has no bytes: it is empty, and lacks Subrs
+abbrev of_no_bytes : List Operation
+of_no_bytes = (ops.CharStrings, whole (pos 24) ∷ []) ∷ (ops.Private, whole (pos 0) ∷ tens (pos 3) ∷ []) ∷ []
+
+empty_stands : IsDictionary [] 0 (dictionary_of [])
+empty_stands = record { operations = []; next = 0; are = refl; rest = record { operands = []; next = 0; are = refl; cut = refl }; last = get_last [] }
+
+has_no_bytes : HasPrivate (with_bytes 0x11 0x8b 0xa9 0x12 0x8d 0x13) 0 (dictionary_of of_no_bytes) 30 (dictionary_of [])
+unfolding to_i32
+has_no_bytes = (0, [], (whole (pos 0), tens (pos 3), ap first_two_of (looked of_no_bytes ops.Private), refl, refl), omega arith, (λ some. absurd (omega arith), refl), empty_stands)
+
+of_no_bytes_stands : IsDictionary (0xa3 ∷ 0x11 ∷ 0x8b ∷ 0xa9 ∷ 0x12 ∷ []) 0 (dictionary_of of_no_bytes)
+unfolding number unsigned slice canonical without_zeros operator_of
+of_no_bytes_stands = two_stand _ _ _ _ _ _ refl refl refl refl refl refl
+
+pub of_no_bytes_leniently : IsLenientFont (with_bytes 0x11 0x8b 0xa9 0x12 0x8d 0x13) 0 (font_of the_header (tables_of (dictionary_of of_no_bytes)) (columns (part_of (dictionary_of []) ∷ [])))
+of_no_bytes_leniently =
+    let locals = WithoutSubrs 30 has_no_bytes (refl, ap first_of (looked [] ops.Subrs)) refl in
+    (0, font_stands Lenient _ _ _ _ _ _ _ _ _ of_no_bytes_stands (part_stands Lenient _ _ _ _ _ _ of_no_bytes (dictionary_of []) 0 refl refl refl refl locals))
+
+pub no_subrs_of_no_bytes : NoFont (errors.MissingOperation ops.Subrs) (with_bytes 0x11 0x8b 0xa9 0x12 0x8d 0x13) 0
+no_subrs_of_no_bytes =
+    let offset = SubrsOffset (OfOperand (Missing (ap first_of (looked [] ops.Subrs)) refl)) in
+    font_refused Strict _ _ _ _ _ _ _ _ of_no_bytes_stands (OfSubroutines Standard _ _ ISOAdobe 30 (dictionary_of []) (has_encoding of_no_bytes refl) (has_strings _ _ _ _ _ _ of_no_bytes refl refl) (has_set _ _ of_no_bytes refl) has_no_bytes (strictly _) offset)

@@ -1,20 +1,38 @@
 -- What the operands of a dictionary give, in the words of the layout.
-use Rattle.std.proofs.Common.{◌≡◌, ℕ, ◌+◌, ◌^◌, ◌<◌, Bool, true, false, ℤ, pos, negsuc, ◌+ℤ◌, List, Option, Some, None, nat_lt, ◌==◌, if◌then◌else◌, refl, sym, ap, ◌∙◌, subst, arith}
+use Rattle.std.proofs.Common.{◌≡◌, ℕ, ◌+◌, ◌^◌, Bool, true, false, ℤ, pos, negsuc, ◌+ℤ◌, List, Option, Some, None, nat_lt, ◌==◌, if◌then◌else◌, refl, sym, ap, ◌∙◌, subst, arith}
 use Rattle.std.proofs.lemmas.Bool.Decides.{nat_tests}
 use Rattle.postscript_base.specs.Refusal.{Refusal, OfMalformed, OfMissing, out_of_range_offset, unknown_char_string_format}
-use Rattle.postscript_base.specs.Tape.Outcome.{Outcome, Got, Fault, Past, Reading, after, pure, fault}
+use Rattle.postscript_base.specs.Tape.Outcome.{Got, Fault, after, pure, fault}
 use Rattle.postscript_base.specs.Compact1.Decimal.{Decimal, to_i32}
 use Rattle.postscript_base.specs.Compact1.Defaults.{look, first_of, first_two_of}
 use Rattle.postscript_base.specs.Compact1.Dictionary.{Dictionary}
 use Rattle.postscript_base.specs.declared.compact1.operator.Operator.{Operator}
 use Rattle.postscript_base.specs.declared.compact1.operator.Operator.TheVariants.{CharStringType, Private}
-use Rattle.postscript_compact1.specs.FontSet.Operands.{number_of, number_of_first, first, numbers_of_two, two, size_of, in_range, place_of, place_at, only_two, type_two, bounded, bounds}
-use Rattle.postscript_compact1.specs.FontSet.Layout.{HasFirst, HasTwo, IsPlace}
+use Rattle.postscript_compact1.specs.declared.font_set.manner.Manner.{Manner}
+use Rattle.postscript_compact1.specs.declared.font_set.manner.Manner.TheVariants.{Strict, Lenient}
+use Rattle.postscript_compact1.specs.FontSet.Operands.{goes_without, number_of, number_of_first, first, numbers_of_two, two, size_of, in_range, place_of, place_at, only_two, type_two, bounds}
+use Rattle.postscript_compact1.specs.FontSet.Layout.{HasFirst, HasTwo, IsPlace, IsLacking}
 use Rattle.postscript_compact1.proofs.Outcomes.{got}
-use Rattle.postscript_compact1.proofs.Steps.{Steps, Done, Last, Step, accepted}
+use Rattle.postscript_compact1.proofs.Steps.{Done, Last, Step, accepted}
 
 pub faulty : {A : Type 0} {C : Type 0} (x : A) (r : Refusal) (next : ℕ) → Fault r ≡ Got x next → C
 faulty x r next e = absurd (cc)
+
+-- ---- what is lacking
+pub lacking_is : {A : Type 0} (manner : Manner) (o : Option A) → IsLacking manner o → goes_without manner o ≡ true
+lacking_is manner o h = rw (h.0, h.1) refl
+
+pub lacking_has : {A : Type 0} (manner : Manner) (o : Option A) → goes_without manner o ≡ true → IsLacking manner o
+lacking_has Strict o e = absurd (cc)
+lacking_has Lenient None e = (refl, refl)
+lacking_has Lenient (Some x) e = absurd (cc)
+
+pub none_lacking : {A : Type 0} (manner : Manner) (o : Option A) → goes_without manner o ≡ false → IsLacking manner o → ⊥
+none_lacking manner o e h = let t = lacking_is manner o h in absurd (cc)
+
+pub there_is : {A : Type 0} (manner : Manner) (o : Option A) (x : A) → o ≡ Some x → goes_without manner o ≡ false
+there_is Strict o x is = refl
+there_is Lenient o x is = rw is refl
 
 -- ---- operands
 pub first_is : (map : Dictionary) (op : Operator) (n : ℤ) (bytes : List ℕ) (place : ℕ) → HasFirst map op n → first map op bytes place ≡ Got n place

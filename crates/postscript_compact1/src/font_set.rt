@@ -4,12 +4,13 @@ ghost use Rattle.postscript_base.specs.Error.{IsListed};
 ghost use Rattle.postscript_base.specs.Tape.{Reads, IsHonest};
 ghost use Rattle.postscript_base.specs.declared.error.Error.TheVariants as errors;
 ghost use Rattle.postscript_compact1.specs.FontSet.Font.{Font, font_of};
-ghost use Rattle.postscript_compact1.specs.FontSet.Causes.{NoFont};
-ghost use Rattle.postscript_compact1.specs.FontSet.Layout.{IsFont};
-ghost use Rattle.postscript_compact1.specs.FontSet.Order.{font};
+ghost use Rattle.postscript_compact1.specs.FontSet.Causes.{NoFont, NoLenientFont};
+ghost use Rattle.postscript_compact1.specs.FontSet.Layout.{IsFont, IsLenientFont};
+ghost use Rattle.postscript_compact1.specs.FontSet.Order.{font, font_by, lenient_font};
 ghost use Rattle.postscript_compact1.specs.FontSet.Shown.{font_shown, tables_shown, parts_shown};
 
 pub mod laws;
+mod manner;
 mod operands;
 mod parts;
 mod tables;
@@ -17,6 +18,7 @@ mod tables;
 use crate::char_set::CharSet;
 use crate::encoding::Encoding;
 use crate::index::{CharStrings, Strings, Subroutines};
+use manner::Manner;
 use parts::{Parts, read_parts};
 use postscript_base::compact1::laws::reads_dictionaries;
 use postscript_base::compact1::{Header, Operations};
@@ -67,6 +69,24 @@ impl FontSet {
             local_subroutines: self.local_subroutines.clone()?,
         })
     }
+
+    /// A font, which may lack private dictionaries and local subroutines: without operands of `Private` a dictionary has an
+    /// empty private one, and without an operand of `Subrs` no local subroutines. Where the tape then stands is left open.
+    ///
+    /// Refused as a font is whose locals must be there; `MissingOperation` and `MalformedOperation` of `Private` and `Subrs`
+    /// come only where an operand is there and is no whole number of `i32`.
+    ///
+    /// Whoever calls it learns that a font is read where one stands that may lack these, and nowhere else.
+    pub fn read_lenient<T: Tape>(alloc: Global, tape: &mut T) -> Result<FontSet>
+        ensures exact { Reads font_shown (T.state tape.old) result (T.state tape.new) lenient_font }
+        ensures listed { IsListed (1 ∷ 2 ∷ 3 ∷ 5 ∷ 6 ∷ 7 ∷ 8 ∷ 9 ∷ 10 ∷ 11 ∷ 12 ∷ 13 ∷ 14 ∷ 15 ∷ 16 ∷ []) result }
+        ensures found { IsHonest (T.state tape.old) → IfOk result (λ f. IsLenientFont (T.state tape.old).bytes (T.state tape.old).place (font_shown f)) }
+        ensures only { IsHonest (T.state tape.old) → IfErr result (λ e. e ≢ errors.Memory → (f : Font) → IsLenientFont (T.state tape.old).bytes (T.state tape.old).place f → ⊥) }
+        ensures why { IsHonest (T.state tape.old) → IfErr result (λ e. e ≢ errors.Memory → NoLenientFont e (T.state tape.old).bytes (T.state tape.old).place) }
+    {
+        reads_dictionaries();
+        read_font(alloc, tape, Manner::Lenient)
+    }
 }
 
 /// Refused: `OutOfRangeOffset` where an offset, a size or a sum of offsets is negative, or 64 bits do not count a place;
@@ -106,20 +126,20 @@ impl Value for FontSet {
         ensures why { IsHonest (T.state tape.old) → IfErr result (λ e. e ≢ errors.Memory → NoFont e (T.state tape.old).bytes (T.state tape.old).place) }
     {
         reads_dictionaries();
-        read_font(alloc, tape)
+        read_font(alloc, tape, Manner::Strict)
     }
 }
 
-/// Reads a font.
-#[tactic(auto, using(crate::proofs::Outcomes::refused_after), unfolding(crate::specs::FontSet::Order::font))]
-fn read_font<T: Tape>(alloc: Global, tape: &mut T) -> Result<FontSet>
-    ensures exact { Reads font_shown (T.state tape.old) result (T.state tape.new) font }
+/// Reads a font in a manner.
+#[tactic(auto, using(crate::proofs::Outcomes::refused_after), unfolding(crate::specs::FontSet::Order::font_by))]
+fn read_font<T: Tape>(alloc: Global, tape: &mut T, manner: Manner) -> Result<FontSet>
+    ensures exact { Reads font_shown (T.state tape.old) result (T.state tape.new) (font_by manner) }
     ensures listed { IsListed (1 ∷ 2 ∷ 3 ∷ 5 ∷ 6 ∷ 7 ∷ 8 ∷ 9 ∷ 10 ∷ 11 ∷ 12 ∷ 13 ∷ 14 ∷ 15 ∷ 16 ∷ []) result }
 {
     let start = tape.position()?;
     let header = Header::read(alloc, tape)?;
     let tables = read_behind(alloc, tape, start, header)?;
-    let parts = read_parts(alloc, tape, start, &tables.dictionaries)?;
+    let parts = read_parts(alloc, tape, manner, start, &tables.dictionaries)?;
     Ok(of_parts(header, tables, parts))
 }
 

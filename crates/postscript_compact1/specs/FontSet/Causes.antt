@@ -20,8 +20,10 @@ use Rattle.postscript_compact1.specs.ItemsLaw.{AreDictionaries, HasRefused}
 use Rattle.postscript_compact1.specs.CharSets.{char_set}
 use Rattle.postscript_compact1.specs.declared.char_set.CharSet.{CharSet}
 use Rattle.postscript_compact1.specs.declared.encoding.Encoding.{Encoding}
+use Rattle.postscript_compact1.specs.declared.font_set.manner.Manner.{Manner}
+use Rattle.postscript_compact1.specs.declared.font_set.manner.Manner.TheVariants.{Strict, Lenient}
 use Rattle.postscript_compact1.specs.FontSet.Font.{Part, Tables}
-use Rattle.postscript_compact1.specs.FontSet.Layout.{HasFirst, HasTwo, IsSlice, IsPlace, Stands, HasEncoding, HasCharStrings, HasCharSet, HasPrivate, IsPart, AreTables}
+use Rattle.postscript_compact1.specs.FontSet.Layout.{HasFirst, HasTwo, IsSlice, IsPlace, Stands, HasEncoding, HasCharStrings, HasCharSet, HasPrivate, IsLacking, IsPart, AreTables}
 
 -- the place sought lies past the end, or what stands there is refused
 abbrev pub RefusedAt : {A : Type 0} → Error → Reading A → List ℕ → ℕ → Type 0
@@ -70,18 +72,23 @@ pub data NoSubroutines (e : Error) (bytes : List ℕ) (start base : ℕ) (local 
   SubrsOffset : NoOffset e start base local operators.Subrs → NoSubroutines e bytes start base local
   SubrsRefused : (z : ℤ) (n : ℕ) → HasFirst local operators.Subrs z → pos base +ℤ z ≡ pos n → IsPlace (start + n) → RefusedAt e index bytes (start + n) → NoSubroutines e bytes start base local
 
-pub data NoPart (e : Error) (bytes : List ℕ) (start : ℕ) (map : Dictionary) : Type 0 where
-  OfEncoding : NoEncoding e map → NoPart e bytes start map
-  OfStrings : (encoding : Encoding) → HasEncoding map encoding → NoCharStrings e bytes start map → NoPart e bytes start map
-  OfSet : (encoding : Encoding) (strings : Index) (next : ℕ) → HasEncoding map encoding → HasCharStrings bytes start map strings next → NoCharSet e bytes start (length strings.items) map → NoPart e bytes start map
-  OfPrivate : (encoding : Encoding) (strings : Index) (next : ℕ) (set : CharSet) → HasEncoding map encoding → HasCharStrings bytes start map strings next → HasCharSet bytes start (length strings.items) map set → NoPrivate e bytes start map → NoPart e bytes start map
+-- operands that are there, or may not be missing
+abbrev pub IsSought : {A : Type 0} → Manner → Option A → Type 0
+IsSought manner operands = IsLacking manner operands → ⊥
+
+pub data NoPart (manner : Manner) (e : Error) (bytes : List ℕ) (start : ℕ) (map : Dictionary) : Type 0 where
+  OfEncoding : NoEncoding e map → NoPart manner e bytes start map
+  OfStrings : (encoding : Encoding) → HasEncoding map encoding → NoCharStrings e bytes start map → NoPart manner e bytes start map
+  OfSet : (encoding : Encoding) (strings : Index) (next : ℕ) → HasEncoding map encoding → HasCharStrings bytes start map strings next → NoCharSet e bytes start (length strings.items) map → NoPart manner e bytes start map
+  OfPrivate : (encoding : Encoding) (strings : Index) (next : ℕ) (set : CharSet) → HasEncoding map encoding → HasCharStrings bytes start map strings next → HasCharSet bytes start (length strings.items) map set
+      → IsSought manner (first_two_of (look map operators.Private)) → NoPrivate e bytes start map → NoPart manner e bytes start map
   OfSubroutines : (encoding : Encoding) (strings : Index) (next : ℕ) (set : CharSet) (offset : ℕ) (local : Dictionary) → HasEncoding map encoding → HasCharStrings bytes start map strings next → HasCharSet bytes start (length strings.items) map set
-      → HasPrivate bytes start map offset local → NoSubroutines e bytes start offset local → NoPart e bytes start map
+      → HasPrivate bytes start map offset local → IsSought manner (first_of (look local operators.Subrs)) → NoSubroutines e bytes start offset local → NoPart manner e bytes start map
 
 -- the part of some dictionary is refused, and those before it have theirs
-abbrev pub NoParts : Error → List ℕ → ℕ → List Dictionary → Type 0
-NoParts e bytes start [] = ⊥
-NoParts e bytes start (m ∷ ms) = NoPart e bytes start m ⊎ ((p : Part) × (next : ℕ) × IsPart bytes start m p next × NoParts e bytes start ms)
+abbrev pub NoParts : Manner → Error → List ℕ → ℕ → List Dictionary → Type 0
+NoParts manner e bytes start [] = ⊥
+NoParts manner e bytes start (m ∷ ms) = NoPart manner e bytes start m ⊎ ((p : Part) × (next : ℕ) × IsPart manner bytes start m p next × NoParts manner e bytes start ms)
 
 pub data NoTables (e : Error) (bytes : List ℕ) (place : ℕ) : Type 0 where
   OfNames : RefusedAt e index bytes place → NoTables e bytes place
@@ -90,8 +97,14 @@ pub data NoTables (e : Error) (bytes : List ℕ) (place : ℕ) : Type 0 where
   OfStringList : (names items : Index) (maps : List Dictionary) (behind next : ℕ) → IsIndex bytes place names behind → IsIndex bytes behind items next → AreDictionaries items.items maps → RefusedAs e (index bytes next) → NoTables e bytes place
   OfGlobalList : (names items strings : Index) (maps : List Dictionary) (behind next at : ℕ) → IsIndex bytes place names behind → IsIndex bytes behind items next → AreDictionaries items.items maps → IsIndex bytes next strings at → RefusedAs e (index bytes at) → NoTables e bytes place
 
-pub data NoFont (e : Error) (bytes : List ℕ) (start : ℕ) : Type 0 where
-  OfHeader : RefusedAs e (header bytes start) → NoFont e bytes start
-  HeaderSize : (h : Header) (at : ℕ) → Stands header bytes start h at → refusal_of e ≡ out_of_range_offset → (IsPlace (start + h.header_size) → ⊥) → NoFont e bytes start
-  OfTables : (h : Header) (at : ℕ) → Stands header bytes start h at → IsPlace (start + h.header_size) → NoTables e bytes (start + h.header_size) → NoFont e bytes start
-  OfParts : (h : Header) (at : ℕ) (tables : Tables) (behind : ℕ) → Stands header bytes start h at → IsPlace (start + h.header_size) → AreTables bytes (start + h.header_size) tables behind → NoParts e bytes start tables.dictionaries → NoFont e bytes start
+pub data NoFontBy (manner : Manner) (e : Error) (bytes : List ℕ) (start : ℕ) : Type 0 where
+  OfHeader : RefusedAs e (header bytes start) → NoFontBy manner e bytes start
+  HeaderSize : (h : Header) (at : ℕ) → Stands header bytes start h at → refusal_of e ≡ out_of_range_offset → (IsPlace (start + h.header_size) → ⊥) → NoFontBy manner e bytes start
+  OfTables : (h : Header) (at : ℕ) → Stands header bytes start h at → IsPlace (start + h.header_size) → NoTables e bytes (start + h.header_size) → NoFontBy manner e bytes start
+  OfParts : (h : Header) (at : ℕ) (tables : Tables) (behind : ℕ) → Stands header bytes start h at → IsPlace (start + h.header_size) → AreTables bytes (start + h.header_size) tables behind → NoParts manner e bytes start tables.dictionaries → NoFontBy manner e bytes start
+
+abbrev pub NoFont : Error → List ℕ → ℕ → Type 0
+NoFont e bytes start = NoFontBy Strict e bytes start
+
+abbrev pub NoLenientFont : Error → List ℕ → ℕ → Type 0
+NoLenientFont e bytes start = NoFontBy Lenient e bytes start

@@ -1,14 +1,14 @@
 -- Where the parts of a font stand (Technical Note 5176, "CFF Data Layout"). Offsets count from the font's start.
-use Rattle.std.specs.Prelude.{◌≡◌, ◌↔◌, ◌⊎◌, ℕ, ◌+◌, ◌^◌, ◌<◌, ◌≤◌, ℤ, pos, ◌+ℤ◌, List, [], ◌∷◌, length, take, drop, Some, map}
+use Rattle.std.specs.Prelude.{◌≡◌, ◌↔◌, ◌⊎◌, ℕ, ◌+◌, ◌^◌, ◌<◌, ◌≤◌, ℤ, pos, ◌+ℤ◌, List, [], ◌∷◌, length, take, drop, Option, Some, None, map}
 use Rattle.postscript_base.specs.Tape.Outcome.{Got, Reading}
 use Rattle.postscript_base.specs.Compact1.Decimal.{Decimal, to_i32}
 use Rattle.postscript_base.specs.Compact1.Defaults.{look, first_of, first_two_of}
-use Rattle.postscript_base.specs.Compact1.Dictionary.{Dictionary}
+use Rattle.postscript_base.specs.Compact1.Dictionary.{Dictionary, dictionary_of}
 use Rattle.postscript_base.specs.Compact1.DictionaryLaw.{IsDictionary}
 use Rattle.postscript_base.specs.Compact1.Header.{header}
 use Rattle.postscript_base.specs.declared.compact1.operator.Operator.{Operator}
 use Rattle.postscript_base.specs.declared.compact1.operator.Operator.TheVariants as operators
-use Rattle.postscript_compact1.specs.Index.{Index}
+use Rattle.postscript_compact1.specs.Index.{Index, empty}
 use Rattle.postscript_compact1.specs.IndexLaw.{IsIndex}
 use Rattle.postscript_compact1.specs.ItemsLaw.{AreDictionaries}
 use Rattle.postscript_compact1.specs.Texts.{text}
@@ -17,8 +17,10 @@ use Rattle.postscript_compact1.specs.declared.char_set.CharSet.{CharSet}
 use Rattle.postscript_compact1.specs.declared.char_set.CharSet.TheVariants as sets
 use Rattle.postscript_compact1.specs.declared.encoding.Encoding.{Encoding}
 use Rattle.postscript_compact1.specs.declared.encoding.Encoding.TheVariants as encodings
+use Rattle.postscript_compact1.specs.declared.font_set.manner.Manner.{Manner}
+use Rattle.postscript_compact1.specs.declared.font_set.manner.Manner.TheVariants.{Strict, Lenient}
 use Rattle.postscript_compact1.specs.FontSet.Font.{Part, Tables, Font, columns, font_of}
-use Rattle.postscript_compact1.specs.FontSet.Order.{font}
+use Rattle.postscript_compact1.specs.FontSet.Order.{font, lenient_font}
 
 -- the first operand of an operator, or those of the first two, with the defaults, as whole numbers of 32 bits
 abbrev pub HasFirst : Dictionary → Operator → ℤ → Type 0
@@ -69,22 +71,31 @@ HasSubroutines bytes start base local subroutines next =
     (z : ℤ) × (offset : ℕ) × HasFirst local operators.Subrs z × (pos base +ℤ z ≡ pos offset) × IsPlace (start + offset)
     × IsIndex bytes (start + offset) subroutines next
 
+-- operands that are missing, where the font may lack them
+abbrev pub IsLacking : {A : Type 0} → Manner → Option A → Type 0
+IsLacking manner operands = (manner ≡ Lenient) × (operands ≡ None)
+
+-- The private dictionary and the local subroutines of a dictionary, and the place behind these. Where Subrs has no operand there
+-- are no subroutines, and where Private has fewer than two there is no private dictionary either: the next place is then open.
+pub data HasLocals (manner : Manner) (bytes : List ℕ) (start : ℕ) (map local : Dictionary) (subroutines : Index) (next : ℕ) : Type 0 where
+  WithBoth : (offset : ℕ) → HasPrivate bytes start map offset local → HasSubroutines bytes start offset local subroutines next → HasLocals manner bytes start map local subroutines next
+  WithoutSubrs : (offset : ℕ) → HasPrivate bytes start map offset local → IsLacking manner (first_of (look local operators.Subrs)) → subroutines ≡ empty → HasLocals manner bytes start map local subroutines next
+  WithoutPrivate : IsLacking manner (first_two_of (look map operators.Private)) → local ≡ dictionary_of [] → subroutines ≡ empty → HasLocals manner bytes start map local subroutines next
+
 -- what a font has for one dictionary, and the place behind its local subroutines
-pub record IsPart (bytes : List ℕ) (start : ℕ) (map : Dictionary) (part : Part) (next : ℕ) : Type 0 where
+pub record IsPart (manner : Manner) (bytes : List ℕ) (start : ℕ) (map : Dictionary) (part : Part) (next : ℕ) : Type 0 where
   pub char_strings_next : ℕ
-  pub private_offset : ℕ
   pub encoding : HasEncoding map part.encoding
   pub char_strings : HasCharStrings bytes start map part.char_strings char_strings_next
   pub char_set : HasCharSet bytes start (length part.char_strings.items) map part.char_set
-  pub private : HasPrivate bytes start map private_offset part.local_dictionary
-  pub local_subroutines : HasSubroutines bytes start private_offset part.local_dictionary part.local_subroutines next
+  pub locals : HasLocals manner bytes start map part.local_dictionary part.local_subroutines next
 
 -- a part for each dictionary, and the place behind the last, or this place where there are none
-abbrev pub AreParts : List ℕ → ℕ → List Dictionary → List Part → ℕ → ℕ → Type 0
-AreParts bytes start [] [] place next = place ≡ next
-AreParts bytes start (m ∷ ms) (p ∷ ps) place next = (behind : ℕ) × IsPart bytes start m p behind × AreParts bytes start ms ps behind next
-AreParts bytes start [] (p ∷ ps) place next = ⊥
-AreParts bytes start (m ∷ ms) [] place next = ⊥
+abbrev pub AreParts : Manner → List ℕ → ℕ → List Dictionary → List Part → ℕ → ℕ → Type 0
+AreParts manner bytes start [] [] place next = place ≡ next
+AreParts manner bytes start (m ∷ ms) (p ∷ ps) place next = (behind : ℕ) × IsPart manner bytes start m p behind × AreParts manner bytes start ms ps behind next
+AreParts manner bytes start [] (p ∷ ps) place next = ⊥
+AreParts manner bytes start (m ∷ ms) [] place next = ⊥
 
 -- at a place stand names, dictionaries, strings and global subroutines, one behind the other
 pub record AreTables (bytes : List ℕ) (place : ℕ) (tables : Tables) (next : ℕ) : Type 0 where
@@ -100,8 +111,8 @@ pub record AreTables (bytes : List ℕ) (place : ℕ) (tables : Tables) (next : 
   pub are_strings : IsIndex bytes dictionaries_next tables.strings strings_next
   pub are_subroutines : IsIndex bytes strings_next tables.subroutines next
 
--- a font stands at a place, and the next place is behind it
-pub record IsFont (bytes : List ℕ) (start : ℕ) (font : Font) (next : ℕ) : Type 0 where
+-- a font stands at a place, and the next place is behind it; what it may lack is by the manner
+pub record IsFontBy (manner : Manner) (bytes : List ℕ) (start : ℕ) (font : Font) (next : ℕ) : Type 0 where
   pub header_next : ℕ
   pub tables : Tables
   pub behind : ℕ
@@ -109,10 +120,25 @@ pub record IsFont (bytes : List ℕ) (start : ℕ) (font : Font) (next : ℕ) : 
   pub header : Stands header bytes start font.header header_next
   pub place : IsPlace (start + font.header.header_size)
   pub are_tables : AreTables bytes (start + font.header.header_size) tables behind
-  pub are_parts : AreParts bytes start tables.dictionaries parts behind next
+  pub are_parts : AreParts manner bytes start tables.dictionaries parts behind next
   pub made_of : font ≡ font_of font.header tables (columns parts)
+
+-- a font that lacks neither private dictionaries nor local subroutines
+abbrev pub IsFont : List ℕ → ℕ → Font → ℕ → Type 0
+IsFont bytes start font next = IsFontBy Strict bytes start font next
+
+-- a font that may lack them; what the next place is stays open
+abbrev pub IsLenientFont : List ℕ → ℕ → Font → Type 0
+IsLenientFont bytes start font = (next : ℕ) × IsFontBy Lenient bytes start font next
 
 -- a reading gives a font exactly where one stands, and no other stands there
 pub record ReadsLayout : Type 0 where
   pub both_ways : (bytes : List ℕ) (start : ℕ) (f : Font) (next : ℕ) → (font bytes start ≡ Got f next) ↔ IsFont bytes start f next
   pub alone : (bytes : List ℕ) (start : ℕ) (f g : Font) (next other : ℕ) → IsFont bytes start f next → IsFont bytes start g other → (f ≡ g) × (next ≡ other)
+
+-- a lenient reading gives a font exactly where one stands that may lack them, and no other stands there; one that lacks neither is
+-- such a font
+pub record ReadsLeniently : Type 0 where
+  pub both_ways : (bytes : List ℕ) (start : ℕ) (f : Font) → ((next : ℕ) × (lenient_font bytes start ≡ Got f next)) ↔ IsLenientFont bytes start f
+  pub alone : (bytes : List ℕ) (start : ℕ) (f g : Font) → IsLenientFont bytes start f → IsLenientFont bytes start g → f ≡ g
+  pub wider : (bytes : List ℕ) (start : ℕ) (f : Font) (next : ℕ) → IsFont bytes start f next → IsLenientFont bytes start f

@@ -1,6 +1,7 @@
 -- What the operands of a dictionary say of a font: whole numbers, and places that count from the font's start
 -- (Technical Note 5176, "Top DICT Data", "Private DICT Data").
-use Rattle.std.specs.Prelude.{ℕ, ◌+◌, ◌^◌, ℤ, pos, negsuc, ◌+ℤ◌, ◌==◌, nat_lt, Option, Some, None, if◌then◌else◌}
+use Rattle.std.specs.Prelude.{ℕ, ◌+◌, ◌^◌, ℤ, pos, negsuc, ◌+ℤ◌, ◌==◌, nat_lt, Bool, false, Option, Some, None, if◌then◌else◌}
+use Rattle.std.specs.Option.{is_none}
 use Rattle.postscript_base.specs.Refusal.{OfMalformed, OfMissing, unknown_char_string_format, out_of_range_offset}
 use Rattle.postscript_base.specs.Tape.Outcome.{Reading, ◌>>=◌, pure, fault}
 use Rattle.postscript_base.specs.Compact1.Decimal.{Decimal, to_i32}
@@ -8,6 +9,13 @@ use Rattle.postscript_base.specs.Compact1.Defaults.{look, first_of, first_two_of
 use Rattle.postscript_base.specs.Compact1.Dictionary.{Dictionary}
 use Rattle.postscript_base.specs.declared.compact1.operator.Operator.{Operator}
 use Rattle.postscript_base.specs.declared.compact1.operator.Operator.TheVariants.{CharStringType, Private}
+use Rattle.postscript_compact1.specs.declared.font_set.manner.Manner.{Manner}
+use Rattle.postscript_compact1.specs.declared.font_set.manner.Manner.TheVariants.{Strict, Lenient}
+
+-- operands that are missing, where the reading goes without them
+abbrev pub goes_without : {A : Type 0} → Manner → Option A → Bool
+goes_without Strict operands = false
+goes_without Lenient operands = is_none operands
 
 -- an operand as a whole number of 32 bits
 abbrev pub number_of : Operator → Option ℤ → Reading ℤ

@@ -1,15 +1,16 @@
 -- The order in which a font is read (Technical Note 5176, "CFF Data Layout"). Offsets count from the font's start.
-use Rattle.std.specs.Prelude.{ℕ, ◌+◌, ℤ, pos, negsuc, List, length, map, ◌==◌, if◌then◌else◌}
+use Rattle.std.specs.Prelude.{ℕ, ◌+◌, ℤ, pos, negsuc, List, [], length, map, ◌==◌, if◌then◌else◌}
 use Rattle.postscript_base.specs.Refusal.{OfPart}
 use Rattle.postscript_base.specs.Tape.Outcome.{Reading, pure, fault, position, ◌>>=◌}
 use Rattle.postscript_base.specs.Tape.At.{at, bytes_at}
 use Rattle.postscript_base.specs.Tape.Loops.{each}
-use Rattle.postscript_base.specs.Compact1.Dictionary.{Dictionary}
+use Rattle.postscript_base.specs.Compact1.Defaults.{look, first_of, first_two_of}
+use Rattle.postscript_base.specs.Compact1.Dictionary.{Dictionary, dictionary_of}
 use Rattle.postscript_base.specs.Compact1.Header.{header}
 use Rattle.postscript_base.specs.declared.compact1.header.Header.{Header}
 use Rattle.postscript_base.specs.declared.compact1.operator.Operator.TheVariants as operators
 use Rattle.postscript_base.specs.declared.error.Part.TheVariants as unsupported
-use Rattle.postscript_compact1.specs.Index.{Index, index}
+use Rattle.postscript_compact1.specs.Index.{Index, index, empty}
 use Rattle.postscript_compact1.specs.Kinds.{map_of, maps_of}
 use Rattle.postscript_compact1.specs.Texts.{text}
 use Rattle.postscript_compact1.specs.CharSets.{char_set as the_set}
@@ -17,7 +18,9 @@ use Rattle.postscript_compact1.specs.declared.char_set.CharSet.{CharSet}
 use Rattle.postscript_compact1.specs.declared.char_set.CharSet.TheVariants as sets
 use Rattle.postscript_compact1.specs.declared.encoding.Encoding.{Encoding}
 use Rattle.postscript_compact1.specs.declared.encoding.Encoding.TheVariants as encodings
-use Rattle.postscript_compact1.specs.FontSet.Operands.{first, size_of, in_range, place_at, type_two, bounds}
+use Rattle.postscript_compact1.specs.declared.font_set.manner.Manner.{Manner}
+use Rattle.postscript_compact1.specs.declared.font_set.manner.Manner.TheVariants.{Strict, Lenient}
+use Rattle.postscript_compact1.specs.FontSet.Operands.{goes_without, first, size_of, in_range, place_at, type_two, bounds}
 use Rattle.postscript_compact1.specs.FontSet.Font.{Part, Tables, Columns, Font, columns, font_of}
 
 -- the encoding of a dictionary: 0 and 1 name the predefined ones
@@ -74,19 +77,29 @@ glyphs start map = do
   char_set ← char_set start (length char_strings.items) map
   pure (char_strings, char_set)
 
+-- the local subroutines; none where they are lacking
+unfoldable pub own_subroutines : Manner → ℕ → ℕ → Dictionary → Reading Index
+own_subroutines manner start offset local_dictionary =
+    if goes_without manner (first_of (look local_dictionary operators.Subrs)) then pure empty else subroutines start offset local_dictionary
+
 -- the private dictionary and its subroutines
-unfoldable pub locals : ℕ → Dictionary → Reading (Dictionary × Index)
-locals start map = do
+unfoldable pub own_locals : Manner → ℕ → Dictionary → Reading (Dictionary × Index)
+own_locals manner start map = do
   private ← private start map
-  subroutines ← subroutines start private.0 private.1
+  subroutines ← own_subroutines manner start private.0 private.1
   pure (private.1, subroutines)
 
+-- these; no operations and no subroutines where the private dictionary is lacking
+unfoldable pub locals : Manner → ℕ → Dictionary → Reading (Dictionary × Index)
+locals manner start map =
+    if goes_without manner (first_two_of (look map operators.Private)) then pure (dictionary_of [], empty) else own_locals manner start map
+
 -- what a font has for one dictionary
-unfoldable pub part : ℕ → Dictionary → Reading Part
-part start map = do
+unfoldable pub part : Manner → ℕ → Dictionary → Reading Part
+part manner start map = do
   encoding ← encoding map
   glyphs ← glyphs start map
-  locals ← locals start map
+  locals ← locals manner start map
   pure (record { encoding = encoding; char_strings = glyphs.0; char_set = glyphs.1; local_dictionary = locals.0; local_subroutines = locals.1 })
 
 -- the names at a place, each a text
@@ -111,13 +124,20 @@ unfoldable pub behind : ℕ → Header → Reading Tables
 behind start header = in_range (start + header.header_size) >>= tables
 
 -- the parts of all dictionaries, one after the other
-unfoldable pub parts : ℕ → List Dictionary → Reading Columns
-parts start maps = each (part start) maps >>= λ ps. pure (columns ps)
+unfoldable pub parts : Manner → ℕ → List Dictionary → Reading Columns
+parts manner start maps = each (part manner start) maps >>= λ ps. pure (columns ps)
 
-unfoldable pub font : Reading Font
-font = do
+unfoldable pub font_by : Manner → Reading Font
+font_by manner = do
   start ← position
   header ← header
   tables ← behind start header
-  columns ← parts start tables.dictionaries
+  columns ← parts manner start tables.dictionaries
   pure (font_of header tables columns)
+
+abbrev pub font : Reading Font
+font = font_by Strict
+
+-- a font that may lack private dictionaries and local subroutines
+abbrev pub lenient_font : Reading Font
+lenient_font = font_by Lenient

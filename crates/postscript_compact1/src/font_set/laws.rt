@@ -1,11 +1,19 @@
 //! What fonts are.
-ghost use Rattle.postscript_compact1.specs.FontSet.Layout.{ReadsLayout};
+ghost use Rattle.postscript_compact1.specs.FontSet.Layout.{ReadsLayout, ReadsLeniently};
 
 use postscript_base::compact1::laws::reads_dictionaries;
 
 /// A font is read exactly where one stands, and no two stand at one place.
 pub fn reads_layout()
     ensures law { ReadsLayout }
+{
+    reads_dictionaries();
+}
+
+/// A font that may lack private dictionaries and local subroutines is read leniently exactly where one stands, and no two
+/// stand at one place; where a font stands that lacks neither, one that may lack them stands.
+pub fn reads_leniently()
+    ensures law { ReadsLeniently }
 {
     reads_dictionaries();
 }

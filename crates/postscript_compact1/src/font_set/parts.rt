@@ -3,10 +3,11 @@ ghost use Rattle.std.specs.Prelude.{◌≡◌, ℕ, List, [], ◌∷◌, IfErr, 
 ghost use Rattle.postscript_base.specs.Error.{IsListed};
 ghost use Rattle.postscript_base.specs.Tape.{Reads};
 ghost use Rattle.postscript_base.specs.Tape.Outcome.{Answers, same};
-ghost use Rattle.postscript_compact1.specs.FontSet.Order.{encoding as the_encoding, char_strings as the_char_strings, char_set as the_char_set, char_set_offset as the_char_set_offset, own_char_set as the_own_char_set, glyphs as the_glyphs, locals as the_locals, private as the_private, subroutines as the_subroutines, part, parts};
+ghost use Rattle.postscript_compact1.specs.FontSet.Order.{encoding as the_encoding, char_strings as the_char_strings, char_set as the_char_set, char_set_offset as the_char_set_offset, own_char_set as the_own_char_set, glyphs as the_glyphs, locals as the_locals, own_locals as the_own_locals, own_subroutines as the_own_subroutines, private as the_private, subroutines as the_subroutines, part, parts};
 ghost use Rattle.postscript_compact1.specs.FontSet.Font.{columns, more};
 ghost use Rattle.postscript_compact1.specs.FontSet.Shown.{part_shown, parts_shown};
 
+use super::manner::Manner;
 use super::operands::{bounds, first, place_at, type_two};
 use crate::char_set::CharSet;
 use crate::encoding::Encoding;
@@ -32,15 +33,16 @@ pub(super) struct Part {
 pub(super) fn read_part<T: Tape>(
     alloc: Global,
     tape: &mut T,
+    manner: Manner,
     start: u64,
     dictionary: &Operations,
 ) -> Result<Part>
-    ensures exact { Reads part_shown (T.state tape.old) result (T.state tape.new) (part start dictionary.now) }
+    ensures exact { Reads part_shown (T.state tape.old) result (T.state tape.new) (part manner start dictionary.now) }
     ensures listed { IsListed (1 ∷ 2 ∷ 3 ∷ 5 ∷ 6 ∷ 7 ∷ 8 ∷ 9 ∷ 10 ∷ 11 ∷ 12 ∷ 13 ∷ 14 ∷ 15 ∷ 16 ∷ []) result }
 {
     let encoding = encoding(dictionary)?;
     let (char_strings, char_set) = glyphs(alloc, tape, start, dictionary)?;
-    let (local_dictionary, local_subroutines) = locals(alloc, tape, start, dictionary)?;
+    let (local_dictionary, local_subroutines) = locals(alloc, tape, manner, start, dictionary)?;
     Ok(Part {
         encoding,
         char_strings,
@@ -147,19 +149,38 @@ fn own_char_set<T: Tape>(
     Ok(read_given_at::<CharSet, T>(alloc, tape, place, glyphs)?)
 }
 
-/// The private dictionary of a dictionary, and the local subroutines.
+/// The private dictionary of a dictionary and the local subroutines; empty ones where the private dictionary is lacking.
 #[tactic(auto, unfolding(crate::specs::FontSet::Order::locals))]
 fn locals<T: Tape>(
     alloc: Global,
     tape: &mut T,
+    manner: Manner,
     start: u64,
     dictionary: &Operations,
 ) -> Result<(Operations, Subroutines)>
-    ensures exact { Reads (λ r. (r.0, r.1)) (T.state tape.old) result (T.state tape.new) (the_locals start dictionary.now) }
+    ensures exact { Reads (λ r. (r.0, r.1)) (T.state tape.old) result (T.state tape.new) (the_locals manner start dictionary.now) }
+    ensures listed { IsListed (1 ∷ 2 ∷ 3 ∷ 5 ∷ 6 ∷ 7 ∷ 8 ∷ 9 ∷ 13 ∷ 14 ∷ 15 ∷ []) result }
+{
+    if manner.goes_without(&dictionary.get_double(Operator::Private)) {
+        return Ok((Operations::empty(alloc), Subroutines::empty(alloc)));
+    }
+    own_locals(alloc, tape, manner, start, dictionary)
+}
+
+/// The private dictionary of a dictionary, and the local subroutines.
+#[tactic(auto, unfolding(crate::specs::FontSet::Order::own_locals))]
+fn own_locals<T: Tape>(
+    alloc: Global,
+    tape: &mut T,
+    manner: Manner,
+    start: u64,
+    dictionary: &Operations,
+) -> Result<(Operations, Subroutines)>
+    ensures exact { Reads (λ r. (r.0, r.1)) (T.state tape.old) result (T.state tape.new) (the_own_locals manner start dictionary.now) }
     ensures listed { IsListed (1 ∷ 2 ∷ 3 ∷ 5 ∷ 6 ∷ 7 ∷ 8 ∷ 9 ∷ 13 ∷ 14 ∷ 15 ∷ []) result }
 {
     let (offset, local_dictionary) = private(alloc, tape, start, dictionary)?;
-    let local_subroutines = subroutines(alloc, tape, start, offset, &local_dictionary)?;
+    let local_subroutines = own_subroutines(alloc, tape, manner, start, offset, &local_dictionary)?;
     Ok((local_dictionary, local_subroutines))
 }
 
@@ -178,6 +199,25 @@ fn private<T: Tape>(
     let text = bytes_at(alloc, tape, place, size)?;
     let local_dictionary = operations_of(alloc, &text)?;
     Ok((offset, local_dictionary))
+}
+
+/// The local subroutines of a private dictionary at an offset; none where they are lacking.
+#[tactic(auto, unfolding(crate::specs::FontSet::Order::own_subroutines))]
+fn own_subroutines<T: Tape>(
+    alloc: Global,
+    tape: &mut T,
+    manner: Manner,
+    start: u64,
+    offset: u32,
+    local_dictionary: &Operations,
+) -> Result<Subroutines>
+    ensures exact { Reads same (T.state tape.old) result (T.state tape.new) (the_own_subroutines manner start offset local_dictionary.now) }
+    ensures listed { IsListed (1 ∷ 2 ∷ 3 ∷ 5 ∷ 6 ∷ 13 ∷ 14 ∷ 15 ∷ []) result }
+{
+    if manner.goes_without(&local_dictionary.get_single(Operator::Subrs)) {
+        return Ok(Subroutines::empty(alloc));
+    }
+    subroutines(alloc, tape, start, offset, local_dictionary)
 }
 
 /// The local subroutines of a private dictionary at an offset.
@@ -239,15 +279,16 @@ impl Parts {
 pub(super) fn read_parts<T: Tape>(
     alloc: Global,
     tape: &mut T,
+    manner: Manner,
     start: u64,
     dictionaries: &[Operations],
 ) -> Result<Parts>
-    ensures exact { Reads parts_shown (T.state tape.old) result (T.state tape.new) (parts start dictionaries.now) }
+    ensures exact { Reads parts_shown (T.state tape.old) result (T.state tape.new) (parts manner start dictionaries.now) }
     ensures listed { IsListed (1 ∷ 2 ∷ 3 ∷ 5 ∷ 6 ∷ 7 ∷ 8 ∷ 9 ∷ 10 ∷ 11 ∷ 12 ∷ 13 ∷ 14 ∷ 15 ∷ 16 ∷ []) result }
 {
     let mut parts = Parts::empty(alloc);
     for dictionary in dictionaries {
-        let part = read_part(alloc, tape, start, dictionary)?;
+        let part = read_part(alloc, tape, manner, start, dictionary)?;
         parts.push(part)?;
     }
     Ok(parts)

@@ -1,11 +1,11 @@
 use Rattle.std.proofs.Common.{◌∙◌, sym}
 use Rattle.std.proofs.lemmas.Result.{err_from_is_err_and}
-use Rattle.postscript_compact1.specs.FontSet.Order.{font}
+use Rattle.postscript_compact1.specs.FontSet.Order.{font_by}
 use Rattle.postscript_compact1.proofs.Outcomes.{refused_after, got}
 use Rattle.postscript_compact1.proofs.font_set.read_font.Goals as goal
 
 pub returns-in_err-parts-clause-exact : goal.returns-in_err-parts-clause-exact
-unfolding font
+unfolding font_by
 returns-in_err-parts-clause-exact g c = λ honest.
     let start = c.in_ok-start.ensures.exact honest in
     let same = got _ _ _ _ start.1 in

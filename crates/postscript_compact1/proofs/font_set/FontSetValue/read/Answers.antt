@@ -1,4 +1,5 @@
 use Rattle.postscript_compact1.proofs.FontClauses.{found, only, why}
+use Rattle.postscript_compact1.specs.declared.font_set.manner.Manner.TheVariants.{Strict}
 use Rattle.postscript_compact1.proofs.font_set.FontSetValue.read.Goals as goal
 
 pub returns-clause-found : goal.returns-clause-found
@@ -8,4 +9,4 @@ pub returns-clause-only : goal.returns-clause-only
 returns-clause-only g c = λ honest. only c.reads_dictionaries.ensures.law c.read_font.result _ _ _ (c.read_font.ensures.exact honest).1
 
 pub returns-clause-why : goal.returns-clause-why
-returns-clause-why g c = λ honest. why c.reads_dictionaries.ensures.law c.read_font.result _ _ _ (c.read_font.ensures.exact honest).1
+returns-clause-why g c = λ honest. why Strict c.reads_dictionaries.ensures.law c.read_font.result _ _ _ (c.read_font.ensures.exact honest).1
