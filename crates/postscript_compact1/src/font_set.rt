@@ -73,8 +73,8 @@ impl FontSet {
     /// A font, which may lack private dictionaries and local subroutines: without operands of `Private` a dictionary has an
     /// empty private one, and without an operand of `Subrs` no local subroutines. Where the tape then stands is left open.
     ///
-    /// Refused as a font is whose locals must be there; `MissingOperation` and `MalformedOperation` of `Private` and `Subrs`
-    /// come only where an operand is there and is no whole number of `i32`.
+    /// Refused as `FontSet::read`, but never as a missing `Private` or `Subrs`: operands that are there and are no whole numbers
+    /// of `i32` are `MalformedOperation` here as well.
     ///
     /// Whoever calls it learns that a font is read where one stands that may lack these, and nowhere else.
     pub fn read_lenient<T: Tape>(alloc: Global, tape: &mut T) -> Result<FontSet>
