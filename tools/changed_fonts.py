@@ -5,13 +5,13 @@ the one that the build leaves in `crates/psfont/out/psfont`. It needs Python 3 a
 
 Fonts are made from small known ones and from made-up ones that hold every part of a font. Most are then
 changed: bytes set, bits turned, the end cut off, slices doubled, exchanged or removed, operands written over
-others, counts and offsets set to extreme values. Each goes to the program as a line `font HEX`, some thousand
-of them to one process, and to `second_reader.read_font`. The two answers, the summary up to `end` or the one
-line `fault N`, must be equal line for line.
+others, counts and offsets set to extreme values. Each goes to the program as a line `font HEX` and as a line
+`lenient HEX`, some thousand of them to one process, and to `second_reader.read_font`. The two answers, the
+summary up to `end` or the one line `fault N`, must be equal line for line.
 
 Each difference is printed with the font and both answers. At the end stand the number of fonts, how many were
-read, how many were refused by which number, how many answers differ, and the seed, from which the same fonts
-come again. The status is 1 where something differs.
+read and how many were refused by which number, by either line, how many answers differ, and the seed, from
+which the same fonts come again. The status is 1 where something differs.
 """
 
 import argparse
@@ -30,6 +30,7 @@ BATCH = 2000
 SECONDS_A_BATCH = 300
 ROUNDS = 40
 NO_ANSWER = [b"no answer"]
+WORDS = ["font", "lenient"]
 
 KNOWN_DICTIONARIES = [
     "1d7fffffff11", "1d8000000011", "1e2f11", "1e2a5f11", "1e2147483648ff11", "11", "8f118c0c06", "8910",
@@ -511,9 +512,9 @@ def answers_of(output):
     return answers, lines
 
 
-def ask(program, batch):
+def ask(program, word, batch):
     """What one process answers to these fonts, and a remark where it did not end well."""
-    lines = b"".join(b"font " + font.hex().encode() + b"\n" for font in batch)
+    lines = "".join(f"{word} {font.hex()}\n" for font in batch).encode()
     try:
         process = subprocess.run([program], input=lines, capture_output=True, timeout=SECONDS_A_BATCH)
         output, errors, status = process.stdout, process.stderr, process.returncode
@@ -525,43 +526,43 @@ def ask(program, batch):
     return answers[:len(batch)], None if sound else remark
 
 
-def ask_all(program, batch):
+def ask_all(program, word, batch):
     """An answer to each font. Where a process stops early, the font that stopped it is left without one."""
     answers, remarks = [], []
     while len(answers) < len(batch):
-        more, remark = ask(program, batch[len(answers):])
+        more, remark = ask(program, word, batch[len(answers):])
         answers += more or [NO_ANSWER]
         if remark:
             remarks.append(remark)
     return answers, remarks
 
 
-def expected(font):
+def expected(word, font):
     """The second reader's answer as lines, and its number or "read"."""
-    kind, answer = read_font(font, 0)
+    kind, answer = read_font(font, 0, word == "lenient")
     if kind == "ok":
         return [line.encode() for line in answer], "read"
     return [b"fault %d" % answer], answer
 
 
-def show(font, ours, theirs):
-    print(f"differs: font {font.hex()}")
+def show(word, font, ours, theirs):
+    print(f"differs: {word} {font.hex()}")
     for title, lines in (("second reader", ours), ("program", theirs)):
         print(f"  {title}: " + " | ".join(line.decode("utf-8", "backslashreplace") for line in lines))
 
 
-def compare(program, batch, kinds):
+def compare(program, word, batch, kinds):
     """How many answers to these fonts differ; `kinds` counts the second reader's."""
-    answers, remarks = ask_all(program, batch)
+    answers, remarks = ask_all(program, word, batch)
     differing = len(remarks)
     for remark in remarks:
         print(f"differs: the program's end: {remark}")
     for font, theirs in zip(batch, answers):
-        ours, kind = expected(font)
+        ours, kind = expected(word, font)
         kinds[kind] += 1
         if ours != theirs:
             differing += 1
-            show(font, ours, theirs)
+            show(word, font, ours, theirs)
     return differing
 
 
@@ -589,13 +590,15 @@ def main(words):
     if not pathlib.Path(chosen.program).is_file():
         print(f"there is no program {chosen.program}", file=sys.stderr)
         return 2
-    kinds, differing = collections.Counter(), 0
+    told, differing = {word: collections.Counter() for word in WORDS}, 0
     for batch in batches(fonts(chosen.seed, chosen.count)):
-        differing += compare(chosen.program, batch, kinds)
-    refused = {kind: kinds[kind] for kind in kinds if kind != "read"}
-    print(f"fonts compared: {sum(kinds.values())}")
-    print(f"read: {kinds['read']}")
-    print("refused: " + (", ".join(f"{refused[number]} by {number}" for number in sorted(refused)) or "none"))
+        for word, kinds in told.items():
+            differing += compare(chosen.program, word, batch, kinds)
+    print(f"fonts compared: {chosen.count}")
+    for word, kinds in told.items():
+        refused = {kind: kinds[kind] for kind in kinds if kind != "read"}
+        print(f"{word}: read: {kinds['read']}")
+        print(f"{word}: refused: " + (", ".join(f"{refused[number]} by {number}" for number in sorted(refused)) or "none"))
     print(f"differing: {differing}")
     print(f"seed: {chosen.seed}")
     return 1 if differing else 0

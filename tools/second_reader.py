@@ -5,9 +5,11 @@ and numbers are whole numbers of Python without bounds. `tools/changed_fonts.py`
 reader and to the program `psfont` and compares the two answers line for line.
 
 `read_font(data, start)` answers `("ok", lines)` with the lines of the summary, or `("fault", number)` with
-the number of the refusal. A seek past the end succeeds; a reading there that needs a byte is refused.
+the number of the refusal. A seek past the end succeeds; a reading there that needs a byte is refused. With
+`lenient=True` a dictionary may have fewer than two operands of Private, and a private dictionary none of Subrs:
+there are no local subroutines then.
 
-To look at one font: `python3 tools/second_reader.py HEX`.
+To look at one font: `python3 tools/second_reader.py HEX`, or `python3 tools/second_reader.py lenient HEX`.
 """
 
 import re
@@ -248,12 +250,21 @@ def read_dictionary(data):
     return operations
 
 
+def operands_of(operations, code):
+    """The operands of an operation, or of its default."""
+    return operations.get(code, DEFAULTS.get(code, []))
+
+
+def lacks(operations, code, count):
+    """Whether there are fewer operands than that."""
+    return len(operands_of(operations, code)) < count
+
+
 def whole_numbers(operations, code, count):
     """The first operands of an operation, or of its default, as whole numbers."""
-    operands = operations.get(code, DEFAULTS.get(code, []))
-    if len(operands) < count:
+    if lacks(operations, code, count):
         raise Refused(MISSING_OPERATION)
-    return [whole_number(pair) for pair in operands[:count]]
+    return [whole_number(pair) for pair in operands_of(operations, code)[:count]]
 
 
 # The parts of a font
@@ -298,9 +309,10 @@ def read_char_set(cursor, glyphs):
 class Font:
     """The places of a font, which count from its start."""
 
-    def __init__(self, data, start):
+    def __init__(self, data, start, lenient):
         self.data = data
         self.start = start
+        self.lenient = lenient
 
     def place(self, offset):
         if offset < 0 or self.start + offset > HIGHEST_PLACE:
@@ -330,10 +342,14 @@ class Font:
 
     def locals(self, operations):
         """How many local subroutines the private dictionary leads to."""
+        if self.lenient and lacks(operations, PRIVATE, 2):
+            return 0
         size, offset = whole_numbers(operations, PRIVATE, 2)
         if size < 0:
             raise Refused(PLACE_OUT_OF_RANGE)
         private = read_dictionary(self.cursor(offset).take(size))
+        if self.lenient and lacks(private, SUBROUTINES, 1):
+            return 0
         further = whole_numbers(private, SUBROUTINES, 1)[0]
         return len(read_index(self.cursor(offset + further)))
 
@@ -363,19 +379,20 @@ class Font:
         ]
 
 
-def read_font(data, start):
+def read_font(data, start, lenient=False):
     """The summary of the font at that place, or the number of the refusal."""
     try:
-        return ("ok", Font(data, start).summary())
+        return ("ok", Font(data, start, lenient).summary())
     except Refused as refusal:
         return ("fault", refusal.number)
 
 
 def main(words):
-    if len(words) != 1:
-        print("usage: second_reader.py HEX", file=sys.stderr)
+    lenient = words[:1] == ["lenient"]
+    if len(words) != 1 + lenient:
+        print("usage: second_reader.py [lenient] HEX", file=sys.stderr)
         return 2
-    kind, answer = read_font(bytes.fromhex(words[0]), 0)
+    kind, answer = read_font(bytes.fromhex(words[-1]), 0, lenient)
     print("\n".join(answer) if kind == "ok" else f"fault {answer}")
     return 0
 

@@ -70,11 +70,12 @@ impl FontSet {
         })
     }
 
-    /// A font, which may lack private dictionaries and local subroutines: without operands of `Private` a dictionary has an
-    /// empty private one, and without an operand of `Subrs` no local subroutines. Where the tape then stands is left open.
+    /// A font that may lack private dictionaries and local subroutines: with fewer than two operands of `Private` a
+    /// dictionary has an empty private one, and without an operand of `Subrs` no local subroutines. The layout leaves open
+    /// where such a font ends.
     ///
-    /// Refused as `FontSet::read`, but never as a missing `Private` or `Subrs`: operands that are there and are no whole numbers
-    /// of `i32` are `MalformedOperation` here as well.
+    /// Refused as `read` is, but never for operands of `Private` or `Subrs` that are missing; one that is there and is no
+    /// whole number of `i32` is `MalformedOperation`.
     ///
     /// Whoever calls it learns that a font is read where one stands that may lack these, and nowhere else.
     pub fn read_lenient<T: Tape>(alloc: Global, tape: &mut T) -> Result<FontSet>

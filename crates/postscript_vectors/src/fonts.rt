@@ -17,7 +17,7 @@ pub const FONT: &str = "01000401000101010241000101 0106a3118da912000000000001010
 pub const OF_FONT: &str =
     "header 1 0 4 1|name A|strings 0|globals 0|font Standard ISOAdobe glyphs 1 locals 0";
 
-const TWO_DICTIONARIES: &str =
+pub const TWO_DICTIONARIES: &str =
     "010004010000 00020101060ba5118dab12a5118dab12 0000 0000 00010101020e8d130000";
 
 const OWN_CHAR_SET: &str = "010004010000 0001010108a111a90f8da712 0000 0000 00010101020e8d130000";
@@ -120,7 +120,7 @@ pub fn bytes_of(alloc: Global, digits: &str) -> Outcome<Vec<u8>> {
 }
 
 /// Adds a word, and a number after a space.
-fn add(out: &mut Vec<u8>, word: &str, number: usize) -> Outcome<()> {
+pub fn add(out: &mut Vec<u8>, word: &str, number: usize) -> Outcome<()> {
     write!(out, "{word} {number}")?;
     Ok(())
 }

@@ -18,6 +18,8 @@ mod hostile;
 #[cfg(test)]
 mod indices;
 #[cfg(test)]
+mod lenient;
+#[cfg(test)]
 mod parts;
 #[cfg(test)]
 mod programs;

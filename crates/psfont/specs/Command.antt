@@ -2,6 +2,7 @@
 use Rattle.std.specs.Prelude.{ℕ, List, codes}
 use Rattle.psfont.specs.declared.command.Command.{Command}
 use Rattle.psfont.specs.declared.command.Command.TheVariants.{Load, Run, Flat, Font}
+use Rattle.psfont.specs.declared.command.Manner.TheVariants.{Strict, Lenient}
 use Rattle.psfont.specs.declared.command.Place.TheVariants.{Code, Global, Local}
 
 -- what a command is called
@@ -11,4 +12,5 @@ name_of (Load Global) = codes "global"
 name_of (Load Local) = codes "local"
 name_of Run = codes "run"
 name_of Flat = codes "flat"
-name_of Font = codes "font"
+name_of (Font Strict) = codes "font"
+name_of (Font Lenient) = codes "lenient"

@@ -1,6 +1,6 @@
 -- The words after the program's name.
 use Rattle.std.specs.Prelude.{◌≡◌, ◌⊎◌, ℕ, List, [], ◌∷◌, codes}
 
--- those that ask for something: none, or font and the path of a file
+-- those that ask for something: none, or font or lenient and the path of a file
 abbrev pub AreKnown : List (List ℕ) → Type 0
-AreKnown words = (words ≡ []) ⊎ ((path : List ℕ) × (words ≡ codes "font" ∷ path ∷ []))
+AreKnown words = (words ≡ []) ⊎ ((word : List ℕ) × (path : List ℕ) × ((word ≡ codes "font") ⊎ (word ≡ codes "lenient")) × (words ≡ word ∷ path ∷ []))

@@ -5,13 +5,12 @@ ghost use Rattle.postscript.specs.Error.{IsListed};
 ghost use Rattle.psfont.specs.declared.command.Place.{Place};
 ghost use Rattle.psfont.specs.Loaded.{put, Loads};
 
-use crate::command::{Command, Place, split};
+use crate::command::{Command, Manner, Place, split};
 use crate::routines::Routines;
-use crate::summary::write_font;
+use crate::summary::{read_font, write_font};
 use hex::FromHexError;
-use postscript::compact1::FontSet;
 use postscript::type2::{Answers, Operation};
-use postscript::{Error, Result, Value};
+use postscript::{Error, Result};
 use std::alloc::Global;
 use std::io::{Cursor, Write};
 
@@ -36,7 +35,7 @@ pub fn answer_line<W: Write>(
         Some(Command::Load(place)) => load(alloc, place, argument, routines, writer)?,
         Some(Command::Run) if argument.is_empty() => run(alloc, routines, writer)?,
         Some(Command::Flat) if argument.is_empty() => flatten(alloc, routines, writer)?,
-        Some(Command::Font) => font(alloc, argument, writer)?,
+        Some(Command::Font(manner)) => font(alloc, manner, argument, writer)?,
         _ => writeln!(writer, "bad command")?,
     }
     Ok(())
@@ -104,11 +103,11 @@ fn flatten<W: Write>(alloc: Global, routines: &Routines, writer: &mut W) -> Resu
 }
 
 /// Reads a font from the bytes that hex digits spell, and tells what it holds.
-fn font<W: Write>(alloc: Global, digits: &[u8], writer: &mut W) -> Result<()>
+fn font<W: Write>(alloc: Global, manner: Manner, digits: &[u8], writer: &mut W) -> Result<()>
     ensures listed { IsListed (1 ∷ 2 ∷ 3 ∷ []) result }
 {
     match bytes_of(alloc, digits)? {
-        Some(bytes) => match FontSet::read(alloc, &mut Cursor::new(bytes)) {
+        Some(bytes) => match read_font(alloc, manner, &mut Cursor::new(bytes)) {
             Ok(font) => write_font(&font, writer)?,
             Err(fault) => write_fault(&fault, writer)?,
         },

@@ -14,7 +14,7 @@ pub enum Command {
     /// Write the code without calls.
     Flat,
     /// Read a font, written as hex.
-    Font,
+    Font(Manner),
 }
 
 /// Where bytes go.
@@ -26,6 +26,15 @@ pub enum Place {
     Global,
     /// The end of the local subroutines.
     Local,
+}
+
+/// What a font must have.
+#[derive(Clone, Copy, Debug, PartialEq, Eq)]
+pub enum Manner {
+    /// Private dictionaries and local subroutines.
+    Strict,
+    /// It may lack these.
+    Lenient,
 }
 
 impl Command {
@@ -43,7 +52,8 @@ impl Command {
             b"local" => Some(Command::Load(Place::Local)),
             b"run" => Some(Command::Run),
             b"flat" => Some(Command::Flat),
-            b"font" => Some(Command::Font),
+            b"font" => Some(Command::Font(Manner::Strict)),
+            b"lenient" => Some(Command::Font(Manner::Lenient)),
             _ => None,
         }
     }

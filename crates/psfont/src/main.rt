@@ -5,8 +5,7 @@ ghost use Rattle.std.specs.Prelude.{◌≡◌, [], ◌≤◌, ◌↔◌, ◌∷�
 ghost use Rattle.postscript.specs.Error.{IsListed};
 ghost use Rattle.psfont.specs.Words.{AreKnown};
 
-use postscript::compact1::FontSet;
-use postscript::{Error, Result, Value};
+use postscript::{Error, Result};
 use std::alloc::Global;
 use std::env::Env;
 use std::fs::File;
@@ -24,9 +23,10 @@ mod summary;
 mod tests;
 
 use answer::answer_line;
+use command::Manner;
 use lines::{Piece, read_piece, without_return};
 use routines::Routines;
-use summary::write_font;
+use summary::{read_font, write_font};
 
 /// Answers each line of a reader on a writer, up to the end of the input.
 ///
@@ -68,14 +68,19 @@ fn answer_lines<R: BufRead, W: Write>(alloc: Global, reader: &mut R, writer: &mu
 }
 
 /// Does what the words after the program's name ask for, and answers the status to end with: none is a session on the
-/// standard input and output, and `font PATH` tells what the font of a file holds.
+/// standard input and output, and `font PATH` and `lenient PATH` tell what the font of a file holds.
 pub fn start<R: Input + Print + Eprint + Files + AllocGlobal>(rt: &R, words: &[String]) -> u8
     ensures status { result ≤ 2 }
     ensures usage { (result ≡ 2) ↔ (¬ (AreKnown (map string_bytes words.now))) }
 {
     match words {
         [] => status(rt, converse(rt)),
-        [word, path] if word.as_str() == "font" => status(rt, show_file(rt, path.as_str())),
+        [word, path] if word.as_str() == "font" => {
+            status(rt, show_file(rt, Manner::Strict, path.as_str()))
+        }
+        [word, path] if word.as_str() == "lenient" => {
+            status(rt, show_file(rt, Manner::Lenient, path.as_str()))
+        }
         _ => usage(rt),
     }
 }
@@ -90,12 +95,12 @@ fn converse<R: Input + Print + AllocGlobal>(rt: &R) -> Result<()> {
 
 /// What the font of a file holds, on the standard output.
 ///
-/// Refused: `Io` where the file cannot be opened, and as `FontSet::read` and the writer are.
-fn show_file<R: Print + Files + AllocGlobal>(rt: &R, path: &str) -> Result<()> {
+/// Refused: `Io` where the file cannot be opened, and as `read_font` and the writer are.
+fn show_file<R: Print + Files + AllocGlobal>(rt: &R, manner: Manner, path: &str) -> Result<()> {
     let alloc = rt.alloc();
     let mut tape = BufReader::new(alloc, File::open(rt, path)?).map_err(|_| Error::Memory)?;
     let mut writer = BufWriter::new(alloc, io::writer(rt)).map_err(|_| Error::Memory)?;
-    write_font(&FontSet::read(alloc, &mut tape)?, &mut writer)?;
+    write_font(&read_font(alloc, manner, &mut tape)?, &mut writer)?;
     Ok(writer.flush()?)
 }
 
@@ -118,7 +123,7 @@ fn status(rt: &impl Eprint, outcome: Result<()>) -> u8
 fn usage(rt: &impl Eprint) -> u8
     ensures { result ≡ 2 }
 {
-    let _ = rt.eprintln("usage: psfont [font PATH]");
+    let _ = rt.eprintln("usage: psfont [font PATH | lenient PATH]");
     2
 }
 

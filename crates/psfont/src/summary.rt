@@ -1,10 +1,25 @@
-//! What a font holds, in lines.
+//! Fonts: how they are read, and what they hold, in lines.
 ghost use Rattle.std.specs.Prelude.{[], ◌∷◌};
 ghost use Rattle.postscript.specs.Error.{IsListed};
+ghost use Rattle.postscript.specs.Tape.{Reads};
+ghost use Rattle.postscript.specs.FontSet.Shown.{font_shown};
+ghost use Rattle.psfont.specs.Manner.{reading_of};
 
-use postscript::Result;
+use crate::command::Manner;
 use postscript::compact1::FontSet;
+use postscript::{Result, Tape, Value};
+use std::alloc::Global;
 use std::io::Write;
+
+/// Reads a font, which may lack what its manner lets it.
+pub fn read_font<T: Tape>(alloc: Global, manner: Manner, tape: &mut T) -> Result<FontSet>
+    ensures exact { Reads font_shown (T.state tape.old) result (T.state tape.new) (reading_of manner) }
+{
+    match manner {
+        Manner::Strict => FontSet::read(alloc, tape),
+        Manner::Lenient => FontSet::read_lenient(alloc, tape),
+    }
+}
 
 /// The header, how many names there are and each, how many strings and global subroutines, and a line for each
 /// dictionary.

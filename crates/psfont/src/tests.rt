@@ -139,7 +139,7 @@ fn answers_lines(rt: HostRuntime) -> Result<(), Fail> {
             "end\nwidth none\nbad command\nbad command\nbad command\nbad command\nbad command\n",
         ),
         (
-            "flat x\nfont x\nfont 0\nlenient 00\ncode8c\ncodes 8c",
+            "flat x\nfont x\nfont 0\nlenients 00\ncode8c\ncodes 8c",
             "bad command\nbad hex\nbad hex\nbad command\nbad command\nbad command\n",
         ),
         (
@@ -164,6 +164,11 @@ fn answers_lines(rt: HostRuntime) -> Result<(), Fail> {
         (
             "font 0100040100000001010108a111a90f8da7120000000000010101020e8d130000\nfont 0100040100000001010108a111a50f8da7120000000000010101020e8d130000",
             "header 1 0 4 1\nnames 0\nstrings 0\nglobals 0\ndictionaries 1\nfont Standard Format0 glyphs 1 locals 0\nend\nfault 16\n",
+        ),
+        // Local subroutines that are missing.
+        (
+            "lenient x\nlenient \nlenient 010004010001010102410001010106a3118da9120000000000010101020e8d140000\nfont 010004010001010102410001010106a3118da9120000000000010101020e8d140000",
+            "bad hex\nfault 1\nheader 1 0 4 1\nnames 1\nname A\nstrings 0\nglobals 0\ndictionaries 1\nfont Standard ISOAdobe glyphs 1 locals 0\nend\nfault 14\n",
         ),
         ("code 06\nrun", "ok\nfault 20\nwidth none\n"),
         (
@@ -292,14 +297,17 @@ fn flushes_before_it_waits(rt: HostRuntime) -> Result<(), Fail> {
 
 #[test]
 fn starts_by_its_words(rt: HostRuntime) -> Result<(), Fail> {
-    let usage = "usage: psfont [font PATH]\n";
+    let usage = "usage: psfont [font PATH | lenient PATH]\n";
     let table = [
         ("", 0, "ok\nfault 1\n", ""),
         ("font missing", 1, "", "psfont: fault 2\n"),
+        ("lenient missing", 1, "", "psfont: fault 2\n"),
         ("font", 2, "", usage),
-        ("lenient x", 2, "", usage),
+        ("lenient", 2, "", usage),
+        ("run x", 2, "", usage),
         ("run", 2, "", usage),
         ("font x y", 2, "", usage),
+        ("lenient x y", 2, "", usage),
     ];
     for (text, status, output, errors) in table {
         let mut words = Vec::new(rt.alloc());

@@ -127,6 +127,7 @@ behind start header = in_range (start + header.header_size) >>= tables
 unfoldable pub parts : Manner → ℕ → List Dictionary → Reading Columns
 parts manner start maps = each (part manner start) maps >>= λ ps. pure (columns ps)
 
+-- a font by the manner of its reading
 unfoldable pub font_by : Manner → Reading Font
 font_by manner = do
   start ← position
@@ -135,9 +136,9 @@ font_by manner = do
   columns ← parts manner start tables.dictionaries
   pure (font_of header tables columns)
 
+-- a font, and one that may lack private dictionaries and local subroutines
 abbrev pub font : Reading Font
 font = font_by Strict
 
--- a font that may lack private dictionaries and local subroutines
 abbrev pub lenient_font : Reading Font
 lenient_font = font_by Lenient

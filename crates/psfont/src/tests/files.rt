@@ -141,25 +141,43 @@ impl Files for Memory<'_> {
 fn shows_the_font_of_a_file(rt: HostRuntime) -> Result<(), Fail> {
     let table = [
         (
+            "font",
             "010004010001010102410001010106a3118da9120000000000010101020e8d130000",
             0,
             "header 1 0 4 1\nnames 1\nname A\nstrings 0\nglobals 0\ndictionaries 1\nfont Standard ISOAdobe glyphs 1 locals 0\nend\n",
             "",
         ),
         (
+            "font",
             "0000000000000000",
             0,
             "header 0 0 0 0\nnames 0\nstrings 0\nglobals 0\ndictionaries 0\nend\n",
             "",
         ),
-        ("00000000000000", 1, "", "psfont: fault 1\n"),
-        ("", 1, "", "psfont: fault 1\n"),
-        ("0100040100010005", 1, "", "psfont: fault 5\n"),
+        ("font", "00000000000000", 1, "", "psfont: fault 1\n"),
+        ("font", "", 1, "", "psfont: fault 1\n"),
+        ("font", "0100040100010005", 1, "", "psfont: fault 5\n"),
+        ("lenient", "0100040100010005", 1, "", "psfont: fault 5\n"),
+        // Local subroutines that are missing.
+        (
+            "font",
+            "010004010001010102410001010106a3118da9120000000000010101020e8d140000",
+            1,
+            "",
+            "psfont: fault 14\n",
+        ),
+        (
+            "lenient",
+            "010004010001010102410001010106a3118da9120000000000010101020e8d140000",
+            0,
+            "header 1 0 4 1\nnames 1\nname A\nstrings 0\nglobals 0\ndictionaries 1\nfont Standard ISOAdobe glyphs 1 locals 0\nend\n",
+            "",
+        ),
     ];
-    let mut words = Vec::new(rt.alloc());
-    words.push(String::from_str(rt.alloc(), "font")?)?;
-    words.push(String::from_str(rt.alloc(), "font.cff")?)?;
-    for (digits, status, output, errors) in table {
+    for (word, digits, status, output, errors) in table {
+        let mut words = Vec::new(rt.alloc());
+        words.push(String::from_str(rt.alloc(), word)?)?;
+        words.push(String::from_str(rt.alloc(), "font.cff")?)?;
         let bytes = hex::decode(rt.alloc(), digits.as_bytes()).map_err(|_| ErrorKind::InvalidData)?;
         fs::write(&rt, "font.cff", bytes.as_slice())?;
         let memory = Memory::new(&rt, b"");
