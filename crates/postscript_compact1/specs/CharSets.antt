@@ -53,6 +53,7 @@ listed glyphs = if glyphs == 0 then fault malformed_char_set else (do
   identifiers ← many (number 2) (glyphs - 1)
   pure (record { format = 0; glyphs = identifiers }))
 
+-- a reading for so many glyphs, where there are any
 unfoldable pub if_any : {A : Type 0} → ℕ → Reading A → Reading A
 if_any glyphs reading = if glyphs == 0 then fault malformed_char_set else reading
 

@@ -160,10 +160,10 @@ fn answers_lines(rt: HostRuntime) -> Result<(), Fail> {
             "font 01000401000000020101060ba5118dab12a5118dab120000000000010101020e8d130000",
             "header 1 0 4 1\nnames 0\nstrings 0\nglobals 0\ndictionaries 2\nfont Standard ISOAdobe glyphs 1 locals 0\nfont Standard ISOAdobe glyphs 1 locals 0\nend\n",
         ),
-        // A char set of the font's own, and one of another format.
+        // Char sets of the font's own, of the formats 0 and 2.
         (
             "font 0100040100000001010108a111a90f8da7120000000000010101020e8d130000\nfont 0100040100000001010108a111a50f8da7120000000000010101020e8d130000",
-            "header 1 0 4 1\nnames 0\nstrings 0\nglobals 0\ndictionaries 1\nfont Standard Format0 glyphs 1 locals 0\nend\nfault 16\n",
+            "header 1 0 4 1\nnames 0\nstrings 0\nglobals 0\ndictionaries 1\nfont Standard Format0 glyphs 1 locals 0\nend\nheader 1 0 4 1\nnames 0\nstrings 0\nglobals 0\ndictionaries 1\nfont Standard Format2 glyphs 1 locals 0\nend\n",
         ),
         // Local subroutines that are missing.
         (
