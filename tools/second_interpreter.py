@@ -1,11 +1,11 @@
 """A second interpreter of Type 2 charstrings.
 
 It was written from the description of the format and of the program `psfont` alone, without a look at the
-program's code, so that a mistake in one of the two shows as a difference between them. `run` and `flat` give
-the lines that the program prints for its commands of the same names, and `tools/random_programs.py` compares
-them. Where the program keeps a chain of callers and answers one operation at a time, this interpreter
-evaluates a call to its end before it looks at what follows the call. A number is kept as its bits, an exact
-integer: the bits b stand for b / 65536.
+program's code, so that a mistake in one of the two shows as a difference between them; `put` and `get` were added
+by their rules, with the code in sight. `run` and `flat` give the lines that the program prints for its commands of
+the same names, and `tools/random_programs.py` compares them. Where the program keeps a chain of callers and
+answers one operation at a time, this interpreter evaluates a call to its end before it looks at what follows the
+call. A number is kept as its bits, an exact integer: the bits b stand for b / 65536.
 
 This file is a module; run `python3 tools/random_programs.py` to use it.
 """
