@@ -40,9 +40,11 @@ def shapes():
     code, levels = nested()
     yield "2,000 times a thousand calls, ten deep", code + END, levels, 2, ["end", "width none"]
     yield "moves", filled(b"\x8c\x16") + END, [], SIZE // 2 + 2, ["end", "width none"]
-    roll = b"\x1c\x7f\xff\x8c\x0c\x1e"
     # EndChar leaves four operands out, and the width is the one beneath them.
-    yield "rolls of 32,767", filled(b"\x8b", 33_000) + filled(roll) + END, [], 2, ["end", "width 0"]
+    roll = b"\x1c\x27\x10\x8c\x0c\x1e"
+    yield "rolls of 10,000", filled(b"\x8b", 33_000) + filled(roll) + END, [], 2, ["end", "width 0"]
+    roll = b"\x1c\x7f\xff\x8c\x0c\x1e"
+    yield "rolls of 32,767, the widest", filled(b"\x8b", 33_000) + filled(roll) + END, [], 2, ["end", "width 0"]
     index = b"\x1c\x7f\xff\x0c\x1d\x0c\x12"
     yield "an operand far down, again and again", filled(b"\x8b", 33_000) + filled(index) + END, [], 2, ["end", "width 0"]
     # Each quotient is less than the number that is divided, by one bit at least, until it is 0.
