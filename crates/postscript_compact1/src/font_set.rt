@@ -3,7 +3,7 @@ ghost use Rattle.std.specs.Prelude.{◌≡◌, ◌≢◌, ℕ, [], ◌∷◌, If
 ghost use Rattle.postscript_base.specs.Error.{IsListed};
 ghost use Rattle.postscript_base.specs.Tape.{Reads, IsHonest};
 ghost use Rattle.postscript_base.specs.declared.error.Error.TheVariants as errors;
-ghost use Rattle.postscript_compact1.specs.FontSet.Font.{Font, font_of};
+ghost use Rattle.postscript_compact1.specs.FontSet.Font.{Font, font_of, tables_in, parts_in};
 ghost use Rattle.postscript_compact1.specs.FontSet.Causes.{NoFont, NoLenientFont};
 ghost use Rattle.postscript_compact1.specs.FontSet.Layout.{IsFont, IsLenientFont};
 ghost use Rattle.postscript_compact1.specs.FontSet.Order.{font, font_by, lenient_font};
@@ -56,15 +56,32 @@ impl FontSet {
         ensures equal { IfOk result (λ font. font_shown font ≡ font_shown self.now) }
         ensures listed { IsListed (3 ∷ []) result }
     {
-        Ok(FontSet {
-            header: self.header,
+        let tables = self.tables()?;
+        Ok(of_parts(self.header, tables, self.parts()?))
+    }
+
+    /// Equal tables.
+    fn tables(&self) -> Result<Tables>
+        ensures equal { IfOk result (λ tables. tables_shown tables ≡ tables_in (font_shown self.now)) }
+        ensures listed { IsListed (3 ∷ []) result }
+    {
+        Ok(Tables {
             names: self.names.clone()?,
+            dictionaries: self.global_dictionaries.clone()?,
             strings: self.strings.clone()?,
+            subroutines: self.global_subroutines.clone()?,
+        })
+    }
+
+    /// Equal parts.
+    fn parts(&self) -> Result<Parts>
+        ensures equal { IfOk result (λ parts. parts_shown parts ≡ parts_in (font_shown self.now)) }
+        ensures listed { IsListed (3 ∷ []) result }
+    {
+        Ok(Parts {
             encodings: self.encodings.clone()?,
             char_sets: self.char_sets.clone()?,
             char_strings: self.char_strings.clone()?,
-            global_dictionaries: self.global_dictionaries.clone()?,
-            global_subroutines: self.global_subroutines.clone()?,
             local_dictionaries: self.local_dictionaries.clone()?,
             local_subroutines: self.local_subroutines.clone()?,
         })

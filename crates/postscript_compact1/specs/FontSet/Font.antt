@@ -72,3 +72,16 @@ font_of header tables c = record {
   local_dictionaries = c.local_dictionaries;
   local_subroutines = c.local_subroutines;
 }
+
+-- what a font has of them
+abbrev pub tables_in : Font → Tables
+tables_in f = record { names = f.names; dictionaries = f.global_dictionaries; strings = f.strings; subroutines = f.global_subroutines }
+
+abbrev pub parts_in : Font → Columns
+parts_in f = record {
+  encodings = f.encodings;
+  char_sets = f.char_sets;
+  char_strings = f.char_strings;
+  local_dictionaries = f.local_dictionaries;
+  local_subroutines = f.local_subroutines;
+}
