@@ -86,9 +86,9 @@ impl Walue for CharStrings {
         ensures refused { format ≢ pos 2 → result ≡ Err errors.UnknownCharStringFormat }
         ensures untouched { format ≢ pos 2 → tape.new ≡ tape.old }
     {
-        match format {
-            2 => Ok(CharStrings(Index::read(alloc, tape)?)),
-            _ => Err(Error::UnknownCharStringFormat),
+        if format != 2 {
+            return Err(Error::UnknownCharStringFormat);
         }
+        Ok(CharStrings(Index::read(alloc, tape)?))
     }
 }
