@@ -1,5 +1,6 @@
 -- Phrases as they are spelled, and as they are read.
 use Rattle.std.proofs.Math.Seq.{drop-append_seam, take-append-add}
+use Rattle.std.proofs.lemmas.Bool.{le-ltb, lt-ltb}
 use Rattle.std.proofs.lemmas.Bool.Decides.{nat_tests}
 use Rattle.std.proofs.lemmas.List.{append-nil, take-append-drop, length-take-le}
 use Rattle.std.proofs.Common.{◌≡◌, ◌≢◌, refl, ap, sym, subst, ◌∙◌, ℕ, zero, suc, ◌+◌, ◌-◌, ◌<◌, ◌≤◌, ◌⊎◌, inl, inr, ℤ, pos, ◌-ℤ◌, Bool, true, false, cond, nat_lt, ◌==◌, List, [], ◌∷◌, ◌++◌, length, length-append, length-drop, take, drop, append_assoc, zero-add, Option, Some, None, if◌then◌else◌, arith}
@@ -39,36 +40,36 @@ four = unsigned 4 >>= λ bits. pure (two_sided 0x80000000 bits)
 reads-small : (b : ℕ) (r : List ℕ) → 0x20 ≤ b → b < 0xf7 → spelled b r 0 ≡ Got (whole (pos b -ℤ pos 139)) 0
 reads-small b r low high =
     let n0 : (b == 0x1c) ≡ false = grind (arith, nat_tests) in
-    let n1 : nat_lt b 0x20 ≡ false = grind (arith, nat_tests) in
-    let n2 : nat_lt b 0xf7 ≡ true = grind (arith, nat_tests) in
+    let n1 : nat_lt b 0x20 ≡ false = le-ltb b 0x20 (omega (arith, low)) in
+    let n2 : nat_lt b 0xf7 ≡ true = lt-ltb b 0xf7 (omega (arith, high)) in
     skip (b == 0x1c) two _ r 0 n0 ∙ skip (nat_lt b 0x20) (fault malformed_number) _ r 0 n1 ∙ hit (nat_lt b 0xf7) (pure (whole (pos b -ℤ pos 139))) _ r 0 n2
 
 reads-above : (b : ℕ) (r : List ℕ) → 0xf7 ≤ b → b < 0xfb → spelled b r 0 ≡ one_above b r 0
 reads-above b r low high =
     let n0 : (b == 0x1c) ≡ false = grind (arith, nat_tests) in
-    let n1 : nat_lt b 0x20 ≡ false = grind (arith, nat_tests) in
-    let n2 : nat_lt b 0xf7 ≡ false = grind (arith, nat_tests) in
-    let n3 : nat_lt b 0xfb ≡ true = grind (arith, nat_tests) in
+    let n1 : nat_lt b 0x20 ≡ false = le-ltb b 0x20 (omega (arith, low)) in
+    let n2 : nat_lt b 0xf7 ≡ false = le-ltb b 0xf7 (omega (arith, low)) in
+    let n3 : nat_lt b 0xfb ≡ true = lt-ltb b 0xfb (omega (arith, high)) in
     skip (b == 0x1c) two _ r 0 n0 ∙ skip (nat_lt b 0x20) (fault malformed_number) _ r 0 n1 ∙ skip (nat_lt b 0xf7) (pure (whole (pos b -ℤ pos 139))) _ r 0 n2
     ∙ hit (nat_lt b 0xfb) (one_above b) _ r 0 n3
 
 reads-below : (b : ℕ) (r : List ℕ) → 0xfb ≤ b → b < 0xff → spelled b r 0 ≡ one_below b r 0
 reads-below b r low high =
     let n0 : (b == 0x1c) ≡ false = grind (arith, nat_tests) in
-    let n1 : nat_lt b 0x20 ≡ false = grind (arith, nat_tests) in
-    let n2 : nat_lt b 0xf7 ≡ false = grind (arith, nat_tests) in
-    let n3 : nat_lt b 0xfb ≡ false = grind (arith, nat_tests) in
-    let n4 : nat_lt b 0xff ≡ true = grind (arith, nat_tests) in
+    let n1 : nat_lt b 0x20 ≡ false = le-ltb b 0x20 (omega (arith, low)) in
+    let n2 : nat_lt b 0xf7 ≡ false = le-ltb b 0xf7 (omega (arith, low)) in
+    let n3 : nat_lt b 0xfb ≡ false = le-ltb b 0xfb (omega (arith, low)) in
+    let n4 : nat_lt b 0xff ≡ true = lt-ltb b 0xff (omega (arith, high)) in
     skip (b == 0x1c) two _ r 0 n0 ∙ skip (nat_lt b 0x20) (fault malformed_number) _ r 0 n1 ∙ skip (nat_lt b 0xf7) (pure (whole (pos b -ℤ pos 139))) _ r 0 n2
     ∙ skip (nat_lt b 0xfb) (one_above b) _ r 0 n3 ∙ hit (nat_lt b 0xff) (one_below b) _ r 0 n4
 
 reads-bits : (b : ℕ) (r : List ℕ) → 0xff ≤ b → spelled b r 0 ≡ four r 0
 reads-bits b r low =
     let n0 : (b == 0x1c) ≡ false = grind (arith, nat_tests) in
-    let n1 : nat_lt b 0x20 ≡ false = grind (arith, nat_tests) in
-    let n2 : nat_lt b 0xf7 ≡ false = grind (arith, nat_tests) in
-    let n3 : nat_lt b 0xfb ≡ false = grind (arith, nat_tests) in
-    let n4 : nat_lt b 0xff ≡ false = grind (arith, nat_tests) in
+    let n1 : nat_lt b 0x20 ≡ false = le-ltb b 0x20 (omega (arith, low)) in
+    let n2 : nat_lt b 0xf7 ≡ false = le-ltb b 0xf7 (omega (arith, low)) in
+    let n3 : nat_lt b 0xfb ≡ false = le-ltb b 0xfb (omega (arith, low)) in
+    let n4 : nat_lt b 0xff ≡ false = le-ltb b 0xff (omega (arith, low)) in
     skip (b == 0x1c) two _ r 0 n0 ∙ skip (nat_lt b 0x20) (fault malformed_number) _ r 0 n1 ∙ skip (nat_lt b 0xf7) (pure (whole (pos b -ℤ pos 139))) _ r 0 n2
     ∙ skip (nat_lt b 0xfb) (one_above b) _ r 0 n3 ∙ skip (nat_lt b 0xff) (one_below b) four r 0 n4
 
