@@ -130,7 +130,7 @@ impl<'l> Program<'l> {
             IfErr result (λ e. (e ≡ Error.Memory) ⊎ (fault_of run.end ≡ Some (refusal_of e))) }
         ensures listed { IsListed flatten_refusals result }
     {
-        measured(Machine::new(alloc, code, global, local))
+        measured(&mut Machine::new(alloc, code, global, local))
     }
 
     /// The same glyph as code without calls: the phrases of the run in their order, byte for byte with the bytes of their
@@ -159,7 +159,7 @@ impl<'l> Program<'l> {
             IfOk result (λ flat. length flat.items ≡ the_flat_len run.trace) }
     {
         let len = Program::flat_len(alloc, code, global, local)?;
-        flat_code(alloc, len, Machine::new(alloc, code, global, local))
+        flat_code(alloc, len, &mut Machine::new(alloc, code, global, local))
     }
 }
 

@@ -54,13 +54,12 @@ fn append(flat: &mut Vec<u8>, said: Said<'_>) -> Result<()>
 }
 
 /// The length of the flat code of what a machine still answers.
-pub(crate) fn measured(machine: Machine<'_>) -> Result<usize>
-    requires { IsNested machine }
-    ensures faultless { OnOk result (fault_of (still_of machine.entry).end ≡ None) }
-    ensures len { IfOk result (λ len. len ≡ flat_len (still_of machine.entry).trace) }
-    ensures refused { IfErr result (λ e. (e ≡ errors.Memory) ⊎ (fault_of (still_of machine.entry).end ≡ Some (refusal_of e))) }
+pub(crate) fn measured(machine: &mut Machine<'_>) -> Result<usize>
+    requires { IsNested machine.old }
+    ensures faultless { OnOk result (fault_of (still_of machine.old).end ≡ None) }
+    ensures len { IfOk result (λ len. len ≡ flat_len (still_of machine.old).trace) }
+    ensures refused { IfErr result (λ e. (e ≡ errors.Memory) ⊎ (fault_of (still_of machine.old).end ≡ Some (refusal_of e))) }
 {
-    let mut machine = machine;
     let mut len = 0usize;
     loop {
         match machine.advance()? {
@@ -76,13 +75,12 @@ pub(crate) fn measured(machine: Machine<'_>) -> Result<usize>
 }
 
 /// The flat code of what a machine still answers, in memory that is taken at once for so many bytes.
-pub(crate) fn flat_code(alloc: Global, len: usize, machine: Machine<'_>) -> Result<Vec<u8>>
-    requires { IsNested machine }
-    ensures faultless { OnOk result (fault_of (still_of machine.entry).end ≡ None) }
-    ensures text { IfOk result (λ flat. flat.items ≡ flat_text (still_of machine.entry).trace) }
-    ensures refused { IfErr result (λ e. (e ≡ errors.Memory) ⊎ (fault_of (still_of machine.entry).end ≡ Some (refusal_of e))) }
+pub(crate) fn flat_code(alloc: Global, len: usize, machine: &mut Machine<'_>) -> Result<Vec<u8>>
+    requires { IsNested machine.old }
+    ensures faultless { OnOk result (fault_of (still_of machine.old).end ≡ None) }
+    ensures text { IfOk result (λ flat. flat.items ≡ flat_text (still_of machine.old).trace) }
+    ensures refused { IfErr result (λ e. (e ≡ errors.Memory) ⊎ (fault_of (still_of machine.old).end ≡ Some (refusal_of e))) }
 {
-    let mut machine = machine;
     let mut flat = Vec::with_capacity(alloc, len)?;
     loop {
         let event = machine.advance()?;
