@@ -184,14 +184,13 @@ pub fn run(alloc: Global, code: &[u8], global: &[Vec<u8>], local: &[Vec<u8>]) ->
         (λ told. Tells told (run_of (subroutines global.now local.now) code.now))
         (λ e. e ≡ Error.Memory) }
 {
-    all_answers(alloc, Program::new(alloc, code, global, local))
+    all_answers(alloc, &mut Program::new(alloc, code, global, local))
 }
 
 /// All that a program still answers.
-fn all_answers(alloc: Global, program: Program<'_>) -> Result<Answers>
-    ensures { MatchResult result (λ told. TellsPending told program.entry) (λ e. e ≡ Error.Memory) }
+fn all_answers(alloc: Global, program: &mut Program<'_>) -> Result<Answers>
+    ensures { MatchResult result (λ told. TellsPending told program.old) (λ e. e ≡ Error.Memory) }
 {
-    let mut program = program;
     let mut operations = Vec::new(alloc);
     let fault = loop {
         match program.next() {

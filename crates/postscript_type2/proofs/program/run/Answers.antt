@@ -4,11 +4,11 @@ use Rattle.postscript_type2.specs.Program.Evaluation.{run_of}
 use Rattle.postscript_type2.specs.Program.Routines.{subroutines}
 use Rattle.postscript_type2.specs.Program.Whole.{Tells, TellsPending}
 use Rattle.postscript_type2.proofs.Telling.{tells-whole, tells-meant, tells-listed}
-use Rattle.postscript_type2.proofs.program.run.Goals.{After-all_answers}
+use Rattle.postscript_type2.proofs.program.run.Goals.{After-drop-new-2}
 use Rattle.postscript_type2.proofs.program.run.Goals as goal
 
 -- what the run of the code tells
-told : (c : After-all_answers) → MatchResult c.all_answers.result (λ told. Tells told (run_of (subroutines c.args.global.now c.args.local.now) c.args.code.now)) (λ e. e ≡ Memory)
+told : (c : After-drop-new-2) → MatchResult c.all_answers.result (λ told. Tells told (run_of (subroutines c.args.global.now c.args.local.now) c.args.code.now)) (λ e. e ≡ Memory)
 told c = tells-whole c.all_answers.result _ (subst (λ pending. MatchResult c.all_answers.result (λ told. TellsPending told pending) (λ e. e ≡ Memory)) c.new.ensures.value c.all_answers.ensures)
 
 pub returns-clause-listed : goal.returns-clause-listed
