@@ -1,11 +1,14 @@
 -- What a charstring draws, and what a call answers of it.
-use Rattle.std.specs.Prelude.{ℕ, ℤ, List, map, Vec, Option}
+use Rattle.std.specs.Prelude.{◌≡◌, ℕ, ℤ, List, [], ◌∷◌, map, Vec, Option, None, Some, slice_get}
+use Rattle.std.specs.Option.{option_or}
 use Rattle.std.specs.declared.alloc.Global.{Global}
+use Rattle.postscript_base.specs.Refusal.{Refusal}
 use Rattle.postscript_compact1.specs.Index.{Index}
+use Rattle.postscript_compact1.specs.FontSet.Font.{Font}
 use Rattle.postscript_type2.specs.declared.operation.Operator.{Operator}
 use Rattle.postscript_type2.specs.Program.Evaluation.{run_of}
 use Rattle.postscript_type2.specs.Program.Routines.{Lists}
-use Rattle.postscript_type2.specs.Program.Runs.{operation, width_of}
+use Rattle.postscript_type2.specs.Program.Runs.{operation, width_of, fault_of}
 use Rattle.postscript_type2.specs.Program.Whole.{operation_of}
 
 -- operations and a width
@@ -22,3 +25,16 @@ drawn glyph = (map operation_of glyph.0.items, glyph.1)
 -- the subroutines of two indices
 abbrev pub lists : (global local : Index) → Lists
 lists global local = record { global = global.items; local = local.items }
+
+-- what the run of a code is refused with, if it is
+abbrev pub refused_by : Lists → List ℕ → Option Refusal
+refused_by lists code = fault_of (run_of lists code).end
+
+-- what the first of these runs that is refused is refused with
+abbrev pub first_refused_by : Lists → List (List ℕ) → Option Refusal
+first_refused_by lists [] = None
+first_refused_by lists (code ∷ codes) = option_or (refused_by lists code) (first_refused_by lists codes)
+
+-- one of a font's dictionaries, counted from 0, has these char strings and these local subroutines
+abbrev pub HasGlyphs : Font → ℕ → (codes local : Index) → Type 0
+HasGlyphs font dictionary codes local = (slice_get font.char_strings dictionary ≡ Some codes) × (slice_get font.local_subroutines dictionary ≡ Some local)

@@ -1,17 +1,20 @@
 //! Glyphs that need no subroutines any more.
-ghost use Rattle.std.specs.Prelude.{◌≡◌, [], map, IfOk};
-ghost use Rattle.postscript_type2.specs.Program.Routines.{Lists, subroutines};
-ghost use Rattle.postscript_examples.specs.Glyphs.{drawn_by};
+ghost use Rattle.std.specs.Prelude.{◌≡◌, ◌⊎◌, [], None, Some, map, IfOk, IfErr, OnOk};
+ghost use Rattle.postscript_base.specs.Refusal.{refusal_of};
+ghost use Rattle.postscript_type2.specs.Program.Routines.{Lists, subroutines, texts};
+ghost use Rattle.postscript_examples.specs.Glyphs.{drawn_by, refused_by, first_refused_by};
 
-use postscript::Result;
 use postscript::compact1::FontSet;
 use postscript::type2::Program;
+use postscript::{Error, Result};
 use std::alloc::Global;
 
 /// The code of a glyph without calls: over any subroutines, and over none, it draws the same.
 pub fn flat(alloc: Global, code: &[u8], global: &[Vec<u8>], local: &[Vec<u8>]) -> Result<Vec<u8>>
     ensures same { IfOk result (λ flat. (other : Lists) → drawn_by other flat.items ≡ drawn_by (subroutines global.now local.now) code.now) }
     ensures alone { IfOk result (λ flat. drawn_by (subroutines [] []) flat.items ≡ drawn_by (subroutines global.now local.now) code.now) }
+    ensures faultless { OnOk result (refused_by (subroutines global.now local.now) code.now ≡ None) }
+    ensures refused { IfErr result (λ e. (e ≡ Error.Memory) ⊎ (refused_by (subroutines global.now local.now) code.now ≡ Some (refusal_of e))) }
 {
     Program::flatten(alloc, code, global, local)
 }
@@ -24,6 +27,8 @@ pub fn each_flat(
     local: &[Vec<u8>],
 ) -> Result<Vec<Vec<u8>>>
     ensures same { IfOk result (λ flat. map (λ code. drawn_by (subroutines [] []) code.items) flat.items ≡ map (λ code. drawn_by (subroutines global.now local.now) code.items) codes.now) }
+    ensures faultless { OnOk result (first_refused_by (subroutines global.now local.now) (texts codes.now) ≡ None) }
+    ensures refused { IfErr result (λ e. (e ≡ Error.Memory) ⊎ (first_refused_by (subroutines global.now local.now) (texts codes.now) ≡ Some (refusal_of e))) }
 {
     let mut flat_codes = Vec::new(alloc);
     for code in codes {

@@ -1,10 +1,11 @@
 //! Fonts from their bytes.
-ghost use Rattle.std.specs.Prelude.{◌≡◌, ◌≢◌, ℕ, IfOk, IfErr, map, slice_get, string_bytes};
+ghost use Rattle.std.specs.Prelude.{◌≡◌, ◌≢◌, ◌⊎◌, ℕ, [], None, IfOk, IfErr, IsOkAnd, OnOk, map, slice_get, string_bytes};
+ghost use Rattle.postscript_base.specs.Refusal.{refusal_of};
 ghost use Rattle.postscript_compact1.specs.Index.{Index};
 ghost use Rattle.postscript_compact1.specs.FontSet.Font.{Font};
 ghost use Rattle.postscript_compact1.specs.FontSet.Layout.{IsFont};
 ghost use Rattle.postscript_compact1.specs.FontSet.Shown.{font_shown};
-ghost use Rattle.postscript_examples.specs.Glyphs.{drawn, drawn_by, lists};
+ghost use Rattle.postscript_examples.specs.Glyphs.{drawn, drawn_by, first_refused_by, lists, HasGlyphs};
 
 use crate::glyphs::{Glyph, each_glyph};
 use postscript::compact1::FontSet;
@@ -32,10 +33,14 @@ pub fn names_of(alloc: Global, bytes: &[u8]) -> Result<Vec<String>>
 /// The operations and the width of each glyph of one of a font's dictionaries, counted from 0; none where there is no such
 /// dictionary.
 pub fn glyphs_of(alloc: Global, font: &FontSet, dictionary: usize) -> Result<Vec<Glyph>>
-    ensures drawn { (codes local : Index) →
-        slice_get (font_shown font.now).char_strings dictionary ≡ Some codes →
-        slice_get (font_shown font.now).local_subroutines dictionary ≡ Some local →
+    ensures drawn { (codes local : Index) → HasGlyphs (font_shown font.now) dictionary codes local →
         IfOk result (λ glyphs. map drawn glyphs.items ≡ map (drawn_by (lists (font_shown font.now).global_subroutines local)) codes.items) }
+    ensures faultless { (codes local : Index) → HasGlyphs (font_shown font.now) dictionary codes local →
+        OnOk result (first_refused_by (lists (font_shown font.now).global_subroutines local) codes.items ≡ None) }
+    ensures refused { (codes local : Index) → HasGlyphs (font_shown font.now) dictionary codes local →
+        IfErr result (λ e. (e ≡ Error.Memory) ⊎ (first_refused_by (lists (font_shown font.now).global_subroutines local) codes.items ≡ Some (refusal_of e))) }
+    ensures absent { (slice_get (font_shown font.now).char_strings dictionary ≡ None) ⊎ (slice_get (font_shown font.now).local_subroutines dictionary ≡ None) →
+        IsOkAnd result (λ glyphs. glyphs.items ≡ []) }
 {
     let (Some(codes), Some(local)) = (
         font.char_strings.get(dictionary),

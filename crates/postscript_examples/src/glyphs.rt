@@ -1,10 +1,8 @@
 //! Glyphs from their charstrings.
-ghost use Rattle.std.specs.Prelude.{◌≡◌, ◌⊎◌, None, Some, map, IfOk, IfErr};
-ghost use Rattle.postscript_type2.specs.Program.Evaluation.{run_of};
-ghost use Rattle.postscript_type2.specs.Program.Runs.{fault_of};
+ghost use Rattle.std.specs.Prelude.{◌≡◌, ◌⊎◌, None, Some, map, IfOk, IfErr, OnOk};
 ghost use Rattle.postscript_base.specs.Refusal.{refusal_of};
-ghost use Rattle.postscript_type2.specs.Program.Routines.{subroutines};
-ghost use Rattle.postscript_examples.specs.Glyphs.{drawn, drawn_by};
+ghost use Rattle.postscript_type2.specs.Program.Routines.{subroutines, texts};
+ghost use Rattle.postscript_examples.specs.Glyphs.{drawn, drawn_by, refused_by, first_refused_by};
 
 use postscript::type2::{self, Operand, Operations, Program};
 use postscript::{Error, Result};
@@ -16,8 +14,8 @@ pub type Glyph = (Operations, Option<Operand>);
 /// The operations of a glyph, and its width.
 pub fn glyph(alloc: Global, code: &[u8], global: &[Vec<u8>], local: &[Vec<u8>]) -> Result<Glyph>
     ensures drawn { IfOk result (λ glyph. drawn glyph ≡ drawn_by (subroutines global.now local.now) code.now) }
-    ensures refused { let run = run_of (subroutines global.now local.now) code.now in
-        IfErr result (λ e. (e ≡ Error.Memory) ⊎ (fault_of run.end ≡ Some (refusal_of e))) }
+    ensures faultless { OnOk result (refused_by (subroutines global.now local.now) code.now ≡ None) }
+    ensures refused { IfErr result (λ e. (e ≡ Error.Memory) ⊎ (refused_by (subroutines global.now local.now) code.now ≡ Some (refusal_of e))) }
 {
     let answers = type2::run(alloc, code, global, local)?;
     match answers.fault {
@@ -26,7 +24,7 @@ pub fn glyph(alloc: Global, code: &[u8], global: &[Vec<u8>], local: &[Vec<u8>]) 
     }
 }
 
-/// The operations and the width of each of these glyphs.
+/// The operations and the width of each of these glyphs. The first whose run is refused refuses them all.
 pub fn each_glyph(
     alloc: Global,
     codes: &[Vec<u8>],
@@ -34,6 +32,8 @@ pub fn each_glyph(
     local: &[Vec<u8>],
 ) -> Result<Vec<Glyph>>
     ensures drawn { IfOk result (λ glyphs. map drawn glyphs.items ≡ map (λ code. drawn_by (subroutines global.now local.now) code.items) codes.now) }
+    ensures faultless { OnOk result (first_refused_by (subroutines global.now local.now) (texts codes.now) ≡ None) }
+    ensures refused { IfErr result (λ e. (e ≡ Error.Memory) ⊎ (first_refused_by (subroutines global.now local.now) (texts codes.now) ≡ Some (refusal_of e))) }
 {
     let mut glyphs = Vec::new(alloc);
     for code in codes {

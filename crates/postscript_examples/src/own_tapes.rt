@@ -1,12 +1,13 @@
 //! Readers of one's own as tapes: one that is read safely, and one that is read exactly.
-ghost use Rattle.std.specs.Prelude.{◌≡◌, ℕ, IfOk};
+ghost use Rattle.std.specs.Prelude.{◌≡◌, ◌≢◌, ℕ, IfOk, IfErr};
 ghost use Rattle.postscript_base.specs.Tape.Cursor.{cursor_state};
+ghost use Rattle.postscript_compact1.specs.FontSet.Font.{Font};
 ghost use Rattle.postscript_compact1.specs.FontSet.Layout.{IsFont};
 ghost use Rattle.postscript_compact1.specs.FontSet.Shown.{font_shown};
 
 use postscript::compact1::FontSet;
 use postscript::tape::ReadSeek;
-use postscript::{Result, Value};
+use postscript::{Error, Result, Value};
 use std::alloc::Global;
 use std::io;
 use std::io::{Cursor, Read, Seek, SeekFrom};
@@ -72,9 +73,10 @@ impl ReadSeek for Held {
     }
 }
 
-/// The font at the start of a held file.
+/// The font at the start of a held file. It is answered exactly where one stands, want of memory aside.
 pub fn held_font(alloc: Global, bytes: Vec<u8>) -> Result<FontSet>
-    ensures { IfOk result (λ font. (next : ℕ) × IsFont bytes.items 0 (font_shown font) next) }
+    ensures found { IfOk result (λ font. (next : ℕ) × IsFont bytes.items 0 (font_shown font) next) }
+    ensures only { IfErr result (λ e. e ≢ Error.Memory → (font : Font) (next : ℕ) → IsFont bytes.items 0 font next → ⊥) }
 {
     let mut held = Held(Cursor::new(bytes));
     FontSet::read(alloc, &mut held)

@@ -1,12 +1,15 @@
 -- Where a byte stands first, and what stands before it.
-use Rattle.std.proofs.Common.{◌≡◌, ◌≢◌, ◌==◌, ◌<◌, ℕ, List, Some, None, Bool, true, false, cond, take, get_or-take, length-take-le, position, All, refl, rules, arith, ◌+◌, ◌++◌, ◌∷◌, [], ◌∙◌, ap, eqb-true, le_refl, ◌≤◌, get_or, length}
+use Rattle.std.proofs.Common.{◌≡◌, ◌≢◌, ◌==◌, ◌<◌, ℕ, List, Some, None, Bool, true, false, cond, take, get_or-take, length-take-le, position, All, refl, rules, arith, ◌+◌, ◌++◌, ◌∷◌, [], ◌∙◌, ap, sym, eqb-true, le_refl, ◌≤◌, get_or, length, Option, IfSome, length-take, length-append}
 use native.Mathlib.Numerals.{unary_clauses}
 use Rattle.std.proofs.Math.Seq.{take-suc}
 use Rattle.std.proofs.lemmas.List.{take_all}
+use Rattle.std.specs.Io.{StartsWith}
+use Rattle.std.specs.Io.KnownBytes.{Consumes}
 use Rattle.std.specs.List.{position_or_len}
 use Rattle.std.proofs.lemmas.Bool.{ltb-false}
 use Rattle.std.proofs.lemmas.List.Quantifiers.{position-Some}
 use Rattle.std.proofs.lemmas.List.Sums.{fails_before_first}
+use Rattle.psfont.specs.Piece.{GoesOn}
 
 -- the first place is none only where the test fails
 cond-None : (found : Bool) (place : ℕ) → cond found (Some place) None ≡ None → found ≡ false
@@ -38,3 +41,12 @@ take-past-position sought bytes first some =
 
 pub take-whole : (bytes : List ℕ) → take (length bytes) bytes ≡ bytes
 take-whole bytes = take_all (length bytes) bytes (le_refl _)
+
+-- what is shown behind the bytes that are consumed is left
+pub goes_on : (before after : Option (List ℕ)) (shown : List ℕ) (n : ℕ) → n < length shown → IfSome before (λ xs. StartsWith xs shown) → Consumes before after (take n shown) → GoesOn before after
+goes_on None after shown n below front spent = tt
+goes_on (Some xs) None shown n below front spent = absurd spent
+goes_on (Some xs) (Some ys) shown n below front spent = λ end.
+    let whole = sym (length-take (length shown) xs) ∙ ap length front in
+    let taken = length-take-le n shown (omega (arith, below)) in
+    omega (arith, below, whole, taken, ap length spent, length-append (take n shown) ys, ap length end)

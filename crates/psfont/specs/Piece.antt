@@ -1,6 +1,6 @@
 -- What a look at the input moves, where the reader's bytes are known.
-use Rattle.std.specs.Prelude.{◌≡◌, ◌≢◌, ℕ, List, [], ◌∷◌, ◌++◌, Option, All}
-use Rattle.std.specs.Io.KnownBytes.{Consumes}
+use Rattle.std.specs.Prelude.{◌≡◌, ◌≢◌, ℕ, List, [], ◌∷◌, ◌++◌, Option, All, IfSome}
+use Rattle.std.specs.Io.KnownBytes.{Consumes, IsAtEnd}
 use Rattle.psfont.specs.declared.lines.Piece.{Piece}
 use Rattle.psfont.specs.declared.lines.Piece.TheVariants.{Part, Line, End}
 
@@ -14,3 +14,7 @@ spent End bytes = bytes
 abbrev pub Moves : Piece → Option (List ℕ) → Option (List ℕ) → List ℕ → List ℕ → Type 0
 Moves piece before after old new =
     (bytes : List ℕ) × (new ≡ old ++ bytes) × All (λ byte. byte ≢ 10) bytes × Consumes before after (spent piece bytes)
+
+-- where the reader's bytes are known, some are left
+abbrev pub GoesOn : (before after : Option (List ℕ)) → Type 0
+GoesOn before after = IfSome before (λ _. IsAtEnd after → ⊥)

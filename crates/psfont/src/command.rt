@@ -5,7 +5,7 @@ ghost use Rattle.psfont.specs.Line.{word_of, argument_of};
 use crate::lines::first_place;
 
 /// A command.
-#[derive(Clone, Copy, Debug, PartialEq, Eq)]
+#[derive(Clone, Copy)]
 pub enum Command {
     /// Put bytes, written as hex, in a place.
     Load(Place),
@@ -18,7 +18,7 @@ pub enum Command {
 }
 
 /// Where bytes go.
-#[derive(Clone, Copy, Debug, PartialEq, Eq)]
+#[derive(Clone, Copy)]
 pub enum Place {
     /// The code.
     Code,
@@ -29,7 +29,7 @@ pub enum Place {
 }
 
 /// What a font must have.
-#[derive(Clone, Copy, Debug, PartialEq, Eq)]
+#[derive(Clone, Copy)]
 pub enum Manner {
     /// Private dictionaries and local subroutines.
     Strict,

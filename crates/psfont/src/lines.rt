@@ -1,9 +1,9 @@
 //! Lines of the input.
-ghost use Rattle.std.specs.Prelude.{◌≡◌, ◌≢◌, ◌==◌, position, ℕ, List, [], ◌∷◌, ◌++◌, Ok, IfOk, OnErr};
+ghost use Rattle.std.specs.Prelude.{◌≡◌, ◌≢◌, ◌==◌, position, ℕ, List, [], ◌∷◌, ◌++◌, true, Ok, IfOk, OnErr};
 ghost use Rattle.std.specs.Io.KnownBytes.{IsAtEnd};
 ghost use Rattle.postscript.specs.Error.{IsListed};
 ghost use Rattle.psfont.specs.declared.lines.Piece.TheVariants as Piece;
-ghost use Rattle.psfont.specs.Piece.{Moves};
+ghost use Rattle.psfont.specs.Piece.{GoesOn, Moves};
 
 use postscript::Result;
 use std::io::{BufRead, ErrorKind};
@@ -23,6 +23,7 @@ pub fn read_piece<R: BufRead>(reader: &mut R, line: &mut Vec<u8>) -> Result<Piec
     ensures moved { IfOk result (λ piece. Moves piece (R.remaining reader.old) (R.remaining reader.new)
         line.old.items line.new.items) }
     ensures end { result ≡ Ok Piece.End → IsAtEnd (R.remaining reader.old) }
+    ensures more { result ≡ Ok (Piece.Line true) → GoesOn (R.remaining reader.old) (R.remaining reader.new) }
     ensures same { OnErr result (line.new.items ≡ line.old.items) }
     ensures listed { IsListed (1 ∷ 2 ∷ 3 ∷ []) result }
 {

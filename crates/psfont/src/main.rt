@@ -1,7 +1,7 @@
 //! A conversation about charstrings and fonts: lines come in, and each is answered. Or what a font's file holds.
 #![tactic(auto)]
 
-ghost use Rattle.std.specs.Prelude.{◌≡◌, [], ◌≤◌, ◌↔◌, ◌∷◌, map, string_bytes, IsOk};
+ghost use Rattle.std.specs.Prelude.{◌≡◌, [], ◌≤◌, ◌↔◌, ◌∷◌, map, string_bytes, IfOk, IsOk};
 ghost use Rattle.postscript.specs.Error.{IsListed};
 ghost use Rattle.psfont.specs.Words.{AreKnown};
 
@@ -67,45 +67,54 @@ fn answer_lines<R: BufRead, W: Write>(alloc: Global, reader: &mut R, writer: &mu
     answer_line(alloc, line.as_slice(), &mut routines, writer)
 }
 
-/// Does what the words after the program's name ask for, and answers the status to end with: none is a session on the
-/// standard input and output, and `font PATH` and `lenient PATH` tell what the font of a file holds.
-pub fn start<R: Input + Print + Eprint + Files + AllocGlobal>(rt: &R, words: &[String]) -> u8
+/// Does what the words after the program's name ask for, and answers the status to end with: none is a session of the
+/// reader and the writer, and `font PATH` and `lenient PATH` write what the font of a file holds. A fault is told on
+/// `errors`, and so are the words that there are.
+pub fn start<F: Files + AllocGlobal, R: BufRead, W: Write, E: Write>(
+    files: &F,
+    words: &[String],
+    reader: &mut R,
+    writer: &mut W,
+    errors: &mut E,
+) -> u8
     ensures status { result ≤ 2 }
     ensures usage { (result ≡ 2) ↔ (¬ (AreKnown (map string_bytes words.now))) }
 {
     match words {
-        [] => status(rt, converse(rt)),
+        [] => status(session(files.alloc(), reader, writer), errors),
         [word, path] if word.as_str() == "font" => {
-            status(rt, show_file(rt, Manner::Strict, path.as_str()))
+            status(
+                show_file(files, Manner::Strict, path.as_str(), writer),
+                errors,
+            )
         }
         [word, path] if word.as_str() == "lenient" => {
-            status(rt, show_file(rt, Manner::Lenient, path.as_str()))
+            status(
+                show_file(files, Manner::Lenient, path.as_str(), writer),
+                errors,
+            )
         }
-        _ => usage(rt),
+        _ => usage(errors),
     }
 }
 
-/// The session on the standard input and output.
-fn converse<R: Input + Print + AllocGlobal>(rt: &R) -> Result<()> {
-    let alloc = rt.alloc();
-    let mut reader = BufReader::new(alloc, rt.reader()).map_err(|_| Error::Memory)?;
-    let mut writer = BufWriter::new(alloc, io::writer(rt)).map_err(|_| Error::Memory)?;
-    session(alloc, &mut reader, &mut writer)
-}
-
-/// What the font of a file holds, on the standard output.
+/// Writes what the font of a file holds.
 ///
 /// Refused: `Io` where the file cannot be opened, and as `read_font` and the writer are.
-fn show_file<R: Print + Files + AllocGlobal>(rt: &R, manner: Manner, path: &str) -> Result<()> {
-    let alloc = rt.alloc();
-    let mut tape = BufReader::new(alloc, File::open(rt, path)?).map_err(|_| Error::Memory)?;
-    let mut writer = BufWriter::new(alloc, io::writer(rt)).map_err(|_| Error::Memory)?;
-    write_font(&read_font(alloc, manner, &mut tape)?, &mut writer)?;
+fn show_file<F: Files + AllocGlobal, W: Write>(
+    files: &F,
+    manner: Manner,
+    path: &str,
+    writer: &mut W,
+) -> Result<()> {
+    let alloc = files.alloc();
+    let mut tape = BufReader::new(alloc, File::open(files, path)?).map_err(|_| Error::Memory)?;
+    write_font(&read_font(alloc, manner, &mut tape)?, writer)?;
     Ok(writer.flush()?)
 }
 
-/// The status of an outcome, whose fault is told on the standard error.
-fn status(rt: &impl Eprint, outcome: Result<()>) -> u8
+/// The status of an outcome, whose fault is told.
+fn status<E: Write>(outcome: Result<()>, errors: &mut E) -> u8
     ensures status { result ≤ 1 }
     ensures ended { (result ≡ 0) ↔ IsOk outcome }
 {
@@ -113,18 +122,33 @@ fn status(rt: &impl Eprint, outcome: Result<()>) -> u8
         Ok(()) => 0,
         Err(fault) => {
             let code = fault.code();
-            let _ = eprintln!(rt; "psfont: fault {code}");
+            let _ = writeln!(errors, "psfont: fault {code}");
             1
         }
     }
 }
 
-/// Tells on the standard error which words there are.
-fn usage(rt: &impl Eprint) -> u8
+/// Tells which words there are.
+fn usage<E: Write>(errors: &mut E) -> u8
     ensures { result ≡ 2 }
 {
-    let _ = rt.eprintln("usage: psfont [font PATH | lenient PATH]");
+    let _ = errors.write_all(b"usage: psfont [font PATH | lenient PATH]\n");
     2
+}
+
+/// `start` on the standard input and output.
+fn start_here<R: Input + Print + Files + AllocGlobal, E: Write>(
+    rt: &R,
+    words: &[String],
+    errors: &mut E,
+) -> Result<u8>
+    ensures usage { IfOk result (λ status. (status ≡ 2) ↔ (¬ (AreKnown (map string_bytes words.now)))) }
+    ensures listed { IsListed (3 ∷ []) result }
+{
+    let alloc = rt.alloc();
+    let mut reader = BufReader::new(alloc, rt.reader()).map_err(|_| Error::Memory)?;
+    let mut writer = BufWriter::new(alloc, io::writer(rt)).map_err(|_| Error::Memory)?;
+    Ok(start(rt, words, &mut reader, &mut writer, errors))
 }
 
 /// The words after the program's name.
@@ -133,9 +157,16 @@ fn words_of<R: Env + AllocGlobal>(rt: &R) -> io::Result<Vec<String>> {
 }
 
 fn main(rt: HostRuntime) -> ExitCode {
+    let stderr = rt.stderr();
+    let mut errors = io::writer(&stderr);
     ExitCode::from(match words_of(&rt) {
-        Ok(words) => start(&rt, words.as_slice()),
-        Err(fault) if fault.kind() == ErrorKind::OutOfMemory => status(&rt, Err(Error::Memory)),
-        Err(_) => usage(&rt),
+        Ok(words) => match start_here(&rt, words.as_slice(), &mut errors) {
+            Ok(ended) => ended,
+            Err(fault) => status(Err(fault), &mut errors),
+        },
+        Err(fault) if fault.kind() == ErrorKind::OutOfMemory => {
+            status(Err(Error::Memory), &mut errors)
+        }
+        Err(_) => usage(&mut errors),
     })
 }

@@ -14,6 +14,7 @@ use std::io::Write;
 /// Reads a font, which may lack what its manner lets it.
 pub fn read_font<T: Tape>(alloc: Global, manner: Manner, tape: &mut T) -> Result<FontSet>
     ensures exact { Reads font_shown (T.state tape.old) result (T.state tape.new) (reading_of manner) }
+    ensures listed { IsListed (1 ∷ 2 ∷ 3 ∷ 5 ∷ 6 ∷ 7 ∷ 8 ∷ 9 ∷ 10 ∷ 11 ∷ 12 ∷ 13 ∷ 14 ∷ 15 ∷ 16 ∷ []) result }
 {
     match manner {
         Manner::Strict => FontSet::read(alloc, tape),
@@ -87,12 +88,25 @@ fn write_dictionaries<W: Write>(font: &FontSet, writer: &mut W) -> Result<()>
     let sets = font.encodings.iter().zip(font.char_sets.iter());
     let programs = font.char_strings.iter().zip(font.local_subroutines.iter());
     for ((encoding, char_set), (char_strings, local)) in sets.zip(programs) {
-        let (encoding, char_set) = (encoding.name(), char_set.name());
         let (glyphs, locals) = (char_strings.len(), local.len());
-        writeln!(
-            writer,
-            "font {encoding} {char_set} glyphs {glyphs} locals {locals}"
-        )?;
+        write_dictionary(encoding.name(), char_set.name(), glyphs, locals, writer)?;
     }
+    Ok(())
+}
+
+/// A line for a dictionary.
+fn write_dictionary<W: Write>(
+    encoding: &str,
+    char_set: &str,
+    glyphs: usize,
+    locals: usize,
+    writer: &mut W,
+) -> Result<()>
+    ensures listed { IsListed (1 ∷ 2 ∷ []) result }
+{
+    writeln!(
+        writer,
+        "font {encoding} {char_set} glyphs {glyphs} locals {locals}"
+    )?;
     Ok(())
 }

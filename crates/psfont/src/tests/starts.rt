@@ -1,0 +1,161 @@
+//! What the program does by the words after its name.
+use crate::start;
+use std::alloc::{AllocError, Global};
+use std::fs;
+use std::io::BufWriter;
+use std::test::Fail;
+
+const USAGE: &str = "usage: psfont [font PATH | lenient PATH]\n";
+
+/// A font of the name A with one glyph: its header, its names, its dictionary (`CharStrings` at 24; `Private` of 2 bytes at
+/// 30), no strings, no global subroutines, its char strings, its private dictionary (`Subrs` 2 behind it), no local ones.
+const FONT: &[u8] = &[
+    1, 0, 4, 1, 0, 1, 1, 1, 2, 0x41, 0, 1, 1, 1, 6, 0xa3, 0x11, 0x8d, 0xa9, 0x12, 0, 0, 0, 0, 0, 1,
+    1, 1, 2, 0x0e, 0x8d, 0x13, 0, 0,
+];
+
+/// The same, but that its private dictionary names no local subroutines.
+const NO_LOCALS: &[u8] = &[
+    1, 0, 4, 1, 0, 1, 1, 1, 2, 0x41, 0, 1, 1, 1, 6, 0xa3, 0x11, 0x8d, 0xa9, 0x12, 0, 0, 0, 0, 0, 1,
+    1, 1, 2, 0x0e, 0x8d, 0x14, 0, 0,
+];
+
+/// What is printed of it.
+const ONE_GLYPH: &str =
+    "header 1 0 4 1\nnames 1\nname A\nstrings 0\nglobals 0\ndictionaries 1\nfont Standard ISOAdobe glyphs 1 locals 0\nend\n";
+
+/// A font with no names and no dictionaries, and what is printed of it.
+const NO_NAMES: &[u8] = &[0, 0, 0, 0, 0, 0, 0, 0];
+
+const NOTHING: &str = "header 0 0 0 0\nnames 0\nstrings 0\nglobals 0\ndictionaries 0\nend\n";
+
+/// Names with offsets of 5 bytes.
+const LONG_OFFSETS: &[u8] = &[1, 0, 4, 1, 0, 1, 0, 5];
+
+/// What a start is given: its words, the bytes of the file font.cff, and the input.
+type Given = (&'static [&'static str], &'static [u8], &'static [u8]);
+
+/// What comes of it: its status, what is printed, and what is told as an error.
+type Outcome = (u8, &'static str, &'static str);
+
+const STARTS: &[(&str, Given, Outcome)] = &[
+    ("no words, no input", (&[], b"", b""), (0, "", "")),
+    (
+        "no words",
+        (&[], b"", b"code\nfont"),
+        (0, "ok\nfault 1\n", ""),
+    ),
+    (
+        "no code",
+        (&[], b"", b"run\nflat\ncode \nrun"),
+        (0, "end\nwidth none\nflat\nok\nend\nwidth none\n", ""),
+    ),
+    (
+        "no line end",
+        (&[], b"", b"\n\r\n\ncode 8C06\n\nrun"),
+        (0, "ok\nHLineTo 1\nend\nwidth none\n", ""),
+    ),
+    ("a return", (&[], b"", b"run\r"), (0, "bad command\n", "")),
+    (
+        "returns",
+        (&[], b"", b"run\r\r\n\r\r\n\r"),
+        (0, "bad command\nbad command\nbad command\n", ""),
+    ),
+    (
+        "font missing",
+        (&["font", "missing"], b"", b"run"),
+        (1, "", "psfont: fault 2\n"),
+    ),
+    (
+        "lenient missing",
+        (&["lenient", "missing"], b"", b"run"),
+        (1, "", "psfont: fault 2\n"),
+    ),
+    ("font", (&["font"], b"", b"run"), (2, "", USAGE)),
+    ("lenient", (&["lenient"], b"", b"run"), (2, "", USAGE)),
+    ("run x", (&["run", "x"], b"", b"run"), (2, "", USAGE)),
+    ("run", (&["run"], b"", b"run"), (2, "", USAGE)),
+    (
+        "font x y",
+        (&["font", "x", "y"], b"", b"run"),
+        (2, "", USAGE),
+    ),
+    (
+        "lenient x y",
+        (&["lenient", "x", "y"], b"", b"run"),
+        (2, "", USAGE),
+    ),
+    (
+        "one glyph",
+        (&["font", "font.cff"], FONT, b"run"),
+        (0, ONE_GLYPH, ""),
+    ),
+    (
+        "no names",
+        (&["font", "font.cff"], NO_NAMES, b"run"),
+        (0, NOTHING, ""),
+    ),
+    (
+        "cut short",
+        (&["font", "font.cff"], &[0, 0, 0, 0, 0, 0, 0], b"run"),
+        (1, "", "psfont: fault 1\n"),
+    ),
+    (
+        "no bytes",
+        (&["font", "font.cff"], b"", b"run"),
+        (1, "", "psfont: fault 1\n"),
+    ),
+    (
+        "long offsets",
+        (&["font", "font.cff"], LONG_OFFSETS, b"run"),
+        (1, "", "psfont: fault 5\n"),
+    ),
+    (
+        "long offsets, lenient",
+        (&["lenient", "font.cff"], LONG_OFFSETS, b"run"),
+        (1, "", "psfont: fault 5\n"),
+    ),
+    (
+        "no locals",
+        (&["font", "font.cff"], NO_LOCALS, b"run"),
+        (1, "", "psfont: fault 14\n"),
+    ),
+    (
+        "no locals, lenient",
+        (&["lenient", "font.cff"], NO_LOCALS, b"run"),
+        (0, ONE_GLYPH, ""),
+    ),
+];
+
+/// Words as texts.
+fn texts(alloc: Global, words: &[&str]) -> Result<Vec<String>, AllocError> {
+    let mut texts = Vec::new(alloc);
+    for word in words {
+        texts.push(String::from_str(alloc, word)?)?;
+    }
+    Ok(texts)
+}
+
+/// Whether the start with what is given has this outcome. What is not flushed does not count as printed.
+fn comes_to(rt: &HostRuntime, given: &Given, outcome: &Outcome) -> Result<bool, Fail> {
+    let (words, file, input) = *given;
+    let (status, output, told) = *outcome;
+    fs::write(rt, "font.cff", file)?;
+    let words = texts(rt.alloc(), words)?;
+    let mut reader = input;
+    let mut writer = BufWriter::new(rt.alloc(), Vec::new(rt.alloc()))?;
+    let mut errors = Vec::new(rt.alloc());
+    let ended = start(rt, words.as_slice(), &mut reader, &mut writer, &mut errors);
+    Ok(
+        (ended, writer.get_ref().as_slice(), errors.as_slice())
+            == (status, output.as_bytes(), told.as_bytes()),
+    )
+}
+
+#[test]
+fn starts_by_its_words(rt: HostRuntime) -> Result<(), Fail> {
+    for (what, given, outcome) in STARTS {
+        assert!(rt; comes_to(&rt, given, outcome)?, "at {what}");
+    }
+    Ok(fs::remove_file(&rt, "font.cff")?)
+}
