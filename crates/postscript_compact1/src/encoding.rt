@@ -37,9 +37,9 @@ pub enum Encoding {
 }
 
 impl Encoding {
-    /// The identifier of the string that a character code names (Technical Note 5176, Appendix B): that of `.notdef`,
-    /// which is 0, where the encoding does not list the code, and None for a code past 255. An identifier is below
-    /// 391, so that `get_standard_string` has its string. Never refused.
+    /// The identifier of the string that a character code, the parameter, names (Technical Note 5176, Appendix B):
+    /// that of `.notdef`, which is 0, where the encoding does not list the code, and None for a code past 255. An
+    /// identifier is below 391, so that `get_standard_string` has its string. Never refused.
     ///
     /// ```rust
     /// pub fn name_of_code(alloc: Global, font: &FontSet, code: u16) -> Result<Option<String>> {

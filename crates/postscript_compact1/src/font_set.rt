@@ -26,7 +26,9 @@ use postscript_base::{Result, Tape, Value};
 use std::alloc::Global;
 use tables::{Tables, read_behind};
 
-/// A font set: what a file of the Compact Font Format holds.
+/// A font set: what a file of the Compact Font Format holds (Technical Note 5176). In one that was read from an honest
+/// tape the encodings, char sets, char strings, local dictionaries and local subroutines are one for each of the
+/// global dictionaries, in their order, and item g of char strings is the code of glyph g.
 #[derive(Drop)]
 pub struct FontSet {
     /// The header.

@@ -75,7 +75,7 @@ impl Operand {
     }
 }
 
-/// The whole number, else the bits followed by `/65536`.
+/// The whole number, as `3`, else the bits followed by `/65536`, as `98304/65536`.
 impl fmt::Display for Operand {
     ghost output = { λ operand. Some (text operand) };
 

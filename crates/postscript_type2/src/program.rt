@@ -62,7 +62,8 @@ impl<'l> Model for Program<'l> {
 
 impl<'l> Program<'l> {
     /// A program of a code, and of the global and the local subroutines: the bytes of each, in the order of their
-    /// lists, as `Subroutines::data` gives them. It stands before its first operation, with no width. Never refused.
+    /// lists, as `data` of a font's subroutines gives them. It stands before its first operation, with no width. Never
+    /// refused.
     ///
     /// ```rust
     /// pub fn first_operator(alloc: Global, code: &[u8], local: &[Vec<u8>]) -> Result<Option<Operator>> {

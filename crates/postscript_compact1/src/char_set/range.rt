@@ -19,7 +19,7 @@ use std::alloc::Global;
 pub struct Range1 {
     /// The identifier of the first glyph.
     pub first: StringID,
-    /// How many glyphs are left in the range.
+    /// How many glyphs stand behind the first one in the range.
     pub left: u8,
 }
 
@@ -28,7 +28,7 @@ pub struct Range1 {
 pub struct Range2 {
     /// The identifier of the first glyph.
     pub first: StringID,
-    /// How many glyphs are left in the range.
+    /// How many glyphs stand behind the first one in the range.
     pub left: u16,
 }
 
