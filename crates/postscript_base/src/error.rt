@@ -14,8 +14,8 @@ pub type Result<T> = std::result::Result<T, Error>;
 /// A refusal.
 #[derive(Debug, Drop, Error)]
 pub enum Error {
-    /// Bytes were wanting: something is cut off, or its place lies past the end. Also a fault of this kind of a reader, a seek
-    /// or a writer.
+    /// Bytes were wanting: something is cut off, or its place lies past the end. Also a fault of this kind of a
+    /// reader, a seek or a writer.
     #[error("failed to fill whole buffer")]
     UnexpectedEof,
     /// A reader, a seek or a writer answered another fault.
@@ -42,7 +42,8 @@ pub enum Error {
     /// The code names no operator.
     #[error("found an unknown operator")]
     UnknownOperator,
-    /// Ranges of a char set cover more glyphs than there are, there are no glyphs, or it is of another format than is read.
+    /// Ranges of a char set cover more glyphs than there are, there are no glyphs, or it is of another format than is
+    /// read.
     #[error("found a malformed char set")]
     MalformedCharSet,
     /// No char set has the format that its first byte names.
@@ -117,7 +118,7 @@ pub enum Part {
 }
 
 impl Error {
-    /// The number of the refusal, the same in every version of this library.
+    /// The number of the refusal, from 1 to 30, the same in every version of this library. Never refused.
     pub fn code(&self) -> u8
         ensures { result ≡ code self.now }
     {
@@ -156,6 +157,8 @@ impl Error {
     }
 }
 
+/// A fault of a tape: `UnexpectedEof` where it is of that kind, and else `Io` with the fault as it came. Never
+/// refused.
 impl From<io::Error> for Error {
     ghost from_gives = { FromIo };
 
@@ -167,6 +170,7 @@ impl From<io::Error> for Error {
     }
 }
 
+/// Memory that was refused: `Memory`. Never refused.
 impl From<AllocError> for Error {
     ghost from_gives = { λ _ e. e ≡ errors.Memory };
 
@@ -175,6 +179,7 @@ impl From<AllocError> for Error {
     }
 }
 
+/// Memory that was refused to a call that hands its value back: `Memory`. Never refused.
 impl<T: Drop> From<AllocFailed<T>> for Error {
     ghost from_gives = { λ _ e. e ≡ errors.Memory };
 

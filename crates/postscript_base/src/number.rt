@@ -8,7 +8,9 @@ ghost use Rattle.postscript_base.specs.Numbers.{number, small as the_small, abov
 use crate::tape::fixed;
 use crate::{Result, Tape};
 
-/// The next byte.
+/// The next byte as a number, from 0 to 255.
+///
+/// Refused: `UnexpectedEof` where no byte is left, `Io`.
 #[inline(always)]
 #[tactic(auto, unfolding(crate::specs::Numbers::number))]
 pub fn byte<T: Tape>(tape: &mut T) -> Result<u8>
@@ -19,7 +21,9 @@ pub fn byte<T: Tape>(tape: &mut T) -> Result<u8>
     Ok(byte)
 }
 
-/// The next two bytes.
+/// The next two bytes as a number, the high byte first (Technical Note 5176, "Data Types").
+///
+/// Refused: `UnexpectedEof` where fewer are left, `Io`.
 #[inline(always)]
 #[tactic(auto, unfolding(crate::specs::Numbers::number))]
 pub fn word<T: Tape>(tape: &mut T) -> Result<u16>
@@ -29,7 +33,9 @@ pub fn word<T: Tape>(tape: &mut T) -> Result<u16>
     Ok(u16::from_be_bytes(fixed(tape)?))
 }
 
-/// The next four bytes.
+/// The next four bytes as a number, the high byte first.
+///
+/// Refused: `UnexpectedEof` where fewer are left, `Io`.
 #[inline(always)]
 #[tactic(auto, unfolding(crate::specs::Numbers::number))]
 pub fn long_word<T: Tape>(tape: &mut T) -> Result<u32>
@@ -39,7 +45,8 @@ pub fn long_word<T: Tape>(tape: &mut T) -> Result<u32>
     Ok(u32::from_be_bytes(fixed(tape)?))
 }
 
-/// The whole number of one byte, from -107 to 107.
+/// The whole number of one byte, from -107 to 107 (Technical Note 5176, "DICT Data"; 5177, "Charstring Number
+/// Encoding"). The byte is from 32 to 246. Never refused.
 pub fn small(first: u8) -> i16
     requires low { 32 ≤ first }
     requires high { first < 247 }
@@ -48,7 +55,7 @@ pub fn small(first: u8) -> i16
     i16::from(first) - 139
 }
 
-/// The whole number of two bytes, from 108 to 1131.
+/// The whole number of two bytes, from 108 to 1131; the first byte is from 247 to 250. Never refused.
 pub fn above(first: u8, second: u8) -> i16
     requires low { 247 ≤ first }
     requires high { first < 251 }
@@ -57,7 +64,7 @@ pub fn above(first: u8, second: u8) -> i16
     (i16::from(first) - 247) * 256 + i16::from(second) + 108
 }
 
-/// The whole number of two bytes, from -108 down to -1131.
+/// The whole number of two bytes, from -108 down to -1131; the first byte is from 251 to 254. Never refused.
 pub fn below(first: u8, second: u8) -> i16
     requires low { 251 ≤ first }
     requires high { first < 255 }

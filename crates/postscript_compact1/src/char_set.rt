@@ -45,7 +45,7 @@ pub enum CharSet {
 }
 
 impl CharSet {
-    /// Whether the set is one of the predefined ones.
+    /// Whether the set is one of the predefined ones, ISOAdobe, Expert and ExpertSubset. Never refused.
     pub fn is_predefined(&self) -> bool
         ensures { result ≡ is_predefined self.now }
     {
@@ -55,7 +55,7 @@ impl CharSet {
         )
     }
 
-    /// The name of the case.
+    /// The name of the case, as `ISOAdobe` or `Format0`. Never refused.
     pub fn name(&self) -> &'static str
         ensures { result.now ≡ name_of self.now }
     {
@@ -69,7 +69,19 @@ impl CharSet {
         }
     }
 
-    /// The string that names a glyph of a predefined set. Glyph 0, and a glyph past the set, is not named.
+    /// The string that names a glyph of a predefined set, by the glyph's number (Technical Note 5176, Appendix C).
+    /// None for glyph 0, which is `.notdef`, and for a glyph past the set. The caller proves that the set is
+    /// predefined: of another, the identifiers stand in its fields, and `Strings::get` tells the string. Never
+    /// refused.
+    ///
+    /// ```rust
+    /// pub fn name_of_glyph(set: &CharSet, glyph: GlyphID) -> Option<&'static str> {
+    ///     if set.is_predefined() {
+    ///         return set.get(glyph);
+    ///     }
+    ///     None
+    /// }
+    /// ```
     pub fn get(&self, gid: GlyphID) -> Option<&'static str>
         requires { IsTrue (is_predefined self.now) }
         ensures exact { option_copied result ≡ name_of_glyph self.now gid }
@@ -93,6 +105,8 @@ impl CharSet {
     }
 
     /// An equal char set.
+    ///
+    /// Refused: `Memory`.
     pub fn clone(&self) -> Result<Self>
         ensures equal { IfOk result (λ set. set ≡ self.now) }
         ensures listed { IsListed (3 ∷ []) result }
@@ -108,7 +122,7 @@ impl CharSet {
     }
 }
 
-/// As `CharSet::clone`, so that lists of them are cloned as well.
+/// As `CharSet::clone`, so that lists of them are cloned as well. Refused only for want of memory.
 impl Clone for CharSet {
     ghost use Rattle.std.specs.Prelude.{◌≡◌};
 
@@ -119,10 +133,12 @@ impl Clone for CharSet {
     }
 }
 
-/// The parameter is the number of glyphs. The first byte names the format.
+/// A char set of the format that its first byte names (Technical Note 5176, "Charsets"). The parameter is the number
+/// of glyphs, of which glyph 0 is not told.
 ///
-/// Refused: `MalformedCharSet` for no glyphs, behind the first byte, and where ranges cover more glyphs than there are,
-/// `UnknownCharSetFormat` for another format than 0, 1 and 2, `UnexpectedEof`, `Io`, `Memory`.
+/// Refused: `UnexpectedEof` where the first byte is wanting; `UnknownCharSetFormat` for another format than 0, 1 and
+/// 2; `MalformedCharSet` for no glyphs; then, in the order of the bytes, `UnexpectedEof` where an identifier or a
+/// range is cut and `MalformedCharSet` where a range covers more glyphs than are left; `Io`, `Memory`.
 #[tactic(auto, unfolding(crate::specs::CharSets::char_set))]
 impl Walue for CharSet {
     ghost use Rattle.postscript_compact1.specs.declared.char_set.CharSet.{CharSet};

@@ -37,8 +37,18 @@ pub enum Encoding {
 }
 
 impl Encoding {
-    /// The identifier of the string that a character code names: that of `.notdef`, which is 0, where the encoding does
-    /// not list the code, and none past 255.
+    /// The identifier of the string that a character code, the parameter, names (Technical Note 5176, Appendix B):
+    /// that of `.notdef`, which is 0, where the encoding does not list the code, and None for a code past 255. An
+    /// identifier is below 391, so that `get_standard_string` has its string. Never refused.
+    ///
+    /// ```rust
+    /// pub fn name_of_code(alloc: Global, font: &FontSet, code: u16) -> Result<Option<String>> {
+    ///     match Encoding::Standard.get(code) {
+    ///         Some(sid) => font.strings.get(alloc, sid),
+    ///         None => Ok(None),
+    ///     }
+    /// }
+    /// ```
     #[tactic(auto, unfolding(crate::specs::Encodings::identifier_of))]
     pub fn get(&self, gid: GlyphID) -> Option<StringID>
         ensures exact { result ≡ identifier_of self.now gid }
@@ -53,7 +63,7 @@ impl Encoding {
         })
     }
 
-    /// The name of the case.
+    /// The name of the case, `Standard` or `Expert`. Never refused.
     pub fn name(&self) -> &'static str
         ensures { result.now ≡ name_of self.now }
     {

@@ -26,9 +26,12 @@ use postscript_base::{Result, Tape, Value};
 use std::alloc::Global;
 use tables::{Tables, read_behind};
 
-/// A font set: what a file of the Compact Font Format holds.
+/// A font set: what a file of the Compact Font Format holds (Technical Note 5176). In one that was read from an honest
+/// tape the encodings, char sets, char strings, local dictionaries and local subroutines are one for each of the
+/// global dictionaries, in their order, and item g of char strings is the code of glyph g.
 #[derive(Drop)]
 pub struct FontSet {
+    /// The header.
     pub header: Header,
     /// The names of the fonts.
     pub names: Vec<String>,
@@ -51,7 +54,9 @@ pub struct FontSet {
 }
 
 impl FontSet {
-    /// An equal font.
+    /// An equal font: each field is equal.
+    ///
+    /// Refused: `Memory`.
     pub fn clone(&self) -> Result<Self>
         ensures equal { IfOk result (λ font. font_shown font ≡ font_shown self.now) }
         ensures listed { IsListed (3 ∷ []) result }
@@ -88,13 +93,19 @@ impl FontSet {
     }
 
     /// A font that may lack private dictionaries and local subroutines: with fewer than two operands of `Private` a
-    /// dictionary has an empty private one, and without an operand of `Subrs` no local subroutines. The layout leaves open
-    /// where such a font ends.
+    /// dictionary has an empty private one, and without an operand of `Subrs` no local subroutines. On an honest tape
+    /// it is answered exactly where such a font stands at the tape's place, want of memory aside; the layout leaves
+    /// open where the font ends.
     ///
-    /// Refused as `read` is, but never for operands of `Private` or `Subrs` that are missing; one that is there and is no
-    /// whole number of `i32` is `MalformedOperation`.
+    /// Refused: as `read` is, but never for operands of `Private` or `Subrs` that are missing; one that is there and
+    /// is no whole number of `i32` is `MalformedOperation`.
     ///
-    /// Whoever calls it learns that a font is read where one stands that may lack these, and nowhere else.
+    /// ```rust
+    /// pub fn lenient_font_of(alloc: Global, bytes: &[u8]) -> Result<FontSet> {
+    ///     let mut tape = Cursor::new(bytes);
+    ///     FontSet::read_lenient(alloc, &mut tape)
+    /// }
+    /// ```
     pub fn read_lenient<T: Tape>(alloc: Global, tape: &mut T) -> Result<FontSet>
         ensures exact { Reads font_shown (T.state tape.old) result (T.state tape.new) lenient_font }
         ensures listed { IsListed (1 ∷ 2 ∷ 3 ∷ 5 ∷ 6 ∷ 7 ∷ 8 ∷ 9 ∷ 10 ∷ 11 ∷ 12 ∷ 13 ∷ 14 ∷ 15 ∷ 16 ∷ []) result }
@@ -107,11 +118,25 @@ impl FontSet {
     }
 }
 
-/// Refused: `OutOfRangeOffset` where an offset, a size or a sum of offsets is negative, or 64 bits do not count a place;
-/// `MissingOperation` and `MalformedOperation` with the operator that is missing, has too few operands, or has one that
-/// is no whole number of `i32`; `UnknownCharStringFormat` for char strings of another type than 2; `Unsupported` for
-/// another encoding than Standard and Expert; as indices, dictionaries and char sets are; `UnexpectedEof`, `Io`,
-/// `Memory`.
+/// The font at the tape's place (Technical Note 5176, "CFF Data Layout"), from which offsets count. The version in the
+/// header is not looked at. On an honest tape a font is answered exactly where one stands
+/// (`specs/FontSet/Layout.antt`), want of memory aside; the tape then stands behind the local subroutines of the last
+/// dictionary, or behind the global ones where there is no dictionary.
+///
+/// Refused, in this order: for the header, `UnexpectedEof`, and `OutOfRangeOffset` where 64 bits do not count the
+/// place behind it; for names, dictionaries, strings and global subroutines as an `Index` is, and behind the INDEX of
+/// dictionaries as the first bad number or operator is (`Dictionaries::into`). Then for each dictionary:
+///
+/// - its encoding: `Unsupported` with `Part::CustomEncoding` for another than 0 and 1;
+/// - its char strings: `OutOfRangeOffset`, `UnknownCharStringFormat` for another type than 2, and as an `Index` is;
+/// - its char set: `OutOfRangeOffset`, and as a `CharSet` is;
+/// - its private dictionary: `OutOfRangeOffset` for a negative size or offset too, `UnexpectedEof`, and as the first
+///   bad number or operator in it is;
+/// - its local subroutines, whose offset counts from the private dictionary: `OutOfRangeOffset`, and as an `Index` is.
+///
+/// Before each of these come `MissingOperation` with the operator that is missing or has too few operands, and
+/// `MalformedOperation` with the one of which an operand is no whole number of `i32`. A place past the end is
+/// `UnexpectedEof` or `Io`. Last `Io`, `Memory`.
 impl Value for FontSet {
     ghost use Rattle.std.specs.Prelude.{◌≢◌, ℕ, [], ◌∷◌, map, refl, IfOk, IfErr};
     ghost use Rattle.postscript_base.specs.Error.{IsListed};
@@ -135,7 +160,23 @@ impl Value for FontSet {
 
     ghost refusals = { 1 ∷ 2 ∷ 3 ∷ 5 ∷ 6 ∷ 7 ∷ 8 ∷ 9 ∷ 10 ∷ 11 ∷ 12 ∷ 13 ∷ 14 ∷ 15 ∷ 16 ∷ [] };
 
-    /// Whoever calls it learns that a font is read where one stands, and nowhere else.
+    /// Reads the font. Whoever calls it learns that a font is read where one stands, and nowhere else (clauses
+    /// `found`, `only` and `why`).
+    ///
+    /// ```rust
+    /// pub fn font_of(alloc: Global, bytes: &[u8]) -> Result<FontSet> {
+    ///     let mut tape = Cursor::new(bytes);
+    ///     FontSet::read(alloc, &mut tape)
+    /// }
+    /// ```
+    ///
+    /// ```rust
+    /// pub fn font_behind(alloc: Global, bytes: &[u8], place: u64) -> Result<FontSet> {
+    ///     let mut tape = Cursor::new(bytes);
+    ///     tape.jump(place)?;
+    ///     tape.take::<FontSet>(alloc)
+    /// }
+    /// ```
     fn read<T: Tape>(alloc: Global, tape: &mut T) -> Result<FontSet>
         ensures exact { Reads font_shown (T.state tape.old) result (T.state tape.new) font }
         ensures listed { IsListed (1 ∷ 2 ∷ 3 ∷ 5 ∷ 6 ∷ 7 ∷ 8 ∷ 9 ∷ 10 ∷ 11 ∷ 12 ∷ 13 ∷ 14 ∷ 15 ∷ 16 ∷ []) result }

@@ -53,7 +53,7 @@ impl Model for Index {
 }
 
 impl Index {
-    /// An INDEX without items.
+    /// An INDEX without items: its count and its size of offsets are 0. Never refused.
     pub fn empty(alloc: Global) -> Self
         ensures { result ≡ no_items }
     {
@@ -65,28 +65,46 @@ impl Index {
         }
     }
 
-    /// The items.
+    /// The items as a slice, each the list of its bytes; as a font's subroutines are handed to `Program::new`. Never
+    /// refused.
     pub fn data(&self) -> &[Vec<u8>]
         ensures { map (λ item. item.items) result.now ≡ self.now.items }
     {
         self.items.as_slice()
     }
 
-    /// How many items there are.
+    /// How many items there are. Never refused.
     pub fn len(&self) -> usize
         ensures { result ≡ length self.now.items }
     {
         self.items.len()
     }
 
-    /// The item at a place, counted from 0.
+    /// The bytes of the item at a place, counted from 0. None where there is no such item. Never refused.
+    ///
+    /// ```rust
+    /// pub fn glyph_code<'l>(font: &'l FontSet, dictionary: usize, glyph: GlyphID) -> Option<&'l [u8]> {
+    ///     let char_strings = font.char_strings.get(dictionary)?;
+    ///     char_strings.item(usize::from(glyph))
+    /// }
+    /// ```
     pub fn item(&self, i: usize) -> Option<&[u8]>
         ensures { option_copied result ≡ slice_get self.now.items i }
     {
         Some(self.items.get(i)?.as_slice())
     }
 
-    /// The items in order.
+    /// The items in order, each the list of its bytes. Never refused.
+    ///
+    /// ```rust
+    /// pub fn bytes_of_items(index: &Index) -> usize {
+    ///     let mut bytes = 0usize;
+    ///     for item in index.iter() {
+    ///         bytes = bytes.saturating_add(item.len());
+    ///     }
+    ///     bytes
+    /// }
+    /// ```
     pub fn iter(&self) -> Iter<'_, Vec<u8>>
         ensures { map (λ item. item.items) result.rest.now ≡ self.now.items }
     {
@@ -94,6 +112,8 @@ impl Index {
     }
 
     /// An equal INDEX.
+    ///
+    /// Refused: `Memory`.
     pub fn clone(&self) -> Result<Self>
         ensures equal { IfOk result (λ index. index ≡ self.now) }
         ensures listed { IsListed (3 ∷ []) result }
@@ -107,11 +127,13 @@ impl Index {
     }
 }
 
-/// Refused: `MalformedOffset` for offsets of no byte or of more than four, `MalformedIndex` where the first offset is not
-/// 1 or a next one is not greater than the last, `UnexpectedEof`, `Io`, `Memory`.
+/// A count of two bytes, and where it is not 0 the size of an offset, one offset more than there are items, and the
+/// items (Technical Note 5176, "INDEX Data"). An `Index` that was read is empty or has as many items as it counts. Its
+/// offsets begin with 1 and rise, and item i is as long as offset i + 1 less offset i: an item of no bytes is refused.
 ///
-/// An `Index` that was read is empty or has as many items as it counts. Its offsets begin with 1 and rise, and item i is
-/// as long as offset i + 1 less offset i.
+/// Refused: `UnexpectedEof` where the count or the size is cut; `MalformedOffset` for offsets of no byte or of more
+/// than four; then, offset by offset, `UnexpectedEof` where it is cut and `MalformedIndex` where the first is not 1 or
+/// a next one is not greater than the last; `UnexpectedEof` where an item is cut; `Io`, `Memory`.
 #[tactic(auto, using(crate::proofs::IndexIs::read_whole, crate::proofs::IndexIs::empty_whole), unfolding(crate::specs::Index::index))]
 impl Value for Index {
     ghost use Rattle.std.specs.Prelude.{[], ◌∷◌};

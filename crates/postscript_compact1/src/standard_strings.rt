@@ -61,7 +61,7 @@ const STRINGS: [&str; 391] = [
     "Medium", "Regular", "Roman", "Semibold",
 ];
 
-/// The standard string of an identifier (Technical Note 5176, Appendix A). From 391 on there is none.
+/// The standard string of an identifier (Technical Note 5176, Appendix A). From 391 on there is none. Never refused.
 pub fn get_standard_string(sid: StringID) -> Option<&'static str>
     ensures { option_copied result ≡ standard_string sid }
 {

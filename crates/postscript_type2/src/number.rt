@@ -13,9 +13,10 @@ use crate::refused::{self, Refused};
 use postscript_base::number::{above, below, byte, long_word, small, word};
 use postscript_base::{Error, Result, Tape};
 
-/// Reads a number (Technical Note 5177, "Charstring Number Encoding").
+/// Reads a number of a charstring (Technical Note 5177, "Charstring Number Encoding") as its 16.16 bits: a whole
+/// number of one, two or three bytes, or four bytes of bits behind 0xff. It is handed no allocator.
 ///
-/// Refused: `MalformedNumber` where the first byte begins no number, `UnexpectedEof`, `Io`.
+/// Refused: `UnexpectedEof` where bytes are wanting, `MalformedNumber` where the first byte begins no number, `Io`.
 #[tactic(auto, unfolding(crate::specs::Number::number))]
 pub fn read<T: Tape>(tape: &mut T) -> Result<Operand>
     ensures exact { Reads same (T.state tape.old) result (T.state tape.new) the_number }

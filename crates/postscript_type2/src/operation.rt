@@ -27,21 +27,27 @@ impl Model for Operand {
 }
 
 impl Operand {
-    /// The operand of these bits.
+    /// The operand of these 16.16 bits. Never refused.
+    ///
+    /// ```rust
+    /// pub fn one_and_a_half() -> Operand {
+    ///     Operand::from_bits(98_304)
+    /// }
+    /// ```
     pub fn from_bits(bits: i32) -> Operand
         ensures { result ≡ bits }
     {
         Operand { bits }
     }
 
-    /// The bits, 65536 times the number.
+    /// The 16.16 bits, 65536 times the number. Never refused.
     pub fn bits(&self) -> i32
         ensures { result ≡ self.now }
     {
         self.bits
     }
 
-    /// The operand of a whole number.
+    /// The operand of a whole number. Never refused.
     pub fn from_int(number: i16) -> Operand
         ensures { result ≡ whole number }
     {
@@ -50,7 +56,14 @@ impl Operand {
         }
     }
 
-    /// The whole number, if it is one.
+    /// The whole number, where it is one, and else None. Never refused.
+    ///
+    /// ```rust
+    /// pub fn one_more(operand: &Operand) -> Option<Operand> {
+    ///     let number = operand.to_int()?;
+    ///     Some(Operand::from_int(number.checked_add(1)?))
+    /// }
+    /// ```
     pub fn to_int(&self) -> Option<i16>
         ensures { result ≡ to_int self.now }
     {
@@ -62,7 +75,7 @@ impl Operand {
     }
 }
 
-/// The whole number, else the bits followed by `/65536`.
+/// The whole number, as `3`, else the bits followed by `/65536`, as `98304/65536`.
 impl fmt::Display for Operand {
     ghost output = { λ operand. Some (text operand) };
 
@@ -185,9 +198,9 @@ pub enum Operator {
 }
 
 impl Operator {
-    /// The operator of a code; a code of two bytes is 0x0c00 and the second byte.
+    /// The operator of a code (Technical Note 5177, Appendix A); a code of two bytes is 0x0c00 and the second byte.
     ///
-    /// Refused: `UnknownOperator`.
+    /// Refused: `UnknownOperator` where no operator has the code.
     pub fn from(code: u16) -> Result<Self>
         ensures { result ≡ ok_or (operator_of code) errors.UnknownOperator }
     {
@@ -251,7 +264,7 @@ impl Operator {
         })
     }
 
-    /// The name of the case.
+    /// The name of the case, as `RMoveTo`. Never refused.
     pub fn name(&self) -> &'static str
         ensures { result.now ≡ name_of self.now }
     {
@@ -306,9 +319,9 @@ impl Operator {
         }
     }
 
-    /// How many operands the operator is answered with, of `length` on the stack: the greatest number up to `length` that it
-    /// takes (Technical Note 5177, "Path Construction Operators", "Hint Operators"). None where there is none, and for
-    /// `EndChar` and the operators that do not clear the stack.
+    /// How many operands the operator is answered with, of `length` on the stack: the greatest number up to `length`
+    /// that it takes (Technical Note 5177, "Path Construction Operators", "Hint Operators"). None where there is none,
+    /// and for `EndChar` and the operators that do not clear the stack. Never refused.
     #[inline(always)]
     pub fn taken(&self, length: usize) -> Option<usize>
         ensures value { result ≡ the_taken self.now length }
@@ -329,8 +342,8 @@ impl Operator {
     }
 }
 
-/// The numbers of operands that an operator takes: `least`, or more by `step` any number of times, which at 0 is never; and
-/// each of these with up to `spare` more.
+/// The numbers of operands that an operator takes: `least`, or more by `step` any number of times, which at 0 is
+/// never; and each of these with up to `spare` more.
 #[derive(Clone, Copy)]
 struct Lengths {
     least: usize,

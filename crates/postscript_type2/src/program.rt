@@ -61,8 +61,19 @@ impl<'l> Model for Program<'l> {
 }
 
 impl<'l> Program<'l> {
-    /// Creates a program of a code, and of the global and the local subroutines: the bytes of each, in the order of their
-    /// lists.
+    /// A program of a code, and of the global and the local subroutines: the bytes of each, in the order of their
+    /// lists, as `data` of a font's subroutines gives them. It stands before its first operation, with no width. Never
+    /// refused.
+    ///
+    /// ```rust
+    /// pub fn first_operator(alloc: Global, code: &[u8], local: &[Vec<u8>]) -> Result<Option<Operator>> {
+    ///     let mut program = Program::new(alloc, code, &[], local);
+    ///     match program.next()? {
+    ///         Some((operator, _operands)) => Ok(Some(operator)),
+    ///         None => Ok(None),
+    ///     }
+    /// }
+    /// ```
     pub fn new(alloc: Global, code: &'l [u8], global: &'l [Vec<u8>], local: &'l [Vec<u8>]) -> Self
         ensures value { result ≡ begun (run_of (subroutines global.now local.now) code.now) }
         ensures meant { (run : Run) × IsRunOf (subroutines global.now local.now) code.now run × (result ≡ begun run) }
@@ -73,12 +84,25 @@ impl<'l> Program<'l> {
         }
     }
 
-    /// Returns the next operation, None at the end.
+    /// The next operation of the run, with its operands in 16.16 bits, the lowest first; None at the end. Once it has
+    /// answered None it answers None from then on.
     ///
-    /// Refused: `UnexpectedEof`, `UnknownOperator`, those from `Unsupported` to `TooManyStems`, `Memory`, `AlreadyFailed`.
+    /// Refused: with what the run is refused with by the rules (Technical Note 5177; `specs/Program/Meaning.antt`),
+    /// one of `UnexpectedEof`, `UnknownOperator` and those from `Unsupported` to `TooManyStems`; `Memory`. Once it has
+    /// been refused it is refused with `AlreadyFailed` from then on, and the width stays as it was before.
     ///
-    /// Once it has answered None it answers None from then on. Once it has been refused it is refused with
-    /// `AlreadyFailed` from then on, and the width stays as it was before.
+    /// ```rust
+    /// pub fn operand_count(mut program: Program<'_>) -> Result<(u64, Option<Operand>)> {
+    ///     let mut count = 0u64;
+    ///     for _ in 0..u64::MAX {
+    ///         let Some((_operator, operands)) = program.next()? else {
+    ///             break;
+    ///         };
+    ///         count = count.saturating_add(operands.len() as u64);
+    ///     }
+    ///     Ok((count, program.width()))
+    /// }
+    /// ```
     pub fn next(&mut self) -> Result<Option<Operation>>
         ensures next { Next self.old result self.new }
         ensures listed { IsListed next_refusals result }
@@ -104,8 +128,9 @@ impl<'l> Program<'l> {
     }
 
     /// The width of the glyph, once it is settled, in 16.16 bits: the operand beneath those that count as taken by the
-    /// first operator that clears the stack, or by `endchar` (Technical Note 5177, "Type 2 Charstring Organization"). A
-    /// mask counts as taking the longest even number of operands, `endchar` four where there are as many, and else none.
+    /// first operator that clears the stack, or by `endchar` (Technical Note 5177, "Type 2 Charstring Organization").
+    /// A mask counts as taking the longest even number of operands, `endchar` four where there are as many, and else
+    /// none. It is None before, and where nothing lies beneath. Never refused.
     pub fn width(&self) -> Option<Operand>
         ensures { result ≡ self.now.width }
     {
@@ -114,7 +139,17 @@ impl<'l> Program<'l> {
 
     /// How many bytes the flat code of `flatten` has; `usize::MAX` where it has more.
     ///
-    /// Refused: what the run is refused with, which is one of those of `next` but `AlreadyFailed`; `Memory`.
+    /// Refused: with what the run is refused with, as `next` is; `Memory`.
+    ///
+    /// ```rust
+    /// pub fn flat_bytes(alloc: Global, codes: &[Vec<u8>], global: &[Vec<u8>]) -> Result<usize> {
+    ///     let mut bytes = 0usize;
+    ///     for code in codes {
+    ///         bytes = bytes.saturating_add(Program::flat_len(alloc, code, global, &[])?);
+    ///     }
+    ///     Ok(bytes)
+    /// }
+    /// ```
     pub fn flat_len(
         alloc: Global,
         code: &'l [u8],
@@ -133,11 +168,23 @@ impl<'l> Program<'l> {
         measured(&mut Machine::new(alloc, code, global, local))
     }
 
-    /// The same glyph as code without calls: the phrases of the run in their order, byte for byte with the bytes of their
-    /// masks. A call keeps its number and drops it again (`0c 12` stands for its operator), and a return drops a zero
-    /// (`8b 0c 12`). It ends where the run ends, and has as many bytes as `flat_len` tells.
+    /// The same glyph as code without calls: the phrases of the run, each an operator with the numbers before it, in
+    /// their order, byte for byte with the bytes of their masks. A call keeps its number and drops it again (`0c 12`
+    /// stands for its operator), and a return drops a zero (`8b 0c 12`). It ends where the run ends, and has as many
+    /// bytes as `flat_len` tells. Over any subroutines it has the operations and the width of the run.
     ///
-    /// Refused: what the run is refused with, which is one of those of `next` but `AlreadyFailed`; `Memory`.
+    /// Refused: with what the run is refused with, as `next` is; `Memory`.
+    ///
+    /// ```rust
+    /// pub fn flat_glyph(alloc: Global, font: &FontSet, code: &[u8]) -> Result<Vec<u8>> {
+    ///     let global = font.global_subroutines.data();
+    ///     let local = match font.local_subroutines.first() {
+    ///         Some(subroutines) => subroutines.data(),
+    ///         None => &[],
+    ///     };
+    ///     Program::flatten(alloc, code, global, local)
+    /// }
+    /// ```
     pub fn flatten(
         alloc: Global,
         code: &'l [u8],
@@ -174,9 +221,21 @@ pub struct Answers {
     pub width: Option<Operand>,
 }
 
-/// Runs a code, with the global and the local subroutines, to its end.
+/// Runs a code, with the global and the local subroutines, to its end, and answers all operations before it, the
+/// width, and what the run was refused with, if it was (`Answers::fault`): one of those of `next` but `Memory` and
+/// `AlreadyFailed`.
 ///
-/// Refused: `Memory`. What the run itself is refused with stands in the answers, behind the operations before it.
+/// Refused: `Memory`.
+///
+/// ```rust
+/// pub fn glyph(alloc: Global, code: &[u8], local: &[Vec<u8>]) -> Result<Operations> {
+///     let answers = type2::run(alloc, code, &[], local)?;
+///     match answers.fault {
+///         None => Ok(answers.operations),
+///         Some(fault) => Err(fault),
+///     }
+/// }
+/// ```
 pub fn run(alloc: Global, code: &[u8], global: &[Vec<u8>], local: &[Vec<u8>]) -> Result<Answers>
     ensures listed { IfOk result (λ told. IfSome told.fault (λ e. IsOneOf run_refusals (number e))) }
     ensures meant { IfOk result (λ told. (run : Run) × IsRunOf (subroutines global.now local.now) code.now run × Tells told run) }

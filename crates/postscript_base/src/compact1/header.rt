@@ -21,7 +21,9 @@ pub struct Header {
     pub offset_size: OffsetSize,
 }
 
-/// Refused: `UnexpectedEof`, `Io`.
+/// Four bytes, in the order of the fields (Technical Note 5176, "Header"). None is tested.
+///
+/// Refused: `UnexpectedEof` where fewer are left, `Io`.
 #[tactic(auto, unfolding(crate::specs::Compact1::Header::header))]
 impl Value for Header {
     ghost use Rattle.postscript_base.specs.Compact1.Header.{header};

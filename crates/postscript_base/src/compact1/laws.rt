@@ -6,7 +6,7 @@ ghost use Rattle.postscript_base.specs.Compact1.DictionaryLaw.{ReadsDictionaries
 use super::operand::Operand;
 use std::hash::Hash;
 
-/// Operands are equal exactly if their values are.
+/// Whether operands are equal: exactly where their values are, and then they are the same operand. Never refused.
 pub fn are_equal(a: &Operand, b: &Operand) -> bool
     ensures equal { IsTrue result ↔ AreEqual a.now b.now }
     ensures one_operand { AreEqual a.now b.now → a.now ≡ b.now }
@@ -16,13 +16,14 @@ pub fn are_equal(a: &Operand, b: &Operand) -> bool
     a == b
 }
 
-/// Operands of one value hash alike.
+/// A law: operands of one value hash alike. It does nothing and is never refused.
 pub fn hash_alike()
     ensures { (a b : Decimal) → HasOperand a → HasOperand b → AreEqual a b → ⟦<Operand as Hash>⟧.hash_input a ≡ ⟦<Operand as Hash>⟧.hash_input b }
 {}
 
-/// A dictionary is read where bytes are operations followed by an unfinished rest, and the map has the operands of the
-/// last operation of each operator. Other bytes are refused as the first number or operator that is bad.
+/// A law: a dictionary is read where bytes are operations followed by an unfinished rest, and the map has the operands
+/// of the last operation of each operator. Other bytes are refused as the first number or operator that is bad. It
+/// does nothing and is never refused.
 #[tactic(auto, using(crate::proofs::DictionaryIs::reads_dictionaries))]
 pub fn reads_dictionaries()
     ensures law { ReadsDictionaries }

@@ -14,10 +14,19 @@ use crate::number::{above, below, byte, long_word, small, word};
 use crate::{Error, Result, Tape};
 use std::alloc::Global;
 
-/// Reads a number (Technical Note 5176, "DICT Data"). An integer takes no memory.
+/// Reads a number of a dictionary (Technical Note 5176, "DICT Data") as its one decimal: an integer of one, two, three
+/// or five bytes, or a real.
 ///
-/// Refused: `MalformedNumber` where the bytes spell no number, `OutOfRangeNumber` where a real has no operand,
-/// `UnexpectedEof`, `Io`, `Memory`.
+/// Refused: `UnexpectedEof` where bytes are wanting; `MalformedNumber` where the first byte begins no number, or the
+/// text of a real is none; `OutOfRangeNumber` where a real has no operand (`Operand::new`); `Io`, `Memory`. On an
+/// honest tape where no real begins never `Memory`.
+///
+/// ```rust
+/// pub fn decimal(alloc: Global, bytes: &[u8]) -> Result<(i64, i32)> {
+///     let operand = number::read(alloc, &mut Cursor::new(bytes))?;
+///     Ok((operand.mantissa(), operand.exponent()))
+/// }
+/// ```
 #[tactic(auto, unfolding(crate::specs::Compact1::Number::number), using(crate::proofs::Spellings::reads_spellings, crate::proofs::Operands::finds_operands, crate::proofs::Onward::dict_number_takes, crate::proofs::Outcomes::refused_after))]
 pub fn read<T: Tape>(alloc: Global, tape: &mut T) -> Result<Operand>
     ensures exact { Reads same (T.state tape.old) result (T.state tape.new) the_number }

@@ -32,9 +32,10 @@ impl Model for Offset {
     ghost inverse = { λ n. record { 0 = n } };
 }
 
-/// The parameter is the number of bytes, from 1 to 4.
+/// The number of so many bytes, the high byte first. The parameter is the number of bytes, from 1 to 4.
 ///
-/// Refused: `MalformedOffset` for another number of bytes, before any is read, `UnexpectedEof`, `Io`.
+/// Refused: `MalformedOffset` for another number of bytes, with the tape as it was; `UnexpectedEof` where fewer are
+/// left, `Io`.
 #[tactic(auto, unfolding(crate::specs::Compact1::Offset::offset))]
 impl Walue for Offset {
     type Parameter = OffsetSize;
@@ -66,11 +67,11 @@ impl Walue for Offset {
     }
 }
 
-/// An offset of an INDEX (Technical Note 5176, "INDEX Data"). It is given the number of bytes, from 1 to 4, and the last
-/// offset, where one was read.
+/// An offset of an INDEX (Technical Note 5176, "INDEX Data"). It is given the number of bytes, from 1 to 4, and the
+/// last offset, where one was read.
 ///
-/// Refused: `MalformedOffset` for another number of bytes, before any is read, `MalformedIndex` where the first offset
-/// is not 1 or a next one is not greater than the last, `UnexpectedEof`, `Io`.
+/// Refused: `MalformedOffset` for another number of bytes; `UnexpectedEof` where fewer are left; `MalformedIndex`
+/// where the first offset is not 1 or a next one is not greater than the last; `Io`.
 #[tactic(auto, unfolding(crate::specs::Compact1::Offset::rising))]
 impl Linked for Offset {
     type Given = (OffsetSize, Option<Offset>);

@@ -28,7 +28,16 @@ impl Model for Operand {
 }
 
 impl Operand {
-    /// The operand of `mantissa * 10^exponent`, where this value has one.
+    /// The operand of `mantissa * 10^exponent`, with the zeros at the mantissa's end moved into the exponent. None
+    /// where the value has no operand: where more than eighteen digits are left, or the exponent is then not from
+    /// -1000 to 1000.
+    ///
+    /// ```rust
+    /// pub fn minus_twelve_and_a_half() -> Option<(i64, i32)> {
+    ///     let operand = Operand::new(-1250, -2)?;
+    ///     Some((operand.mantissa(), operand.exponent()))
+    /// }
+    /// ```
     pub fn new(mantissa: i128, exponent: i32) -> Option<Operand>
         ensures exact { result ≡ operand_of mantissa exponent }
         ensures some { IfSome result (λ o. HasOperand o × IsSameValue o.mantissa o.exponent mantissa exponent) }
@@ -70,7 +79,7 @@ impl Operand {
         Operand::new(i128::from(number), 0).unwrap()
     }
 
-    /// The mantissa: 0, or a number that does not end in 0.
+    /// The mantissa: 0, or a number of at most eighteen digits that does not end in 0. Never refused.
     pub fn mantissa(&self) -> i64
         ensures value { result ≡ self.now.mantissa }
         ensures operand { HasOperand self.now }
@@ -78,14 +87,21 @@ impl Operand {
         self.mantissa
     }
 
-    /// The exponent, a power of ten.
+    /// The exponent, a power of ten, from -1000 to 1000; 0 where the mantissa is 0. Never refused.
     pub fn exponent(&self) -> i32
         ensures { result ≡ self.now.exponent }
     {
         self.exponent
     }
 
-    /// The value, where it is a whole number in the range of `i32`.
+    /// The value, where it is a whole number in the range of `i32`, and else None.
+    ///
+    /// ```rust
+    /// pub fn a_thousand() -> Option<i32> {
+    ///     let operand = Operand::new(1, 3)?;
+    ///     operand.to_i32()
+    /// }
+    /// ```
     pub fn to_i32(&self) -> Option<i32>
         ensures exact { result ≡ the_i32 self.now }
         ensures some { IfSome result (λ v. IsSameValue self.now.mantissa self.now.exponent v (pos 0)) }
@@ -116,7 +132,7 @@ fn in_32_bits(value: i128) -> Option<i32>
     i32::try_from(value).ok()
 }
 
-/// The mantissa where the exponent is 0, else mantissa, `e`, exponent.
+/// The mantissa where the exponent is 0, else mantissa, `e`, exponent, as `-125e-1`.
 impl fmt::Display for Operand {
     ghost output = { λ operand. Some (printed operand) };
 

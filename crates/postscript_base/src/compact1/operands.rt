@@ -8,8 +8,8 @@ use std::marker::Model;
 use std::ops::DerefSlice;
 use std::slice::Iter;
 
-/// The operands of an operator, lent from a dictionary, or the constant ones that the operator has by default. It takes
-/// no memory.
+/// The operands of an operator, lent from a dictionary, or the constant ones that the operator has by default. What
+/// answers them is handed no allocator.
 #[derive(Debug, Drop)]
 pub struct Operands<'a> {
     kind: Kind<'a>,
@@ -75,7 +75,7 @@ impl<'a> Operands<'a> {
         }
     }
 
-    /// The operands as a slice.
+    /// The operands as a slice, in the order in which they are written. Never refused.
     pub fn as_slice(&self) -> &[Operand]
         ensures { result.now ≡ self.now }
     {
@@ -87,14 +87,14 @@ impl<'a> Operands<'a> {
         }
     }
 
-    /// How many there are.
+    /// How many operands there are. Never refused.
     pub fn len(&self) -> usize
         ensures { result ≡ length self.now }
     {
         self.as_slice().len()
     }
 
-    /// The operands in order.
+    /// The operands in order, by reference. Never refused.
     pub fn iter(&self) -> Iter<'_, Operand>
         ensures { result.rest.now ≡ self.now }
     {
@@ -102,6 +102,7 @@ impl<'a> Operands<'a> {
     }
 }
 
+/// The operands as a slice, so that they are indexed and gone through as one.
 impl<'a> DerefSlice for Operands<'a> {
     type Elem = Operand;
 

@@ -15,7 +15,11 @@ use std::alloc::Global;
 /// An operation: an operator and its operands.
 pub type Operation = (Operator, Vec<Operand>);
 
-/// Refused: `MalformedNumber`, `OutOfRangeNumber`, `UnknownOperator`, `UnexpectedEof`, `Io`, `Memory`.
+/// Operands, as many as there are, and then an operator of one byte, or of two behind 0x0c (Technical Note 5176, "DICT
+/// Data").
+///
+/// Refused: as the first that is bad: `UnexpectedEof` where bytes are wanting, `MalformedNumber` or `OutOfRangeNumber`
+/// for an operand, `UnknownOperator`; `Io`, `Memory`.
 impl Value for Operation {
     ghost use Rattle.std.specs.Prelude.{[], ◌∷◌, map, refl};
     ghost use Rattle.postscript_base.specs.Compact1.Operation.{Operation, operation};

@@ -29,7 +29,7 @@ impl Model for Operations {
 }
 
 impl Operations {
-    /// No operations.
+    /// A dictionary without operations. Never refused.
     pub fn empty(alloc: Global) -> Self
         ensures { result ≡ map.empty }
     {
@@ -44,7 +44,17 @@ impl Operations {
         Ok(Operations(HashMap::with_capacity(alloc, capacity)?))
     }
 
-    /// The operands of an operator, else its defaults.
+    /// The operands of an operator: those of the dictionary, else its defaults (`Operator::default`), else None. Never
+    /// refused.
+    ///
+    /// ```rust
+    /// pub fn blue_values(dictionary: &Operations) -> usize {
+    ///     match dictionary.get(Operator::BlueValues) {
+    ///         Some(operands) => operands.len(),
+    ///         None => 0,
+    ///     }
+    /// }
+    /// ```
     pub fn get(&self, operator: Operator) -> Option<Operands<'_>>
         ensures { result ≡ look self.now operator }
     {
@@ -54,14 +64,23 @@ impl Operations {
         }
     }
 
-    /// The first operand of an operator.
+    /// The first operand of an operator, of the dictionary or else of its defaults. None where there is none. Never
+    /// refused.
+    ///
+    /// ```rust
+    /// pub fn italic_angle(dictionary: &Operations) -> Option<(i64, i32)> {
+    ///     let angle = dictionary.get_single(Operator::ItalicAngle)?;
+    ///     Some((angle.mantissa(), angle.exponent()))
+    /// }
+    /// ```
     pub fn get_single(&self, operator: Operator) -> Option<Operand>
         ensures { result ≡ first_of (look self.now operator) }
     {
         self.get(operator)?.as_slice().first().copied()
     }
 
-    /// The first two operands of an operator.
+    /// The first two operands of an operator, of the dictionary or else of its defaults. None where there are fewer.
+    /// Never refused.
     pub fn get_double(&self, operator: Operator) -> Option<(Operand, Operand)>
         ensures { result ≡ first_two_of (look self.now operator) }
     {
@@ -73,6 +92,8 @@ impl Operations {
     }
 
     /// An equal dictionary.
+    ///
+    /// Refused: `Memory`.
     pub fn clone(&self) -> Result<Self>
         ensures equal { IfOk result (λ map. map ≡ self.now) }
         ensures listed { IsListed (3 ∷ []) result }
@@ -90,7 +111,7 @@ impl Operations {
     }
 }
 
-/// As `Operations::clone`, so that lists of them are cloned as well.
+/// As `Operations::clone`, so that lists of them are cloned as well. Refused only for want of memory.
 impl Clone for Operations {
     ghost use Rattle.std.specs.Prelude.{◌≡◌};
 
@@ -101,11 +122,18 @@ impl Clone for Operations {
     }
 }
 
-/// Operations up to the end of the tape, where an operation that is cut by the end is no fault. The tape then stands at
-/// the end.
+/// Operations up to the end of the tape, where an operation that is cut by the end is no fault, and the last of each
+/// operator counts (Technical Note 5176, "DICT Data"). The tape then stands at the end.
 ///
-/// Refused: `TapeStuck` where the place of the tape does not rise, `MalformedNumber`, `OutOfRangeNumber`,
-/// `UnknownOperator`, `Io`, `Memory`, and `UnexpectedEof` from a seek.
+/// Refused: as the first number or operator that is bad, `MalformedNumber`, `OutOfRangeNumber`, `UnknownOperator`;
+/// `TapeStuck` where the place of the tape does not rise, which never is on an honest tape; `UnexpectedEof` from a
+/// seek, likewise; `Io`, `Memory`.
+///
+/// ```rust
+/// pub fn dictionary_of(alloc: Global, bytes: &[u8]) -> Result<Operations> {
+///     Operations::read(alloc, &mut Cursor::new(bytes))
+/// }
+/// ```
 #[tactic(auto, using(crate::proofs::Outcomes::refused_after, crate::proofs::OperationSteps::operation_takes, crate::proofs::DictionaryIs::reads_dictionaries), unfolding(crate::specs::Compact1::Dictionary::dictionary))]
 impl Value for Operations {
     ghost use Rattle.std.specs.Prelude.{[], ◌∷◌};
@@ -127,7 +155,7 @@ impl Value for Operations {
 
     ghost refusals = { 1 ∷ 2 ∷ 3 ∷ 4 ∷ 7 ∷ 8 ∷ 9 ∷ [] };
 
-    /// Whoever calls it learns what dictionaries are.
+    /// Reads the dictionary. Whoever calls it learns what dictionaries are (clause `law`).
     fn read<T: Tape>(alloc: Global, tape: &mut T) -> Result<Operations>
         ensures exact { Reads same (T.state tape.old) result (T.state tape.new) dictionary }
         ensures listed { IsListed (1 ∷ 2 ∷ 3 ∷ 4 ∷ 7 ∷ 8 ∷ 9 ∷ []) result }

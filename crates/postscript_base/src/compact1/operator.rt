@@ -66,7 +66,10 @@ pub enum Operator {
 }
 
 impl Operator {
-    /// The operator of a code. A code of two bytes is 0x0c00 and the second.
+    /// The operator of a code (Technical Note 5176, Tables 9, 10 and 23). A code of two bytes is 0x0c00 and the
+    /// second.
+    ///
+    /// Refused: `UnknownOperator` where no operator has the code.
     #[inline(always)]
     #[tactic(auto, unfolding(crate::specs::Compact1::Operators::operator_of))]
     pub fn from(code: u16) -> Result<Self>
@@ -129,7 +132,8 @@ impl Operator {
         })
     }
 
-    /// The operands that it has where none are written.
+    /// The operands that it has where none are written (Technical Note 5176, Tables 9, 10 and 23). None where the
+    /// tables have none. Never refused.
     pub fn default(&self) -> Option<Operands<'static>>
         ensures { result ≡ default_of self.now }
     {
@@ -166,7 +170,7 @@ impl Operator {
         })
     }
 
-    /// The name of the case.
+    /// The name of the case, as `BlueScale`. Never refused.
     pub fn name(&self) -> &'static str
         ensures { result.now ≡ name_of self.now }
     {

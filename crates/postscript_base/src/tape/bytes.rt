@@ -11,7 +11,10 @@ use std::alloc::Global;
 /// By how many bytes a list grows at most before they are read.
 const PIECE: usize = 65_536;
 
-/// The parameter is the number of bytes. The list grows as bytes come.
+/// So many bytes, as they stand. The parameter is how many; for none the list is empty. The list grows as bytes come
+/// (`tools/hostile_fonts.py` shows that a count alone takes no memory).
+///
+/// Refused: `UnexpectedEof` where fewer are left, `Io`, `Memory`.
 #[tactic(auto, unfolding(crate::specs::Numbers::slice))]
 impl Walue for Vec<u8> {
     type Parameter = usize;

@@ -4,7 +4,9 @@ ghost use Rattle.postscript_base.specs.Numbers.{number, slice};
 ghost use Rattle.postscript_base.specs.Tape.At.{NeedsBytes};
 ghost use Rattle.postscript_base.specs.Tape.Onward.{TakesBytes};
 
-/// The reading of a number of so many bytes moves on within the bytes, and past the end bytes are wanting.
+/// A fact for callers of `read_at`, `read_until` and `read_to_end`: the reading of a number of so many bytes, one or
+/// more, takes a byte at least and stays within the bytes, and past the end bytes are wanting. It does nothing and is
+/// never refused.
 #[tactic(auto, using(crate::proofs::Onward::number_takes, crate::proofs::Onward::number_needs))]
 pub fn numbers_move_on(size: usize)
     requires { 0 < size }
@@ -14,7 +16,8 @@ pub fn numbers_move_on(size: usize)
     let _ = size;
 }
 
-/// The reading of so many bytes moves on within the bytes, and past the end bytes are wanting.
+/// A fact for callers of `read_given_at`: the reading of so many bytes, one or more, takes a byte at least and stays
+/// within the bytes, and past the end bytes are wanting. It does nothing and is never refused.
 #[tactic(auto, using(crate::proofs::Onward::slice_takes, crate::proofs::Onward::slice_needs))]
 pub fn slices_move_on(size: usize)
     requires { 0 < size }

@@ -15,6 +15,8 @@ use std::io::SeekFrom;
 const ROOM: usize = 16;
 
 /// Reads so many values, one after the other. The list grows as they come.
+///
+/// Refused: as the first value that is refused is, `Memory`.
 pub fn read_many<V: Value + Drop, T: Tape>(
     alloc: Global,
     tape: &mut T,
@@ -54,19 +56,24 @@ pub trait Linked: Sized {
     /// What a value leaves of what it was given.
     ghost left: { Self.Given → Shown → Self.Given };
 
-    /// Reads a value.
+    /// Reads a value, given what the ones before it left. On an honest tape the value and the next place are those
+    /// that the bytes say by `reading`, and so is the refusal.
+    ///
+    /// Refused: as the comment at the type's `impl` says, and with no error whose number `refusals` lacks.
     fn read<T: Tape>(alloc: Global, tape: &mut T, given: Self::Given) -> Result<Self>
         ensures exact { Reads view (T.state tape.old) result (T.state tape.new) (reading given) }
         ensures listed { IsListed refusals result };
 
-    /// What this value leaves of what it was given.
+    /// What this value leaves of what it was given, for the next one. Never refused.
     fn left(&self, given: Self::Given) -> Self::Given
         ensures { result ≡ left given (view self.now) };
 
     ghost views_each: { (xs : List Self) → views xs ≡ map view xs };
 }
 
-/// Reads so many values, each given what the ones before it leave.
+/// Reads so many values, each given what the ones before it leave; the first is given `first`.
+///
+/// Refused: as the first value that is refused is, `Memory`.
 pub fn read_chain<W: Linked + Drop, T: Tape>(
     alloc: Global,
     tape: &mut T,
@@ -91,12 +98,16 @@ pub fn read_chain<W: Linked + Drop, T: Tape>(
 pub trait Until: Linked {
     ghost is_last: { Self.Given → Bool };
 
-    /// Whether no value is read any more.
+    /// Whether no value is read any more, where the ones before left this. Never refused.
     fn is_last(given: Self::Given) -> bool
         ensures { result ≡ is_last given };
 }
 
-/// Reads values, each given what the ones before it leave, until none is read any more.
+/// Reads values, each given what the ones before it leave, until none is read any more (`Until::is_last`). The caller
+/// proves that a value takes a byte at least and stays within the bytes (`numbers_move_on`), so that it stands in
+/// `postscript_base` alone.
+///
+/// Refused: as the first value that is refused is, `Memory`.
 pub fn read_until<W: Until + Drop, T: Tape>(
     alloc: Global,
     tape: &mut T,
@@ -118,9 +129,11 @@ pub fn read_until<W: Until + Drop, T: Tape>(
 }
 
 /// Reads values up to the end of the tape, where one that is cut by the end is none. The tape then stands at the end.
+/// The caller proves that a value takes a byte at least and stays within the bytes (`numbers_move_on`), so that it
+/// stands in `postscript_base` alone.
 ///
-/// Refused: `TapeStuck` where the place of the tape does not rise, what the reading of a value is refused with, `Io`,
-/// `Memory`, and `UnexpectedEof` from a seek.
+/// Refused: as the first value that is refused is, but for `UnexpectedEof`, which ends the list; `TapeStuck` where the
+/// place of the tape does not rise, as an honest tape's does; `UnexpectedEof` from a seek; `Io`, `Memory`.
 pub fn read_to_end<V: Value + Drop, T: Tape>(alloc: Global, tape: &mut T) -> Result<Vec<V>>
     requires { TakesBytes V.reading }
     ensures exact { Reads (λ values. V.views values.items) (T.state tape.old) result (T.state tape.new)
@@ -169,6 +182,7 @@ pub trait Source {
     /// What all of a list are read with.
     type Given: Copy;
 
+    /// What is read for it.
     type Value: Drop;
 
     /// What a contract sees of a source.
@@ -190,7 +204,10 @@ pub trait Source {
     /// The numbers of the refusals that a reading may answer. Without 3 a reading never answers `Memory`.
     ghost refusals: { List ℕ };
 
-    /// Reads the value for this source.
+    /// Reads the value for this source. On an honest tape the value and the next place are those that the bytes say by
+    /// `reading`, and so is the refusal.
+    ///
+    /// Refused: as the comment at the type's `impl` says, and with no error whose number `refusals` lacks.
     fn read<T: Tape>(&self, alloc: Global, tape: &mut T, given: Self::Given) -> Result<Self::Value>
         ensures exact { Reads view (T.state tape.old) result (T.state tape.new) (reading given (seen self.now)) }
         ensures listed { IsListed refusals result };
@@ -198,7 +215,9 @@ pub trait Source {
     ghost views_each: { (xs : List Self.Value) → views xs ≡ map view xs };
 }
 
-/// Reads a value for each of a list, one after the other.
+/// Reads a value for each of a list, one after the other, each with the same `given`.
+///
+/// Refused: as the first value that is refused is, `Memory`.
 pub fn read_each<S: Source, T: Tape>(
     alloc: Global,
     tape: &mut T,

@@ -9,6 +9,9 @@ use crate::error::Result;
 use crate::number::{byte, long_word, word};
 use std::alloc::Global;
 
+/// One byte (Technical Note 5176, "Data Types", Card8).
+///
+/// Refused: `UnexpectedEof` where none is left, `Io`.
 impl Value for u8 {
     ghost Shown = { ℕ };
 
@@ -27,6 +30,9 @@ impl Value for u8 {
     }
 }
 
+/// The number of two bytes, the high byte first (Technical Note 5176, "Data Types", Card16).
+///
+/// Refused: `UnexpectedEof` where fewer are left, `Io`.
 impl Value for u16 {
     ghost Shown = { ℕ };
 
@@ -45,6 +51,9 @@ impl Value for u16 {
     }
 }
 
+/// The number of four bytes, the high byte first.
+///
+/// Refused: `UnexpectedEof` where fewer are left, `Io`.
 impl Value for u32 {
     ghost Shown = { ℕ };
 
@@ -63,6 +72,9 @@ impl Value for u32 {
     }
 }
 
+/// Three bytes as they stand.
+///
+/// Refused: `UnexpectedEof` where fewer are left, `Io`.
 impl Value for [u8; 3] {
     ghost Shown = { List ℕ };
 

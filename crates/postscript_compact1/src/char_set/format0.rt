@@ -33,6 +33,8 @@ impl Model for CharSet0 {
 
 impl CharSet0 {
     /// An equal char set.
+    ///
+    /// Refused: `Memory`.
     pub fn clone(&self) -> Result<Self>
         ensures equal { IfOk result (λ set. set ≡ self.now) }
         ensures listed { IsListed (3 ∷ []) result }
@@ -44,10 +46,11 @@ impl CharSet0 {
     }
 }
 
-/// The parameter is the number of glyphs.
+/// A char set of format 0: the byte 0, and identifiers, one for each glyph from 1 (Technical Note 5176, "Charsets",
+/// Table 17). The parameter is the number of glyphs, of which glyph 0 is not told.
 ///
-/// Refused: `MalformedCharSet` for another first byte than 0 and for no glyphs, behind the first byte, `UnexpectedEof`,
-/// `Io`, `Memory`.
+/// Refused: `UnexpectedEof` where the first byte is wanting; `MalformedCharSet` where it is another than 0, and for no
+/// glyphs; `UnexpectedEof` where an identifier is cut; `Io`, `Memory`.
 #[tactic(auto, unfolding(crate::specs::CharSets::char_set_0))]
 impl Walue for CharSet0 {
     type Parameter = usize;

@@ -34,6 +34,8 @@ impl Model for CharSet2 {
 
 impl CharSet2 {
     /// An equal char set.
+    ///
+    /// Refused: `Memory`.
     pub fn clone(&self) -> Result<Self>
         ensures equal { IfOk result (λ set. set ≡ self.now) }
         ensures listed { IsListed (3 ∷ []) result }
@@ -45,10 +47,12 @@ impl CharSet2 {
     }
 }
 
-/// The parameter is the number of glyphs.
+/// A char set of format 2: the byte 2, and ranges of four bytes (Technical Note 5176, "Charsets", Table 20). The
+/// parameter is the number of glyphs, of which glyph 0 is not told.
 ///
-/// Refused: `MalformedCharSet` for another first byte than 2 and for no glyphs, behind the first byte, and where the
-/// ranges cover more glyphs than there are, `UnexpectedEof`, `Io`, `Memory`.
+/// Refused: `UnexpectedEof` where the first byte is wanting; `MalformedCharSet` where it is another than 2, and for no
+/// glyphs; then, in the order of the bytes, `UnexpectedEof` where a range is cut and `MalformedCharSet` where one
+/// covers more glyphs than are left; `Io`, `Memory`.
 #[tactic(auto, unfolding(crate::specs::CharSets::char_set_of))]
 impl Walue for CharSet2 {
     type Parameter = usize;

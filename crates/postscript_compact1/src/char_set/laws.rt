@@ -3,14 +3,16 @@ ghost use Rattle.postscript_base.specs.Tape.At.{NeedsBytes};
 ghost use Rattle.postscript_compact1.specs.CharSetLaw.{ReadsCharSets};
 ghost use Rattle.postscript_compact1.specs.CharSets.{char_set, char_set_0, char_set_1, char_set_2};
 
-/// A char set is read where the bytes are one: behind the byte of the format identifiers stand, or ranges, for each glyph
-/// but the first.
+/// A law: a char set is read where the bytes are one, behind the byte of the format identifiers or ranges for each
+/// glyph but the first; and it is refused exactly for one of six causes (`NoCharSet`). It does nothing and is never
+/// refused.
 #[tactic(auto, using(crate::proofs::CharSetRefused::reads_char_sets))]
 pub fn reads_char_sets()
     ensures law { ReadsCharSets }
 {}
 
-/// Past the end bytes are wanting for a char set.
+/// A fact for callers of `read_given_at`: past the end bytes are wanting for a char set, of any format or of one, for
+/// so many glyphs. It does nothing and is never refused.
 #[tactic(auto, using(crate::proofs::CharSetIs::char_set_needs, crate::proofs::CharSetIs::char_set_0_needs, crate::proofs::CharSetIs::char_set_of_needs))]
 pub fn char_sets_need_bytes(glyphs: usize)
     ensures any { NeedsBytes (char_set glyphs) }

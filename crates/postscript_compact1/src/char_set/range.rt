@@ -19,7 +19,7 @@ use std::alloc::Global;
 pub struct Range1 {
     /// The identifier of the first glyph.
     pub first: StringID,
-    /// How many glyphs are left in the range.
+    /// How many glyphs stand behind the first one in the range.
     pub left: u8,
 }
 
@@ -28,7 +28,7 @@ pub struct Range1 {
 pub struct Range2 {
     /// The identifier of the first glyph.
     pub first: StringID,
-    /// How many glyphs are left in the range.
+    /// How many glyphs stand behind the first one in the range.
     pub left: u16,
 }
 
@@ -109,7 +109,10 @@ pub(super) fn ranges<R: Linked<Given = usize> + Until + Drop, T: Tape>(
     read_until(alloc, tape, glyphs - 1)
 }
 
-/// Refused: `UnexpectedEof`, `Io`.
+/// Three bytes: an identifier of two, and how many glyphs are left in the range (Technical Note 5176, "Charsets",
+/// Table 19).
+///
+/// Refused: `UnexpectedEof` where fewer are left, `Io`.
 #[tactic(auto, unfolding(crate::specs::CharSets::range))]
 impl Value for Range1 {
     ghost use Rattle.postscript_compact1.specs.declared.char_set.range.Range1.{Range1};
@@ -134,7 +137,10 @@ impl Value for Range1 {
     }
 }
 
-/// Refused: `UnexpectedEof`, `Io`.
+/// Four bytes: an identifier of two, and how many glyphs are left in the range (Technical Note 5176, "Charsets", Table
+/// 21).
+///
+/// Refused: `UnexpectedEof` where fewer are left, `Io`.
 #[tactic(auto, unfolding(crate::specs::CharSets::range))]
 impl Value for Range2 {
     ghost use Rattle.postscript_compact1.specs.declared.char_set.range.Range2.{Range2};
@@ -159,7 +165,9 @@ impl Value for Range2 {
     }
 }
 
-/// A range is given how many glyphs are still wanting, and is refused where it covers more.
+/// A range is given how many glyphs are still wanting, and leaves how many are wanting behind it.
+///
+/// Refused: `UnexpectedEof` where it is cut; `MalformedCharSet` where it covers more glyphs than are wanting; `Io`.
 impl Linked for Range1 {
     ghost use Rattle.postscript_compact1.specs.declared.char_set.range.Range1.{Range1};
 
@@ -188,7 +196,9 @@ impl Linked for Range1 {
     }
 }
 
-/// A range is given how many glyphs are still wanting, and is refused where it covers more.
+/// A range is given how many glyphs are still wanting, and leaves how many are wanting behind it.
+///
+/// Refused: `UnexpectedEof` where it is cut; `MalformedCharSet` where it covers more glyphs than are wanting; `Io`.
 impl Linked for Range2 {
     ghost use Rattle.postscript_compact1.specs.declared.char_set.range.Range2.{Range2};
 
@@ -217,6 +227,7 @@ impl Linked for Range2 {
     }
 }
 
+/// No range is read any more once no glyph is wanting.
 impl Until for Range1 {
     ghost is_last = { none_wanting };
 
@@ -225,6 +236,7 @@ impl Until for Range1 {
     }
 }
 
+/// No range is read any more once no glyph is wanting.
 impl Until for Range2 {
     ghost is_last = { none_wanting };
 

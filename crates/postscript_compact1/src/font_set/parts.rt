@@ -149,7 +149,8 @@ fn own_char_set<T: Tape>(
     Ok(read_given_at::<CharSet, T>(alloc, tape, place, glyphs)?)
 }
 
-/// The private dictionary of a dictionary and the local subroutines; empty ones where the private dictionary is lacking.
+/// The private dictionary of a dictionary and the local subroutines; empty ones where the private dictionary is
+/// lacking.
 #[tactic(auto, unfolding(crate::specs::FontSet::Order::locals))]
 fn locals<T: Tape>(
     alloc: Global,

@@ -24,6 +24,8 @@ impl Model for CharStrings {
     ghost view = { λ char_strings. char_strings.0 };
 }
 
+/// The INDEX, so that `data`, `len`, `item` and `iter` are called on char strings; the item at a glyph's number is its
+/// code.
 impl Deref for CharStrings {
     type Target = Index;
 
@@ -36,6 +38,8 @@ impl Deref for CharStrings {
 
 impl CharStrings {
     /// Equal char strings.
+    ///
+    /// Refused: `Memory`.
     pub fn clone(&self) -> Result<Self>
         ensures equal { IfOk result (λ char_strings. char_strings ≡ self.now) }
         ensures listed { IsListed (3 ∷ []) result }
@@ -44,7 +48,7 @@ impl CharStrings {
     }
 }
 
-/// As `CharStrings::clone`, so that lists of them are cloned as well.
+/// As `CharStrings::clone`, so that lists of them are cloned as well. Refused only for want of memory.
 impl Clone for CharStrings {
     ghost use Rattle.std.specs.Prelude.{◌≡◌};
 
@@ -55,9 +59,9 @@ impl Clone for CharStrings {
     }
 }
 
-/// The parameter is the type of the char strings.
+/// An INDEX of char strings (Technical Note 5176, "CharStrings INDEX"). The parameter is their type.
 ///
-/// Refused: `UnknownCharStringFormat` for another type than 2, before anything is read; else as an `Index` is.
+/// Refused: `UnknownCharStringFormat` for another type than 2, with the tape as it was; else as an `Index` is.
 #[tactic(auto, unfolding(crate::specs::Kinds::char_strings))]
 impl Walue for CharStrings {
     type Parameter = i32;

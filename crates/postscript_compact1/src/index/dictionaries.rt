@@ -24,6 +24,7 @@ impl Model for Dictionaries {
     ghost view = { λ dictionaries. dictionaries.0 };
 }
 
+/// The INDEX, so that `data`, `len`, `item` and `iter` are called on dictionaries.
 impl Deref for Dictionaries {
     type Target = Index;
 
@@ -36,6 +37,8 @@ impl Deref for Dictionaries {
 
 impl Dictionaries {
     /// Equal dictionaries.
+    ///
+    /// Refused: `Memory`.
     pub fn clone(&self) -> Result<Self>
         ensures equal { IfOk result (λ dictionaries. dictionaries ≡ self.now) }
         ensures listed { IsListed (3 ∷ []) result }
@@ -43,9 +46,11 @@ impl Dictionaries {
         Ok(Dictionaries(self.0.clone()?))
     }
 
-    /// The dictionary at a place, counted from 0.
+    /// The dictionary at a place, counted from 0: what its item's bytes are (`Operations`). None where there is no
+    /// such item.
     ///
-    /// Refused: `MalformedNumber`, `OutOfRangeNumber`, `UnknownOperator`, `Memory`.
+    /// Refused: as the first number or operator that is bad, `MalformedNumber`, `OutOfRangeNumber`, `UnknownOperator`;
+    /// `Memory`.
     pub fn operations(&self, alloc: Global, i: usize) -> Result<Option<Operations>>
         ensures exact { (bytes : List ℕ) (place : ℕ) → Answers same result place (map_if (slice_get self.now.items i) bytes place) }
         ensures listed { IsListed (3 ∷ 7 ∷ 8 ∷ 9 ∷ []) result }
@@ -56,9 +61,9 @@ impl Dictionaries {
         }
     }
 
-    /// The dictionaries, in order.
+    /// The dictionaries of all items, in order (Technical Note 5176, "Top DICT INDEX").
     ///
-    /// Refused as the first dictionary that is refused is: `MalformedNumber`, `OutOfRangeNumber`, `UnknownOperator`,
+    /// Refused: as the first dictionary that is refused is, `MalformedNumber`, `OutOfRangeNumber`, `UnknownOperator`;
     /// `Memory`.
     pub fn into(self, alloc: Global) -> Result<Vec<Operations>>
         ensures exact { (bytes : List ℕ) (place : ℕ) → Answers (λ maps. maps.items) result place (maps_of self.items bytes place) }
@@ -72,7 +77,9 @@ impl Dictionaries {
     }
 }
 
-/// Refused as an `Index` is.
+/// An INDEX of dictionaries, whose items are not looked at yet.
+///
+/// Refused: as an `Index` is.
 impl Value for Dictionaries {
     ghost use Rattle.std.specs.Prelude.{[], ◌∷◌};
     ghost use Rattle.postscript_base.specs.Tape.Outcome.{same};

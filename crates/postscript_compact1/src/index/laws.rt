@@ -10,8 +10,9 @@ ghost use Rattle.postscript_compact1.specs.TextsLaw.{AgreesWithStd, KeepsUtf8};
 
 use postscript_base::compact1::laws::reads_dictionaries;
 
-/// An INDEX is read where the bytes at a place are one: a count, the size of the offsets, offsets that begin with 1 and
-/// rise, and the slices between them. Past the end bytes are wanting.
+/// A law: an INDEX is read where the bytes at a place are one: a count, the size of the offsets, offsets that begin
+/// with 1 and rise, and the slices between them. For callers of `read_at` and `read_to_end`: it takes a byte at least
+/// and stays within the bytes, and past the end bytes are wanting. It does nothing and is never refused.
 #[tactic(auto, using(crate::proofs::IndexIs::reads_indices, crate::proofs::IndexIs::char_strings_need))]
 pub fn reads_indices()
     ensures law { ReadsIndices }
@@ -20,8 +21,8 @@ pub fn reads_indices()
     ensures char_strings { NeedsBytes (char_strings (pos 2)) }
 {}
 
-/// The maps of items are those of the dictionaries that the items are, or the first item that is no dictionary is
-/// refused.
+/// A law: the maps of items are those of the dictionaries that the items are, or the first item that is no dictionary
+/// is refused. It does nothing and is never refused.
 #[tactic(auto, using(crate::proofs::ItemsAre::reads_items))]
 pub fn reads_items()
     ensures law { ReadsItems }
@@ -29,7 +30,8 @@ pub fn reads_items()
     reads_dictionaries();
 }
 
-/// Bytes that are UTF-8 are their own text, and of any bytes the text is the one that `String::from_utf8_lossy` makes.
+/// A law: bytes that are UTF-8 are their own text, and of any bytes the text is the one that `String::from_utf8_lossy`
+/// makes. It does nothing and is never refused.
 #[tactic(auto, using(crate::proofs::TextsAre::keeps_utf8, crate::proofs::TextsAre::agrees_with_std))]
 pub fn reads_texts()
     ensures law { KeepsUtf8 }

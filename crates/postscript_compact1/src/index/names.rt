@@ -22,6 +22,7 @@ impl Model for Names {
     ghost view = { λ names. names.0 };
 }
 
+/// The INDEX, so that `data`, `len`, `item` and `iter` are called on names.
 impl Deref for Names {
     type Target = Index;
 
@@ -34,6 +35,8 @@ impl Deref for Names {
 
 impl Names {
     /// Equal names.
+    ///
+    /// Refused: `Memory`.
     pub fn clone(&self) -> Result<Self>
         ensures equal { IfOk result (λ names. names ≡ self.now) }
         ensures listed { IsListed (3 ∷ []) result }
@@ -41,7 +44,10 @@ impl Names {
         Ok(Names(self.0.clone()?))
     }
 
-    /// The names as texts. Bytes that are not UTF-8 are read as `bstr` does, with U+FFFD for what is no character.
+    /// The names as texts, in order (Technical Note 5176, "Name INDEX"). Bytes that are not UTF-8 are read as `bstr`
+    /// does, with U+FFFD for what is no character.
+    ///
+    /// Refused: `Memory`.
     #[tactic(auto, unfolding(crate::specs::Texts::text))]
     pub fn into(self, alloc: Global) -> Result<Vec<String>>
         ensures texts { IfOk result (λ texts. map string_bytes texts.items ≡ map text self.items) }
@@ -56,7 +62,9 @@ impl Names {
     }
 }
 
-/// Refused as an `Index` is.
+/// An INDEX of names.
+///
+/// Refused: as an `Index` is.
 impl Value for Names {
     ghost use Rattle.std.specs.Prelude.{[], ◌∷◌};
     ghost use Rattle.postscript_base.specs.Tape.Outcome.{same};

@@ -26,6 +26,7 @@ impl Model for Strings {
     ghost view = { λ strings. strings.0 };
 }
 
+/// The INDEX, so that `data`, `len`, `item` and `iter` are called on strings. Item 0 has the identifier 391.
 impl Deref for Strings {
     type Target = Index;
 
@@ -38,6 +39,8 @@ impl Deref for Strings {
 
 impl Strings {
     /// Equal strings.
+    ///
+    /// Refused: `Memory`.
     pub fn clone(&self) -> Result<Self>
         ensures equal { IfOk result (λ strings. strings ≡ self.now) }
         ensures listed { IsListed (3 ∷ []) result }
@@ -45,8 +48,23 @@ impl Strings {
         Ok(Strings(self.0.clone()?))
     }
 
-    /// The string of an identifier: below 391 the standard string, from there on the text of item `sid - 391`. Bytes
-    /// that are not UTF-8 are read as `bstr` does, with U+FFFD for what is no character.
+    /// The string of an identifier (Technical Note 5176, "String INDEX", Appendix A): below 391 the standard string,
+    /// from there on the text of item `sid - 391`, and None where there is no such item. Bytes that are not UTF-8 are
+    /// read as `bstr` does, with U+FFFD for what is no character.
+    ///
+    /// Refused: `Memory`.
+    ///
+    /// ```rust
+    /// pub fn notice(alloc: Global, font: &FontSet, dictionary: &Operations) -> Result<Option<String>> {
+    ///     let Some(operand) = dictionary.get_single(Operator::Notice) else {
+    ///         return Ok(None);
+    ///     };
+    ///     match operand.to_i32().map(StringID::try_from) {
+    ///         Some(Ok(sid)) => font.strings.get(alloc, sid),
+    ///         _ => Ok(None),
+    ///     }
+    /// }
+    /// ```
     #[tactic(auto, unfolding(crate::specs::Texts::string_of))]
     pub fn get(&self, alloc: Global, sid: StringID) -> Result<Option<String>>
         ensures string { IfOk result (λ found. option_map string_bytes found ≡ string_of self.now.items sid) }
@@ -62,7 +80,9 @@ impl Strings {
     }
 }
 
-/// Refused as an `Index` is.
+/// An INDEX of strings.
+///
+/// Refused: as an `Index` is.
 impl Value for Strings {
     ghost use Rattle.std.specs.Prelude.{[], ◌∷◌};
     ghost use Rattle.postscript_base.specs.Tape.Outcome.{same};

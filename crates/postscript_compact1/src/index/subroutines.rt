@@ -21,6 +21,8 @@ impl Model for Subroutines {
     ghost view = { λ subroutines. subroutines.0 };
 }
 
+/// The INDEX, so that `data`, `len`, `item` and `iter` are called on subroutines. `data` is what `Program::new` is
+/// handed.
 impl Deref for Subroutines {
     type Target = Index;
 
@@ -32,7 +34,7 @@ impl Deref for Subroutines {
 }
 
 impl Subroutines {
-    /// No subroutines.
+    /// No subroutines. Never refused.
     pub fn empty(alloc: Global) -> Self
         ensures { result ≡ empty }
     {
@@ -40,6 +42,8 @@ impl Subroutines {
     }
 
     /// Equal subroutines.
+    ///
+    /// Refused: `Memory`.
     pub fn clone(&self) -> Result<Self>
         ensures equal { IfOk result (λ subroutines. subroutines ≡ self.now) }
         ensures listed { IsListed (3 ∷ []) result }
@@ -48,7 +52,7 @@ impl Subroutines {
     }
 }
 
-/// As `Subroutines::clone`, so that lists of them are cloned as well.
+/// As `Subroutines::clone`, so that lists of them are cloned as well. Refused only for want of memory.
 impl Clone for Subroutines {
     ghost use Rattle.std.specs.Prelude.{◌≡◌};
 
@@ -59,7 +63,9 @@ impl Clone for Subroutines {
     }
 }
 
-/// Refused as an `Index` is.
+/// An INDEX of subroutines (Technical Note 5176, "Local/Global Subrs INDEXes").
+///
+/// Refused: as an `Index` is.
 impl Value for Subroutines {
     ghost use Rattle.std.specs.Prelude.{[], ◌∷◌};
     ghost use Rattle.postscript_base.specs.Tape.Outcome.{same};

@@ -89,8 +89,8 @@ fn phrase_at(code: &[u8], place: usize, stack: &mut Vec<Operand>) -> Result<At<O
     Err(Refused::UnexpectedEof)
 }
 
-/// How many operands the Note lets a stack hold; one with more takes more memory (Technical Note 5177, Appendix B, "Type 2
-/// Charstring Implementation Limits").
+/// How many operands the Note lets a stack hold; one with more takes more memory (Technical Note 5177, Appendix B,
+/// "Type 2 Charstring Implementation Limits").
 const OPERANDS: usize = 48;
 
 /// Takes memory for so many operands at once, before the first is put onto the stack.

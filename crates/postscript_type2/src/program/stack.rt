@@ -1,4 +1,5 @@
-//! The operators that work on the stack alone (Technical Note 5177, "Arithmetic Operators" and "Conditional Operators").
+//! The operators that work on the stack alone (Technical Note 5177, "Arithmetic Operators" and "Conditional
+//! Operators").
 ghost use Rattle.std.specs.Prelude.{◌≡◌, length, pos};
 ghost use Rattle.postscript_type2.specs.Program.FixedPoint.{absolute_value, opposite, root, sum, difference, product, quotient, both, either, denial, same_bits};
 ghost use Rattle.postscript_type2.specs.Operation.Kinds.{kind};

@@ -34,9 +34,9 @@ pub(crate) struct Taken {
     pub(crate) counted: usize,
 }
 
-/// What an operator does: it leaves a stack and stored numbers; it takes operands, which stand on the stack until it is
-/// cleared, and so many bytes of a mask are its own; it calls a subroutine; it returns; or it ends the run, where so many
-/// operands count as taken.
+/// What an operator does: it leaves a stack and stored numbers; it takes operands, which stand on the stack until it
+/// is cleared, and so many bytes of a mask are its own; it calls a subroutine; it returns; or it ends the run, where
+/// so many operands count as taken.
 #[derive(Drop)]
 pub(crate) enum Effect<'l> {
     Keeps,
