@@ -1,1 +1,2 @@
+mod FontLists
 mod Refused

@@ -1,8 +1,10 @@
 //! Glyphs that need no subroutines any more.
-ghost use Rattle.std.specs.Prelude.{◌≡◌, ◌⊎◌, [], None, Some, map, IfOk, IfErr, OnOk};
+ghost use Rattle.std.specs.Prelude.{◌≡◌, ◌⊎◌, [], None, Some, map, slice_get, IfOk, IfErr, IsOkAnd, OnOk};
 ghost use Rattle.postscript_base.specs.Refusal.{refusal_of};
+ghost use Rattle.postscript_compact1.specs.Index.{Index};
+ghost use Rattle.postscript_compact1.specs.FontSet.Shown.{font_shown};
 ghost use Rattle.postscript_type2.specs.Program.Routines.{Lists, subroutines, texts};
-ghost use Rattle.postscript_examples.specs.Glyphs.{drawn_by, refused_by, first_refused_by};
+ghost use Rattle.postscript_examples.specs.Glyphs.{drawn_by, refused_by, first_refused_by, lists, HasGlyphs};
 
 use postscript::compact1::FontSet;
 use postscript::type2::Program;
@@ -39,7 +41,16 @@ pub fn each_flat(
 
 /// The glyphs of one of a font's dictionaries, counted from 0, as codes without calls; none where there is no such
 /// dictionary.
-pub fn flat_glyphs_of(alloc: Global, font: &FontSet, dictionary: usize) -> Result<Vec<Vec<u8>>> {
+pub fn flat_glyphs_of(alloc: Global, font: &FontSet, dictionary: usize) -> Result<Vec<Vec<u8>>>
+    ensures same { (codes local : Index) → HasGlyphs (font_shown font.now) dictionary codes local →
+        IfOk result (λ flat. map (λ code. drawn_by (subroutines [] []) code.items) flat.items ≡ map (drawn_by (lists (font_shown font.now).global_subroutines local)) codes.items) }
+    ensures faultless { (codes local : Index) → HasGlyphs (font_shown font.now) dictionary codes local →
+        OnOk result (first_refused_by (lists (font_shown font.now).global_subroutines local) codes.items ≡ None) }
+    ensures refused { (codes local : Index) → HasGlyphs (font_shown font.now) dictionary codes local →
+        IfErr result (λ e. (e ≡ Error.Memory) ⊎ (first_refused_by (lists (font_shown font.now).global_subroutines local) codes.items ≡ Some (refusal_of e))) }
+    ensures absent { (slice_get (font_shown font.now).char_strings dictionary ≡ None) ⊎ (slice_get (font_shown font.now).local_subroutines dictionary ≡ None) →
+        IsOkAnd result (λ flat. flat.items ≡ []) }
+{
     let (Some(codes), Some(local)) = (
         font.char_strings.get(dictionary),
         font.local_subroutines.get(dictionary),

@@ -41,7 +41,8 @@ pub fn session<R: BufRead, W: Write>(alloc: Global, reader: &mut R, writer: &mut
     let outcome = answer_lines(alloc, reader, writer);
     let flushed = writer.flush();
     outcome?;
-    Ok(flushed?)
+    flushed?;
+    Ok(())
 }
 
 /// Answers each line, up to the end of the input.

@@ -43,9 +43,16 @@ fn write_header<W: Write>(font: &FontSet, writer: &mut W) -> Result<()>
     ensures listed { IsListed (1 ∷ 2 ∷ []) result }
 {
     let header = font.header;
-    let (major, minor) = (header.major, header.minor);
-    let (header_size, offset_size) = (header.header_size, header.offset_size);
-    writeln!(writer, "header {major} {minor} {header_size} {offset_size}")?;
+    writer.write_all(b"header")?;
+    for field in [
+        header.major,
+        header.minor,
+        header.header_size,
+        header.offset_size,
+    ] {
+        write!(writer, " {field}")?;
+    }
+    writer.write_all(b"\n")?;
     Ok(())
 }
 
@@ -104,9 +111,7 @@ fn write_dictionary<W: Write>(
 ) -> Result<()>
     ensures listed { IsListed (1 ∷ 2 ∷ []) result }
 {
-    writeln!(
-        writer,
-        "font {encoding} {char_set} glyphs {glyphs} locals {locals}"
-    )?;
+    write!(writer, "font {encoding} {char_set}")?;
+    writeln!(writer, " glyphs {glyphs} locals {locals}")?;
     Ok(())
 }

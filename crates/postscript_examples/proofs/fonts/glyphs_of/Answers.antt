@@ -1,29 +1,10 @@
-use Rattle.std.proofs.Common.{◌≡◌, ◌<◌, List, Vec, Global, ℕ, Some, None, inl, inr, length, ltb-true, map, get_or, slice_get, ap, sym, subst, refl, rules, ◌∙◌}
-use Rattle.std.proofs.lemmas.Option.{get_or_from_slice_get, slice_get-get_or}
-use Rattle.std.proofs.lemmas.Simd.{map-map}
+use Rattle.std.proofs.Common.{◌≡◌, Some, inl, inr, ltb-true, slice_get, ap, sym, ◌∙◌}
 use Rattle.postscript_compact1.specs.Index.{Index}
 use Rattle.postscript_compact1.specs.FontSet.Shown.{font_shown}
 use Rattle.postscript_type2.specs.Program.Routines.{subroutines, texts}
-use Rattle.postscript_examples.specs.Glyphs.{drawn_by, first_refused_by, lists, HasGlyphs}
+use Rattle.postscript_examples.specs.Glyphs.{first_refused_by, lists, HasGlyphs}
+use Rattle.postscript_examples.proofs.FontLists.{items_at, by_items, refused_alike, there}
 use Rattle.postscript_examples.proofs.fonts.glyphs_of.Goals as goal
-
--- the items of what stands in a list at a place
-items_at : (all xs : List Index) (i : ℕ) (x y : Index) → xs ≡ all → slice_get all i ≡ Some x → y ≡ get_or xs i y → y.items ≡ x.items
-items_at all xs i x y same has is = ap (λ index. index.items) (is ∙ ap (λ l. get_or l i y) same ∙ get_or_from_slice_get all i x y has)
-
-by_items : (codes global local : List (Vec ℕ Global)) (c g l : Index) → map (λ item. item.items) codes ≡ c.items → map (λ item. item.items) global ≡ g.items → map (λ item. item.items) local ≡ l.items
-    → map (λ code. drawn_by (subroutines global local) code.items) codes ≡ map (drawn_by (lists g l)) c.items
-by_items codes global local c g l e f h = rw (sym e, sym f, sym h) (sym (map-map (drawn_by (subroutines global local)) (λ item. item.items) codes))
-
-refused_alike : (codes global local : List (Vec ℕ Global)) (c g l : Index) → map (λ item. item.items) codes ≡ c.items → map (λ item. item.items) global ≡ g.items → map (λ item. item.items) local ≡ l.items
-    → first_refused_by (subroutines global local) (texts codes) ≡ first_refused_by (lists g l) c.items
-refused_alike codes global local c g l e f h = rw (sym e, sym f, sym h) refl
-
--- what stands in a list at a place is there
-there : (all xs : List Index) (i : ℕ) (d : Index) → xs ≡ all → i < length xs → slice_get all i ≡ None → ⊥
-there all xs i d same within none =
-    let some : slice_get all i ≡ Some (get_or all i d) = slice_get-get_or all i d (subst (λ l. i < length l) same within) in
-    search (rules, sym none ∙ some)
 
 pub returns : goal.returns
 returns c =
