@@ -2,7 +2,8 @@
 use crate::checks::holds;
 use crate::programs::DOUBLING;
 use crate::{
-    char_sets, decimals, dictionaries, errors, flat, fonts, indices, lenient, programs, readings,
+    char_sets, decimals, dictionaries, errors, flat, fonts, indices, lenient, parts, programs,
+    readings,
 };
 use postscript::Error;
 use postscript::compact1::char_set::Range1;
@@ -36,7 +37,10 @@ fn always_out_of_memory(rt: HostRuntime) {
     check_bytes(&rt, alloc);
     check_chain(&rt, alloc);
     errors::check(&rt, alloc, &Error::Memory, 3, "failed to find memory");
+    readings::read_cursors(&rt, alloc);
     readings::check_lists(&rt, alloc);
+    parts::check_offsets(&rt, alloc);
+    parts::check_headers(&rt, alloc);
     decimals::check_long(&rt, alloc);
     dictionaries::check_operation(&rt, alloc);
     dictionaries::check_clone(&rt, alloc);
@@ -45,8 +49,10 @@ fn always_out_of_memory(rt: HostRuntime) {
     indices::check_strings(&rt, alloc);
     indices::check_dictionaries(&rt, alloc);
     char_sets::check_clones(&rt, alloc);
+    char_sets::check_range(&rt, alloc);
     fonts::check_clone(&rt, alloc);
     lenient::check_lenient(&rt, alloc);
+    programs::check_number(&rt, alloc, "8b", &Ok(0));
     programs::check_doubling(&rt, alloc);
     programs::check_steps(
         &rt,

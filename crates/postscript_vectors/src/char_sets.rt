@@ -283,7 +283,7 @@ fn sets_of_one_format(rt: HostRuntime) {
 }
 
 /// Reads a range of format 2.
-fn check_range<R: Abort>(rt: &R, alloc: Global) {
+pub fn check_range<R: Abort>(rt: &R, alloc: Global) {
     let mut tape = Cursor::new([1, 2, 3, 4].as_slice());
     let range = Tape::take::<Range2>(&mut tape, alloc);
     let range = range.expect(rt, "a range");

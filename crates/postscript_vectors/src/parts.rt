@@ -9,7 +9,7 @@ use std::process::Abort;
 const TEN: [u8; 10] = [0x01, 0x02, 0x03, 0x04, 0x05, 0x06, 0x07, 0x08, 0x09, 0x0a];
 
 /// Reads an offset of each size, one behind the other.
-fn check_offsets<R: Abort>(rt: &R, alloc: Global) {
+pub fn check_offsets<R: Abort>(rt: &R, alloc: Global) {
     let mut tape = Cursor::new(TEN.as_slice());
     for (size, wanted) in [(1, 0x01), (2, 0x0203), (3, 0x04_0506), (4, 0x0708_090a)] {
         let offset = Tape::take_given::<Offset>(&mut tape, alloc, size);
@@ -27,7 +27,7 @@ fn refused_offset(alloc: Global, place: u64, size: u8) -> (u8, u64) {
 }
 
 /// Reads a header, whole and cut at each length.
-fn check_headers<R: Abort>(rt: &R, alloc: Global) {
+pub fn check_headers<R: Abort>(rt: &R, alloc: Global) {
     let bytes = [0x01, 0x00, 0x04, 0x02];
     let wanted = Header {
         major: 1,

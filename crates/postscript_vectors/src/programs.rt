@@ -357,7 +357,7 @@ fn is_number<R: Abort>(
 }
 
 /// Reads a number, of a tape and in a program.
-fn check_number<R: Abort>(
+pub fn check_number<R: Abort>(
     rt: &R,
     alloc: Global,
     digits: &str,

@@ -85,7 +85,7 @@ fn read_twelve<R: Abort, T: Tape>(rt: &R, alloc: Global, tape: &mut T, name: &st
 }
 
 /// Reads cursors.
-fn read_cursors<R: Abort>(rt: &R, alloc: Global) {
+pub fn read_cursors<R: Abort>(rt: &R, alloc: Global) {
     read_twelve(rt, alloc, &mut Cursor::new(TWELVE.as_slice()), "a cursor");
     let owned = Vec::from_slice(alloc, &TWELVE).expect(rt, "memory");
     read_twelve(rt, alloc, &mut Cursor::new(owned), "a cursor of a vector");
