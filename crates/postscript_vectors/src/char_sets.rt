@@ -1,99 +1,115 @@
 //! Char sets and encodings, and the strings that they name.
 mod tables;
 
-use crate::readings::code_of;
+use crate::checks::{code_of, holds, holds_at, put, put_shown};
 use postscript::compact1::char_set::{CharSet0, CharSet1, CharSet2, Range1, Range2};
 use postscript::compact1::index::get_standard_string;
 use postscript::compact1::{CharSet, Encoding};
 use postscript::{Result, Tape};
 use std::alloc::Global;
-use std::fmt::Write;
 use std::io::Cursor;
-use std::test::Fail;
+use std::process::Abort;
 use tables::{EXPERT, EXPERT_ENCODING, EXPERT_SUBSET, STANDARD_ENCODING, STRINGS};
 
 /// The words of a text.
-fn words(alloc: Global, text: &'static str) -> std::result::Result<Vec<&'static str>, Fail> {
+fn words<R: Abort>(rt: &R, alloc: Global, text: &'static str) -> Vec<&'static str> {
     let mut words = Vec::new(alloc);
     for word in text.split(' ') {
-        words.push(word)?;
+        words.push(word).expect(rt, "memory");
     }
-    Ok(words)
+    words
+}
+
+/// Compares each standard string with the words.
+fn check_strings<R: Abort>(rt: &R, words: &[&'static str]) {
+    for number in 0..=u16::MAX {
+        let wanted = words.get(usize::from(number)).copied();
+        let is_so = get_standard_string(number) == wanted;
+        holds_at(rt, is_so, "string", usize::from(number));
+    }
+}
+
+/// A predefined set.
+enum Set {
+    ISOAdobe,
+    Expert,
+    ExpertSubset,
+}
+
+/// The name of a glyph.
+fn name_of(set: &Set, number: u16) -> Option<&'static str> {
+    match set {
+        Set::ISOAdobe => CharSet::ISOAdobe.get(number),
+        Set::Expert => CharSet::Expert.get(number),
+        Set::ExpertSubset => CharSet::ExpertSubset.get(number),
+    }
+}
+
+/// Compares each glyph of a set with the words, the first of which is the name of glyph 1.
+fn check_set<R: Abort>(rt: &R, set: &Set, words: &[&'static str], count: usize) {
+    holds(rt, words.len() == count, "the number of glyphs");
+    for number in 0..=u16::MAX {
+        let before = usize::from(number).wrapping_sub(1);
+        let is_so = name_of(set, number) == words.get(before).copied();
+        holds_at(rt, is_so, "glyph", usize::from(number));
+    }
 }
 
 #[test]
-fn every_glyph_of_the_predefined_sets(rt: HostRuntime) -> std::result::Result<(), Fail> {
-    let strings = words(rt.alloc(), STRINGS)?;
-    let experts = words(rt.alloc(), EXPERT)?;
-    let subset = words(rt.alloc(), EXPERT_SUBSET)?;
-    assert!(rt; (strings.len(), experts.len(), subset.len()) == (391, 165, 86));
-    for number in 0..=u16::MAX {
-        let place = usize::from(number);
-        let named = if 0 < place && place <= 228 {
-            strings.get(place).copied()
-        } else {
-            None
-        };
-        let before = place.wrapping_sub(1);
-        let found = (
-            get_standard_string(number),
-            CharSet::ISOAdobe.get(number),
-            CharSet::Expert.get(number),
-            CharSet::ExpertSubset.get(number),
-        );
-        let wanted = (
-            strings.get(place).copied(),
-            named,
-            experts.get(before).copied(),
-            subset.get(before).copied(),
-        );
-        assert!(rt; found == wanted, "at {number}");
-    }
-    Ok(())
+fn every_glyph_of_the_predefined_sets(rt: HostRuntime) {
+    let alloc = rt.alloc();
+    let strings = words(&rt, alloc, STRINGS);
+    holds(&rt, strings.len() == 391, "the number of strings");
+    check_strings(&rt, strings.as_slice());
+    let plain = strings.get(1..229).unwrap_or(&[]);
+    check_set(&rt, &Set::ISOAdobe, plain, 228);
+    let experts = words(&rt, alloc, EXPERT);
+    check_set(&rt, &Set::Expert, experts.as_slice(), 165);
+    let subset = words(&rt, alloc, EXPERT_SUBSET);
+    check_set(&rt, &Set::ExpertSubset, subset.as_slice(), 86);
 }
+
+/// Some glyphs of the predefined sets, and their names.
+const GLYPHS: &[(Set, u16, Option<&str>)] = &[
+    (Set::Expert, 2, Some("exclamsmall")),
+    (Set::Expert, 12, Some("comma")),
+    (Set::Expert, 165, Some("Ydieresissmall")),
+    (Set::Expert, 166, None),
+    (Set::ExpertSubset, 2, Some("dollaroldstyle")),
+    (Set::ISOAdobe, 0, None),
+];
 
 #[test]
 fn some_glyphs_of_the_predefined_sets(rt: HostRuntime) {
-    let experts = (
-        CharSet::Expert.get(2),
-        CharSet::Expert.get(12),
-        CharSet::Expert.get(165),
-        CharSet::Expert.get(166),
-    );
-    let wanted = (
-        Some("exclamsmall"),
-        Some("comma"),
-        Some("Ydieresissmall"),
-        None,
-    );
-    assert!(rt; experts == wanted);
-    assert!(rt; CharSet::ExpertSubset.get(2) == Some("dollaroldstyle"));
-    assert!(rt; CharSet::ISOAdobe.get(0) == None);
-    assert!(rt; get_standard_string(390) == Some("Semibold"));
+    for (row, (set, number, name)) in GLYPHS.iter().enumerate() {
+        holds_at(&rt, name_of(set, *number) == *name, "row", row);
+    }
+    let last = get_standard_string(390) == Some("Semibold");
+    holds(&rt, last, "the last standard string");
+}
+
+/// Compares the glyph of each code with the words of a text, in which a code without a glyph has a word that is no number.
+fn check_codes<R: Abort>(rt: &R, encoding: Encoding, text: &str) {
+    let mut codes = 0u16;
+    for word in text.split(' ') {
+        let is_so = encoding.get(codes) == word.parse::<u16>().ok();
+        holds_at(rt, is_so, encoding.name(), usize::from(codes));
+        codes = codes.saturating_add(1);
+    }
+    holds(rt, codes == 256, "the number of codes");
+    for code in 256..=u16::MAX {
+        let is_so = encoding.get(code) == None;
+        holds_at(rt, is_so, encoding.name(), usize::from(code));
+    }
 }
 
 #[test]
-fn every_code_of_the_encodings(rt: HostRuntime) -> std::result::Result<(), Fail> {
-    for (encoding, name, text) in [
-        (Encoding::Standard, "Standard", STANDARD_ENCODING),
-        (Encoding::Expert, "Expert", EXPERT_ENCODING),
-    ] {
-        assert!(rt; encoding.name() == name);
-        let mut codes = 0u16;
-        for word in text.split(' ') {
-            assert!(rt;
-                encoding.get(codes) == word.parse::<u16>().ok(),
-                "{name} at {codes}"
-            );
-            codes = codes.saturating_add(1);
-        }
-        assert!(rt; codes == 256);
-        for code in 256..=u16::MAX {
-            assert!(rt; encoding.get(code) == None);
-        }
-    }
-    assert!(rt; Encoding::Standard.get(42) == Some(11));
-    Ok(())
+fn every_code_of_the_encodings(rt: HostRuntime) {
+    holds(&rt, Encoding::Standard.name() == "Standard", "a name");
+    check_codes(&rt, Encoding::Standard, STANDARD_ENCODING);
+    holds(&rt, Encoding::Expert.name() == "Expert", "another name");
+    check_codes(&rt, Encoding::Expert, EXPERT_ENCODING);
+    holds(&rt, Encoding::Standard.get(42) == Some(11), "code 42");
 }
 
 /// Bytes, and the number of glyphs; the set as a text, or the number of the refusal.
@@ -140,119 +156,235 @@ const ROWS: &[Row] = &[
     (&[], 0, Err(1)),
 ];
 
-/// The name of a set, its format, and its glyphs or ranges.
-fn text_of(alloc: Global, set: &CharSet) -> std::result::Result<String, Fail> {
+/// Adds the glyphs of a set that lists them.
+fn put_glyphs<R: Abort>(rt: &R, text: &mut String, set: &CharSet0) {
+    put_shown(rt, text, " ", &set.format);
+    put(rt, text, ":");
+    for glyph in &set.glyphs {
+        put_shown(rt, text, " ", glyph);
+    }
+}
+
+/// Adds the ranges of format 1.
+fn put_ranges<R: Abort>(rt: &R, text: &mut String, set: &CharSet1) {
+    put_shown(rt, text, " ", &set.format);
+    put(rt, text, ":");
+    for range in &set.ranges {
+        put_shown(rt, text, " ", &range.first);
+        put_shown(rt, text, "+", &range.left);
+    }
+}
+
+/// Adds the ranges of format 2.
+fn put_long_ranges<R: Abort>(rt: &R, text: &mut String, set: &CharSet2) {
+    put_shown(rt, text, " ", &set.format);
+    put(rt, text, ":");
+    for range in &set.ranges {
+        put_shown(rt, text, " ", &range.first);
+        put_shown(rt, text, "+", &range.left);
+    }
+}
+
+/// Whether this is the text of a set: its name, its format, and its glyphs or ranges.
+fn is_set<R: Abort>(rt: &R, alloc: Global, set: &CharSet, wanted: &str) -> bool {
     let mut text = String::new(alloc);
-    write!(text, "{}", set.name())?;
+    put(rt, &mut text, set.name());
     match set {
-        CharSet::Format0(set) => {
-            write!(text, " {}:", set.format)?;
-            for glyph in &set.glyphs {
-                write!(text, " {glyph}")?;
-            }
-        }
-        CharSet::Format1(set) => {
-            write!(text, " {}:", set.format)?;
-            for range in &set.ranges {
-                write!(text, " {}+{}", range.first, range.left)?;
-            }
-        }
-        CharSet::Format2(set) => {
-            write!(text, " {}:", set.format)?;
-            for range in &set.ranges {
-                write!(text, " {}+{}", range.first, range.left)?;
-            }
-        }
+        CharSet::Format0(set) => put_glyphs(rt, &mut text, set),
+        CharSet::Format1(set) => put_ranges(rt, &mut text, set),
+        CharSet::Format2(set) => put_long_ranges(rt, &mut text, set),
         _ => {}
     }
-    Ok(text)
+    text.as_str() == wanted
 }
 
-#[test]
-fn rows_of_char_sets(rt: HostRuntime) -> std::result::Result<(), Fail> {
-    for (row, (bytes, glyphs, wanted)) in ROWS.iter().enumerate() {
-        let mut tape = Cursor::new(*bytes);
-        let read: Result<CharSet> = tape.take_given(rt.alloc(), *glyphs);
-        match (read, wanted) {
-            (Ok(set), Ok(wanted)) => {
-                assert!(rt; text_of(rt.alloc(), &set)?.as_str() == *wanted, "at {row}");
-                assert!(rt;
-                    text_of(rt.alloc(), &set.clone()?)?.as_str() == *wanted,
-                    "at {row}"
-                );
-                assert!(rt; !set.is_predefined(), "at {row}");
-                assert!(rt; tape.position() == bytes.len() as u64, "at {row}");
-                // Cut at each length.
-                for length in 0..bytes.len() {
-                    let mut cut = Cursor::new(&bytes[..length]);
-                    let refused: Result<CharSet> = cut.take_given(rt.alloc(), *glyphs);
-                    assert!(rt; code_of(refused) == 1, "at {row}");
-                }
-            }
-            (Err(e), Err(code)) => assert!(rt; e.code() == *code, "at {row}"),
-            _ => assert!(rt; false, "at {row}"),
-        }
+/// The set at the start of bytes, given a number of glyphs.
+fn read_set(alloc: Global, bytes: &[u8], glyphs: usize) -> Result<CharSet> {
+    Cursor::new(bytes).take_given(alloc, glyphs)
+}
+
+/// Whether each front of bytes is refused as cut.
+fn are_cut(alloc: Global, bytes: &[u8], glyphs: usize) -> bool {
+    let mut are_so = true;
+    for length in 0..bytes.len() {
+        are_so = are_so && code_of(read_set(alloc, &bytes[..length], glyphs)) == 1;
     }
-    Ok(())
+    are_so
 }
 
-#[test]
-fn sets_of_one_format(rt: HostRuntime) -> std::result::Result<(), Fail> {
-    let refused: Result<CharSet0> = Cursor::new([1].as_slice()).take_given(rt.alloc(), 1);
-    assert!(rt; code_of(refused) == 10);
-    let refused: Result<CharSet1> = Cursor::new([0].as_slice()).take_given(rt.alloc(), 1);
-    assert!(rt; code_of(refused) == 10);
-    let set: CharSet0 = Cursor::new([0, 1, 1].as_slice()).take_given(rt.alloc(), 2)?;
-    assert!(rt; set.clone()?.glyphs.as_slice() == [257].as_slice());
-    let mut tape = Cursor::new([1, 2, 3].as_slice());
-    let range: Range1 = Tape::take(&mut tape, rt.alloc())?;
-    assert!(rt; (range.first, range.left) == (258, 3));
-    Ok(())
+/// Whether a set and its clone are as wanted, and the fronts of its bytes are cut.
+fn is_whole<R: Abort>(rt: &R, alloc: Global, set: &CharSet, row: &Row, text: &str) -> bool {
+    let same = set.clone().expect(rt, "memory");
+    is_set(rt, alloc, set, text)
+        && is_set(rt, alloc, &same, text)
+        && !set.is_predefined()
+        && are_cut(alloc, row.0, row.1)
 }
 
-#[test]
-fn sets_of_format_2(rt: HostRuntime) -> std::result::Result<(), Fail> {
-    for first in [0, 1, 3] {
-        let refused: Result<CharSet2> = Cursor::new([first].as_slice()).take_given(rt.alloc(), 1);
-        assert!(rt; code_of(refused) == 10);
+/// Whether a set is read as a row wants.
+fn is_wanted<R: Abort>(rt: &R, alloc: Global, read: &Result<CharSet>, row: &Row) -> bool {
+    match (read, &row.2) {
+        (Ok(set), Ok(text)) => is_whole(rt, alloc, set, row, text),
+        (Err(e), Err(code)) => e.code() == *code,
+        _ => false,
     }
+}
+
+/// Whether a set is read as a row wants, and its bytes to their end.
+fn is_row<R: Abort>(rt: &R, alloc: Global, row: &Row) -> bool {
+    let mut tape = Cursor::new(row.0);
+    let read = Tape::take_given::<CharSet>(&mut tape, alloc, row.1);
+    let is_at_end = tape.position() == row.0.len() as u64;
+    is_wanted(rt, alloc, &read, row) && (is_at_end || row.2.is_err())
+}
+
+#[test]
+fn rows_of_char_sets(rt: HostRuntime) {
+    let alloc = rt.alloc();
+    for (i, row) in ROWS.iter().enumerate() {
+        holds_at(&rt, is_row(&rt, alloc, row), "row", i);
+    }
+}
+
+/// A set of format 0.
+fn read_set0(alloc: Global, bytes: &[u8], glyphs: usize) -> Result<CharSet0> {
+    Cursor::new(bytes).take_given(alloc, glyphs)
+}
+
+/// A set of format 1.
+fn read_set1(alloc: Global, bytes: &[u8], glyphs: usize) -> Result<CharSet1> {
+    Cursor::new(bytes).take_given(alloc, glyphs)
+}
+
+/// A set of format 2.
+fn read_set2(alloc: Global, bytes: &[u8], glyphs: usize) -> Result<CharSet2> {
+    Cursor::new(bytes).take_given(alloc, glyphs)
+}
+
+/// Reads a set of format 0, and clones it.
+fn check_format0<R: Abort>(rt: &R, alloc: Global) {
+    let set = read_set0(alloc, &[0, 1, 1], 2).expect(rt, "a set");
+    let same = set.clone().expect(rt, "memory");
+    holds(rt, same.glyphs.as_slice() == [257].as_slice(), "a clone");
+}
+
+#[test]
+fn sets_of_one_format(rt: HostRuntime) {
+    let alloc = rt.alloc();
+    let other = code_of(read_set0(alloc, &[1], 1));
+    holds(&rt, other == 10, "format 1 as format 0");
+    let other = code_of(read_set1(alloc, &[0], 1));
+    holds(&rt, other == 10, "format 0 as format 1");
+    check_format0(&rt, alloc);
+    let range = Cursor::new([1, 2, 3].as_slice()).take::<Range1>(alloc);
+    let range = range.expect(&rt, "a range");
+    holds(&rt, range.first == 258, "the first glyph");
+    holds(&rt, range.left == 3, "how many are left");
+}
+
+/// Reads a range of format 2.
+pub fn check_range<R: Abort>(rt: &R, alloc: Global) {
     let mut tape = Cursor::new([1, 2, 3, 4].as_slice());
-    let range: Range2 = Tape::take(&mut tape, rt.alloc())?;
-    assert!(rt; (range.first, range.left) == (258, 772));
-    assert!(rt; tape.position() == 4);
+    let range = Tape::take::<Range2>(&mut tape, alloc);
+    let range = range.expect(rt, "a range");
+    holds(rt, range.first == 258, "the first glyph");
+    holds(rt, range.left == 772, "how many are left");
+    holds(rt, tape.position() == 4, "the next place");
+}
+
+/// Whether two sets are of format 2, of the same two ranges.
+fn are_same(set: &CharSet2, other: &CharSet2) -> bool {
+    let mut are_so = set.format == 2 && other.format == 2;
+    are_so = are_so && set.ranges.len() == 2 && other.ranges.len() == 2;
+    for (range, same) in set.ranges.iter().zip(other.ranges.iter()) {
+        are_so = are_so && range.first == same.first && range.left == same.left;
+    }
+    are_so
+}
+
+/// Reads a set of format 2, and clones it.
+fn check_format2<R: Abort>(rt: &R, alloc: Global) {
     let bytes = [2, 0, 7, 1, 0, 0, 9, 0, 0];
-    let set: CharSet2 = Cursor::new(bytes.as_slice()).take_given(rt.alloc(), 259)?;
-    let same = set.clone()?;
-    assert!(rt; (set.format, same.format) == (2, 2));
-    assert!(rt; (set.ranges.len(), same.ranges.len()) == (2, 2));
-    for (range, other) in set.ranges.iter().zip(same.ranges.iter()) {
-        assert!(rt; (range.first, range.left) == (other.first, other.left));
-    }
-    Ok(())
+    let set = read_set2(alloc, &bytes, 259).expect(rt, "a set");
+    let same = set.clone().expect(rt, "memory");
+    holds(rt, are_same(&set, &same), "a set and its clone");
 }
 
 #[test]
-fn predefined_sets_and_their_clones(rt: HostRuntime) -> std::result::Result<(), Fail> {
-    for set in [CharSet::ISOAdobe, CharSet::Expert, CharSet::ExpertSubset] {
-        assert!(rt; set.is_predefined() && set.clone()?.name() == set.name());
+fn sets_of_format_2(rt: HostRuntime) {
+    let alloc = rt.alloc();
+    for first in [0, 1, 3] {
+        let code = code_of(read_set2(alloc, &[first], 1));
+        holds_at(&rt, code == 10, "format", usize::from(first));
     }
-    Ok(())
+    check_range(&rt, alloc);
+    check_format2(&rt, alloc);
+}
+
+/// Whether a set is predefined, and its clone has its name.
+fn is_predefined<R: Abort>(rt: &R, set: &CharSet) -> bool {
+    let same = set.clone().expect(rt, "memory");
+    set.is_predefined() && same.name() == set.name()
+}
+
+/// Clones the predefined sets.
+fn check_predefined<R: Abort>(rt: &R) {
+    holds(rt, is_predefined(rt, &CharSet::ISOAdobe), "ISOAdobe");
+    holds(rt, is_predefined(rt, &CharSet::Expert), "Expert");
+    holds(
+        rt,
+        is_predefined(rt, &CharSet::ExpertSubset),
+        "ExpertSubset",
+    );
 }
 
 #[test]
-fn long_char_sets(rt: HostRuntime) -> std::result::Result<(), Fail> {
-    // 65,535 glyphs, in ranges of 256 and of 1.
-    for (left, count) in [(255, 256), (0, 65_535)] {
-        let mut bytes = Vec::new(rt.alloc());
-        bytes.push(1)?;
-        for _ in 1..count {
-            bytes.extend_from_slice(&[0, 7, left])?;
-        }
-        if left == 255 {
-            bytes.extend_from_slice(&[0, 7, 253])?;
-        }
-        let set: CharSet1 = Cursor::new(bytes.as_slice()).take_given(rt.alloc(), 65_535)?;
-        assert!(rt; set.clone()?.ranges.len() * 3 + 1 == bytes.len());
+fn predefined_sets_and_their_clones(rt: HostRuntime) {
+    check_predefined(&rt);
+}
+
+/// The bytes of so many ranges of glyph 7 on with so many left, one less than the count, and of a last one of 254.
+fn ranges<R: Abort>(rt: &R, alloc: Global, left: u8, count: usize) -> Vec<u8> {
+    let mut bytes = Vec::from_slice(alloc, &[1]).expect(rt, "memory");
+    for _ in 1..count {
+        bytes.extend_from_slice(&[0, 7, left]).expect(rt, "memory");
     }
-    Ok(())
+    if left == 255 {
+        bytes.extend_from_slice(&[0, 7, 253]).expect(rt, "memory");
+    }
+    bytes
+}
+
+/// Whether 65,535 glyphs are read in these ranges.
+fn are_ranges<R: Abort>(rt: &R, alloc: Global, bytes: &[u8]) -> bool {
+    let set = read_set1(alloc, bytes, 65_535).expect(rt, "a set");
+    let same = set.clone().expect(rt, "memory");
+    same.ranges.len().saturating_mul(3).saturating_add(1) == bytes.len()
+}
+
+/// Reads 65,535 glyphs in ranges of 256, and clones them.
+fn check_format1<R: Abort>(rt: &R, alloc: Global) {
+    let long = ranges(rt, alloc, 255, 256);
+    holds(rt, are_ranges(rt, alloc, long.as_slice()), "ranges of 256");
+}
+
+/// Reads sets of each format and the clones of all.
+pub fn check_clones<R: Abort>(rt: &R, alloc: Global) {
+    check_predefined(rt);
+    check_format0(rt, alloc);
+    check_format1(rt, alloc);
+    check_format2(rt, alloc);
+    holds(
+        rt,
+        is_row(rt, alloc, &(&[0, 0, 5], 2, Ok("Format0 0: 5"))),
+        "a set",
+    );
+}
+
+#[test]
+fn long_char_sets(rt: HostRuntime) {
+    let alloc = rt.alloc();
+    check_format1(&rt, alloc);
+    let short = ranges(&rt, alloc, 0, 65_535);
+    holds(&rt, are_ranges(&rt, alloc, short.as_slice()), "ranges of 1");
 }

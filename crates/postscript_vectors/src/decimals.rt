@@ -1,8 +1,10 @@
 //! Operands of dictionaries, and the numbers that spell them.
-use postscript::Tape;
+use crate::checks::{holds, holds_at};
+use postscript::Result;
 use postscript::compact1::{Operand, number};
+use std::alloc::Global;
 use std::io::Cursor;
-use std::test::Fail;
+use std::process::Abort;
 
 /// 10^18.
 const QUINTILLION: i128 = 1_000_000_000_000_000_000;
@@ -46,7 +48,10 @@ const MADE: &[Made] = &[
 ];
 
 /// Bytes, and the text of the number with its value where that is a whole number of 32 bits, or the number of the refusal.
-type Read = (&'static [u8], Result<(&'static str, Option<i32>), u8>);
+type Read = (
+    &'static [u8],
+    std::result::Result<(&'static str, Option<i32>), u8>,
+);
 
 const READ: &[Read] = &[
     // Integers.
@@ -108,57 +113,82 @@ const READ: &[Read] = &[
     (&[0xf7], Err(1)),
 ];
 
-/// The text `0.`, 1200 zeros, `1e1201`.
-fn long_real(rt: &HostRuntime) -> Result<Vec<u8>, Fail> {
-    let mut bytes = Vec::from_slice(rt.alloc(), &[0x1e, 0x0a])?;
-    bytes.resize(602, 0)?;
-    bytes.extend_from_slice(&[0x1b, 0x12, 0x01, 0xff])?;
-    Ok(bytes)
+/// Whether an operand is made as wanted.
+fn is_made(made: Option<Operand>, wanted: Option<(i64, i32)>, whole: Option<i32>) -> bool {
+    match (made, wanted) {
+        (Some(operand), Some((mantissa, exponent))) => {
+            operand.mantissa() == mantissa
+                && operand.exponent() == exponent
+                && operand.to_i32() == whole
+        }
+        (None, None) => true,
+        _ => false,
+    }
 }
 
 #[test]
 fn operands(rt: HostRuntime) {
-    for ((mantissa, exponent), wanted, whole) in MADE {
-        match (Operand::new(*mantissa, *exponent), wanted) {
-            (Some(operand), Some(pair)) => {
-                let found = (operand.mantissa(), operand.exponent());
-                assert!(rt; found == *pair, "at {mantissa}e{exponent}");
-                assert!(rt; operand.to_i32() == *whole, "at {mantissa}e{exponent}");
-            }
-            (None, None) => {}
-            _ => assert!(rt; false, "at {mantissa}e{exponent}"),
-        }
+    for (row, ((mantissa, exponent), wanted, whole)) in MADE.iter().enumerate() {
+        let made = Operand::new(*mantissa, *exponent);
+        holds_at(&rt, is_made(made, *wanted, *whole), "row", row);
     }
 }
 
-#[test]
-fn numbers(rt: HostRuntime) -> Result<(), Fail> {
-    for (bytes, wanted) in READ {
-        let mut tape = Cursor::new(*bytes);
-        match (number::read(rt.alloc(), &mut tape), wanted) {
-            (Ok(operand), Ok((text, whole))) => {
-                let shown = operand.to_string(rt.alloc())?;
-                assert!(rt; shown.as_str() == *text);
-                assert!(rt; operand.to_i32() == *whole, "at {text}");
-                assert!(rt;
-                    Tape::position(&mut tape)? == bytes.len() as u64,
-                    "at {text}"
-                );
-            }
-            (Err(fault), Err(code)) => assert!(rt; fault.code() == *code, "at {bytes:?}"),
-            _ => assert!(rt; false, "at {bytes:?}"),
+/// Whether an operand is shown so.
+fn is_shown<R: Abort>(rt: &R, alloc: Global, operand: Operand, text: &str) -> bool {
+    let shown = operand.to_string(alloc).expect(rt, "memory");
+    shown.as_str() == text
+}
+
+/// Whether a number is read as a row wants.
+fn is_wanted<R: Abort>(rt: &R, alloc: Global, read: &Result<Operand>, row: &Read) -> bool {
+    match (read, &row.1) {
+        (Ok(operand), Ok((text, whole))) => {
+            is_shown(rt, alloc, *operand, text) && operand.to_i32() == *whole
         }
+        (Err(fault), Err(code)) => fault.code() == *code,
+        _ => false,
+    }
+}
+
+/// Whether a number is read as a row wants, and all its bytes.
+fn is_read<R: Abort>(rt: &R, alloc: Global, row: &Read) -> bool {
+    let mut tape = Cursor::new(row.0);
+    let read = number::read(alloc, &mut tape);
+    let is_at_end = tape.position() == row.0.len() as u64;
+    is_wanted(rt, alloc, &read, row) && (is_at_end || row.1.is_err())
+}
+
+/// The number that bytes spell.
+fn number_of<R: Abort>(rt: &R, alloc: Global, bytes: &[u8]) -> Operand {
+    number::read(alloc, &mut Cursor::new(bytes)).expect(rt, "a number")
+}
+
+/// The text `0.`, 1200 zeros, `1e1201`.
+fn long_real<R: Abort>(rt: &R, alloc: Global) -> Vec<u8> {
+    let mut bytes = Vec::from_slice(alloc, &[0x1e, 0x0a]).expect(rt, "memory");
+    bytes.resize(602, 0).expect(rt, "memory");
+    let end = bytes.extend_from_slice(&[0x1b, 0x12, 0x01, 0xff]);
+    end.expect(rt, "memory");
+    bytes
+}
+
+/// Reads a number of many digits.
+pub fn check_long<R: Abort>(rt: &R, alloc: Global) {
+    let long = number_of(rt, alloc, long_real(rt, alloc).as_slice());
+    holds(rt, long.mantissa() == 1, "the mantissa of many digits");
+    holds(rt, long.exponent() == 0, "the exponent of many digits");
+}
+
+#[test]
+fn numbers(rt: HostRuntime) {
+    let alloc = rt.alloc();
+    for (i, row) in READ.iter().enumerate() {
+        holds_at(&rt, is_read(&rt, alloc, row), "row", i);
     }
     // Two spellings of one number.
-    let spelled = number::read(
-        rt.alloc(),
-        &mut Cursor::new([0x1e, 0x1b, 0xe1, 0xff].as_slice()),
-    )?;
-    let at_once = number::read(rt.alloc(), &mut Cursor::new([0x1e, 0x1c, 0x1f].as_slice()))?;
-    assert!(rt; spelled == at_once);
-    // Many digits.
-    let bytes = long_real(&rt)?;
-    let operand = number::read(rt.alloc(), &mut Cursor::new(bytes.as_slice()))?;
-    assert!(rt; (operand.mantissa(), operand.exponent()) == (1, 0));
-    Ok(())
+    let spelled = number_of(&rt, alloc, &[0x1e, 0x1b, 0xe1, 0xff]);
+    let at_once = number_of(&rt, alloc, &[0x1e, 0x1c, 0x1f]);
+    holds(&rt, spelled == at_once, "two spellings");
+    check_long(&rt, alloc);
 }

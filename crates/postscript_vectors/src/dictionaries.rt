@@ -1,16 +1,16 @@
 //! Dictionaries: their operators, their operations, and the map that they leave.
-use crate::tapes::Still;
-use postscript::Tape;
-use postscript::compact1::{Operand, Operation, Operations, Operator};
+use crate::checks::{code_of, holds, holds_at, put, put_shown};
+use crate::tapes::{Trouble, TroubledTape};
+use postscript::compact1::{Operand, Operands, Operation, Operations, Operator};
+use postscript::{Result, Tape};
 use std::alloc::Global;
-use std::fmt::Write;
 use std::io::Cursor;
-use std::test::Fail;
+use std::process::Abort;
 
 /// Bytes; and each operator with its operands as texts, or the number of the refusal.
 type Row = (
     &'static [u8],
-    Result<&'static [(Operator, &'static str)], u8>,
+    std::result::Result<&'static [(Operator, &'static str)], u8>,
 );
 
 const ROWS: &[Row] = &[
@@ -58,42 +58,60 @@ const ROWS: &[Row] = &[
 ];
 
 /// The texts of operands, a space between them.
-fn texts(alloc: Global, operands: &[Operand]) -> Result<String, Fail> {
+fn texts<R: Abort>(rt: &R, alloc: Global, operands: &[Operand]) -> String {
     let mut text = String::new(alloc);
     for operand in operands {
-        if !text.is_empty() {
-            text.push(' ')?;
-        }
-        write!(text, "{operand}")?;
+        let space = if text.is_empty() { "" } else { " " };
+        put_shown(rt, &mut text, space, operand);
     }
-    Ok(text)
+    text
+}
+
+/// Whether a map has an operator, of operands with these texts.
+fn has<R: Abort>(rt: &R, alloc: Global, map: &Operations, operator: &Operator, text: &str) -> bool {
+    match map.0.get(operator) {
+        Some(found) => texts(rt, alloc, found.as_slice()).as_str() == text,
+        None => false,
+    }
+}
+
+/// Whether a map has these operators, and no other.
+fn is_map<R: Abort>(rt: &R, alloc: Global, map: &Operations, wanted: &[(Operator, &str)]) -> bool {
+    let mut is_so = map.0.len() == wanted.len();
+    for (operator, text) in wanted {
+        is_so = is_so && has(rt, alloc, map, operator, text);
+    }
+    is_so
+}
+
+/// The dictionary of bytes.
+fn read_map(alloc: Global, bytes: &[u8]) -> Result<Operations> {
+    Cursor::new(bytes).take(alloc)
+}
+
+/// Whether a dictionary is read as a row wants.
+fn is_wanted<R: Abort>(rt: &R, alloc: Global, read: &Result<Operations>, row: &Row) -> bool {
+    match (read, &row.1) {
+        (Ok(map), Ok(wanted)) => is_map(rt, alloc, map, wanted),
+        (Err(e), Err(code)) => e.code() == *code,
+        _ => false,
+    }
+}
+
+/// Whether a dictionary is read as a row wants, up to the end of the tape.
+fn is_row<R: Abort>(rt: &R, alloc: Global, row: &Row) -> bool {
+    let mut tape = Cursor::new(row.0);
+    let read = Tape::take::<Operations>(&mut tape, alloc);
+    let is_at_end = tape.position() == row.0.len() as u64;
+    is_wanted(rt, alloc, &read, row) && (is_at_end || row.1.is_err())
 }
 
 #[test]
-fn rows_of_dictionaries(rt: HostRuntime) -> Result<(), Fail> {
-    for (row, (bytes, wanted)) in ROWS.iter().enumerate() {
-        let mut tape = Cursor::new(*bytes);
-        match (Tape::take::<Operations>(&mut tape, rt.alloc()), wanted) {
-            (Ok(map), Ok(wanted)) => {
-                assert!(rt; map.0.len() == wanted.len(), "at {row}");
-                for (operator, operands) in *wanted {
-                    let Some(found) = map.0.get(operator) else {
-                        assert!(rt; false, "at {row}");
-                        continue;
-                    };
-                    assert!(rt;
-                        texts(rt.alloc(), found.as_slice())?.as_str() == *operands,
-                        "at {row}"
-                    );
-                }
-                // The tape stands at its end.
-                assert!(rt; tape.position() == bytes.len() as u64, "at {row}");
-            }
-            (Err(e), Err(code)) => assert!(rt; e.code() == *code, "at {row}"),
-            _ => assert!(rt; false, "at {row}"),
-        }
+fn rows_of_dictionaries(rt: HostRuntime) {
+    let alloc = rt.alloc();
+    for (i, row) in ROWS.iter().enumerate() {
+        holds_at(&rt, is_row(&rt, alloc, row), "row", i);
     }
-    Ok(())
 }
 
 /// Each operator: its code, its name, and the texts of its default operands, `-` where it has none (Technical Note 5176,
@@ -153,30 +171,53 @@ const OPERATORS: &[(u16, &str, &str)] = &[
     (0x0c26, "FontName", "-"),
 ];
 
-#[test]
-fn each_operator_and_its_defaults(rt: HostRuntime) -> Result<(), Fail> {
-    let none = Operations::empty(rt.alloc());
-    for code in 0..0x0d00u16 {
-        let row = OPERATORS.iter().find(|row| row.0 == code);
-        match (Operator::from(code), row) {
-            (Ok(operator), Some((_, name, wanted))) => {
-                assert!(rt; operator.name() == *name);
-                let found = match operator.default() {
-                    Some(operands) => texts(rt.alloc(), operands.as_slice())?,
-                    None => String::from_str(rt.alloc(), "-")?,
-                };
-                assert!(rt; found.as_str() == *wanted, "at {name}");
-                let looked_up = match none.get(operator) {
-                    Some(operands) => texts(rt.alloc(), operands.as_slice())?,
-                    None => String::from_str(rt.alloc(), "-")?,
-                };
-                assert!(rt; looked_up.as_str() == *wanted, "at {name}");
-            }
-            (Err(e), None) => assert!(rt; e.code() == 9),
-            _ => assert!(rt; false, "at {code}"),
+/// Whether operands have this text, `-` where there are none.
+fn are<R: Abort>(rt: &R, alloc: Global, operands: &Option<Operands<'_>>, text: &str) -> bool {
+    match operands {
+        Some(operands) => texts(rt, alloc, operands.as_slice()).as_str() == text,
+        None => text == "-",
+    }
+}
+
+/// Whether the default operands of an operator have this text, also where a map has no operations.
+fn is_default<R: Abort>(rt: &R, alloc: Global, operator: Operator, text: &str) -> bool {
+    let none = Operations::empty(alloc);
+    are(rt, alloc, &operator.default(), text) && are(rt, alloc, &none.get(operator), text)
+}
+
+/// Whether a code has the operator of a row, or none where there is no row.
+fn is_known<R: Abort>(
+    rt: &R,
+    alloc: Global,
+    found: &Result<Operator>,
+    row: Option<&(u16, &str, &str)>,
+) -> bool {
+    match (found, row) {
+        (Ok(operator), Some((_, name, text))) => {
+            operator.name() == *name && is_default(rt, alloc, *operator, text)
+        }
+        (Err(e), None) => e.code() == 9,
+        _ => false,
+    }
+}
+
+/// The row of a code.
+fn row_of(code: u16) -> Option<&'static (u16, &'static str, &'static str)> {
+    for row in OPERATORS {
+        if row.0 == code {
+            return Some(row);
         }
     }
-    Ok(())
+    None
+}
+
+#[test]
+fn each_operator_and_its_defaults(rt: HostRuntime) {
+    let alloc = rt.alloc();
+    for code in 0..0x0d00u16 {
+        let is_so = is_known(&rt, alloc, &Operator::from(code), row_of(code));
+        holds_at(&rt, is_so, "code", usize::from(code));
+    }
 }
 
 /// The whole number of an operator's one operand.
@@ -201,25 +242,39 @@ fn is_looked_up(map: &Operations) -> bool {
         && line == Some((-1, 2))
 }
 
-#[test]
-fn looked_up_and_cloned(rt: HostRuntime) -> Result<(), Fail> {
-    let bytes: &[u8] = &[0x8c, 0x8d, 0x12, 0x8b, 0x12, 0x8e, 0x8f, 0x90, 0x05];
-    let map = Tape::take::<Operations>(&mut Cursor::new(bytes), rt.alloc())?;
-    assert!(rt; is_looked_up(&map) && is_looked_up(&map.clone()?));
-    // Operands that are written, and none of them, are not the defaults.
-    let bare: &[u8] = &[0x0c, 0x06];
-    let map = Tape::take::<Operations>(&mut Cursor::new(bare), rt.alloc())?;
-    assert!(rt; map.get_single(Operator::CharStringType).is_none());
-    Ok(())
+/// Reads a dictionary, and clones it.
+pub fn check_clone<R: Abort>(rt: &R, alloc: Global) {
+    let bytes = [0x8c, 0x8d, 0x12, 0x8b, 0x12, 0x8e, 0x8f, 0x90, 0x05];
+    let map = read_map(alloc, &bytes).expect(rt, "a dictionary");
+    holds(rt, is_looked_up(&map), "a dictionary");
+    let copy = map.clone().expect(rt, "memory");
+    holds(rt, is_looked_up(&copy), "a clone");
 }
 
 #[test]
-fn one_operation(rt: HostRuntime) -> Result<(), Fail> {
-    let version: &[u8] = &[0x8c, 0x00];
-    let (operator, operands) = Tape::take::<Operation>(&mut Cursor::new(version), rt.alloc())?;
-    let text = texts(rt.alloc(), operands.as_slice())?;
-    assert!(rt; operator == Operator::Version && text.as_str() == "1");
-    Ok(())
+fn looked_up_and_cloned(rt: HostRuntime) {
+    let alloc = rt.alloc();
+    check_clone(&rt, alloc);
+    // Operands that are written, and none of them, are not the defaults.
+    let bare = read_map(alloc, &[0x0c, 0x06]).expect(&rt, "no operand");
+    let none = bare.get_single(Operator::CharStringType).is_none();
+    holds(&rt, none, "no operand is written");
+}
+
+/// Reads one operation.
+pub fn check_operation<R: Abort>(rt: &R, alloc: Global) {
+    let mut tape = Cursor::new([0x8c, 0x00].as_slice());
+    let read = Tape::take::<Operation>(&mut tape, alloc);
+    let (operator, operands) = read.expect(rt, "an operation");
+    holds(rt, operator == Operator::Version, "the operator");
+    let text = texts(rt, alloc, operands.as_slice());
+    holds(rt, text.as_str() == "1", "the operand");
+}
+
+#[test]
+fn one_operation(rt: HostRuntime) {
+    let alloc = rt.alloc();
+    check_operation(&rt, alloc);
 }
 
 /// Whether a byte alone is a dictionary: an operator of one byte, or the beginning of an operand or of an operator of two.
@@ -227,39 +282,42 @@ fn stands_alone(byte: u8) -> bool {
     byte <= 0x15 || matches!(byte, 0x1c..=0x1e | 0x20..=0xfe)
 }
 
-#[test]
-fn first_bytes_long_dictionaries_and_tapes_that_stand_still(rt: HostRuntime) -> Result<(), Fail> {
-    for byte in 0..=255u8 {
-        let bytes: &[u8] = &[byte];
-        match Tape::take::<Operations>(&mut Cursor::new(bytes), rt.alloc()) {
-            Ok(map) => {
-                assert!(rt; stands_alone(byte), "at {byte}");
-                let operators = if byte <= 0x15 && byte != 0x0c { 1 } else { 0 };
-                assert!(rt; map.0.len() == operators, "at {byte}");
-            }
-            Err(e) => {
-                assert!(rt; !stands_alone(byte), "at {byte}");
-                assert!(rt; e.code() == 9, "at {byte}");
-            }
+/// Whether a byte alone is a dictionary, of an operator where it is one, or refused.
+fn is_first(read: &Result<Operations>, byte: u8) -> bool {
+    match read {
+        Ok(map) => {
+            let operators = if byte <= 0x15 && byte != 0x0c { 1 } else { 0 };
+            stands_alone(byte) && map.0.len() == operators
         }
+        Err(e) => !stands_alone(byte) && e.code() == 9,
     }
-    // Ten thousand operations of one operator: the last one counts.
-    let mut bytes = Vec::new(rt.alloc());
+}
+
+/// Ten thousand operations of one operator.
+fn long_dictionary<R: Abort>(rt: &R, alloc: Global) -> Vec<u8> {
+    let mut bytes = Vec::new(alloc);
     for _ in 0..9_999 {
-        bytes.extend_from_slice(&[0x8c, 0x00])?;
+        bytes.extend_from_slice(&[0x8c, 0x00]).expect(rt, "memory");
     }
-    bytes.extend_from_slice(&[0x8d, 0x00])?;
-    let map = Tape::take::<Operations>(&mut Cursor::new(bytes), rt.alloc())?;
-    assert!(rt; map.0.len() == 1);
-    assert!(rt;
-        map.get_single(Operator::Version)
-            .and_then(|operand| operand.to_i32())
-            == Some(2)
-    );
+    bytes.extend_from_slice(&[0x8d, 0x00]).expect(rt, "memory");
+    bytes
+}
+
+#[test]
+fn first_bytes_long_dictionaries_and_tapes_that_stand_still(rt: HostRuntime) {
+    let alloc = rt.alloc();
+    for byte in 0..=255u8 {
+        let read = read_map(alloc, &[byte]);
+        holds_at(&rt, is_first(&read, byte), "byte", usize::from(byte));
+    }
+    // The last operation counts.
+    let long = read_map(alloc, long_dictionary(&rt, alloc).as_slice());
+    let map = long.expect(&rt, "a long dictionary");
+    holds(&rt, map.0.len() == 1, "one operator");
+    let last = single(&map, Operator::Version);
+    holds(&rt, last == Some(2), "the last operation");
     // A tape that goes on for ever and stands still.
-    match Tape::take::<Operations>(&mut Still, rt.alloc()) {
-        Ok(_) => assert!(rt; false),
-        Err(e) => assert!(rt; e.code() == 4),
-    }
-    Ok(())
+    let mut still = TroubledTape::new(&[], Trouble::Still);
+    let code = code_of(Tape::take::<Operations>(&mut still, alloc));
+    holds(&rt, code == 4, "a tape that stands still");
 }

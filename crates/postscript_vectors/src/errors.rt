@@ -1,11 +1,12 @@
 //! The numbers and the texts of refusals.
+use crate::checks::{holds, holds_at, is_text};
 use postscript::Error;
 use postscript::compact1::Operator;
 use postscript::error::Part;
-use std::alloc::AllocError;
+use std::alloc::{AllocError, Global};
 use std::io;
 use std::io::ErrorKind;
-use std::test::Fail;
+use std::process::Abort;
 
 /// The refusals but a fault of the tape, their numbers and their texts.
 const REFUSALS: &[(Error, u8, &str)] = &[
@@ -77,30 +78,35 @@ const REFUSALS: &[(Error, u8, &str)] = &[
     (Error::AlreadyFailed, 30, "the program has failed before"),
 ];
 
+/// The number and the text of a refusal.
+pub fn check<R: Abort>(rt: &R, alloc: Global, error: &Error, code: u8, message: &str) {
+    holds_at(rt, error.code() == code, "refusal", usize::from(code));
+    let text = error.to_string(alloc).expect(rt, "memory");
+    is_text(rt, text.as_str(), message, message);
+}
+
+/// Whether a fault of this kind stays a fault of the tape.
+fn is_fault(kind: ErrorKind) -> bool {
+    match Error::from(io::Error::from(kind)) {
+        Error::Io(fault) => fault.kind() == kind,
+        other => other.code() == 2,
+    }
+}
+
 #[test]
-fn refusals(rt: HostRuntime) -> Result<(), Fail> {
+fn refusals(rt: HostRuntime) {
+    let alloc = rt.alloc();
     for (error, code, message) in REFUSALS {
-        assert!(rt; error.code() == *code);
-        let text = error.to_string(rt.alloc())?;
-        assert!(rt; text.as_str() == *message);
+        check(&rt, alloc, error, *code, message);
     }
     let fault = Error::Io(io::Error::from(ErrorKind::NotFound));
-    assert!(rt; fault.code() == 2);
-    let text = fault.to_string(rt.alloc())?;
-    assert!(rt; text.as_str() == "found a fault of the tape");
+    check(&rt, alloc, &fault, 2, "found a fault of the tape");
     // Faults of others.
     let end = Error::from(io::Error::from(ErrorKind::UnexpectedEof));
-    assert!(rt; matches!(end, Error::UnexpectedEof));
-    for kind in [
-        ErrorKind::PermissionDenied,
-        ErrorKind::Interrupted,
-        ErrorKind::Other,
-    ] {
-        match Error::from(io::Error::from(kind)) {
-            Error::Io(fault) => assert!(rt; fault.kind() == kind),
-            other => assert!(rt; other.code() == 2),
-        }
-    }
-    assert!(rt; matches!(Error::from(AllocError), Error::Memory));
-    Ok(())
+    holds(&rt, matches!(end, Error::UnexpectedEof), "the end");
+    holds(&rt, is_fault(ErrorKind::PermissionDenied), "denied");
+    holds(&rt, is_fault(ErrorKind::Interrupted), "interrupted");
+    holds(&rt, is_fault(ErrorKind::Other), "another fault");
+    let memory = matches!(Error::from(AllocError), Error::Memory);
+    holds(&rt, memory, "memory");
 }

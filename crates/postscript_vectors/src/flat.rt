@@ -1,6 +1,7 @@
 //! Flat code.
-use crate::programs::{DOUBLING, Outcome, bytes_of, routines_of, text_of};
-use postscript::type2::{self, Program};
+use crate::checks::{bytes_of, code_of, holds};
+use crate::programs::{DOUBLING, routines_of, told};
+use postscript::type2::Program;
 use std::alloc::Global;
 use std::process::Abort;
 
@@ -48,81 +49,85 @@ const FAULTY: &[(&str, &str, u8)] = &[
     ("8cab0c14", "", 21),
 ];
 
-/// The answers of a code without subroutines, as text.
-fn told_alone(alloc: Global, code: &[u8]) -> Outcome<String> {
-    let answers = type2::run(alloc, code, &[], &[])?;
-    Ok(text_of(alloc, &answers)?)
+/// The flat code of a code.
+fn flat_of<R: Abort>(rt: &R, alloc: Global, code: &[u8], local: &[Vec<u8>]) -> Vec<u8> {
+    Program::flatten(alloc, code, &[], local).expect(rt, "flat code")
 }
 
-/// Measures the flat code of a code.
-fn check_length<R: AllocGlobal + Abort>(
-    rt: &R,
-    code: &str,
-    local: &[Vec<u8>],
-    wanted: usize,
-) -> Outcome<()> {
-    let bytes = bytes_of(rt.alloc(), code)?;
-    let len = Program::flat_len(rt.alloc(), bytes.as_slice(), &[], local)?;
-    assert!(rt; len == wanted, "at {code}");
-    Ok(())
+/// The length of the flat code of a code.
+fn length_of<R: Abort>(rt: &R, alloc: Global, code: &[u8], local: &[Vec<u8>]) -> usize {
+    Program::flat_len(alloc, code, &[], local).expect(rt, "a length")
+}
+
+/// Whether the runs of a code and of its flat code answer the same.
+fn are_same<R: Abort>(rt: &R, alloc: Global, code: &[u8], local: &[Vec<u8>], flat: &[u8]) -> bool {
+    let before = told(rt, alloc, code, &[], local);
+    let after = told(rt, alloc, flat, &[], &[]);
+    after.as_str() == before.as_str()
+}
+
+/// Whether flat code is its own flat code.
+fn stays<R: Abort>(rt: &R, alloc: Global, flat: &[u8]) -> bool {
+    flat_of(rt, alloc, flat, &[]).as_slice() == flat
 }
 
 /// Flattens a code, and its flat code again.
-fn check<R: AllocGlobal + Abort>(rt: &R, row: &Row) -> Outcome<()> {
-    let (code, local, wanted) = *row;
-    let bytes = bytes_of(rt.alloc(), code)?;
-    let local = routines_of(rt.alloc(), local)?;
-    let wanted = bytes_of(rt.alloc(), wanted)?;
-    let flat = Program::flatten(rt.alloc(), bytes.as_slice(), &[], local.as_slice())?;
-    assert!(rt; flat.as_slice() == wanted.as_slice(), "at {code}");
-    check_length(rt, code, local.as_slice(), wanted.len())?;
-    let again = Program::flatten(rt.alloc(), flat.as_slice(), &[], &[])?;
-    assert!(rt; again.as_slice() == flat.as_slice(), "at {code}");
-    let answers = type2::run(rt.alloc(), bytes.as_slice(), &[], local.as_slice())?;
-    let before = text_of(rt.alloc(), &answers)?;
-    let after = told_alone(rt.alloc(), flat.as_slice())?;
-    assert!(rt; after.as_str() == before.as_str(), "at {code}");
-    Ok(())
+fn check<R: Abort>(rt: &R, alloc: Global, row: &Row) {
+    let bytes = bytes_of(rt, alloc, row.0);
+    let local = routines_of(rt, alloc, row.1);
+    let wanted = bytes_of(rt, alloc, row.2);
+    let flat = flat_of(rt, alloc, bytes.as_slice(), local.as_slice());
+    holds(rt, flat.as_slice() == wanted.as_slice(), row.0);
+    let length = length_of(rt, alloc, bytes.as_slice(), local.as_slice());
+    holds(rt, length == wanted.len(), row.0);
+    holds(rt, stays(rt, alloc, flat.as_slice()), row.0);
+    let is_so = are_same(
+        rt,
+        alloc,
+        bytes.as_slice(),
+        local.as_slice(),
+        flat.as_slice(),
+    );
+    holds(rt, is_so, row.0);
+}
+
+/// Measures the flat code of a code.
+pub fn check_length<R: Abort>(rt: &R, alloc: Global, row: &(&str, &str, usize)) {
+    let bytes = bytes_of(rt, alloc, row.0);
+    let local = routines_of(rt, alloc, row.1);
+    let length = length_of(rt, alloc, bytes.as_slice(), local.as_slice());
+    holds(rt, length == row.2, row.0);
 }
 
 /// Flattens and measures a code whose run is refused.
-fn check_faulty<R: AllocGlobal + Abort>(
-    rt: &R,
-    code: &str,
-    local: &str,
-    number: u8,
-) -> Outcome<()> {
-    let bytes = bytes_of(rt.alloc(), code)?;
-    let local = routines_of(rt.alloc(), local)?;
-    match Program::flatten(rt.alloc(), bytes.as_slice(), &[], local.as_slice()) {
-        Ok(_) => assert!(rt; false, "at {code}"),
-        Err(fault) => assert!(rt; fault.code() == number, "at {code}"),
-    }
-    match Program::flat_len(rt.alloc(), bytes.as_slice(), &[], local.as_slice()) {
-        Ok(_) => assert!(rt; false, "at {code}"),
-        Err(fault) => assert!(rt; fault.code() == number, "at {code}"),
-    }
-    Ok(())
+fn check_faulty<R: Abort>(rt: &R, alloc: Global, row: &(&str, &str, u8)) {
+    let bytes = bytes_of(rt, alloc, row.0);
+    let local = routines_of(rt, alloc, row.1);
+    let flat = Program::flatten(alloc, bytes.as_slice(), &[], local.as_slice());
+    holds(rt, code_of(flat) == row.2, row.0);
+    let length = Program::flat_len(alloc, bytes.as_slice(), &[], local.as_slice());
+    holds(rt, code_of(length) == row.2, row.0);
+}
+
+/// Flattens 512 moves and a thousand calls.
+pub fn check_moves<R: Abort>(rt: &R, alloc: Global) {
+    let local = routines_of(rt, alloc, DOUBLING);
+    let flat = flat_of(rt, alloc, &[0x20, 0x0a, 0x0e], local.as_slice());
+    holds(rt, flat.len() == 7163, "the length of many moves");
+    holds(rt, stays(rt, alloc, flat.as_slice()), "many moves");
 }
 
 #[test]
-fn flat_codes(rt: HostRuntime) -> Outcome<()> {
+fn flat_codes(rt: HostRuntime) {
+    let alloc = rt.alloc();
     for row in FLAT {
-        check(&rt, row)?;
+        check(&rt, alloc, row);
     }
-    for (code, local, number) in FAULTY {
-        check_faulty(&rt, code, local, *number)?;
+    for row in FAULTY {
+        check_faulty(&rt, alloc, row);
     }
-    for (code, local, wanted) in FLAT_LENGTHS {
-        let local = routines_of(rt.alloc(), local)?;
-        check_length(&rt, code, local.as_slice(), *wanted)?;
+    for row in FLAT_LENGTHS {
+        check_length(&rt, alloc, row);
     }
-    // 512 moves, and a thousand calls.
-    let code = bytes_of(rt.alloc(), "200a0e")?;
-    let local = routines_of(rt.alloc(), DOUBLING)?;
-    let flat = Program::flatten(rt.alloc(), code.as_slice(), &[], local.as_slice())?;
-    assert!(rt; flat.len() == 7163);
-    let again = Program::flatten(rt.alloc(), flat.as_slice(), &[], &[])?;
-    assert!(rt; again.as_slice() == flat.as_slice());
-    Ok(())
+    check_moves(&rt, alloc);
 }

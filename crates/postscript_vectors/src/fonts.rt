@@ -1,21 +1,21 @@
 //! Fonts: what is read of them, and what they are refused with.
-use crate::readings::code_of;
+use crate::checks::{bytes_of, changed, holds, holds_at, is_text, put, put_shown};
 use crate::tapes::{Trouble, TroubledTape};
-use postscript::Tape;
-use postscript::compact1::FontSet;
+use postscript::compact1::{FontSet, Header};
+use postscript::{Result, Tape};
 use std::alloc::Global;
-use std::io;
-use std::io::{BufReader, Cursor, Write};
-use std::test::Fail;
-
-/// What a helper gives, or the error that fails its test.
-pub type Outcome<T> = std::result::Result<T, Fail>;
+use std::io::{BufReader, Cursor};
+use std::process::Abort;
 
 /// The smallest font with a name, a glyph, a private dictionary and local subroutines.
 pub const FONT: &str = "01000401000101010241000101 0106a3118da912000000000001010102 0e8d130000";
 
 pub const OF_FONT: &str =
     "header 1 0 4 1|name A|strings 0|globals 0|font Standard ISOAdobe glyphs 1 locals 0";
+
+/// The smallest font behind three bytes.
+const BEHIND: &str =
+    "ffffff 01000401000101010241000101 0106a3118da912000000000001010102 0e8d130000";
 
 pub const TWO_DICTIONARIES: &str =
     "010004010000 00020101060ba5118dab12a5118dab12 0000 0000 00010101020e8d130000";
@@ -29,221 +29,300 @@ const CHAR_SET_OF_FORMAT_2: &str =
 const PAIR: &str =
     "header 1 0 4 1|strings 0|globals 0|font Standard ISOAdobe glyphs 1 locals 0|font Standard ISOAdobe glyphs 1 locals 0";
 
-/// Digits with spaces; the place of the font; and its summary and the next place, or the number of the refusal.
-type Row = (
-    &'static str,
-    u64,
-    std::result::Result<(&'static str, u64), u8>,
-);
+/// Digits with spaces; the place of the font; its summary or its fault; and the next place, where there is a font.
+type Row = (&'static str, u64, &'static str, Option<u64>);
 
 const ROWS: &[Row] = &[
-    (FONT, 0, Ok((OF_FONT, 34))),
+    (FONT, 0, OF_FONT, Some(34)),
     (
         "0000000000000000",
         0,
-        Ok(("header 0 0 0 0|strings 0|globals 0", 8)),
+        "header 0 0 0 0|strings 0|globals 0",
+        Some(8),
     ),
-    ("00000000000000", 0, Err(1)),
-    (TWO_DICTIONARIES, 0, Ok((PAIR, 36))),
+    ("00000000000000", 0, "fault 1", None),
+    (TWO_DICTIONARIES, 0, PAIR, Some(36)),
     (
         OWN_CHAR_SET,
         0,
-        Ok((
-            "header 1 0 4 1|strings 0|globals 0|font Standard Format0 glyphs 1 locals 0",
-            32,
-        )),
+        "header 1 0 4 1|strings 0|globals 0|font Standard Format0 glyphs 1 locals 0",
+        Some(32),
     ),
     (
         CHAR_SET_OF_FORMAT_2,
         0,
-        Ok((
-            "header 1 0 4 1|strings 0|globals 0|font Standard Format2 glyphs 1 locals 0",
-            32,
-        )),
+        "header 1 0 4 1|strings 0|globals 0|font Standard Format2 glyphs 1 locals 0",
+        Some(32),
     ),
     // Private: no operand, one operand, and one that is no whole number.
     (
         "010004010000 00010101039c11 0000 0000 00010101020e",
         0,
-        Err(14),
+        "fault 14",
+        None,
     ),
     (
         "010004010000 0001010108a1111e2a5f8b12 0000 0000 00010101020e",
         0,
-        Err(13),
+        "fault 13",
+        None,
     ),
     // CharStrings.
-    ("010004010000 00010101071d7fffffff11 0000 0000", 0, Err(1)),
-    ("010004010000 00010101071d8000000011 0000 0000", 0, Err(15)),
-    ("010004010000 00010101041e2f11 0000 0000", 0, Err(5)),
-    ("010004010000 00010101051e2a5f11 0000 0000", 0, Err(13)),
+    (
+        "010004010000 00010101071d7fffffff11 0000 0000",
+        0,
+        "fault 1",
+        None,
+    ),
+    (
+        "010004010000 00010101071d8000000011 0000 0000",
+        0,
+        "fault 15",
+        None,
+    ),
+    (
+        "010004010000 00010101041e2f11 0000 0000",
+        0,
+        "fault 5",
+        None,
+    ),
+    (
+        "010004010000 00010101051e2a5f11 0000 0000",
+        0,
+        "fault 13",
+        None,
+    ),
     (
         "010004010000 00010101091e2147483648ff11 0000 0000",
         0,
-        Err(13),
+        "fault 13",
+        None,
     ),
-    ("010004010000 000101010211 0000 0000", 0, Err(14)),
+    ("010004010000 000101010211 0000 0000", 0, "fault 14", None),
     // CharStringType 1, and an encoding of the font's own before CharStrings is missed.
-    ("010004010000 00010101068f118c0c06 0000 0000", 0, Err(12)),
-    ("010004010000 00010101038910 0000 0000", 0, Err(16)),
+    (
+        "010004010000 00010101068f118c0c06 0000 0000",
+        0,
+        "fault 12",
+        None,
+    ),
+    ("010004010000 00010101038910 0000 0000", 0, "fault 16", None),
 ];
 
-/// The place of a byte of the smallest font, what it is changed to, and its summary, or the number of the refusal.
-type Change = (usize, u8, std::result::Result<&'static str, u8>);
+/// The place of a byte of the smallest font, what it is changed to, and its summary or its fault.
+type Change = (usize, u8, &'static str);
 
 const CHANGES: &[Change] = &[
-    (16, 0x10, Err(16)),
-    (17, 0x8a, Err(15)),
-    (18, 0x8a, Err(15)),
-    (19, 0x13, Err(14)),
-    (30, 0x6c, Err(15)),
-    (30, 0x6d, Err(6)),
+    (16, 0x10, "fault 16"),
+    (17, 0x8a, "fault 15"),
+    (18, 0x8a, "fault 15"),
+    (19, 0x13, "fault 14"),
+    (30, 0x6c, "fault 15"),
+    (30, 0x6d, "fault 6"),
     // The local subroutines are the same slice as the strings.
-    (30, 0x81, Ok(OF_FONT)),
-    (31, 0x14, Err(14)),
+    (30, 0x81, OF_FONT),
+    (31, 0x14, "fault 14"),
     // A size of 0 reads no bytes, and the empty private dictionary has no Subrs.
-    (17, 0x8b, Err(14)),
+    (17, 0x8b, "fault 14"),
 ];
 
-/// The bytes that digits with spaces spell.
-pub fn bytes_of(alloc: Global, digits: &str) -> Outcome<Vec<u8>> {
-    let mut plain = Vec::new(alloc);
-    for digit in digits.as_bytes() {
-        if *digit != b' ' {
-            plain.push(*digit)?;
-        }
-    }
-    match hex::decode(alloc, plain.as_slice()) {
-        Ok(bytes) => Ok(bytes),
-        Err(_) => Err(Fail::from(io::Error::from(io::ErrorKind::InvalidData))),
+/// Adds the fields of a header.
+fn put_header<R: Abort>(rt: &R, text: &mut String, header: &Header) {
+    put_shown(rt, text, "header ", &header.major);
+    put_shown(rt, text, " ", &header.minor);
+    put_shown(rt, text, " ", &header.header_size);
+    put_shown(rt, text, " ", &header.offset_size);
+}
+
+/// Adds the names.
+fn put_names<R: Abort>(rt: &R, text: &mut String, names: &[String]) {
+    for name in names {
+        put(rt, text, "|name ");
+        put(rt, text, name.as_str());
     }
 }
 
-/// Adds a word, and a number after a space.
-pub fn add(out: &mut Vec<u8>, word: &str, number: usize) -> Outcome<()> {
-    write!(out, "{word} {number}")?;
-    Ok(())
+/// Adds a dictionary's char set.
+fn put_char_set<R: Abort>(rt: &R, text: &mut String, font: &FontSet, i: usize) {
+    if let Some(set) = font.char_sets.get(i) {
+        put(rt, text, " ");
+        put(rt, text, set.name());
+    }
+}
+
+/// Adds how many glyphs and local subroutines a dictionary has.
+fn put_counts<R: Abort>(rt: &R, text: &mut String, font: &FontSet, i: usize) {
+    if let Some(glyphs) = font.char_strings.get(i) {
+        put_shown(rt, text, " glyphs ", &glyphs.len());
+    }
+    if let Some(locals) = font.local_subroutines.get(i) {
+        put_shown(rt, text, " locals ", &locals.len());
+    }
+}
+
+/// Adds a dictionary.
+fn put_dictionary<R: Abort>(rt: &R, text: &mut String, font: &FontSet, i: usize) {
+    if let Some(encoding) = font.encodings.get(i) {
+        put(rt, text, "|font ");
+        put(rt, text, encoding.name());
+    }
+    put_char_set(rt, text, font, i);
+    put_counts(rt, text, font, i);
 }
 
 /// The fields of the header, the names, how many strings and global subroutines there are, and for each dictionary its
-/// encoding, its char set, and how many glyphs and local subroutines it has.
-pub fn summary(alloc: Global, font: &FontSet) -> Outcome<Vec<u8>> {
-    let mut out = Vec::new(alloc);
-    let header = &font.header;
-    add(&mut out, "header", usize::from(header.major))?;
-    for field in [header.minor, header.header_size, header.offset_size] {
-        add(&mut out, "", usize::from(field))?;
+/// encoding, its char set, and how many glyphs and local subroutines it has. It says so where there are not as many global
+/// as local dictionaries.
+pub fn summary<R: Abort>(rt: &R, alloc: Global, font: &FontSet) -> String {
+    let mut text = String::new(alloc);
+    put_header(rt, &mut text, &font.header);
+    put_names(rt, &mut text, font.names.as_slice());
+    put_shown(rt, &mut text, "|strings ", &font.strings.len());
+    put_shown(rt, &mut text, "|globals ", &font.global_subroutines.len());
+    for i in 0..font.encodings.len() {
+        put_dictionary(rt, &mut text, font, i);
     }
-    for name in &font.names {
-        out.extend_from_slice(b"|name ")?;
-        out.extend_from_slice(name.as_bytes())?;
+    if font.global_dictionaries.len() != font.local_dictionaries.len() {
+        put(rt, &mut text, "|unpaired");
     }
-    add(&mut out, "|strings", font.strings.len())?;
-    add(&mut out, "|globals", font.global_subroutines.len())?;
-    for (i, encoding) in font.encodings.iter().enumerate() {
-        out.extend_from_slice(b"|font ")?;
-        out.extend_from_slice(encoding.name().as_bytes())?;
-        if let Some(set) = font.char_sets.get(i) {
-            out.push(b' ')?;
-            out.extend_from_slice(set.name().as_bytes())?;
-        }
-        if let Some(glyphs) = font.char_strings.get(i) {
-            add(&mut out, " glyphs", glyphs.len())?;
-        }
-        if let Some(locals) = font.local_subroutines.get(i) {
-            add(&mut out, " locals", locals.len())?;
-        }
+    text
+}
+
+/// The summary of a font, or the number of the refusal.
+pub fn told<R: Abort>(rt: &R, alloc: Global, read: &Result<FontSet>) -> String {
+    match read {
+        Ok(font) => summary(rt, alloc, font),
+        Err(e) => fault(rt, alloc, e.code()),
     }
-    Ok(out)
+}
+
+/// The number of a refusal as a text.
+pub fn fault<R: Abort>(rt: &R, alloc: Global, code: u8) -> String {
+    let mut text = String::new(alloc);
+    put_shown(rt, &mut text, "fault ", &code);
+    text
+}
+
+/// What is told of the font on a tape.
+pub fn told_on<R: Abort, T: Tape>(rt: &R, alloc: Global, tape: &mut T) -> String {
+    told(rt, alloc, &Tape::take::<FontSet>(tape, alloc))
+}
+
+/// What is told of the font at the start of bytes.
+fn told_of<R: Abort>(rt: &R, alloc: Global, bytes: &[u8]) -> String {
+    told_on(rt, alloc, &mut Cursor::new(bytes))
+}
+
+/// Reads a row, and compares the next place where there is a font.
+fn is_row<R: Abort>(rt: &R, alloc: Global, row: &Row) -> bool {
+    let bytes = bytes_of(rt, alloc, row.0);
+    let mut tape = Cursor::new(bytes.as_slice());
+    tape.set_position(row.1);
+    let text = told_on(rt, alloc, &mut tape);
+    text.as_str() == row.2 && row.3.unwrap_or(tape.position()) == tape.position()
 }
 
 #[test]
-fn rows_of_fonts(rt: HostRuntime) -> Outcome<()> {
-    for (row, (digits, start, wanted)) in ROWS.iter().enumerate() {
-        let mut tape = Cursor::new(bytes_of(rt.alloc(), digits)?);
-        tape.set_position(*start);
-        match (Tape::take::<FontSet>(&mut tape, rt.alloc()), wanted) {
-            (Ok(font), Ok((text, next))) => {
-                let found = summary(rt.alloc(), &font)?;
-                assert!(rt; found.as_slice() == text.as_bytes(), "at {row}");
-                assert!(rt; tape.position() == *next, "at {row}");
-                assert!(rt;
-                    font.global_dictionaries.len() == font.local_dictionaries.len(),
-                    "at {row}"
-                );
-            }
-            (Err(e), Err(code)) => assert!(rt; e.code() == *code, "at {row}"),
-            _ => assert!(rt; false, "at {row}"),
-        }
+fn rows_of_fonts(rt: HostRuntime) {
+    let alloc = rt.alloc();
+    for (i, row) in ROWS.iter().enumerate() {
+        holds_at(&rt, is_row(&rt, alloc, row), "row", i);
     }
-    Ok(())
+}
+
+/// Whether the smallest font with a byte changed is read as wanted.
+fn is_changed<R: Abort>(rt: &R, alloc: Global, change: &Change) -> bool {
+    let bytes = changed(rt, alloc, FONT, change.0, change.1);
+    told_of(rt, alloc, bytes.as_slice()).as_str() == change.2
 }
 
 #[test]
-fn changed_and_cut_fonts(rt: HostRuntime) -> Outcome<()> {
-    for (place, byte, wanted) in CHANGES {
-        let mut bytes = bytes_of(rt.alloc(), FONT)?;
-        if let Some(at) = bytes.get_mut(*place) {
-            *at = *byte;
-        }
-        match (Cursor::new(bytes).take::<FontSet>(rt.alloc()), wanted) {
-            (Ok(font), Ok(text)) => {
-                let found = summary(rt.alloc(), &font)?;
-                assert!(rt; found.as_slice() == text.as_bytes(), "at {place}");
-            }
-            (Err(e), Err(code)) => assert!(rt; e.code() == *code, "at {place}"),
-            _ => assert!(rt; false, "at {place}"),
-        }
+fn changed_and_cut_fonts(rt: HostRuntime) {
+    let alloc = rt.alloc();
+    for change in CHANGES {
+        holds_at(&rt, is_changed(&rt, alloc, change), "place", change.0);
     }
-    let bytes = bytes_of(rt.alloc(), FONT)?;
+    let bytes = bytes_of(&rt, alloc, FONT);
     for length in 0..bytes.len() {
-        let mut cut = Cursor::new(&bytes.as_slice()[..length]);
-        assert!(rt;
-            code_of(cut.take::<FontSet>(rt.alloc())) == 1,
-            "at {length}"
-        );
+        let text = told_of(&rt, alloc, &bytes.as_slice()[..length]);
+        holds_at(&rt, text.as_str() == "fault 1", "a font cut to", length);
     }
-    Ok(())
+}
+
+/// Whether a tape holds the smallest font.
+pub fn holds_font<R: Abort, T: Tape>(rt: &R, alloc: Global, tape: &mut T) -> bool {
+    told_on(rt, alloc, tape).as_str() == OF_FONT
+}
+
+/// The font at the start of bytes.
+pub fn font_of(alloc: Global, bytes: &[u8]) -> Result<FontSet> {
+    Cursor::new(bytes).take(alloc)
+}
+
+/// What is told of the clone of the font at the start of bytes.
+fn told_of_clone<R: Abort>(rt: &R, alloc: Global, bytes: &[u8]) -> String {
+    match font_of(alloc, bytes) {
+        Ok(font) => told(rt, alloc, &font.clone()),
+        Err(e) => fault(rt, alloc, e.code()),
+    }
+}
+
+/// Reads the smallest font, and clones it.
+pub fn check_clone<R: Abort>(rt: &R, alloc: Global) {
+    let bytes = bytes_of(rt, alloc, FONT);
+    let text = told_of_clone(rt, alloc, bytes.as_slice());
+    is_text(rt, text.as_str(), OF_FONT, "a clone");
 }
 
 #[test]
-fn fonts_behind_other_bytes(rt: HostRuntime) -> Outcome<()> {
-    let font = bytes_of(rt.alloc(), FONT)?;
-    let mut bytes = Vec::new(rt.alloc());
-    bytes.extend_from_slice(&[0xff, 0xff, 0xff])?;
-    bytes.extend_from_slice(font.as_slice())?;
-    let mut tape = Cursor::new(bytes);
+fn fonts_behind_other_bytes(rt: HostRuntime) {
+    let alloc = rt.alloc();
+    let mut tape = Cursor::new(bytes_of(&rt, alloc, BEHIND));
     tape.set_position(3);
-    let read: FontSet = tape.take(rt.alloc())?;
-    assert!(rt; summary(rt.alloc(), &read)?.as_slice() == OF_FONT.as_bytes());
-    assert!(rt; tape.position() == 37);
-    let copy = read.clone()?;
-    assert!(rt; summary(rt.alloc(), &copy)?.as_slice() == OF_FONT.as_bytes());
+    holds(&rt, holds_font(&rt, alloc, &mut tape), "behind other bytes");
+    holds(&rt, tape.position() == 37, "the next place");
+    check_clone(&rt, alloc);
+    let font = bytes_of(&rt, alloc, FONT);
     let mut one_byte = TroubledTape::new(font.as_slice(), Trouble::OneByte);
-    let read: FontSet = one_byte.take(rt.alloc())?;
-    assert!(rt; summary(rt.alloc(), &read)?.as_slice() == OF_FONT.as_bytes());
-    let mut buffered = BufReader::new(rt.alloc(), Cursor::new(font.as_slice()))?;
-    let read: FontSet = buffered.take(rt.alloc())?;
-    assert!(rt; summary(rt.alloc(), &read)?.as_slice() == OF_FONT.as_bytes());
-    Ok(())
+    holds(
+        &rt,
+        holds_font(&rt, alloc, &mut one_byte),
+        "one byte a read",
+    );
+    let buffered = BufReader::new(alloc, Cursor::new(font.as_slice()));
+    let is_so = holds_font(&rt, alloc, &mut buffered.expect(&rt, "memory"));
+    holds(&rt, is_so, "a buffered cursor");
+}
+
+/// Whether the smallest font is read on a tape that fails after so many calls: it is refused with the one failure, or
+/// none was met.
+fn is_failing<R: Abort>(rt: &R, alloc: Global, font: &[u8], calls: u32) -> bool {
+    let mut tape = TroubledTape::new(font, Trouble::FailsAfter(calls));
+    let text = told_on(rt, alloc, &mut tape);
+    let wanted = match tape.failures() {
+        0 => OF_FONT,
+        1 => "fault 2",
+        _ => "one failure",
+    };
+    text.as_str() == wanted
+}
+
+/// Whether the smallest font is refused on a tape that fails after so many calls.
+fn is_refused<R: Abort>(rt: &R, alloc: Global, font: &[u8], calls: u32) -> bool {
+    let mut tape = TroubledTape::new(font, Trouble::FailsAfter(calls));
+    told_on(rt, alloc, &mut tape).as_str() == "fault 2"
 }
 
 #[test]
-fn fonts_on_troubled_tapes(rt: HostRuntime) -> Outcome<()> {
-    let bytes = bytes_of(rt.alloc(), FONT)?;
-    let mut passed = false;
-    let mut refused = false;
+fn io_without_failure(rt: HostRuntime) {
+    let alloc = rt.alloc();
+    let font = bytes_of(&rt, alloc, FONT);
     for calls in 0..80u32 {
-        let mut tape = TroubledTape::new(bytes.as_slice(), Trouble::FailsAfter(calls));
-        let code = code_of(tape.take::<FontSet>(rt.alloc()));
-        // It is refused with the one failure, or none was met.
-        assert!(rt;
-            u32::from(code) == tape.failures().saturating_mul(2),
-            "at {calls}"
-        );
-        passed = passed || code == 0;
-        refused = refused || code == 2;
+        let is_so = is_failing(&rt, alloc, font.as_slice(), calls);
+        holds_at(&rt, is_so, "so many calls passed:", calls as usize);
     }
-    assert!(rt; passed && refused);
-    Ok(())
+    let first = is_refused(&rt, alloc, font.as_slice(), 0);
+    holds(&rt, first, "a failure of the first call");
+    let none = !is_refused(&rt, alloc, font.as_slice(), 79);
+    holds(&rt, none, "no failure of so many calls");
 }

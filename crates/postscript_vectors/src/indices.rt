@@ -1,15 +1,12 @@
 //! Indices, and what their items are read as.
-use crate::readings::code_of;
+use crate::checks::{code_of, holds, holds_at};
 use crate::tapes::{Trouble, TroubledTape};
 use postscript::compact1::index::{CharStrings, Dictionaries, Names, Strings, Subroutines};
 use postscript::compact1::{Index, Offset, Operations, Operator};
 use postscript::{Result, Tape};
 use std::alloc::Global;
 use std::io::Cursor;
-use std::test::Fail;
-
-/// What a helper gives, or the error that fails its test.
-type Outcome<T> = std::result::Result<T, Fail>;
+use std::process::Abort;
 
 /// Bytes; and the items and the next place, or the number of the refusal.
 type Row = (
@@ -72,124 +69,205 @@ fn is_two(index: &Index) -> bool {
         && has_items(index, &[&[0x41], &[0x42, 0x43]])
 }
 
-#[test]
-fn rows_of_indices(rt: HostRuntime) -> Outcome<()> {
-    for (row, (bytes, wanted)) in ROWS.iter().enumerate() {
-        let mut tape = Cursor::new(*bytes);
-        match (Tape::take::<Index>(&mut tape, rt.alloc()), wanted) {
-            (Ok(index), Ok((items, next))) => {
-                assert!(rt; has_items(&index, items), "at {row}");
-                assert!(rt; tape.position() == *next, "at {row}");
-            }
-            (Err(e), Err(code)) => assert!(rt; e.code() == *code, "at {row}"),
-            _ => assert!(rt; false, "at {row}"),
-        }
+/// Whether an INDEX is read as a row wants, up to this place.
+fn is_row(read: &Result<Index>, next: u64, row: &Row) -> bool {
+    match (read, &row.1) {
+        (Ok(index), Ok((items, place))) => next == *place && has_items(index, items),
+        (Err(e), Err(code)) => e.code() == *code,
+        _ => false,
     }
-    Ok(())
 }
 
 #[test]
-fn cut_copied_and_empty_indices(rt: HostRuntime) -> Outcome<()> {
+fn rows_of_indices(rt: HostRuntime) {
+    let alloc = rt.alloc();
+    for (i, row) in ROWS.iter().enumerate() {
+        let mut tape = Cursor::new(row.0);
+        let read = Tape::take::<Index>(&mut tape, alloc);
+        holds_at(&rt, is_row(&read, tape.position(), row), "row", i);
+    }
+}
+
+/// The INDEX at the start of bytes.
+fn read_index(alloc: Global, bytes: &[u8]) -> Result<Index> {
+    Cursor::new(bytes).take(alloc)
+}
+
+/// Reads the two items, and clones them.
+fn check_clone<R: Abort>(rt: &R, alloc: Global) {
+    let index = read_index(alloc, TWO).expect(rt, "two items");
+    holds(rt, is_two(&index), "two items");
+    holds(rt, is_two(&index.clone().expect(rt, "memory")), "a clone");
+}
+
+#[test]
+fn cut_copied_and_empty_indices(rt: HostRuntime) {
+    let alloc = rt.alloc();
     for length in 0..TWO.len() {
-        let mut cut = Cursor::new(&TWO[..length]);
-        assert!(rt; code_of(cut.take::<Index>(rt.alloc())) == 1, "at {length}");
+        let code = code_of(read_index(alloc, &TWO[..length]));
+        holds_at(&rt, code == 1, "an INDEX cut to", length);
     }
-    let index: Index = Cursor::new(TWO).take(rt.alloc())?;
-    assert!(rt; is_two(&index));
-    assert!(rt; is_two(&index.clone()?));
-    let empty = Index::empty(rt.alloc());
-    assert!(rt; empty.count == 0);
-    assert!(rt; empty.offset_size == 0);
-    assert!(rt; empty.offsets.is_empty());
-    assert!(rt; has_items(&empty, &[]));
-    Ok(())
+    check_clone(&rt, alloc);
+    let empty = Index::empty(alloc);
+    holds(&rt, empty.count == 0, "the count of none");
+    holds(&rt, empty.offset_size == 0, "the size of none");
+    holds(&rt, empty.offsets.is_empty(), "the offsets of none");
+    holds(&rt, has_items(&empty, &[]), "the items of none");
+}
+
+/// Reads the two items on a tape that fails after so many calls.
+fn check_failing<R: Abort>(rt: &R, alloc: Global, calls: u32) {
+    let mut tape = TroubledTape::new(TWO, Trouble::FailsAfter(calls));
+    let code = code_of(Tape::take::<Index>(&mut tape, alloc));
+    let failed = if calls < 7 { 1 } else { 0 };
+    let is_so = tape.failures() == failed && u32::from(code) == 2 * failed;
+    holds_at(rt, is_so, "so many calls passed:", calls as usize);
+}
+
+/// Whether the two items are read in spite of a trouble.
+fn are_read<R: Abort>(rt: &R, alloc: Global, trouble: Trouble) -> bool {
+    let mut tape = TroubledTape::new(TWO, trouble);
+    is_two(&Tape::take::<Index>(&mut tape, alloc).expect(rt, "two items"))
 }
 
 #[test]
-fn indices_on_troubled_tapes(rt: HostRuntime) -> Outcome<()> {
+fn indices_on_troubled_tapes(rt: HostRuntime) {
+    let alloc = rt.alloc();
     // A count, a size, three offsets and two items are seven reads.
     for calls in 0..9u32 {
-        let mut tape = TroubledTape::new(TWO, Trouble::FailsAfter(calls));
-        let code = code_of(tape.take::<Index>(rt.alloc()));
-        let failed = if calls < 7 { 1 } else { 0 };
-        assert!(rt; tape.failures() == failed, "at {calls}");
-        assert!(rt; u32::from(code) == 2 * failed, "at {calls}");
+        check_failing(&rt, alloc, calls);
     }
-    for trouble in [Trouble::Interrupted, Trouble::OneByte] {
-        let mut tape = TroubledTape::new(TWO, trouble);
-        let index: Index = tape.take(rt.alloc())?;
-        assert!(rt; is_two(&index), "at {trouble:?}");
-    }
-    Ok(())
+    holds(
+        &rt,
+        are_read(&rt, alloc, Trouble::Interrupted),
+        "interrupted",
+    );
+    holds(
+        &rt,
+        are_read(&rt, alloc, Trouble::OneByte),
+        "one byte a read",
+    );
 }
 
 /// How long items are that are read in one piece or in more.
 const LONG: [usize; 4] = [1, 65_535, 65_536, 65_537];
 
-#[test]
-fn long_items(rt: HostRuntime) -> Outcome<()> {
-    let mut bytes = Vec::new(rt.alloc());
-    // The offsets 1, 2, 65,537, 131,073 and 196,610, of three bytes.
-    bytes.extend_from_slice(&[0, 4, 3, 0, 0, 1, 0, 0, 2, 1, 0, 1, 2, 0, 1, 3, 0, 2])?;
-    for (i, long) in LONG.iter().enumerate() {
-        let item = vec![in rt.alloc(); i as u8; *long]?;
-        bytes.extend_from_slice(item.as_slice())?;
-    }
-    let index: Index = Cursor::new(bytes).take(rt.alloc())?;
-    assert!(rt; index.len() == 4);
-    for (i, long) in LONG.iter().enumerate() {
-        let item = index.item(i).unwrap_or(&[]);
-        assert!(rt; item.len() == *long);
-        assert!(rt; item.iter().all(|byte| *byte == i as u8), "at {i}");
-    }
-    Ok(())
+/// An item of so many bytes.
+fn long_item<R: Abort>(rt: &R, alloc: Global, byte: usize, length: usize) -> Vec<u8> {
+    vec![in alloc; short(byte); length].expect(rt, "memory")
 }
 
-/// Whether the two items are char strings, in a clone too, and those of another format are refused before a byte is read.
-fn are_char_strings(alloc: Global) -> Outcome<bool> {
+/// The bytes of an INDEX of the long items.
+fn index_of_long<R: Abort>(rt: &R, alloc: Global) -> Vec<u8> {
+    // The offsets 1, 2, 65,537, 131,073 and 196,610, of three bytes.
+    let front = [0, 4, 3, 0, 0, 1, 0, 0, 2, 1, 0, 1, 2, 0, 1, 3, 0, 2];
+    let mut bytes = Vec::from_slice(alloc, &front).expect(rt, "memory");
+    for (i, long) in LONG.iter().enumerate() {
+        let item = long_item(rt, alloc, i, *long);
+        bytes
+            .extend_from_slice(item.as_slice())
+            .expect(rt, "memory");
+    }
+    bytes
+}
+
+#[test]
+fn long_items(rt: HostRuntime) {
+    let alloc = rt.alloc();
+    let bytes = index_of_long(&rt, alloc);
+    let index = read_index(alloc, bytes.as_slice()).expect(&rt, "long items");
+    holds(&rt, index.len() == 4, "the number of items");
+    for (i, long) in LONG.iter().enumerate() {
+        let item = long_item(&rt, alloc, i, *long);
+        holds_at(&rt, index.item(i) == Some(item.as_slice()), "item", i);
+    }
+}
+
+/// Char strings of another format are refused before a byte is read.
+fn are_refused(alloc: Global) -> bool {
     let mut tape = Cursor::new(TWO);
-    let mut same = true;
+    let mut are_so = true;
     for format in [1, 0, -1, 3, i32::MIN, i32::MAX] {
         let code = code_of(Tape::take_given::<CharStrings>(&mut tape, alloc, format));
-        same = same && code == 12 && tape.position() == 0;
+        are_so = are_so && code == 12 && tape.position() == 0;
     }
-    let char_strings: CharStrings = tape.take_given(alloc, 2)?;
-    Ok(same && is_two(&*char_strings) && is_two(&*char_strings.clone()?))
+    are_so
+}
+
+/// Whether an INDEX and its clone are those of the two items.
+fn are_two(index: &Index, same: &Index) -> bool {
+    is_two(index) && is_two(same)
+}
+
+/// Whether the two items are char strings, in a clone too.
+fn are_char_strings<R: Abort>(rt: &R, alloc: Global) -> bool {
+    let read = Cursor::new(TWO).take_given::<CharStrings>(alloc, 2);
+    let char_strings = read.expect(rt, "char strings");
+    let same = char_strings.clone().expect(rt, "memory");
+    are_two(&*char_strings, &*same)
+}
+
+/// The dictionaries at the start of bytes.
+fn read_dictionaries<R: Abort>(rt: &R, alloc: Global, bytes: &[u8]) -> Dictionaries {
+    Cursor::new(bytes).take(alloc).expect(rt, "dictionaries")
 }
 
 /// Whether the two items are dictionaries, in a clone too.
-fn are_dictionaries(alloc: Global) -> Outcome<bool> {
-    let dictionaries: Dictionaries = Cursor::new(TWO).take(alloc)?;
-    Ok(is_two(&*dictionaries) && is_two(&*dictionaries.clone()?))
+fn are_dictionaries<R: Abort>(rt: &R, alloc: Global) -> bool {
+    let dictionaries = read_dictionaries(rt, alloc, TWO);
+    let same = dictionaries.clone().expect(rt, "memory");
+    are_two(&*dictionaries, &*same)
+}
+
+/// The names at the start of bytes.
+fn read_names<R: Abort>(rt: &R, alloc: Global, bytes: &[u8]) -> Names {
+    Cursor::new(bytes).take(alloc).expect(rt, "names")
 }
 
 /// Whether the two items are names, in a clone too.
-fn are_names(alloc: Global) -> Outcome<bool> {
-    let names: Names = Cursor::new(TWO).take(alloc)?;
-    Ok(is_two(&*names) && is_two(&*names.clone()?))
+fn are_names<R: Abort>(rt: &R, alloc: Global) -> bool {
+    let names = read_names(rt, alloc, TWO);
+    let same = names.clone().expect(rt, "memory");
+    are_two(&*names, &*same)
+}
+
+/// The strings at the start of bytes.
+fn read_strings<R: Abort>(rt: &R, alloc: Global, bytes: &[u8]) -> Strings {
+    Cursor::new(bytes).take(alloc).expect(rt, "strings")
 }
 
 /// Whether the two items are strings, in a clone too.
-fn are_strings(alloc: Global) -> Outcome<bool> {
-    let strings: Strings = Cursor::new(TWO).take(alloc)?;
-    Ok(is_two(&*strings) && is_two(&*strings.clone()?))
+fn are_strings<R: Abort>(rt: &R, alloc: Global) -> bool {
+    let strings = read_strings(rt, alloc, TWO);
+    let same = strings.clone().expect(rt, "memory");
+    are_two(&*strings, &*same)
 }
 
 /// Whether the two items are subroutines, in a clone too.
-fn are_subroutines(alloc: Global) -> Outcome<bool> {
-    let subroutines: Subroutines = Cursor::new(TWO).take(alloc)?;
-    Ok(is_two(&*subroutines) && is_two(&*subroutines.clone()?))
+fn are_subroutines<R: Abort>(rt: &R, alloc: Global) -> bool {
+    let read = Cursor::new(TWO).take::<Subroutines>(alloc);
+    let subroutines = read.expect(rt, "subroutines");
+    let same = subroutines.clone().expect(rt, "memory");
+    are_two(&*subroutines, &*same)
+}
+
+/// Reads the two items as each kind of items, and clones them.
+pub fn check_clones<R: Abort>(rt: &R, alloc: Global) {
+    check_clone(rt, alloc);
+    holds(rt, are_char_strings(rt, alloc), "char strings");
+    holds(rt, are_dictionaries(rt, alloc), "dictionaries");
+    holds(rt, are_names(rt, alloc), "names");
+    holds(rt, are_strings(rt, alloc), "strings");
+    holds(rt, are_subroutines(rt, alloc), "subroutines");
 }
 
 #[test]
-fn what_two_items_are_read_as(rt: HostRuntime) -> Outcome<()> {
-    assert!(rt; are_char_strings(rt.alloc())?);
-    assert!(rt; are_dictionaries(rt.alloc())?);
-    assert!(rt; are_names(rt.alloc())?);
-    assert!(rt; are_strings(rt.alloc())?);
-    assert!(rt; are_subroutines(rt.alloc())?);
-    assert!(rt; Subroutines::empty(rt.alloc()).len() == 0);
-    Ok(())
+fn what_two_items_are_read_as(rt: HostRuntime) {
+    let alloc = rt.alloc();
+    holds(&rt, are_refused(alloc), "other formats");
+    check_clones(&rt, alloc);
+    let none = Subroutines::empty(alloc);
+    holds(&rt, none.len() == 0, "no subroutines");
 }
 
 /// A number below 256.
@@ -197,19 +275,24 @@ fn short(number: usize) -> u8 {
     u8::try_from(number).unwrap_or(u8::MAX)
 }
 
-/// The bytes of an INDEX of short items.
-fn index_of(alloc: Global, items: &[&[u8]]) -> Outcome<Vec<u8>> {
-    let mut bytes = Vec::new(alloc);
-    bytes.extend_from_slice(&[0, short(items.len()), 1, 1])?;
+/// Adds the offsets behind items.
+fn put_offsets<R: Abort>(rt: &R, bytes: &mut Vec<u8>, items: &[&[u8]]) {
     let mut offset = 1u8;
     for item in items {
         offset = offset.saturating_add(short(item.len()));
-        bytes.push(offset)?;
+        bytes.push(offset).expect(rt, "memory");
     }
+}
+
+/// The bytes of an INDEX of short items.
+fn index_of<R: Abort>(rt: &R, alloc: Global, items: &[&[u8]]) -> Vec<u8> {
+    let front = [0, short(items.len()), 1, 1];
+    let mut bytes = Vec::from_slice(alloc, &front).expect(rt, "memory");
+    put_offsets(rt, &mut bytes, items);
     for item in items {
-        bytes.extend_from_slice(item)?;
+        bytes.extend_from_slice(item).expect(rt, "memory");
     }
-    Ok(bytes)
+    bytes
 }
 
 /// Bytes and their text. The last four are the Unicode Standard's tables 3-8 to 3-11 (3.9, "U+FFFD Substitution of
@@ -242,56 +325,74 @@ const TEXTS: &[(&[u8], &str)] = &[
 ];
 
 /// The bytes of an INDEX of the bytes of the texts.
-fn index_of_texts(alloc: Global) -> Outcome<Vec<u8>> {
+fn index_of_texts<R: Abort>(rt: &R, alloc: Global) -> Vec<u8> {
     let mut items = Vec::new(alloc);
     for (bytes, _) in TEXTS {
-        items.push(*bytes)?;
+        items.push(*bytes).expect(rt, "memory");
     }
-    index_of(alloc, &items)
+    index_of(rt, alloc, items.as_slice())
 }
 
-#[test]
-fn texts_of_names(rt: HostRuntime) -> Outcome<()> {
-    let bytes = index_of_texts(rt.alloc())?;
-    let names: Names = Cursor::new(bytes).take(rt.alloc())?;
-    let names = names.into(rt.alloc())?;
-    assert!(rt; names.len() == TEXTS.len());
+/// The texts of names.
+fn texts_of<R: Abort>(rt: &R, alloc: Global, bytes: &[u8]) -> Vec<String> {
+    read_names(rt, alloc, bytes).into(alloc).expect(rt, "texts")
+}
+
+/// Whether the name at a place has this text.
+fn is_name(names: &[String], i: usize, text: &str) -> bool {
+    match names.get(i) {
+        Some(name) => name.as_str() == text,
+        None => false,
+    }
+}
+
+/// Reads names, and compares their texts.
+pub fn check_names<R: Abort>(rt: &R, alloc: Global) {
+    let names = texts_of(rt, alloc, index_of_texts(rt, alloc).as_slice());
+    holds(rt, names.len() == TEXTS.len(), "the number of names");
     for (i, (_, text)) in TEXTS.iter().enumerate() {
-        assert!(rt;
-            names.get(i).map(|name| name.as_str()) == Some(*text),
-            "at {i}"
-        );
+        holds_at(rt, is_name(names.as_slice(), i, text), "row", i);
     }
-    Ok(())
-}
-
-/// Whether the string of a number has this text.
-fn has_text(alloc: Global, strings: &Strings, sid: u16, text: Option<&str>) -> Outcome<bool> {
-    let string = strings.get(alloc, sid)?;
-    Ok(string.as_deref() == text)
 }
 
 #[test]
-fn texts_of_strings(rt: HostRuntime) -> Outcome<()> {
-    let bytes = index_of_texts(rt.alloc())?;
-    let strings: Strings = Cursor::new(bytes).take(rt.alloc())?;
+fn texts_of_names(rt: HostRuntime) {
+    let alloc = rt.alloc();
+    check_names(&rt, alloc);
+}
+
+/// Fails where the string of a number has another text.
+fn check_string<R: Abort>(rt: &R, alloc: Global, strings: &Strings, sid: u16, text: Option<&str>) {
+    let string = strings.get(alloc, sid).expect(rt, "memory");
+    let is_so = string.as_deref() == text;
+    holds_at(rt, is_so, "string", usize::from(sid));
+}
+
+/// Reads strings, and compares the texts of some, of standard ones, and of numbers that have none.
+pub fn check_strings<R: Abort>(rt: &R, alloc: Global) {
+    let bytes = index_of_texts(rt, alloc);
+    let strings = read_strings(rt, alloc, bytes.as_slice());
     for (i, (_, text)) in TEXTS.iter().enumerate() {
         let sid = 391 + u16::from(short(i));
-        assert!(rt; has_text(rt.alloc(), &strings, sid, Some(*text))?, "at {i}");
+        check_string(rt, alloc, &strings, sid, Some(*text));
     }
-    for (sid, text) in [(0, ".notdef"), (175, "Aring"), (390, "Semibold")] {
-        assert!(rt; has_text(rt.alloc(), &strings, sid, Some(text))?);
-    }
-    for sid in [400, 401, u16::MAX] {
-        assert!(rt; has_text(rt.alloc(), &strings, sid, None)?);
-    }
-    Ok(())
+    check_string(rt, alloc, &strings, 0, Some(".notdef"));
+    check_string(rt, alloc, &strings, 175, Some("Aring"));
+    check_string(rt, alloc, &strings, 390, Some("Semibold"));
+    check_string(rt, alloc, &strings, 400, None);
+    check_string(rt, alloc, &strings, 401, None);
+    check_string(rt, alloc, &strings, u16::MAX, None);
+}
+
+#[test]
+fn texts_of_strings(rt: HostRuntime) {
+    let alloc = rt.alloc();
+    check_strings(&rt, alloc);
 }
 
 /// The dictionaries of an INDEX of short items.
-fn dictionaries_of(alloc: Global, items: &[&[u8]]) -> Outcome<Dictionaries> {
-    let bytes = index_of(alloc, items)?;
-    Ok(Cursor::new(bytes).take(alloc)?)
+fn dictionaries_of<R: Abort>(rt: &R, alloc: Global, items: &[&[u8]]) -> Dictionaries {
+    read_dictionaries(rt, alloc, index_of(rt, alloc, items).as_slice())
 }
 
 /// Whether a map has this operation alone, of this operand.
@@ -302,28 +403,59 @@ fn is_single(map: &Operations, operator: Operator, operand: i32) -> bool {
     }
 }
 
-#[test]
-fn dictionaries_of_items(rt: HostRuntime) -> Outcome<()> {
-    let items: &[&[u8]] = &[&[0x8c, 0x00], &[0x8d, 0x12], &[0x8b]];
-    let dictionaries = dictionaries_of(rt.alloc(), items)?;
-    for (i, operator, operand) in [(0, Operator::Version, 1), (1, Operator::Private, 2)] {
-        match dictionaries.operations(rt.alloc(), i)? {
-            Some(map) => assert!(rt; is_single(&map, operator, operand), "at {i}"),
-            None => assert!(rt; false, "at {i}"),
-        }
+/// Whether a dictionary has this operation alone, of this operand.
+fn has_single<R: Abort>(
+    rt: &R,
+    alloc: Global,
+    dictionaries: &Dictionaries,
+    i: usize,
+    operator: Operator,
+    operand: i32,
+) -> bool {
+    match dictionaries.operations(alloc, i).expect(rt, "operations") {
+        Some(map) => is_single(&map, operator, operand),
+        None => false,
     }
-    for i in [3, usize::MAX] {
-        assert!(rt; dictionaries.operations(rt.alloc(), i)?.is_none());
-    }
-    let maps = dictionaries.clone()?.into(rt.alloc())?;
-    assert!(rt;
-        match maps.as_slice() {
-            [first, second, _] => is_single(first, Operator::Version, 1)
-                && is_single(second, Operator::Private, 2),
-            _ => false,
+}
+
+/// Whether there is no dictionary of this number.
+fn has_none<R: Abort>(rt: &R, alloc: Global, dictionaries: &Dictionaries, i: usize) -> bool {
+    let map = dictionaries.operations(alloc, i);
+    map.expect(rt, "operations").is_none()
+}
+
+/// Whether the first two of three maps have the operations of the first two dictionaries.
+fn are_maps(maps: &[Operations]) -> bool {
+    match maps {
+        [first, second, _] => {
+            is_single(first, Operator::Version, 1) && is_single(second, Operator::Private, 2)
         }
+        _ => false,
+    }
+}
+
+/// Reads dictionaries, one by one and all of them.
+pub fn check_dictionaries<R: Abort>(rt: &R, alloc: Global) {
+    let dictionaries = dictionaries_of(rt, alloc, &[&[0x8c, 0x00], &[0x8d, 0x12], &[0x8b]]);
+    let first = has_single(rt, alloc, &dictionaries, 0, Operator::Version, 1);
+    holds(rt, first, "the first dictionary");
+    let second = has_single(rt, alloc, &dictionaries, 1, Operator::Private, 2);
+    holds(rt, second, "the second dictionary");
+    holds(rt, has_none(rt, alloc, &dictionaries, 3), "no fourth");
+    holds(
+        rt,
+        has_none(rt, alloc, &dictionaries, usize::MAX),
+        "no last of all",
     );
-    Ok(())
+    let copy = dictionaries.clone().expect(rt, "memory");
+    let maps = copy.into(alloc).expect(rt, "operations");
+    holds(rt, are_maps(maps.as_slice()), "all dictionaries");
+}
+
+#[test]
+fn dictionaries_of_items(rt: HostRuntime) {
+    let alloc = rt.alloc();
+    check_dictionaries(&rt, alloc);
 }
 
 /// An item that is refused, and the number of the refusal.
@@ -334,22 +466,19 @@ const REFUSED: &[(&[u8], u8)] = &[
 ];
 
 /// The numbers of the refusals of three items, one by one, the second being this one, and of all of them.
-fn codes_around(alloc: Global, item: &[u8]) -> Outcome<[u8; 4]> {
-    let items: [&[u8]; 3] = [&[0x8c, 0x00], item, &[0x8b, 0x0c, 0x1d]];
-    let dictionaries = dictionaries_of(alloc, &items)?;
+fn codes_around<R: Abort>(rt: &R, alloc: Global, item: &[u8]) -> [u8; 4] {
+    let dictionaries = dictionaries_of(rt, alloc, &[&[0x8c, 0x00], item, &[0x8b, 0x0c, 0x1d]]);
     let first = code_of(dictionaries.operations(alloc, 0));
     let second = code_of(dictionaries.operations(alloc, 1));
     let third = code_of(dictionaries.operations(alloc, 2));
-    Ok([first, second, third, code_of(dictionaries.into(alloc))])
+    [first, second, third, code_of(dictionaries.into(alloc))]
 }
 
 #[test]
-fn refused_dictionaries_of_items(rt: HostRuntime) -> Outcome<()> {
+fn refused_dictionaries_of_items(rt: HostRuntime) {
+    let alloc = rt.alloc();
     for (item, code) in REFUSED {
-        assert!(rt;
-            codes_around(rt.alloc(), item)? == [0, *code, 9, *code],
-            "at {code}"
-        );
+        let is_so = codes_around(&rt, alloc, item) == [0, *code, 9, *code];
+        holds_at(&rt, is_so, "code", usize::from(*code));
     }
-    Ok(())
 }

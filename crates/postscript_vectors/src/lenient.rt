@@ -1,9 +1,11 @@
 //! Fonts that lack private dictionaries or local subroutines, by both readings.
-use crate::fonts::{FONT, Outcome, TWO_DICTIONARIES, add, bytes_of, summary};
-use postscript::compact1::{FontSet, Operator};
-use postscript::{Result, Tape};
+use crate::checks::{bytes_of, changed, holds_at, is_text, put_shown};
+use crate::fonts::{FONT, TWO_DICTIONARIES, font_of, told};
+use postscript::Result;
+use postscript::compact1::{FontSet, Operations, Operator};
 use std::alloc::Global;
-use std::io::{Cursor, Write};
+use std::io::Cursor;
+use std::process::Abort;
 
 /// Digits with spaces, and a place of the bytes and what it is changed to; what the strict reading tells, and what the
 /// lenient one does.
@@ -65,38 +67,60 @@ const ROWS: &[Row] = &[
     ),
 ];
 
+/// Adds how many operators a private dictionary has, and its default width.
+fn put_local<R: Abort>(rt: &R, text: &mut String, local: &Operations) {
+    put_shown(rt, text, "|local ", &local.0.len());
+    if let Some(width) = local.get_single(Operator::DefaultWidthX) {
+        put_shown(rt, text, " width ", &width);
+    }
+}
+
+/// Adds what is told of each private dictionary.
+fn put_locals<R: Abort>(rt: &R, text: &mut String, read: &Result<FontSet>) {
+    if let Ok(font) = read {
+        for local in &font.local_dictionaries {
+            put_local(rt, text, local);
+        }
+    }
+}
+
 /// The summary of a font, and for each private dictionary how many operators it has and its default width; or the
 /// number of the refusal.
-fn told(alloc: Global, read: Result<FontSet>) -> Outcome<Vec<u8>> {
-    let mut out = Vec::new(alloc);
-    match read {
-        Ok(font) => {
-            out = summary(alloc, &font)?;
-            for local in &font.local_dictionaries {
-                add(&mut out, "|local", local.0.len())?;
-                if let Some(width) = local.get_single(Operator::DefaultWidthX) {
-                    write!(out, " width {width}")?;
-                }
-            }
-        }
-        Err(e) => add(&mut out, "fault", usize::from(e.code()))?,
-    }
-    Ok(out)
+fn told_long<R: Abort>(rt: &R, alloc: Global, read: &Result<FontSet>) -> String {
+    let mut text = told(rt, alloc, read);
+    put_locals(rt, &mut text, read);
+    text
+}
+
+/// What is told of the strict reading.
+fn told_strictly<R: Abort>(rt: &R, alloc: Global, bytes: &[u8]) -> String {
+    told_long(rt, alloc, &font_of(alloc, bytes))
+}
+
+/// What is told of the lenient reading.
+fn told_leniently<R: Abort>(rt: &R, alloc: Global, bytes: &[u8]) -> String {
+    told_long(
+        rt,
+        alloc,
+        &FontSet::read_lenient(alloc, &mut Cursor::new(bytes)),
+    )
+}
+
+/// Reads the smallest font leniently.
+pub fn check_lenient<R: Abort>(rt: &R, alloc: Global) {
+    let bytes = bytes_of(rt, alloc, FONT);
+    let text = told_leniently(rt, alloc, bytes.as_slice());
+    is_text(rt, text.as_str(), OF_FONT, "the lenient reading");
 }
 
 #[test]
-fn fonts_by_both_readings(rt: HostRuntime) -> Outcome<()> {
+fn fonts_by_both_readings(rt: HostRuntime) {
+    let alloc = rt.alloc();
     for (row, (digits, place, byte, strict, lenient)) in ROWS.iter().enumerate() {
-        let mut bytes = bytes_of(rt.alloc(), digits)?;
-        if let Some(at) = bytes.get_mut(*place) {
-            *at = *byte;
-        }
-        let mut tape = Cursor::new(bytes.as_slice());
-        let found = told(rt.alloc(), tape.take::<FontSet>(rt.alloc()))?;
-        assert!(rt; found.as_slice() == strict.as_bytes(), "at {row}");
-        let mut tape = Cursor::new(bytes.as_slice());
-        let found = told(rt.alloc(), FontSet::read_lenient(rt.alloc(), &mut tape))?;
-        assert!(rt; found.as_slice() == lenient.as_bytes(), "at {row}");
+        let bytes = changed(&rt, alloc, digits, *place, *byte);
+        let text = told_strictly(&rt, alloc, bytes.as_slice());
+        holds_at(&rt, text.as_str() == *strict, "strict row", row);
+        let text = told_leniently(&rt, alloc, bytes.as_slice());
+        holds_at(&rt, text.as_str() == *lenient, "lenient row", row);
     }
-    Ok(())
 }

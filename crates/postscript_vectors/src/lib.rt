@@ -2,7 +2,11 @@
 #![tactic(auto)]
 
 #[cfg(test)]
+mod ample;
+#[cfg(test)]
 mod char_sets;
+#[cfg(test)]
+mod checks;
 #[cfg(test)]
 mod decimals;
 #[cfg(test)]
@@ -26,4 +30,5 @@ mod programs;
 #[cfg(test)]
 mod readings;
 pub mod synthetic;
-pub mod tapes;
+#[cfg(test)]
+mod tapes;

@@ -6,112 +6,150 @@ mod paths;
 mod steps;
 mod storage;
 
+use crate::checks::{bytes_of, code_of, holds, holds_at, is_text, put, put_shown};
 use crate::synthetic::charstring;
 use arithmetic::ARITHMETIC;
 use calls::{CALLS, GLOBAL_CALLS, LONG_LISTS};
 use codes::{LENGTHS, NUMBERS, OPERANDS, OPERATORS};
 use paths::{PATHS_AND_HINTS, PATHS_AND_NUMBERS};
-use postscript::Error;
 use postscript::type2::{self, Answers, Operand, Operation, Operator, Program, number};
-use std::alloc::{AllocError, Global};
+use postscript::{Error, Result};
+use std::alloc::Global;
 use std::io::Cursor;
 use std::process::Abort;
-use std::test::Fail;
 use steps::STEPS;
 use storage::STORAGE;
-
-/// What a helper gives, or the error that fails its test.
-pub type Outcome<T> = Result<T, Fail>;
 
 /// A code in hex, its local subroutines in hex, each after a space, and the answers of the run: a text for each
 /// operation, for the end, and for the width.
 type Row = (&'static str, &'static str, &'static str);
 
-/// The bytes that hex digits spell.
-pub fn bytes_of(alloc: Global, digits: &str) -> Outcome<Vec<u8>> {
-    Ok(hex::decode(alloc, digits)?)
+/// Paths, widths and numbers.
+fn paths_and_numbers() -> &'static [Row] {
+    PATHS_AND_NUMBERS
+}
+
+/// The other operators that draw, stems and masks.
+fn paths_and_hints() -> &'static [Row] {
+    PATHS_AND_HINTS
+}
+
+/// Calls and returns.
+fn rows_of_calls() -> &'static [Row] {
+    CALLS
+}
+
+/// Arithmetic.
+fn rows_of_arithmetic() -> &'static [Row] {
+    ARITHMETIC
+}
+
+/// Storage.
+fn rows_of_storage() -> &'static [Row] {
+    STORAGE
 }
 
 /// The routines in hex, each after a space.
-pub fn routines_of(alloc: Global, words: &str) -> Outcome<Vec<Vec<u8>>> {
+pub fn routines_of<R: Abort>(rt: &R, alloc: Global, words: &str) -> Vec<Vec<u8>> {
     let mut routines = Vec::new(alloc);
     for word in words.split_whitespace() {
-        routines.push(bytes_of(alloc, word)?)?;
+        routines
+            .push(bytes_of(rt, alloc, word))
+            .expect(rt, "memory");
     }
-    Ok(routines)
+    routines
 }
 
 /// So many routines, the last one moving and the others empty.
-fn long_list(alloc: Global, count: usize) -> Outcome<Vec<Vec<u8>>> {
+fn long_list<R: Abort>(rt: &R, alloc: Global, count: usize) -> Vec<Vec<u8>> {
     let mut routines = Vec::new(alloc);
     for _ in 1..count {
-        routines.push(Vec::new(alloc))?;
+        routines.push(Vec::new(alloc)).expect(rt, "memory");
     }
-    routines.push(bytes_of(alloc, "8c16")?)?;
-    Ok(routines)
+    routines
+        .push(bytes_of(rt, alloc, "8c16"))
+        .expect(rt, "memory");
+    routines
 }
 
 /// Adds the operator's name, and each operand after a space.
-fn write_operation(text: &mut String, operation: &Operation) -> Result<(), AllocError> {
+fn put_operation<R: Abort>(rt: &R, text: &mut String, operation: &Operation) {
     let (operator, operands) = operation;
-    text.push_str(operator.name())?;
+    put(rt, text, operator.name());
     for operand in operands {
-        write!(text, " {operand}")?;
+        put_shown(rt, text, " ", operand);
     }
-    Ok(())
 }
 
 /// Adds the width.
-fn write_width(text: &mut String, width: Option<Operand>) -> Result<(), AllocError> {
+fn put_width<R: Abort>(rt: &R, text: &mut String, width: Option<Operand>) {
     match width {
-        Some(width) => write!(text, "width {width}"),
-        None => text.push_str("width none"),
+        Some(width) => put_shown(rt, text, "width ", &width),
+        None => put(rt, text, "width none"),
     }
 }
 
-/// Adds the number of a fault.
-fn write_fault(text: &mut String, fault: &Error) -> Result<(), AllocError> {
-    let code = fault.code();
-    write!(text, "fault {code}")
+/// Adds the number of a fault, or the end where there is none.
+fn put_end<R: Abort>(rt: &R, text: &mut String, fault: Option<&Error>) {
+    match fault {
+        Some(fault) => put_shown(rt, text, "fault ", &fault.code()),
+        None => put(rt, text, "end"),
+    }
 }
 
 /// The operations of a run as a text.
-fn operations_of(alloc: Global, answers: &Answers) -> Result<String, AllocError> {
+fn operations_of<R: Abort>(rt: &R, alloc: Global, answers: &Answers) -> String {
     let mut text = String::new(alloc);
     for operation in &answers.operations {
-        write_operation(&mut text, operation)?;
-        text.push_str(" | ")?;
+        put_operation(rt, &mut text, operation);
+        put(rt, &mut text, " | ");
     }
-    Ok(text)
+    text
 }
 
 /// The answers of a run as a text.
-pub fn text_of(alloc: Global, answers: &Answers) -> Result<String, AllocError> {
-    let mut text = operations_of(alloc, answers)?;
-    match &answers.fault {
-        Some(fault) => write_fault(&mut text, fault)?,
-        None => text.push_str("end")?,
-    }
-    text.push_str(" | ")?;
-    write_width(&mut text, answers.width)?;
-    Ok(text)
+fn text_of<R: Abort>(rt: &R, alloc: Global, answers: &Answers) -> String {
+    let mut text = operations_of(rt, alloc, answers);
+    put_end(rt, &mut text, answers.fault.as_ref());
+    put(rt, &mut text, " | ");
+    put_width(rt, &mut text, answers.width);
+    text
+}
+
+/// What the run of a code answers.
+fn run<R: Abort>(
+    rt: &R,
+    alloc: Global,
+    code: &[u8],
+    global: &[Vec<u8>],
+    local: &[Vec<u8>],
+) -> Answers {
+    type2::run(alloc, code, global, local).expect(rt, "memory")
 }
 
 /// What the run of a code answers, as a text.
-fn told(alloc: Global, code: &str, global: &[Vec<u8>], local: &[Vec<u8>]) -> Outcome<String> {
-    let code = bytes_of(alloc, code)?;
-    let answers = type2::run(alloc, code.as_slice(), global, local)?;
-    Ok(text_of(alloc, &answers)?)
+pub fn told<R: Abort>(
+    rt: &R,
+    alloc: Global,
+    code: &[u8],
+    global: &[Vec<u8>],
+    local: &[Vec<u8>],
+) -> String {
+    text_of(rt, alloc, &run(rt, alloc, code, global, local))
 }
 
-/// Runs each row.
-fn check<R: AllocGlobal + Abort>(rt: &R, rows: &[Row]) -> Outcome<()> {
-    for (code, local, wanted) in rows {
-        let local = routines_of(rt.alloc(), local)?;
-        let found = told(rt.alloc(), code, &[], local.as_slice())?;
-        assert!(rt; found.as_str() == *wanted, "at {code}");
-    }
-    Ok(())
+/// Runs a code in hex, and compares the answers.
+fn check<R: Abort>(
+    rt: &R,
+    alloc: Global,
+    code: &str,
+    global: &[Vec<u8>],
+    local: &[Vec<u8>],
+    wanted: &str,
+) {
+    let bytes = bytes_of(rt, alloc, code);
+    let text = told(rt, alloc, bytes.as_slice(), global, local);
+    is_text(rt, text.as_str(), wanted, code);
 }
 
 /// A list in which each of nine subroutines calls the next one twice, and the last one moves.
@@ -119,48 +157,77 @@ pub const DOUBLING: &str =
     "210a210a0b 220a220a0b 230a230a0b 240a240a0b 250a250a0b 260a260a0b 270a270a0b 280a280a0b 290a290a0b 8c160b";
 
 /// What 512 moves answer.
-fn many_moves(alloc: Global) -> Result<String, AllocError> {
+fn many_moves<R: Abort>(rt: &R, alloc: Global) -> String {
     let mut text = String::new(alloc);
     for _ in 0..512 {
-        text.push_str("HMoveTo 1 | ")?;
+        put(rt, &mut text, "HMoveTo 1 | ");
     }
-    text.push_str("end | width none")?;
-    Ok(text)
+    put(rt, &mut text, "end | width none");
+    text
+}
+
+/// Runs a row of a table.
+fn check_row<R: Abort>(rt: &R, alloc: Global, row: &Row) {
+    let local = routines_of(rt, alloc, row.1);
+    check(rt, alloc, row.0, &[], local.as_slice(), row.2);
+}
+
+/// Runs each row.
+fn check_rows<R: Abort>(rt: &R, alloc: Global, rows: &[Row]) {
+    for row in rows {
+        check_row(rt, alloc, row);
+    }
+}
+
+/// Runs a row with global subroutines.
+fn check_global<R: Abort>(rt: &R, alloc: Global, row: &(&str, &str, &str, &str)) {
+    let global = routines_of(rt, alloc, row.1);
+    let local = routines_of(rt, alloc, row.2);
+    check(rt, alloc, row.0, global.as_slice(), local.as_slice(), row.3);
+}
+
+/// Runs a row with a long list.
+fn check_long<R: Abort>(rt: &R, alloc: Global, row: &(&str, usize, &str)) {
+    let local = long_list(rt, alloc, row.1);
+    check(rt, alloc, row.0, &[], local.as_slice(), row.2);
+}
+
+/// Runs nine subroutines that call the next one twice.
+pub fn check_doubling<R: Abort>(rt: &R, alloc: Global) {
+    let local = routines_of(rt, alloc, DOUBLING);
+    let wanted = many_moves(rt, alloc);
+    check(rt, alloc, "200a0e", &[], local.as_slice(), wanted.as_str());
+}
+
+/// Whether a run has no fault and so many operations.
+fn has_run(answers: &Answers, count: usize) -> bool {
+    answers.fault.is_none() && answers.operations.len() == count
+}
+
+/// Whether a charstring of so many operations is run without a fault.
+fn is_run<R: Abort>(rt: &R, alloc: Global, count: usize) -> bool {
+    let code = charstring(alloc, count).expect(rt, "memory");
+    has_run(&run(rt, alloc, code.as_slice(), &[], &[]), count)
 }
 
 #[test]
-fn runs(rt: HostRuntime) -> Outcome<()> {
-    for rows in [
-        PATHS_AND_NUMBERS,
-        CALLS,
-        PATHS_AND_HINTS,
-        ARITHMETIC,
-        STORAGE,
-    ] {
-        check(&rt, rows)?;
+fn runs(rt: HostRuntime) {
+    let alloc = rt.alloc();
+    check_rows(&rt, alloc, paths_and_numbers());
+    check_rows(&rt, alloc, paths_and_hints());
+    check_rows(&rt, alloc, rows_of_calls());
+    check_rows(&rt, alloc, rows_of_arithmetic());
+    check_rows(&rt, alloc, rows_of_storage());
+    for row in GLOBAL_CALLS {
+        check_global(&rt, alloc, row);
     }
-    for (code, global, local, wanted) in GLOBAL_CALLS {
-        let global = routines_of(rt.alloc(), global)?;
-        let local = routines_of(rt.alloc(), local)?;
-        let found = told(rt.alloc(), code, global.as_slice(), local.as_slice())?;
-        assert!(rt; found.as_str() == *wanted, "at {code}");
+    for row in LONG_LISTS {
+        check_long(&rt, alloc, row);
     }
-    for (code, count, wanted) in LONG_LISTS {
-        let local = long_list(rt.alloc(), *count)?;
-        let found = told(rt.alloc(), code, &[], local.as_slice())?;
-        assert!(rt; found.as_str() == *wanted, "at {code} with {count}");
-    }
-    let local = routines_of(rt.alloc(), DOUBLING)?;
-    let found = told(rt.alloc(), "200a0e", &[], local.as_slice())?;
-    let wanted = many_moves(rt.alloc())?;
-    assert!(rt; found.as_str() == wanted.as_str());
+    check_doubling(&rt, alloc);
     for count in [0, 1, 64, 65, 1000] {
-        let code = charstring(rt.alloc(), count)?;
-        let answers = type2::run(rt.alloc(), code.as_slice(), &[], &[])?;
-        assert!(rt; answers.fault.is_none(), "at {count}");
-        assert!(rt; answers.operations.len() == count);
+        holds_at(&rt, is_run(&rt, alloc, count), "so many operations:", count);
     }
-    Ok(())
 }
 
 /// The number of the fault of a run, 0 where there is none.
@@ -171,149 +238,188 @@ fn fault_of(answers: &Answers) -> u8 {
     }
 }
 
-/// Runs each front of a code. Its operations begin the whole code's. Its fault is that of the whole code, or bytes are wanting.
-fn check_fronts<R: AllocGlobal + Abort>(rt: &R, code: &str, local: &str) -> Outcome<()> {
-    let bytes = bytes_of(rt.alloc(), code)?;
-    let local = routines_of(rt.alloc(), local)?;
-    let whole = type2::run(rt.alloc(), bytes.as_slice(), &[], local.as_slice())?;
-    let all = operations_of(rt.alloc(), &whole)?;
+/// Whether the operations of a front begin the whole code's, and its fault is that of the whole code, or bytes are wanting.
+fn is_front<R: Abort>(rt: &R, alloc: Global, part: &Answers, whole: &Answers) -> bool {
+    let begun = operations_of(rt, alloc, part);
+    let all = operations_of(rt, alloc, whole);
+    let fault = fault_of(part);
+    all.as_str().starts_with(begun.as_str()) && (fault < 2 || fault == fault_of(whole))
+}
+
+/// Whether the run of a front of a code begins the run of the whole code.
+fn begins<R: Abort>(rt: &R, alloc: Global, front: &[u8], code: &[u8], local: &[Vec<u8>]) -> bool {
+    is_front(
+        rt,
+        alloc,
+        &run(rt, alloc, front, &[], local),
+        &run(rt, alloc, code, &[], local),
+    )
+}
+
+/// Runs each front of a code.
+fn check_fronts<R: Abort>(rt: &R, alloc: Global, row: &Row) {
+    let bytes = bytes_of(rt, alloc, row.0);
+    let local = routines_of(rt, alloc, row.1);
     for length in 0..bytes.len() {
-        let part = type2::run(rt.alloc(), &bytes[..length], &[], local.as_slice())?;
-        let begun = operations_of(rt.alloc(), &part)?;
-        assert!(rt;
-            all.as_str().starts_with(begun.as_str()),
-            "at {code} cut to {length}"
+        let is_so = begins(
+            rt,
+            alloc,
+            &bytes[..length],
+            bytes.as_slice(),
+            local.as_slice(),
         );
-        let fault = fault_of(&part);
-        assert!(rt;
-            fault < 2 || fault == fault_of(&whole),
-            "at {code} cut to {length}"
-        );
+        holds_at(rt, is_so, row.0, length);
     }
-    Ok(())
+}
+
+/// Runs the fronts of each row.
+fn check_all_fronts<R: Abort>(rt: &R, alloc: Global, rows: &[Row]) {
+    for row in rows {
+        check_fronts(rt, alloc, row);
+    }
 }
 
 #[test]
-fn fronts(rt: HostRuntime) -> Outcome<()> {
-    for rows in [
-        PATHS_AND_NUMBERS,
-        CALLS,
-        PATHS_AND_HINTS,
-        ARITHMETIC,
-        STORAGE,
-    ] {
-        for (code, local, _) in rows {
-            check_fronts(&rt, code, local)?;
-        }
+fn fronts(rt: HostRuntime) {
+    let alloc = rt.alloc();
+    check_all_fronts(&rt, alloc, paths_and_numbers());
+    check_all_fronts(&rt, alloc, paths_and_hints());
+    check_all_fronts(&rt, alloc, rows_of_calls());
+    check_all_fronts(&rt, alloc, rows_of_arithmetic());
+    check_all_fronts(&rt, alloc, rows_of_storage());
+}
+
+/// Adds what a step answers.
+fn put_step<R: Abort>(rt: &R, text: &mut String, answer: &Result<Option<Operation>>) {
+    match answer {
+        Ok(Some(operation)) => put_operation(rt, text, operation),
+        Ok(None) => put_end(rt, text, None),
+        Err(fault) => put_end(rt, text, Some(fault)),
     }
-    Ok(())
 }
 
 /// What the next step of a program answers, and the width after it.
-fn step(alloc: Global, program: &mut Program<'_>) -> Result<String, AllocError> {
+fn step<R: Abort>(rt: &R, alloc: Global, program: &mut Program<'_>) -> String {
     let mut text = String::new(alloc);
-    match program.next() {
-        Ok(Some(operation)) => write_operation(&mut text, &operation)?,
-        Ok(None) => text.push_str("end")?,
-        Err(fault) => write_fault(&mut text, &fault)?,
+    put_step(rt, &mut text, &program.next());
+    put(rt, &mut text, ", ");
+    put_width(rt, &mut text, program.width());
+    text
+}
+
+/// Asks a program step by step.
+pub fn check_steps<R: Abort>(rt: &R, alloc: Global, row: &(&str, &str, &[&str])) {
+    let bytes = bytes_of(rt, alloc, row.0);
+    let local = routines_of(rt, alloc, row.1);
+    let mut program = Program::new(alloc, bytes.as_slice(), &[], local.as_slice());
+    holds(rt, program.width().is_none(), row.0);
+    for wanted in row.2 {
+        is_text(rt, step(rt, alloc, &mut program).as_str(), wanted, row.0);
     }
-    text.push_str(", ")?;
-    write_width(&mut text, program.width())?;
-    Ok(text)
 }
 
 #[test]
-fn step_by_step(rt: HostRuntime) -> Outcome<()> {
-    for (code, local, answers) in STEPS {
-        let bytes = bytes_of(rt.alloc(), code)?;
-        let local = routines_of(rt.alloc(), local)?;
-        let mut program = Program::new(rt.alloc(), bytes.as_slice(), &[], local.as_slice());
-        assert!(rt; program.width().is_none(), "at {code}");
-        for wanted in *answers {
-            let found = step(rt.alloc(), &mut program)?;
-            assert!(rt; found.as_str() == *wanted, "at {code}");
-        }
+fn step_by_step(rt: HostRuntime) {
+    let alloc = rt.alloc();
+    for row in STEPS {
+        check_steps(&rt, alloc, row);
     }
-    Ok(())
+}
+
+/// What the run of a line answers.
+fn line_of<R: Abort>(rt: &R, alloc: Global, operand: Operand) -> String {
+    let mut text = String::new(alloc);
+    put_shown(rt, &mut text, "HLineTo ", &operand);
+    put(rt, &mut text, " | end | width none");
+    text
 }
 
 /// A program reads the number as well.
-fn check_run<R: AllocGlobal + Abort>(rt: &R, digits: &str, operand: Operand) -> Outcome<()> {
-    let found = told(
-        rt.alloc(),
-        format!(in rt.alloc(); "{digits}06")?.as_str(),
-        &[],
-        &[],
-    )?;
-    let wanted = format!(in rt.alloc(); "HLineTo {operand} | end | width none")?;
-    assert!(rt; found.as_str() == wanted.as_str(), "at {digits}");
-    Ok(())
+fn is_run_so<R: Abort>(rt: &R, alloc: Global, number: &[u8], operand: Operand) -> bool {
+    let mut code = Vec::from_slice(alloc, number).expect(rt, "memory");
+    code.push(0x06).expect(rt, "memory");
+    told(rt, alloc, code.as_slice(), &[], &[]).as_str() == line_of(rt, alloc, operand).as_str()
 }
 
-/// Reads each number, of a tape and in a program.
-fn check_numbers<R: AllocGlobal + Abort>(rt: &R) -> Outcome<()> {
-    for (digits, wanted) in NUMBERS {
-        let bytes = bytes_of(rt.alloc(), digits)?;
-        let mut tape = Cursor::new(bytes.as_slice());
-        match (number::read(&mut tape), wanted) {
-            (Ok(operand), Ok(bits)) => {
-                assert!(rt; operand.bits() == *bits, "at {digits}");
-                check_run(rt, digits, operand)?;
-            }
-            (Err(fault), Err(code)) => assert!(rt; fault.code() == *code, "at {digits}"),
-            _ => assert!(rt; false, "at {digits}"),
-        }
+/// Whether a number is read as wanted, and by a program as well.
+fn is_number<R: Abort>(
+    rt: &R,
+    alloc: Global,
+    bytes: &[u8],
+    read: &Result<Operand>,
+    wanted: &std::result::Result<i32, u8>,
+) -> bool {
+    match (read, wanted) {
+        (Ok(operand), Ok(bits)) => operand.bits() == *bits && is_run_so(rt, alloc, bytes, *operand),
+        (Err(fault), Err(code)) => fault.code() == *code,
+        _ => false,
     }
-    Ok(())
+}
+
+/// Reads a number, of a tape and in a program.
+pub fn check_number<R: Abort>(
+    rt: &R,
+    alloc: Global,
+    digits: &str,
+    wanted: &std::result::Result<i32, u8>,
+) {
+    let bytes = bytes_of(rt, alloc, digits);
+    let read = number::read(&mut Cursor::new(bytes.as_slice()));
+    holds(
+        rt,
+        is_number(rt, alloc, bytes.as_slice(), &read, wanted),
+        digits,
+    );
 }
 
 /// Each code, and no other, has its operator.
-fn check_operators<R: Abort>(rt: &R) -> Outcome<()> {
+fn check_operators<R: Abort>(rt: &R) {
     for (code, name) in OPERATORS {
-        assert!(rt; Operator::from(*code)?.name() == *name, "at {code}");
+        let operator = Operator::from(*code).expect(rt, "an operator");
+        holds_at(rt, operator.name() == *name, "code", usize::from(*code));
     }
     let mut known = 0usize;
     for code in 0..=u16::MAX {
-        match Operator::from(code) {
-            Ok(_) => known = known.saturating_add(1),
-            Err(fault) => assert!(rt; fault.code() == 9, "at {code}"),
+        let fault = code_of(Operator::from(code));
+        holds_at(rt, fault == 0 || fault == 9, "code", usize::from(code));
+        if fault == 0 {
+            known = known.saturating_add(1);
         }
     }
-    assert!(rt; known == OPERATORS.len());
-    Ok(())
+    holds(rt, known == OPERATORS.len(), "the number of operators");
 }
 
 /// Asks each operator how many operands it takes.
-fn check_lengths<R: Abort>(rt: &R) -> Outcome<()> {
+fn check_lengths<R: Abort>(rt: &R) {
     for (code, length, wanted) in LENGTHS {
-        assert!(rt;
-            Operator::from(*code)?.taken(*length) == *wanted,
-            "at {code}"
-        );
+        let operator = Operator::from(*code).expect(rt, "an operator");
+        let is_so = operator.taken(*length) == *wanted;
+        holds_at(rt, is_so, "code", usize::from(*code));
     }
-    Ok(())
 }
 
-/// Asks each operand.
-fn check_operands<R: AllocGlobal + Abort>(rt: &R) -> Outcome<()> {
-    for (bits, whole, text) in OPERANDS {
-        let operand = Operand::from_bits(*bits);
-        assert!(rt; operand.bits() == *bits);
-        assert!(rt; operand.to_int() == *whole, "at {bits}");
-        if let Some(number) = whole {
-            assert!(rt; Operand::from_int(*number) == operand, "at {bits}");
-        }
-        let shown = operand.to_string(rt.alloc())?;
-        assert!(rt; shown.as_str() == *text);
-    }
-    assert!(rt; Operand::from_int(-1) < Operand::from_bits(-1));
-    Ok(())
+/// Whether an operand has these bits, this whole number and this text.
+fn is_operand<R: Abort>(rt: &R, alloc: Global, bits: i32, whole: Option<i16>, text: &str) -> bool {
+    let operand = Operand::from_bits(bits);
+    let shown = operand.to_string(alloc).expect(rt, "memory");
+    let is_same = match whole {
+        Some(number) => Operand::from_int(number) == operand,
+        None => true,
+    };
+    is_same && operand.bits() == bits && operand.to_int() == whole && shown.as_str() == text
 }
 
 #[test]
-fn tables(rt: HostRuntime) -> Outcome<()> {
-    check_numbers(&rt)?;
-    check_operators(&rt)?;
-    check_lengths(&rt)?;
-    check_operands(&rt)
+fn tables(rt: HostRuntime) {
+    let alloc = rt.alloc();
+    for (digits, wanted) in NUMBERS {
+        check_number(&rt, alloc, digits, wanted);
+    }
+    check_operators(&rt);
+    check_lengths(&rt);
+    for (bits, whole, text) in OPERANDS {
+        holds(&rt, is_operand(&rt, alloc, *bits, *whole, text), text);
+    }
+    let order = Operand::from_int(-1) < Operand::from_bits(-1);
+    holds(&rt, order, "the order of operands");
 }

@@ -1,4 +1,5 @@
 //! Readings of tapes of every kind.
+use crate::checks::{code_of, holds, holds_at};
 use crate::tapes::{Trouble, TroubledTape};
 use postscript::tape::{Opaque, fixed, read_many};
 use postscript::{Error, Result, Tape};
@@ -7,25 +8,16 @@ use std::fs;
 use std::fs::File;
 use std::io::{BufReader, Cursor, ErrorKind};
 use std::process::Abort;
-use std::test::Fail;
-
-/// What a helper gives, or the error that fails its test.
-type Outcome<T> = std::result::Result<T, Fail>;
-
-/// The number of a refusal, 0 where there is none.
-pub fn code_of<T: Drop>(outcome: Result<T>) -> u8 {
-    match outcome {
-        Ok(_) => 0,
-        Err(e) => e.code(),
-    }
-}
 
 const TWELVE: [u8; 12] = [
     0x01, 0x02, 0x03, 0xff, 0x05, 0x06, 0x07, 0x08, 0x09, 0x0a, 0x0b, 0x0c,
 ];
 
+/// A value of each width.
+type Each = (u8, u16, u32, [u8; 3], [u8; 2]);
+
 /// Reads a value of each width.
-fn read_each<T: Tape>(alloc: Global, tape: &mut T) -> Result<(u8, u16, u32, [u8; 3], [u8; 2])> {
+fn read_each<T: Tape>(alloc: Global, tape: &mut T) -> Result<Each> {
     Ok((
         Tape::take(tape, alloc)?,
         Tape::take(tape, alloc)?,
@@ -33,6 +25,19 @@ fn read_each<T: Tape>(alloc: Global, tape: &mut T) -> Result<(u8, u16, u32, [u8;
         Tape::take(tape, alloc)?,
         fixed(tape)?,
     ))
+}
+
+/// The place of a tape.
+fn place_of<R: Abort, T: Tape>(rt: &R, tape: &mut T) -> u64 {
+    Tape::position(tape).expect(rt, "a place")
+}
+
+/// Whether a tape reads the twelve bytes, the high byte first, and no more.
+fn reads_each<R: Abort, T: Tape>(rt: &R, alloc: Global, tape: &mut T) -> bool {
+    let read = read_each(alloc, tape).expect(rt, "twelve bytes");
+    read == (0x01, 0x0203, 0xff05_0607, [0x08, 0x09, 0x0a], [0x0b, 0x0c])
+        && place_of(rt, tape) == 12
+        && code_of(Tape::take::<u8>(tape, alloc)) == 1
 }
 
 /// A place, the byte there, the number of the two bytes there, and the refusals of looks at two and at four bytes.
@@ -44,71 +49,92 @@ const PLACES: [(u64, u8, u16, u8, u8); 5] = [
     (1, 0x02, 0x0203, 0, 0),
 ];
 
+/// Whether a look at a byte and at two bytes sees these.
+fn sees<R: Abort, T: Tape>(rt: &R, alloc: Global, tape: &mut T, byte: u8, number: u16) -> bool {
+    let seen = tape.peek::<u8>(alloc).expect(rt, "a look");
+    seen == byte && tape.peek::<u16>(alloc).unwrap_or(0) == number
+}
+
+/// Whether looks at two and at four bytes are refused so.
+fn refuses<T: Tape>(alloc: Global, tape: &mut T, two: u8, four: u8) -> bool {
+    code_of(tape.peek::<u16>(alloc)) == two && code_of(tape.peek::<u32>(alloc)) == four
+}
+
+/// Whether a tape arrives at a place.
+fn arrives<R: Abort, T: Tape>(rt: &R, tape: &mut T, place: u64) -> bool {
+    tape.jump(place).expect(rt, "a jump") == place && place_of(rt, tape) == place
+}
+
+/// Whether a tape reads a byte at this place and goes on behind it.
+fn takes<R: Abort, T: Tape>(rt: &R, alloc: Global, tape: &mut T, place: u64, byte: u8) -> bool {
+    place_of(rt, tape) == place
+        && Tape::take::<u8>(tape, alloc).expect(rt, "a byte") == byte
+        && place_of(rt, tape) == place.saturating_add(1)
+}
+
 /// Reads the twelve bytes of a tape that stands at the first: the high byte comes first, jumps arrive, and looks stay.
-fn read_twelve<R: AllocGlobal + Abort, T: Tape>(rt: &R, tape: &mut T, name: &str) -> Outcome<()> {
-    let wanted = (0x01, 0x0203, 0xff05_0607, [0x08, 0x09, 0x0a], [0x0b, 0x0c]);
-    assert!(rt; read_each(rt.alloc(), tape)? == wanted, "at {name}");
-    assert!(rt; Tape::position(tape)? == 12, "at {name}");
-    assert!(rt;
-        code_of(Tape::take::<u8>(tape, rt.alloc())) == 1,
-        "at {name}"
-    );
+fn read_twelve<R: Abort, T: Tape>(rt: &R, alloc: Global, tape: &mut T, name: &str) {
+    holds(rt, reads_each(rt, alloc, tape), name);
     for (place, byte, number, two, four) in PLACES {
-        let arrived = (tape.jump(place)?, Tape::position(tape)?);
-        assert!(rt; arrived == (place, place), "at {name}");
-        let seen = (
-            tape.peek::<u8>(rt.alloc())?,
-            tape.peek::<u16>(rt.alloc()).unwrap_or(0),
-        );
-        let refused = (
-            code_of(tape.peek::<u16>(rt.alloc())),
-            code_of(tape.peek::<u32>(rt.alloc())),
-        );
-        assert!(rt;
-            seen == (byte, number) && refused == (two, four),
-            "at {name}"
-        );
-        let still_there = Tape::position(tape)?;
-        let taken = (Tape::take::<u8>(tape, rt.alloc())?, Tape::position(tape)?);
-        assert!(rt; still_there == place, "at {name}");
-        assert!(rt; taken == (byte, place.saturating_add(1)), "at {name}");
+        let is_so = arrives(rt, tape, place)
+            && sees(rt, alloc, tape, byte, number)
+            && refuses(alloc, tape, two, four)
+            && takes(rt, alloc, tape, place, byte);
+        holds_at(rt, is_so, name, place as usize);
     }
-    Ok(())
+}
+
+/// Reads cursors.
+pub fn read_cursors<R: Abort>(rt: &R, alloc: Global) {
+    read_twelve(rt, alloc, &mut Cursor::new(TWELVE.as_slice()), "a cursor");
+    let owned = Vec::from_slice(alloc, &TWELVE).expect(rt, "memory");
+    read_twelve(rt, alloc, &mut Cursor::new(owned), "a cursor of a vector");
+    let mut opaque = Opaque(Cursor::new(TWELVE.as_slice()));
+    read_twelve(rt, alloc, &mut &mut opaque, "an opaque cursor");
+    let buffered = BufReader::new(alloc, Cursor::new(TWELVE.as_slice()));
+    let mut buffered = buffered.expect(rt, "memory");
+    read_twelve(rt, alloc, &mut buffered, "a buffered cursor");
+}
+
+/// Reads tapes in spite of a trouble.
+fn read_troubled<R: Abort>(rt: &R, alloc: Global, trouble: Trouble) {
+    let mut tape = TroubledTape::new(&TWELVE, trouble);
+    read_twelve(rt, alloc, &mut tape, "a troubled tape");
+    let mut opaque = Opaque(TroubledTape::new(&TWELVE, trouble));
+    read_twelve(rt, alloc, &mut opaque, "an opaque troubled tape");
+    let buffered = BufReader::new(alloc, TroubledTape::new(&TWELVE, trouble));
+    let mut buffered = buffered.expect(rt, "memory");
+    read_twelve(rt, alloc, &mut buffered, "a buffered troubled tape");
+}
+
+/// A cursor goes past its end, where nothing can be read.
+fn go_past<R: Abort>(rt: &R, alloc: Global) {
+    let mut tape = Cursor::new(TWELVE.as_slice());
+    for place in [12, 13, u64::MAX] {
+        let arrived = tape.jump(place).expect(rt, "a jump");
+        holds(rt, arrived == place, "a place past the end");
+        let code = code_of(Tape::take::<u8>(&mut tape, alloc));
+        holds(rt, code == 1, "nothing past the end");
+    }
 }
 
 #[test]
-fn tapes(rt: HostRuntime) -> Outcome<()> {
-    read_twelve(&rt, &mut Cursor::new(TWELVE.as_slice()), "a cursor")?;
-    let owned = Vec::from_slice(rt.alloc(), &TWELVE)?;
-    read_twelve(&rt, &mut Cursor::new(owned), "a cursor of a vector")?;
-    let mut opaque = Opaque(Cursor::new(TWELVE.as_slice()));
-    read_twelve(&rt, &mut &mut opaque, "an opaque cursor")?;
-    let mut buffered = BufReader::new(rt.alloc(), Cursor::new(TWELVE.as_slice()))?;
-    read_twelve(&rt, &mut buffered, "a buffered cursor")?;
-    for trouble in [Trouble::Interrupted, Trouble::OneByte] {
-        let mut tape = TroubledTape::new(&TWELVE, trouble);
-        read_twelve(&rt, &mut tape, "a troubled tape")?;
-        let mut opaque = Opaque(TroubledTape::new(&TWELVE, trouble));
-        read_twelve(&rt, &mut opaque, "an opaque troubled tape")?;
-        let mut buffered = BufReader::new(rt.alloc(), TroubledTape::new(&TWELVE, trouble))?;
-        read_twelve(&rt, &mut buffered, "a buffered troubled tape")?;
-    }
-    fs::write(&rt, "twelve.bin", TWELVE.as_slice())?;
-    read_twelve(&rt, &mut File::open(&rt, "twelve.bin")?, "a file")?;
-    let mut buffered = BufReader::new(rt.alloc(), File::open(&rt, "twelve.bin")?)?;
-    read_twelve(&rt, &mut buffered, "a buffered file")?;
-    fs::remove_file(&rt, "twelve.bin")?;
-    // A cursor goes past its end, where nothing can be read.
-    let mut tape = Cursor::new(TWELVE.as_slice());
-    for place in [12, 13, u64::MAX] {
-        assert!(rt; tape.jump(place)? == place);
-        assert!(rt; code_of(tape.take::<u8>(rt.alloc())) == 1);
-    }
-    Ok(())
+fn tapes(rt: HostRuntime) {
+    let alloc = rt.alloc();
+    read_cursors(&rt, alloc);
+    read_troubled(&rt, alloc, Trouble::Interrupted);
+    read_troubled(&rt, alloc, Trouble::OneByte);
+    go_past(&rt, alloc);
+    fs::write(&rt, "twelve.bin", TWELVE.as_slice()).expect(&rt, "a file");
+    let mut file = File::open(&rt, "twelve.bin").expect(&rt, "a file");
+    read_twelve(&rt, alloc, &mut file, "a file");
+    let file = File::open(&rt, "twelve.bin").expect(&rt, "a file");
+    let mut buffered = BufReader::new(alloc, file).expect(&rt, "memory");
+    read_twelve(&rt, alloc, &mut buffered, "a buffered file");
+    fs::remove_file(&rt, "twelve.bin").expect(&rt, "a file");
 }
 
 /// What is asked of a tape.
-#[derive(Clone, Copy, Debug, PartialEq, Eq)]
 enum Question {
     /// A value of each width, of which the second is answered.
     Each,
@@ -121,17 +147,20 @@ enum Question {
 }
 
 /// What a troubled tape is handed in as.
-#[derive(Clone, Copy, Debug, PartialEq, Eq)]
 enum Wrapping {
     Bare,
     Opaque,
     Buffered,
 }
 
-const WRAPPINGS: [Wrapping; 3] = [Wrapping::Bare, Wrapping::Opaque, Wrapping::Buffered];
+const WRAPPINGS: &[(Wrapping, &str)] = &[
+    (Wrapping::Bare, "bare"),
+    (Wrapping::Opaque, "opaque"),
+    (Wrapping::Buffered, "buffered"),
+];
 
 /// What a tape answers.
-fn asked<T: Tape>(alloc: Global, tape: &mut T, question: Question) -> Result<u64> {
+fn asked<T: Tape>(alloc: Global, tape: &mut T, question: &Question) -> Result<u64> {
     match question {
         Question::Each => Ok(u64::from(read_each(alloc, tape)?.1)),
         Question::Byte => Ok(u64::from(Tape::take::<u8>(tape, alloc)?)),
@@ -140,27 +169,45 @@ fn asked<T: Tape>(alloc: Global, tape: &mut T, question: Question) -> Result<u64
     }
 }
 
-/// What a troubled tape answers in a wrapping, or the number of the refusal; 0 for a fault that is not the tape's own.
-fn answer(
+/// What a troubled tape answers in a wrapping.
+fn wrapped<R: Abort>(
+    rt: &R,
     alloc: Global,
     tape: &mut TroubledTape<'_>,
-    wrapping: Wrapping,
-    question: Question,
-) -> Outcome<std::result::Result<u64, u8>> {
-    let answer = match wrapping {
+    wrapping: &Wrapping,
+    question: &Question,
+) -> Result<u64> {
+    match wrapping {
         Wrapping::Bare => asked(alloc, tape, question),
         Wrapping::Opaque => asked(alloc, &mut Opaque(tape), question),
-        // With room for a byte nothing is read ahead.
-        Wrapping::Buffered => asked(
-            alloc,
-            &mut BufReader::with_capacity(alloc, 1, tape)?,
-            question,
-        ),
-    };
-    Ok(answer.map_err(|e| match e {
+        Wrapping::Buffered => {
+            // With room for a byte nothing is read ahead.
+            let buffered = BufReader::with_capacity(alloc, 1, tape);
+            asked(alloc, &mut buffered.expect(rt, "memory"), question)
+        }
+    }
+}
+
+/// The number of the refusal; 0 for a fault that is not the tape's own.
+fn number_of(refusal: Error) -> u8 {
+    match refusal {
         Error::Io(fault) if fault.kind() != ErrorKind::PermissionDenied => 0,
         e => e.code(),
-    }))
+    }
+}
+
+/// What a troubled tape answers in a wrapping, or the number of the refusal.
+fn answer<R: Abort>(
+    rt: &R,
+    alloc: Global,
+    tape: &mut TroubledTape<'_>,
+    wrapping: &Wrapping,
+    question: &Question,
+) -> std::result::Result<u64, u8> {
+    match wrapped(rt, alloc, tape, wrapping, question) {
+        Ok(number) => Ok(number),
+        Err(refusal) => Err(number_of(refusal)),
+    }
 }
 
 /// What is asked, what is answered, the place after it, and how many reads have been asked for by then.
@@ -209,62 +256,97 @@ const FAILING: &[(u32, &[Asked])] = &[
     (2, &[(Question::Look, Err(2), 2, 1)]),
 ];
 
-#[test]
-fn failing_tapes(rt: HostRuntime) -> Outcome<()> {
-    for (calls, row) in FAILING {
-        for wrapping in WRAPPINGS {
-            let mut tape = TroubledTape::new(&TWELVE, Trouble::FailsAfter(*calls));
-            for (question, wanted, place, reads) in *row {
-                let found = answer(rt.alloc(), &mut tape, wrapping, *question)?;
-                assert!(rt; found == *wanted, "at {calls} {wrapping:?} {question:?}");
-                assert!(rt;
-                    tape.place() == *place,
-                    "at {calls} {wrapping:?} {question:?}"
-                );
-                assert!(rt;
-                    tape.reads() == *reads,
-                    "at {calls} {wrapping:?} {question:?}"
-                );
-            }
-            assert!(rt; tape.failures() == 1, "at {calls} {wrapping:?}");
-        }
+/// Whether a troubled tape answers as wanted, and stands where it is wanted after so many reads.
+fn is_answered<R: Abort>(
+    rt: &R,
+    alloc: Global,
+    tape: &mut TroubledTape<'_>,
+    wrapping: &Wrapping,
+    asked: &Asked,
+) -> bool {
+    answer(rt, alloc, tape, wrapping, &asked.0) == asked.1
+        && tape.place() == asked.2
+        && tape.reads() == asked.3
+}
+
+/// Whether a tape that fails once answers each question as wanted.
+fn is_failing<R: Abort>(rt: &R, alloc: Global, row: &(u32, &[Asked]), wrapping: &Wrapping) -> bool {
+    let mut tape = TroubledTape::new(&TWELVE, Trouble::FailsAfter(row.0));
+    let mut is_so = true;
+    for asked in row.1 {
+        is_so = is_so && is_answered(rt, alloc, &mut tape, wrapping, asked);
     }
-    // Wanting bytes are the end of the tape, and no fault of it.
-    for length in 0..12usize {
-        for wrapping in WRAPPINGS {
-            let mut tape = TroubledTape::new(&TWELVE[..length], Trouble::OneByte);
-            let found = answer(rt.alloc(), &mut tape, wrapping, Question::Each)?;
-            assert!(rt; found == Err(1), "at {length} {wrapping:?}");
-            assert!(rt; tape.failures() == 0);
-        }
-    }
-    Ok(())
+    is_so && tape.failures() == 1
+}
+
+/// Wanting bytes are the end of the tape, and no fault of it.
+fn is_cut<R: Abort>(rt: &R, alloc: Global, length: usize, wrapping: &Wrapping) -> bool {
+    let bytes = TWELVE.get(..length).unwrap_or(&[]);
+    let mut tape = TroubledTape::new(bytes, Trouble::OneByte);
+    answer(rt, alloc, &mut tape, wrapping, &Question::Each) == Err(1) && tape.failures() == 0
 }
 
 #[test]
-fn lists(rt: HostRuntime) -> Outcome<()> {
-    let mut tape = Cursor::new([0x01, 0x02].as_slice());
-    let both: Vec<u8> = tape.take_given(rt.alloc(), 2)?;
-    assert!(rt; both.as_slice() == [0x01, 0x02].as_slice());
-    let none: Vec<u8> = tape.take_given(rt.alloc(), 0)?;
-    assert!(rt; none.is_empty());
-    for count in [3, 65_537, usize::MAX] {
-        tape.jump(0)?;
-        let refused: Result<Vec<u8>> = tape.take_given(rt.alloc(), count);
-        assert!(rt; code_of(refused) == 1);
+fn failing_tapes(rt: HostRuntime) {
+    let alloc = rt.alloc();
+    for (wrapping, name) in WRAPPINGS {
+        for (i, row) in FAILING.iter().enumerate() {
+            holds_at(&rt, is_failing(&rt, alloc, row, wrapping), name, i);
+        }
+        for length in 0..12usize {
+            holds_at(&rt, is_cut(&rt, alloc, length, wrapping), name, length);
+        }
     }
-    // Longer than the list grows at a time.
-    let zeros = vec![in rt.alloc(); 0u8; 150_000]?;
+}
+
+/// Whether so many bytes are refused as wanting.
+fn are_wanting(alloc: Global, count: usize) -> bool {
+    code_of(Cursor::new([0x01, 0x02].as_slice()).take_given::<Vec<u8>>(alloc, count)) == 1
+}
+
+/// Reads lists of bytes.
+fn check_bytes<R: Abort>(rt: &R, alloc: Global) {
+    let mut tape = Cursor::new([0x01, 0x02].as_slice());
+    let both = Tape::take_given::<Vec<u8>>(&mut tape, alloc, 2).expect(rt, "two bytes");
+    holds(rt, both.as_slice() == [0x01, 0x02].as_slice(), "two bytes");
+    let none = Tape::take_given::<Vec<u8>>(&mut tape, alloc, 0).expect(rt, "no bytes");
+    holds(rt, none.is_empty(), "no bytes");
+}
+
+/// Reads a list that is longer than it grows at a time.
+fn check_long<R: Abort>(rt: &R, alloc: Global) {
+    let zeros = vec![in alloc; 0u8; 150_000].expect(rt, "memory");
     let mut tape = Cursor::new(zeros);
-    let copied: Vec<u8> = tape.take_given(rt.alloc(), 150_000)?;
-    assert!(rt; copied.len() == 150_000);
-    assert!(rt; Tape::position(&mut tape)? == 150_000);
-    // Values of two bytes.
+    let copied = Tape::take_given::<Vec<u8>>(&mut tape, alloc, 150_000);
+    let copied = copied.expect(rt, "many bytes");
+    holds(rt, copied.len() == 150_000, "many bytes");
+    holds(rt, tape.position() == 150_000, "the place behind them");
+}
+
+/// Reads lists of numbers.
+fn check_numbers<R: Abort>(rt: &R, alloc: Global) {
     let mut tape = Cursor::new(TWELVE.as_slice());
-    let numbers: Vec<u16> = read_many(rt.alloc(), &mut tape, 3)?;
-    assert!(rt; numbers.as_slice() == [0x0102, 0x03ff, 0x0506].as_slice());
-    let none: Vec<u32> = read_many(rt.alloc(), &mut tape, 0)?;
-    assert!(rt; none.is_empty());
-    assert!(rt; code_of(read_many::<u16, _>(rt.alloc(), &mut tape, 4)) == 1);
-    Ok(())
+    let numbers = read_many::<u16, _>(alloc, &mut tape, 3).expect(rt, "numbers");
+    let wanted = [0x0102, 0x03ff, 0x0506];
+    holds(rt, numbers.as_slice() == wanted.as_slice(), "three numbers");
+    let none = read_many::<u32, _>(alloc, &mut tape, 0);
+    holds(rt, none.expect(rt, "no numbers").is_empty(), "no numbers");
+    let code = code_of(read_many::<u16, _>(alloc, &mut tape, 4));
+    holds(rt, code == 1, "a number too many");
+}
+
+/// Reads lists that are there.
+pub fn check_lists<R: Abort>(rt: &R, alloc: Global) {
+    check_bytes(rt, alloc);
+    check_long(rt, alloc);
+    check_numbers(rt, alloc);
+}
+
+#[test]
+fn lists(rt: HostRuntime) {
+    let alloc = rt.alloc();
+    check_lists(&rt, alloc);
+    holds(&rt, are_wanting(alloc, 3), "one byte is wanting");
+    holds(&rt, are_wanting(alloc, 65_537), "many are wanting");
+    holds(&rt, are_wanting(alloc, usize::MAX), "all are wanting");
 }

@@ -30,20 +30,26 @@ pub fn charstring(alloc: Global, operations: usize) -> Result<Vec<u8>, AllocErro
     let mut code = Vec::new(alloc);
     let mut seed = 1u32;
     for i in 0..operations {
-        if i < 2 {
-            push_numbers(&mut code, &mut seed, 4)?;
-            code.push(if i == 0 { 0x12 } else { 0x17 })?;
-        } else if i % 32 == 0 {
-            code.push(0x13)?;
-            code.push(drawn(&mut seed))?;
-        } else {
-            let (operator, operands) = SHAPES[usize::from(drawn(&mut seed) % 16)];
-            push_numbers(&mut code, &mut seed, operands)?;
-            code.push(operator)?;
-        }
+        push_operation(&mut code, &mut seed, i)?;
     }
     code.push(0x0e)?;
     Ok(code)
+}
+
+/// Adds the operation of this number.
+fn push_operation(code: &mut Vec<u8>, seed: &mut u32, i: usize) -> Result<(), AllocError> {
+    if i % 32 == 0 && i > 0 {
+        code.extend_from_slice(&[0x13, drawn(seed)])?;
+    } else {
+        let (operator, operands) = match i {
+            0 => (0x12, 4),
+            1 => (0x17, 4),
+            _ => SHAPES[usize::from(drawn(seed) % 16)],
+        };
+        push_numbers(code, seed, operands)?;
+        code.push(operator)?;
+    }
+    Ok(())
 }
 
 /// The next byte of the linear congruence.

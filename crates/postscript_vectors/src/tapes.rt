@@ -4,7 +4,7 @@ use std::io;
 use std::io::{Cursor, ErrorKind, Read, Seek, SeekFrom};
 
 /// How a tape misbehaves.
-#[derive(Clone, Copy, Debug, PartialEq, Eq)]
+#[derive(Clone, Copy)]
 pub enum Trouble {
     /// So many reads and seeks pass, and the next one fails with the kind `PermissionDenied`; then it goes on.
     FailsAfter(u32),
@@ -12,6 +12,10 @@ pub enum Trouble {
     Interrupted,
     /// Each read gives one byte.
     OneByte,
+    /// It tells the last place of all, wherever it is sent.
+    Far,
+    /// It holds zeros without end, and tells the place 0, wherever it is sent.
+    Still,
 }
 
 /// A tape over bytes in memory that misbehaves, and counts its reads and its failures.
@@ -75,6 +79,10 @@ impl<'l> Read for TroubledTape<'l> {
                 Err(io::Error::from(ErrorKind::Interrupted))
             }
             Some(Trouble::OneByte) if buf.len() > 1 => self.bytes.read(&mut buf[..1]),
+            Some(Trouble::Still) => {
+                buf.fill(0);
+                Ok(buf.len())
+            }
             _ => self.bytes.read(buf),
         }
     }
@@ -83,38 +91,15 @@ impl<'l> Read for TroubledTape<'l> {
 impl<'l> Seek for TroubledTape<'l> {
     fn seek(&mut self, to: SeekFrom) -> io::Result<u64> {
         self.count()?;
-        self.bytes.seek(to)
+        match self.trouble {
+            Some(Trouble::Far) => Ok(u64::MAX),
+            Some(Trouble::Still) => Ok(0),
+            _ => self.bytes.seek(to),
+        }
     }
 }
 
 impl<'l> ReadSeek for TroubledTape<'l> {
-    fn read_full(&mut self, buf: &mut [u8]) -> io::Result<()> {
-        self.read_exact(buf)
-    }
-
-    fn seek_to(&mut self, to: SeekFrom) -> io::Result<u64> {
-        self.seek(to)
-    }
-}
-
-/// A tape of zeros without end that tells the place 0, wherever it is sent.
-#[derive(Debug, Drop)]
-pub struct Still;
-
-impl Read for Still {
-    fn read(&mut self, buf: &mut [u8]) -> io::Result<usize> {
-        buf.fill(0);
-        Ok(buf.len())
-    }
-}
-
-impl Seek for Still {
-    fn seek(&mut self, _to: SeekFrom) -> io::Result<u64> {
-        Ok(0)
-    }
-}
-
-impl ReadSeek for Still {
     fn read_full(&mut self, buf: &mut [u8]) -> io::Result<()> {
         self.read_exact(buf)
     }

@@ -1,0 +1,64 @@
+//! How a test fails, and the bytes and texts that tests compare.
+use postscript::Result;
+use std::alloc::Global;
+use std::fmt::Display;
+use std::process::Abort;
+
+/// Fails the test where a fact does not hold, and names the fact.
+pub fn holds<R: Abort>(rt: &R, is_so: bool, fact: &str) {
+    if !is_so {
+        rt.panic(fact)
+    }
+}
+
+/// Fails the test where a fact does not hold, and names where.
+pub fn holds_at<R: Abort>(rt: &R, is_so: bool, place: &str, number: usize) {
+    if !is_so {
+        panic!(rt; "at {place} {number}")
+    }
+}
+
+/// Fails the test where a text is not the wanted one, and names where.
+pub fn is_text<R: Abort>(rt: &R, found: &str, wanted: &str, place: &str) {
+    if found != wanted {
+        panic!(rt; "at {place}: {found}")
+    }
+}
+
+/// The number of a refusal, 0 where there is none.
+pub fn code_of<T: Drop>(outcome: Result<T>) -> u8 {
+    match outcome {
+        Ok(_) => 0,
+        Err(e) => e.code(),
+    }
+}
+
+/// Adds a word to a text.
+pub fn put<R: Abort>(rt: &R, text: &mut String, word: &str) {
+    text.push_str(word).expect(rt, "memory");
+}
+
+/// Adds a word to a text, and a value as it is shown.
+pub fn put_shown<R: Abort, D: Display>(rt: &R, text: &mut String, word: &str, value: &D) {
+    write!(text, "{word}{value}").expect(rt, "memory");
+}
+
+/// The bytes that hex digits with spaces spell.
+pub fn bytes_of<R: Abort>(rt: &R, alloc: Global, digits: &str) -> Vec<u8> {
+    let mut plain = Vec::new(alloc);
+    for digit in digits.as_bytes() {
+        if *digit != b' ' {
+            plain.push(*digit).expect(rt, "memory");
+        }
+    }
+    hex::decode(alloc, plain.as_slice()).expect(rt, "hex digits")
+}
+
+/// Bytes with one of them changed.
+pub fn changed<R: Abort>(rt: &R, alloc: Global, digits: &str, place: usize, byte: u8) -> Vec<u8> {
+    let mut bytes = bytes_of(rt, alloc, digits);
+    if let Some(at) = bytes.get_mut(place) {
+        *at = byte;
+    }
+    bytes
+}
