@@ -1,5 +1,5 @@
-//! Sessions with faults and with waits, and starts by words. What the lines of a session are answered with, the stored run
-//! shows: `stdin` and `stdout`.
+//! Sessions with faults and with waits, and starts by words. The stored run, `stdin` and `stdout`, shows what lines are
+//! answered with.
 mod starts;
 
 use super::session;

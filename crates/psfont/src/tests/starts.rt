@@ -7,8 +7,9 @@ use std::test::Fail;
 
 const USAGE: &str = "usage: psfont [font PATH | lenient PATH]\n";
 
-/// A font of the name A with one glyph: its header, its names, its dictionary (`CharStrings` at 24; `Private` of 2 bytes at
-/// 30), no strings, no global subroutines, its char strings, its private dictionary (`Subrs` 2 behind it), no local ones.
+/// A font of the name A with one glyph: its header, its names, its dictionary (`CharStrings` at 24; `Private` of 2 bytes
+/// at 30), no strings, no global subroutines, its char strings, its private dictionary (`Subrs` 2 behind it), and no local
+/// subroutines.
 const FONT: &[u8] = &[
     1, 0, 4, 1, 0, 1, 1, 1, 2, 0x41, 0, 1, 1, 1, 6, 0xa3, 0x11, 0x8d, 0xa9, 0x12, 0, 0, 0, 0, 0, 1,
     1, 1, 2, 0x0e, 0x8d, 0x13, 0, 0,
@@ -20,13 +21,14 @@ const NO_LOCALS: &[u8] = &[
     1, 1, 2, 0x0e, 0x8d, 0x14, 0, 0,
 ];
 
-/// What is printed of it.
+/// What is printed of the one, and of the other where it is read leniently.
 const ONE_GLYPH: &str =
     "header 1 0 4 1\nnames 1\nname A\nstrings 0\nglobals 0\ndictionaries 1\nfont Standard ISOAdobe glyphs 1 locals 0\nend\n";
 
-/// A font with no names and no dictionaries, and what is printed of it.
+/// A font with no names and no dictionaries.
 const NO_NAMES: &[u8] = &[0, 0, 0, 0, 0, 0, 0, 0];
 
+/// What is printed of it.
 const NOTHING: &str = "header 0 0 0 0\nnames 0\nstrings 0\nglobals 0\ndictionaries 0\nend\n";
 
 /// Names with offsets of 5 bytes.
