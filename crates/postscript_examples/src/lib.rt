@@ -8,5 +8,3 @@ pub mod glyphs;
 pub mod own_tapes;
 pub mod readers;
 pub mod tapes;
-#[cfg(test)]
-mod tests;

@@ -14,6 +14,8 @@ mod dictionaries;
 #[cfg(test)]
 mod errors;
 #[cfg(test)]
+mod examples;
+#[cfg(test)]
 mod flat;
 #[cfg(test)]
 mod fonts;

@@ -1,13 +1,13 @@
 //! Each example once.
-use crate::dictionaries::{dictionary_of, italic_angle, texts_of};
-use crate::flat::{flat, flat_glyphs_of};
-use crate::fonts::{font_of, glyphs_of, names_of};
-use crate::glyphs::{Glyph, each_glyph, glyph, operand_count};
-use crate::own_tapes::{Counted, held_font};
-use crate::tapes::{first_byte_twice, first_number};
 use postscript::compact1::{FontSet, Operator as Key};
 use postscript::type2::{Operand, Operator};
 use postscript::{Error, Value};
+use postscript_examples::dictionaries::{dictionary_of, italic_angle, texts_of};
+use postscript_examples::flat::{flat, flat_glyphs_of};
+use postscript_examples::fonts::{font_of, glyphs_of, names_of};
+use postscript_examples::glyphs::{Glyph, each_glyph, glyph, operand_count};
+use postscript_examples::own_tapes::{Counted, held_font};
+use postscript_examples::tapes::{first_byte_twice, first_number};
 use std::alloc::Global;
 use std::io::Cursor;
 use std::test::Fail;
