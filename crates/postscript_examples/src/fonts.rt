@@ -22,9 +22,10 @@ pub fn font_of(alloc: Global, bytes: &[u8]) -> Result<FontSet>
     FontSet::read(alloc, &mut tape)
 }
 
-/// The names of the fonts that bytes hold.
+/// The names of the fonts that bytes hold. They are answered exactly where a font stands, want of memory aside.
 pub fn names_of(alloc: Global, bytes: &[u8]) -> Result<Vec<String>>
     ensures names { IfOk result (λ names. (font : Font) × (next : ℕ) × IsFont bytes.now 0 font next × (font.names ≡ map string_bytes names.items)) }
+    ensures only { IfErr result (λ e. e ≢ Error.Memory → (font : Font) (next : ℕ) → IsFont bytes.now 0 font next → ⊥) }
 {
     let font = font_of(alloc, bytes)?;
     Ok(font.names)
