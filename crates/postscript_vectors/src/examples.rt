@@ -7,6 +7,9 @@ use postscript_examples::flat::{flat, flat_glyphs_of};
 use postscript_examples::fonts::{font_of, glyphs_of, names_of};
 use postscript_examples::glyphs::{Glyph, each_glyph, glyph, operand_count};
 use postscript_examples::own_tapes::{Counted, held_font};
+use postscript_examples::readers::{
+    Rising, Run, Size, offsets, private_size, runs, texts, word_at, words,
+};
 use postscript_examples::tapes::{first_byte_twice, first_number};
 use std::alloc::Global;
 use std::io::Cursor;
@@ -170,5 +173,47 @@ fn readers_of_ones_own(rt: HostRuntime) -> Result<(), Fail> {
     };
     assert!(rt; is_named(FontSet::read(rt.alloc(), &mut counted)));
     assert!(rt; counted.reads > 0);
+    Ok(())
+}
+
+/// Two offsets, two runs of two glyphs each, texts of two bytes and of one, a size, and a number.
+const PARTS: [u8; 13] = [0, 1, 0, 5, 1, 1, b'a', b'b', b'c', 0, 7, 0x12, 0x34];
+
+/// Whether offsets are 1 and 5.
+fn rise(offsets: &[Rising]) -> bool {
+    match offsets {
+        [first, second] => first.0 == 1 && second.0 == 5,
+        _ => false,
+    }
+}
+
+/// Whether two runs cover two glyphs each.
+fn cover(runs: &[Run]) -> bool {
+    match runs {
+        [first, second] => first.0 == 1 && second.0 == 1,
+        _ => false,
+    }
+}
+
+/// Whether texts are `ab` and `c`.
+fn are_two(texts: &[Vec<u8>]) -> bool {
+    match texts {
+        [first, second] => first.as_slice() == b"ab".as_slice()
+            && second.as_slice() == b"c".as_slice(),
+        _ => false,
+    }
+}
+
+#[test]
+fn loops_of_ones_own(rt: HostRuntime) -> Result<(), Fail> {
+    let mut tape = Cursor::new(PARTS.as_slice());
+    let rising = offsets(rt.alloc(), &mut tape, 2)?;
+    assert!(rt; rise(&rising));
+    let covering = runs(rt.alloc(), &mut tape, 4)?;
+    assert!(rt; cover(&covering));
+    assert!(rt; are_two(&texts(rt.alloc(), &mut tape, &[Size(2), Size(1)])?));
+    assert!(rt; private_size(rt.alloc(), &mut tape)? == 7);
+    assert!(rt; words(rt.alloc(), &mut tape)?.as_slice() == [0x1234].as_slice());
+    assert!(rt; word_at(rt.alloc(), &mut tape, 0)? == 1);
     Ok(())
 }
