@@ -31,6 +31,10 @@ mod parts;
 mod programs;
 #[cfg(test)]
 mod readings;
+#[cfg(test)]
+mod sessions;
+#[cfg(test)]
+mod starts;
 pub mod synthetic;
 #[cfg(test)]
 mod tapes;

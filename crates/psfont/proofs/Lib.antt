@@ -1,2 +1,0 @@
-mod Known
-mod Places

@@ -1,8 +1,8 @@
 -- What a look at the input moves, where the reader's bytes are known.
 use Rattle.std.specs.Prelude.{◌≡◌, ◌≢◌, ℕ, List, [], ◌∷◌, ◌++◌, Option, All, IfSome}
 use Rattle.std.specs.Io.KnownBytes.{Consumes, IsAtEnd}
-use Rattle.psfont.specs.declared.lines.Piece.{Piece}
-use Rattle.psfont.specs.declared.lines.Piece.TheVariants.{Part, Line, End}
+use Rattle.psfont_session.specs.declared.lines.Piece.{Piece}
+use Rattle.psfont_session.specs.declared.lines.Piece.TheVariants.{Part, Line, End}
 
 -- the bytes that a reader gives up with a piece: a line end goes with the line
 abbrev pub spent : Piece → List ℕ → List ℕ

@@ -9,7 +9,7 @@ use Rattle.std.specs.List.{position_or_len}
 use Rattle.std.proofs.lemmas.Bool.{ltb-false}
 use Rattle.std.proofs.lemmas.List.Quantifiers.{position-Some}
 use Rattle.std.proofs.lemmas.List.Sums.{fails_before_first}
-use Rattle.psfont.specs.Piece.{GoesOn}
+use Rattle.psfont_session.specs.Piece.{GoesOn}
 
 -- the first place is none only where the test fails
 cond-None : (found : Bool) (place : ℕ) → cond found (Some place) None ≡ None → found ≡ false

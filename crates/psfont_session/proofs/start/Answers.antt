@@ -1,7 +1,7 @@
 use Rattle.std.proofs.Common.{rules, ◌≡◌, ap, map, inl, inr, string_bytes}
 use Rattle.std.specs.Prelude.{codes}
-use Rattle.psfont.proofs.Known.{of_two}
-use Rattle.psfont.proofs.start.Goals as goal
+use Rattle.psfont_session.proofs.Known.{of_two}
+use Rattle.psfont_session.proofs.start.Goals as goal
 
 pub returns-in-len2-clause-usage : goal.returns-in-len2-clause-usage
 returns-in-len2-clause-usage g c = (

@@ -1,6 +1,6 @@
 //! What a line asks for.
 ghost use Rattle.std.specs.Prelude.{◌≡◌, Some, IfSome};
-ghost use Rattle.psfont.specs.Line.{word_of, argument_of};
+ghost use Rattle.psfont_session.specs.Line.{word_of, argument_of};
 
 use crate::lines::first_place;
 
@@ -38,8 +38,8 @@ pub enum Manner {
 }
 
 impl Command {
-    ghost use Rattle.psfont.specs.Command.{name_of};
-    ghost use Rattle.psfont.specs.declared.command.Command.{Command};
+    ghost use Rattle.psfont_session.specs.Command.{name_of};
+    ghost use Rattle.psfont_session.specs.declared.command.Command.{Command};
 
     /// The command that a word names.
     pub fn named(word: &[u8]) -> Option<Command>

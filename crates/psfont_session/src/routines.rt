@@ -1,7 +1,7 @@
 //! What a run is given.
 ghost use Rattle.std.specs.Prelude.{◌≡◌, [], OnOk, OnErr, ◌∷◌, map, vec_items};
 ghost use Rattle.postscript.specs.Error.{IsListed};
-ghost use Rattle.psfont.specs.Loaded.{Loaded, put};
+ghost use Rattle.psfont_session.specs.Loaded.{Loaded, put};
 
 use crate::command::Place;
 use postscript::Result;

@@ -1,9 +1,9 @@
 -- The commands.
 use Rattle.std.specs.Prelude.{ℕ, List, codes}
-use Rattle.psfont.specs.declared.command.Command.{Command}
-use Rattle.psfont.specs.declared.command.Command.TheVariants.{Load, Run, Flat, Font}
-use Rattle.psfont.specs.declared.command.Manner.TheVariants.{Strict, Lenient}
-use Rattle.psfont.specs.declared.command.Place.TheVariants.{Code, Global, Local}
+use Rattle.psfont_session.specs.declared.command.Command.{Command}
+use Rattle.psfont_session.specs.declared.command.Command.TheVariants.{Load, Run, Flat, Font}
+use Rattle.psfont_session.specs.declared.command.Manner.TheVariants.{Strict, Lenient}
+use Rattle.psfont_session.specs.declared.command.Place.TheVariants.{Code, Global, Local}
 
 -- what a command is called
 abbrev pub name_of : Command → List ℕ

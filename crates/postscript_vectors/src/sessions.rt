@@ -1,9 +1,7 @@
-//! Sessions with faults and with waits, and starts by words. The stored run, `stdin` and `stdout`, shows what lines are
+//! Sessions with faults and with waits. The stored run of `psfont`, its files `stdin` and `stdout`, shows what lines are
 //! answered with.
-mod starts;
-
-use super::session;
 use postscript::Result as Outcome;
+use psfont_session::session;
 use std::cell::Cell;
 use std::io;
 use std::io::{BufRead, ErrorKind, Read, Write};

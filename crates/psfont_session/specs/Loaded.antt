@@ -1,11 +1,11 @@
 -- What a run is given, and what a line of the input makes of it.
 use Rattle.std.specs.Prelude.{◌≡◌, ℕ, List, [], ◌∷◌, ◌++◌, Ok}
 use Rattle.hex.specs.Hex.{decode_of}
-use Rattle.psfont.specs.Command.{name_of}
-use Rattle.psfont.specs.Line.{word_of, argument_of}
-use Rattle.psfont.specs.declared.command.Command.TheVariants.{Load}
-use Rattle.psfont.specs.declared.command.Place.{Place}
-use Rattle.psfont.specs.declared.command.Place.TheVariants.{Code, Global, Local}
+use Rattle.psfont_session.specs.Command.{name_of}
+use Rattle.psfont_session.specs.Line.{word_of, argument_of}
+use Rattle.psfont_session.specs.declared.command.Command.TheVariants.{Load}
+use Rattle.psfont_session.specs.declared.command.Place.{Place}
+use Rattle.psfont_session.specs.declared.command.Place.TheVariants.{Code, Global, Local}
 
 -- the code, and the subroutines that it may call
 pub record Loaded : Type 0 where

@@ -1,5 +1,5 @@
-//! What the program does by the words after its name.
-use crate::start;
+//! What `psfont` does by the words after its name.
+use psfont_session::start;
 use std::alloc::{AllocError, Global};
 use std::fs;
 use std::io::BufWriter;

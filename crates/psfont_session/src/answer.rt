@@ -2,8 +2,8 @@
 ghost use Rattle.std.specs.Prelude.{◌≡◌, List, [], ℕ, Ok, None, IsErr, IfOk, IfSome, ◌∷◌, OnOk, MatchResult};
 ghost use Rattle.hex.specs.Hex.{decode_of};
 ghost use Rattle.postscript.specs.Error.{IsListed};
-ghost use Rattle.psfont.specs.declared.command.Place.{Place};
-ghost use Rattle.psfont.specs.Loaded.{put, Loads};
+ghost use Rattle.psfont_session.specs.declared.command.Place.{Place};
+ghost use Rattle.psfont_session.specs.Loaded.{put, Loads};
 
 use crate::command::{Command, Manner, Place, split};
 use crate::routines::Routines;

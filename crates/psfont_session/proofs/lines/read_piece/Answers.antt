@@ -2,11 +2,11 @@ use Rattle.std.proofs.Common.{rules, arith, Bool, true, false, Ok, Result, refl,
 use Rattle.std.specs.Io.KnownBytes.{Consumes}
 use Rattle.std.specs.Io.BufRead.{FillKeeps}
 use Rattle.std.proofs.BufReadLemmas.{Consumes_shown}
-use Rattle.psfont.proofs.Places.{All-position-None, All-position-Some, take-past-position, take-whole, goes_on}
+use Rattle.psfont_session.proofs.Places.{All-position-None, All-position-Some, take-past-position, take-whole, goes_on}
 use Rattle.postscript.specs.declared.error.Error.{Error}
-use Rattle.psfont.specs.declared.lines.Piece.{Piece}
-use Rattle.psfont.specs.declared.lines.Piece.TheVariants.{Line}
-use Rattle.psfont.proofs.lines.read_piece.Goals as goal
+use Rattle.psfont_session.specs.declared.lines.Piece.{Piece}
+use Rattle.psfont_session.specs.declared.lines.Piece.TheVariants.{Line}
+use Rattle.psfont_session.proofs.lines.read_piece.Goals as goal
 
 -- a line tells what it tells
 more_of : (more : Bool) → ◌≡◌ {A = Result Piece Error} (Ok (Line more)) (Ok (Line true)) → more ≡ true

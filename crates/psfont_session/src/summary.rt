@@ -3,7 +3,7 @@ ghost use Rattle.std.specs.Prelude.{[], ◌∷◌};
 ghost use Rattle.postscript.specs.Error.{IsListed};
 ghost use Rattle.postscript.specs.Tape.{Reads};
 ghost use Rattle.postscript.specs.FontSet.Shown.{font_shown};
-ghost use Rattle.psfont.specs.Manner.{reading_of};
+ghost use Rattle.psfont_session.specs.Manner.{reading_of};
 
 use crate::command::Manner;
 use postscript::compact1::FontSet;

@@ -2,8 +2,8 @@
 ghost use Rattle.std.specs.Prelude.{◌≡◌, ◌≢◌, ◌==◌, position, ℕ, List, [], ◌∷◌, ◌++◌, true, Ok, IfOk, OnErr};
 ghost use Rattle.std.specs.Io.KnownBytes.{IsAtEnd};
 ghost use Rattle.postscript.specs.Error.{IsListed};
-ghost use Rattle.psfont.specs.declared.lines.Piece.TheVariants as Piece;
-ghost use Rattle.psfont.specs.Piece.{GoesOn, Moves};
+ghost use Rattle.psfont_session.specs.declared.lines.Piece.TheVariants as Piece;
+ghost use Rattle.psfont_session.specs.Piece.{GoesOn, Moves};
 
 use postscript::Result;
 use std::io::{BufRead, ErrorKind};

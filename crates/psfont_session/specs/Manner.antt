@@ -2,8 +2,8 @@
 use Rattle.postscript.specs.Tape.Outcome.{Reading}
 use Rattle.postscript.specs.FontSet.Font.{Font}
 use Rattle.postscript.specs.FontSet.Order.{font, lenient_font}
-use Rattle.psfont.specs.declared.command.Manner.{Manner}
-use Rattle.psfont.specs.declared.command.Manner.TheVariants.{Strict, Lenient}
+use Rattle.psfont_session.specs.declared.command.Manner.{Manner}
+use Rattle.psfont_session.specs.declared.command.Manner.TheVariants.{Strict, Lenient}
 
 -- the reading of a manner
 abbrev pub reading_of : Manner → Reading Font
