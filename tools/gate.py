@@ -64,11 +64,11 @@ def main():
         gate = subprocess.Popen(["taskset", "-c", processors, "rt", "ci"], stdout=out, stderr=subprocess.STDOUT)
         while gate.poll() is None:
             for pid, taken in below(gate.pid):
-                if pid not in parts:
+                # (a process is seen before it is the prover)
+                if not parts.get(pid):
                     parts[pid] = part_of(pid)
-                    lane.setdefault(parts[pid], [time.time(), 0])
                 seconds[pid] = taken
-                lane[parts[pid]][1] = time.time()
+                lane.setdefault(parts[pid], [time.time(), 0])[1] = time.time()
             time.sleep(0.25)
     ended = time.time()
     sums = collections.Counter()
