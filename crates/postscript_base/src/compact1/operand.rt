@@ -121,7 +121,7 @@ fn raised(mantissa: i64, exponent: i32) -> i128
     requires high { exponent ≤ℤ pos 9 }
     ensures { result ≡ scaled mantissa (unsigned_abs exponent) }
 {
-    i128::from(mantissa) * i128::from(10u64.pow(exponent as u32))
+    i128::from(mantissa) * i128::from(10u32.pow(exponent as u32))
 }
 
 /// A number, where it is in the range of `i32`.
