@@ -1,9 +1,8 @@
 -- Phrases as they are spelled, and as they are read.
 use Rattle.std.proofs.Math.Seq.{drop-append_seam, take-append-add}
-use Rattle.std.proofs.lemmas.Bool.{le-ltb, lt-ltb}
-use Rattle.std.proofs.lemmas.Bool.Decides.{nat_tests}
+use Rattle.std.proofs.lemmas.Bool.{eqb-true, eqb-false, ltb-true, ltb-false, le-ltb, lt-ltb, ne_eqb}
 use Rattle.std.proofs.lemmas.List.{append-nil, take-append-drop, length-take-le}
-use Rattle.std.proofs.Common.{◌≡◌, ◌≢◌, refl, ap, sym, subst, ◌∙◌, ℕ, zero, suc, ◌+◌, ◌-◌, ◌<◌, ◌≤◌, ◌⊎◌, inl, inr, ℤ, pos, ◌-ℤ◌, Bool, true, false, cond, nat_lt, ◌==◌, List, [], ◌∷◌, ◌++◌, length, length-append, length-drop, take, drop, append_assoc, zero-add, Option, Some, None, if◌then◌else◌, arith}
+use Rattle.std.proofs.Common.{◌≡◌, ◌≢◌, refl, ap, sym, subst, ◌∙◌, ℕ, zero, suc, ◌+◌, ◌-◌, ◌<◌, ◌≤◌, ◌⊎◌, inl, inr, ℤ, pos, ◌-ℤ◌, Bool, true, false, cond, nat_lt, ◌==◌, ◌||◌, List, [], ◌∷◌, ◌++◌, length, length-append, length-drop, take, drop, append_assoc, zero-add, Option, Some, None, if◌then◌else◌, arith}
 use Rattle.postscript_base.specs.Numbers.{slice, number as unsigned, big_endian, two_sided, above, below}
 use Rattle.postscript_base.specs.Tape.Outcome.{Got, Fault, end, Reading, after, ◌>>=◌, pure, fault}
 use Rattle.postscript_base.specs.Refusal.{Refusal, unexpected_eof, malformed_number}
@@ -15,6 +14,25 @@ use Rattle.postscript_type2.specs.Program.Parsing.{Phrase, Complete, NoPhrase, i
 use Rattle.postscript_type2.specs.Program.Phrases as spellings
 use Rattle.postscript_type2.specs.Program.Phrases.{IsNumber, IsPhrase, HasNoPhrase}
 use Rattle.postscript_type2.proofs.Fronts.{number-first, phrase-from}
+
+-- tests, by what they tell
+differs : (a b : ℕ) → b < a → (a == b) ≡ false
+differs a b h = ne_eqb a b (λ e. omega (arith, h, e))
+
+either : (t u : Bool) → u ≡ true → (t || u) ≡ true
+either true u h = refl
+either false u h = h
+
+second-of : (t u : Bool) → (t || u) ≡ true → t ≡ false → u ≡ true
+second-of true u h e = absurd (cc)
+second-of false u h e = h
+
+neither : (t u : Bool) → (t || u) ≡ false → (t ≡ false) × (u ≡ false)
+neither true u h = absurd (cc)
+neither false u h = (refl, h)
+
+no-number_by : (b : ℕ) → (b == 0x1c) ≡ false → b < 0x20 → is_number b ≡ false
+no-number_by b e low = ap (λ t. t || nat_lt 0x1f b) e ∙ le-ltb 0x1f b (omega (arith, low))
 
 -- which reading a first byte begins
 hit : (b : Bool) (x y : Reading ℤ) (bytes : List ℕ) (place : ℕ) → b ≡ true → (if b then x else y) bytes place ≡ x bytes place
@@ -39,14 +57,14 @@ four = unsigned 4 >>= λ bits. pure (two_sided 0x80000000 bits)
 
 reads-small : (b : ℕ) (r : List ℕ) → 0x20 ≤ b → b < 0xf7 → spelled b r 0 ≡ Got (whole (pos b -ℤ pos 139)) 0
 reads-small b r low high =
-    let n0 : (b == 0x1c) ≡ false = grind (arith, nat_tests) in
+    let n0 = differs b 0x1c (omega (arith, low)) in
     let n1 : nat_lt b 0x20 ≡ false = le-ltb b 0x20 (omega (arith, low)) in
     let n2 : nat_lt b 0xf7 ≡ true = lt-ltb b 0xf7 (omega (arith, high)) in
     skip (b == 0x1c) two _ r 0 n0 ∙ skip (nat_lt b 0x20) (fault malformed_number) _ r 0 n1 ∙ hit (nat_lt b 0xf7) (pure (whole (pos b -ℤ pos 139))) _ r 0 n2
 
 reads-above : (b : ℕ) (r : List ℕ) → 0xf7 ≤ b → b < 0xfb → spelled b r 0 ≡ one_above b r 0
 reads-above b r low high =
-    let n0 : (b == 0x1c) ≡ false = grind (arith, nat_tests) in
+    let n0 = differs b 0x1c (omega (arith, low)) in
     let n1 : nat_lt b 0x20 ≡ false = le-ltb b 0x20 (omega (arith, low)) in
     let n2 : nat_lt b 0xf7 ≡ false = le-ltb b 0xf7 (omega (arith, low)) in
     let n3 : nat_lt b 0xfb ≡ true = lt-ltb b 0xfb (omega (arith, high)) in
@@ -55,7 +73,7 @@ reads-above b r low high =
 
 reads-below : (b : ℕ) (r : List ℕ) → 0xfb ≤ b → b < 0xff → spelled b r 0 ≡ one_below b r 0
 reads-below b r low high =
-    let n0 : (b == 0x1c) ≡ false = grind (arith, nat_tests) in
+    let n0 = differs b 0x1c (omega (arith, low)) in
     let n1 : nat_lt b 0x20 ≡ false = le-ltb b 0x20 (omega (arith, low)) in
     let n2 : nat_lt b 0xf7 ≡ false = le-ltb b 0xf7 (omega (arith, low)) in
     let n3 : nat_lt b 0xfb ≡ false = le-ltb b 0xfb (omega (arith, low)) in
@@ -65,7 +83,7 @@ reads-below b r low high =
 
 reads-bits : (b : ℕ) (r : List ℕ) → 0xff ≤ b → spelled b r 0 ≡ four r 0
 reads-bits b r low =
-    let n0 : (b == 0x1c) ≡ false = grind (arith, nat_tests) in
+    let n0 = differs b 0x1c (omega (arith, low)) in
     let n1 : nat_lt b 0x20 ≡ false = le-ltb b 0x20 (omega (arith, low)) in
     let n2 : nat_lt b 0xf7 ≡ false = le-ltb b 0xf7 (omega (arith, low)) in
     let n3 : nat_lt b 0xfb ≡ false = le-ltb b 0xfb (omega (arith, low)) in
@@ -77,18 +95,18 @@ reads-bits b r low =
 unsigned-there : (n : ℕ) (f : ℕ → ℤ) (bytes : List ℕ) → n ≤ length bytes → (unsigned n >>= λ v. pure (f v)) bytes 0 ≡ Got (f (big_endian (take n bytes))) n
 unfolding unsigned slice
 unsigned-there n f bytes h =
-    let no : nat_lt (length bytes - 0) n ≡ false = grind (arith, nat_tests) in
+    let no = le-ltb (length bytes - 0) n (omega (arith, h)) in
     ap (λ b. after (after (if b then end else Got (take n bytes) (0 + n)) (λ bs next. Got (big_endian bs) next)) (λ v next. Got (f v) next)) no
     ∙ ap (Got (f (big_endian (take n bytes)))) (zero-add n)
 
 unsigned-cut : (n : ℕ) (f : ℕ → ℤ) (bytes : List ℕ) → length bytes < n → (unsigned n >>= λ v. pure (f v)) bytes 0 ≡ Fault unexpected_eof
 unfolding unsigned slice
 unsigned-cut n f bytes h =
-    let yes : nat_lt (length bytes - 0) n ≡ true = grind (arith, nat_tests) in
+    let yes = lt-ltb (length bytes - 0) n (omega (arith, h)) in
     ap (λ b. after (after (if b then end else Got (take n bytes) (0 + n)) (λ bs next. Got (big_endian bs) next)) (λ v next. Got (f v) next)) yes
 
 is-number : (b : ℕ) → 0x20 ≤ b → is_number b ≡ true
-is-number b h = grind (arith, nat_tests)
+is-number b h = either (b == 0x1c) (nat_lt 0x1f b) (lt-ltb 0x1f b (omega (arith, h)))
 
 -- a number is read, whatever follows it
 abbrev ReadsSo : List ℕ → ℤ → Type 0
@@ -138,11 +156,11 @@ form : (b : ℕ) → is_number b ≡ true → Form b
 form b h = by_tests (b == 0x1c) (nat_lt b 0xf7) (nat_lt b 0xfb) (nat_lt b 0xff) refl refl refl refl
   where
     by_tests : (t u v w : Bool) → (b == 0x1c) ≡ t → nat_lt b 0xf7 ≡ u → nat_lt b 0xfb ≡ v → nat_lt b 0xff ≡ w → Form b
-    by_tests true u v w e f g i = inl (grind (arith, nat_tests))
-    by_tests false true v w e f g i = inr (inl (grind (arith, nat_tests), grind (arith, nat_tests)))
-    by_tests false false true w e f g i = inr (inr (inl (grind (arith, nat_tests), grind (arith, nat_tests))))
-    by_tests false false false true e f g i = inr (inr (inr (inl (grind (arith, nat_tests), grind (arith, nat_tests)))))
-    by_tests false false false false e f g i = inr (inr (inr (inr (grind (arith, nat_tests)))))
+    by_tests true u v w e f g i = inl (eqb-true b 0x1c e)
+    by_tests false true u v e f g i = inr (inl (ltb-true 0x1f b (second-of (b == 0x1c) (nat_lt 0x1f b) h e), ltb-true b 0xf7 f))
+    by_tests false false true w e f g i = inr (inr (inl (ltb-false b 0xf7 f, ltb-true b 0xfb g)))
+    by_tests false false false true e f g i = inr (inr (inr (inl (ltb-false b 0xfb g, ltb-true b 0xff i))))
+    by_tests false false false false e f g i = inr (inr (inr (inr (ltb-false b 0xff i))))
 
 -- a number stands there
 abbrev Stands : ℕ → List ℕ → Type 0
@@ -206,12 +224,10 @@ no-number code op low is = by_tests (code == 0x1c) (code == 0x0c) refl refl
   where
     by_tests : (t u : Bool) → (code == 0x1c) ≡ t → (code == 0x0c) ≡ u → (is_number code ≡ false) × ((code == 0x0c) ≡ false)
     by_tests true u e f =
-        let same : code ≡ 0x1c = grind (arith, nat_tests) in
-        absurd (none-some op (ap operator_of (sym same) ∙ is))
+        absurd (none-some op (ap operator_of (sym (eqb-true code 0x1c e)) ∙ is))
     by_tests false true e f =
-        let same : code ≡ 0x0c = grind (arith, nat_tests) in
-        absurd (none-some op (ap operator_of (sym same) ∙ is))
-    by_tests false false e f = (grind (arith, nat_tests), f)
+        absurd (none-some op (ap operator_of (sym (eqb-true code 0x0c f)) ∙ is))
+    by_tests false false e f = (no-number_by code e low, f)
 
 one-byte : (code : ℕ) (behind : List ℕ) → is_number code ≡ false → (code == 0x0c) ≡ false → phrase (code ∷ behind) ≡ with_operator 0 (operator_of code)
 one-byte code behind e f =
@@ -268,9 +284,7 @@ reads-no_phrase bytes e spellings.no_operator = refl
 reads-no_phrase bytes e spellings.lone_escape = refl
 reads-no_phrase bytes e (spellings.cut_number bytes' missing x some more is) = cut-phrase bytes' missing (bytes' ++ missing) x some more refl is
 reads-no_phrase bytes e (spellings.no_such_operator code rest low other number is) =
-    let e0 : is_number code ≡ false = grind (arith, nat_tests) in
-    let e1 : (code == 0x0c) ≡ false = grind (arith, nat_tests) in
-    one-byte code rest e0 e1 ∙ ap (with_operator 0) is
+    one-byte code rest (no-number_by code (ne_eqb code 0x1c number) low) (ne_eqb code 0x0c other) ∙ ap (with_operator 0) is
 reads-no_phrase bytes e (spellings.no_such_escape second rest is) = ap (with_operator 1) is
 reads-no_phrase bytes e (spellings.behind_number number rest x e' is none) =
     let before = number-before number x is rest in
@@ -301,7 +315,7 @@ operator-spells : (b : ℕ) (r : List ℕ) → is_number b ≡ false → Spells 
 operator-spells b r other = by_escape (b == 0x0c) refl
   where
     low : b < 0x20
-    low = grind (arith, nat_tests)
+    low = omega (arith, ltb-false 0x1f b (neither (b == 0x1c) (nat_lt 0x1f b) other).1)
 
     by_second : (second : ℕ) (t : List ℕ) (o : Option Operator) → operator_of (0x0c00 + second) ≡ o → Spells (0x0c ∷ second ∷ t) (with_operator 1 o)
     by_second second t (Some op) is = (spellings.escaped_operator second op is, refl)
@@ -313,10 +327,10 @@ operator-spells b r other = by_escape (b == 0x0c) refl
 
     by_code : (o : Option Operator) → operator_of b ≡ o → (b == 0x0c) ≡ false → Spells (b ∷ r) (with_operator 0 o)
     by_code (Some op) is e = (spellings.operator b op low is, refl)
-    by_code None is e = spellings.no_such_operator b r low (λ h. absurd (grind (arith, nat_tests))) (λ h. absurd (grind (arith, nat_tests))) is
+    by_code None is e = spellings.no_such_operator b r low (eqb-false b 0x0c e) (eqb-false b 0x1c (neither (b == 0x1c) (nat_lt 0x1f b) other).0) is
 
     by_escape : (t : Bool) → (b == 0x0c) ≡ t → Spells (b ∷ r) (if t then escaped r else with_operator 0 (operator_of b))
-    by_escape true e = let same : 0x0c ≡ b = grind (arith, nat_tests) in subst (λ c. Spells (c ∷ r) (escaped r)) same (by_rest r)
+    by_escape true e = subst (λ c. Spells (c ∷ r) (escaped r)) (sym (eqb-true b 0x0c e)) (by_rest r)
     by_escape false e = by_code (operator_of b) refl e
 
 phrase-spells : (n : ℕ) (bytes : List ℕ) → length bytes ≤ n → Spells bytes (phrase bytes)
