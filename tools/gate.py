@@ -1,10 +1,10 @@
 #!/usr/bin/env python3
-"""Runs the gate on two processors, and prints which part of it takes how much processor time.
+"""Runs the gate on some processors, and prints which part of it takes how much processor time.
 
     tools/gate.py [PROCESSORS]
 
 PROCESSORS are those of taskset, 0,1 where none are named. At the top of a clone with nothing in any `out/`, it runs `rt ci`, whose
-output goes to out/gate.log of a temporary folder that it names, and looks at the processes of the prover four times a second. It
+output goes to gate.log in a temporary folder that it names, and looks at the processes of the prover four times a second. It
 ends with the last line of `rt ci`, the minutes that it took, and a table. Needs Linux, and taskset of util-linux.
 """
 import collections
