@@ -1,4 +1,5 @@
 //! Each example once.
+use crate::checks::holds;
 use postscript::compact1::{FontSet, Operator as Key};
 use postscript::type2::{Operand, Operator};
 use postscript::{Error, Value};
@@ -13,6 +14,7 @@ use postscript_examples::readers::{
 use postscript_examples::tapes::{first_byte_twice, first_number};
 use std::alloc::Global;
 use std::io::Cursor;
+use std::process::Abort;
 use std::test::Fail;
 
 /// The width 3, a move by 1 and 2, and a call of the subroutine with the number -107.
@@ -117,15 +119,27 @@ fn is_it_alone(glyphs: &[Glyph]) -> bool {
     }
 }
 
+/// Whether a font has the glyph of `CODE` alone, in its first dictionary.
+fn has_the_glyph<R: Abort>(rt: &R, alloc: Global, font: &FontSet) -> bool {
+    let first = glyphs_of(alloc, font, 0).expect(rt, "glyphs");
+    let second = glyphs_of(alloc, font, 1).expect(rt, "no glyphs");
+    is_it_alone(&first) && second.is_empty()
+}
+
+/// Whether its flat code draws it with no subroutines.
+fn has_it_flat<R: Abort>(rt: &R, alloc: Global, font: &FontSet) -> bool {
+    let codes = flat_glyphs_of(alloc, font, 0).expect(rt, "flat codes");
+    is_it_alone(&each_glyph(alloc, &codes, &[], &[]).expect(rt, "glyphs"))
+}
+
 #[test]
-fn a_font(rt: HostRuntime) -> Result<(), Fail> {
-    assert!(rt; are(&names_of(rt.alloc(), &FONT)?, "A"));
-    let font = font_of(rt.alloc(), &FONT)?;
-    assert!(rt; is_it_alone(&glyphs_of(rt.alloc(), &font, 0)?));
-    assert!(rt; glyphs_of(rt.alloc(), &font, 1)?.is_empty());
-    let flat_codes = flat_glyphs_of(rt.alloc(), &font, 0)?;
-    assert!(rt; is_it_alone(&each_glyph(rt.alloc(), &flat_codes, &[], &[])?));
-    Ok(())
+fn a_font(rt: HostRuntime) {
+    let alloc = rt.alloc();
+    let names = names_of(alloc, &FONT).expect(&rt, "names");
+    holds(&rt, are(&names, "A"), "the name");
+    let font = font_of(alloc, &FONT).expect(&rt, "a font");
+    holds(&rt, has_the_glyph(&rt, alloc, &font), "the glyph");
+    holds(&rt, has_it_flat(&rt, alloc, &font), "its flat code");
 }
 
 #[test]
@@ -164,16 +178,17 @@ fn is_named(font: Result<FontSet, Error>) -> bool {
 }
 
 #[test]
-fn readers_of_ones_own(rt: HostRuntime) -> Result<(), Fail> {
-    let bytes = Vec::from_slice(rt.alloc(), &FONT)?;
-    assert!(rt; is_named(held_font(rt.alloc(), bytes)));
+fn readers_of_ones_own(rt: HostRuntime) {
+    let alloc = rt.alloc();
+    let bytes = Vec::from_slice(alloc, &FONT).expect(&rt, "memory");
+    holds(&rt, is_named(held_font(alloc, bytes)), "a held font");
     let mut counted = Counted {
         reader: Cursor::new(FONT.as_slice()),
         reads: 0,
     };
-    assert!(rt; is_named(FontSet::read(rt.alloc(), &mut counted)));
-    assert!(rt; counted.reads > 0);
-    Ok(())
+    let font = FontSet::read(alloc, &mut counted);
+    holds(&rt, is_named(font), "a font that is counted");
+    holds(&rt, counted.reads > 0, "its reads");
 }
 
 /// Two offsets, two runs of two glyphs each, texts of two bytes and of one, a size, and a number.
@@ -205,15 +220,22 @@ fn are_two(texts: &[Vec<u8>]) -> bool {
 }
 
 #[test]
-fn loops_of_ones_own(rt: HostRuntime) -> Result<(), Fail> {
+fn loops_of_ones_own(rt: HostRuntime) {
+    let alloc = rt.alloc();
     let mut tape = Cursor::new(PARTS.as_slice());
-    let rising = offsets(rt.alloc(), &mut tape, 2)?;
-    assert!(rt; rise(&rising));
-    let covering = runs(rt.alloc(), &mut tape, 4)?;
-    assert!(rt; cover(&covering));
-    assert!(rt; are_two(&texts(rt.alloc(), &mut tape, &[Size(2), Size(1)])?));
-    assert!(rt; private_size(rt.alloc(), &mut tape)? == 7);
-    assert!(rt; words(rt.alloc(), &mut tape)?.as_slice() == [0x1234].as_slice());
-    assert!(rt; word_at(rt.alloc(), &mut tape, 0)? == 1);
-    Ok(())
+    let rising = offsets(alloc, &mut tape, 2).expect(&rt, "offsets");
+    holds(&rt, rise(&rising), "offsets");
+    let covering = runs(alloc, &mut tape, 4).expect(&rt, "runs");
+    holds(&rt, cover(&covering), "runs");
+    let two = texts(alloc, &mut tape, &[Size(2), Size(1)]).expect(&rt, "texts");
+    holds(&rt, are_two(&two), "texts");
+    let size = private_size(alloc, &mut tape).expect(&rt, "a size");
+    let left = words(alloc, &mut tape).expect(&rt, "words");
+    let first = word_at(alloc, &mut tape, 0).expect(&rt, "a word");
+    holds(&rt, size == 7 && first == 1, "a size, and the first word");
+    holds(
+        &rt,
+        left.as_slice() == [0x1234].as_slice(),
+        "the words left",
+    );
 }

@@ -8,10 +8,10 @@ mod storage;
 
 use crate::checks::{bytes_of, code_of, holds, holds_at, is_text, put, put_shown};
 use crate::synthetic::charstring;
-use arithmetic::ARITHMETIC;
+use arithmetic::{ARITHMETIC, STACK};
 use calls::{CALLS, GLOBAL_CALLS, LONG_LISTS};
 use codes::{LENGTHS, NUMBERS, OPERANDS, OPERATORS};
-use paths::{PATHS_AND_HINTS, PATHS_AND_NUMBERS};
+use paths::{HINTS, PATHS, PATHS_AND_NUMBERS};
 use postscript::type2::{self, Answers, Operand, Operation, Operator, Program, number};
 use postscript::{Error, Result};
 use std::alloc::Global;
@@ -29,9 +29,14 @@ fn paths_and_numbers() -> &'static [Row] {
     PATHS_AND_NUMBERS
 }
 
-/// The other operators that draw, stems and masks.
-fn paths_and_hints() -> &'static [Row] {
-    PATHS_AND_HINTS
+/// The other operators that draw.
+fn rows_of_paths() -> &'static [Row] {
+    PATHS
+}
+
+/// Stems and masks.
+fn rows_of_hints() -> &'static [Row] {
+    HINTS
 }
 
 /// Calls and returns.
@@ -39,9 +44,14 @@ fn rows_of_calls() -> &'static [Row] {
     CALLS
 }
 
-/// Arithmetic.
+/// Arithmetic and truth.
 fn rows_of_arithmetic() -> &'static [Row] {
     ARITHMETIC
+}
+
+/// The stack.
+fn rows_of_the_stack() -> &'static [Row] {
+    STACK
 }
 
 /// Storage.
@@ -214,9 +224,11 @@ fn is_run<R: Abort>(rt: &R, alloc: Global, count: usize) -> bool {
 fn runs(rt: HostRuntime) {
     let alloc = rt.alloc();
     check_rows(&rt, alloc, paths_and_numbers());
-    check_rows(&rt, alloc, paths_and_hints());
+    check_rows(&rt, alloc, rows_of_paths());
+    check_rows(&rt, alloc, rows_of_hints());
     check_rows(&rt, alloc, rows_of_calls());
     check_rows(&rt, alloc, rows_of_arithmetic());
+    check_rows(&rt, alloc, rows_of_the_stack());
     check_rows(&rt, alloc, rows_of_storage());
     for row in GLOBAL_CALLS {
         check_global(&rt, alloc, row);
@@ -283,9 +295,11 @@ fn check_all_fronts<R: Abort>(rt: &R, alloc: Global, rows: &[Row]) {
 fn fronts(rt: HostRuntime) {
     let alloc = rt.alloc();
     check_all_fronts(&rt, alloc, paths_and_numbers());
-    check_all_fronts(&rt, alloc, paths_and_hints());
+    check_all_fronts(&rt, alloc, rows_of_paths());
+    check_all_fronts(&rt, alloc, rows_of_hints());
     check_all_fronts(&rt, alloc, rows_of_calls());
     check_all_fronts(&rt, alloc, rows_of_arithmetic());
+    check_all_fronts(&rt, alloc, rows_of_the_stack());
     check_all_fronts(&rt, alloc, rows_of_storage());
 }
 

@@ -87,10 +87,25 @@ fn read_twelve<R: Abort, T: Tape>(rt: &R, alloc: Global, tape: &mut T, name: &st
 /// Reads cursors.
 pub fn read_cursors<R: Abort>(rt: &R, alloc: Global) {
     read_twelve(rt, alloc, &mut Cursor::new(TWELVE.as_slice()), "a cursor");
+    read_owned(rt, alloc);
+    read_opaque(rt, alloc);
+    read_buffered(rt, alloc);
+}
+
+/// Reads a cursor over a vector.
+fn read_owned<R: Abort>(rt: &R, alloc: Global) {
     let owned = Vec::from_slice(alloc, &TWELVE).expect(rt, "memory");
     read_twelve(rt, alloc, &mut Cursor::new(owned), "a cursor of a vector");
+}
+
+/// Reads a borrowed cursor of which nothing but its bytes is told.
+fn read_opaque<R: Abort>(rt: &R, alloc: Global) {
     let mut opaque = Opaque(Cursor::new(TWELVE.as_slice()));
     read_twelve(rt, alloc, &mut &mut opaque, "an opaque cursor");
+}
+
+/// Reads a cursor behind a buffer.
+fn read_buffered<R: Abort>(rt: &R, alloc: Global) {
     let buffered = BufReader::new(alloc, Cursor::new(TWELVE.as_slice()));
     let mut buffered = buffered.expect(rt, "memory");
     read_twelve(rt, alloc, &mut buffered, "a buffered cursor");
@@ -169,6 +184,22 @@ fn asked<T: Tape>(alloc: Global, tape: &mut T, question: &Question) -> Result<u6
     }
 }
 
+/// What a troubled tape answers that is told of nothing but its bytes.
+fn opaquely(alloc: Global, tape: &mut TroubledTape<'_>, question: &Question) -> Result<u64> {
+    asked(alloc, &mut Opaque(tape), question)
+}
+
+/// What a troubled tape answers behind a buffer with room for a byte, where nothing is read ahead.
+fn by_bytes<R: Abort>(
+    rt: &R,
+    alloc: Global,
+    tape: &mut TroubledTape<'_>,
+    question: &Question,
+) -> Result<u64> {
+    let buffered = BufReader::with_capacity(alloc, 1, tape);
+    asked(alloc, &mut buffered.expect(rt, "memory"), question)
+}
+
 /// What a troubled tape answers in a wrapping.
 fn wrapped<R: Abort>(
     rt: &R,
@@ -179,12 +210,8 @@ fn wrapped<R: Abort>(
 ) -> Result<u64> {
     match wrapping {
         Wrapping::Bare => asked(alloc, tape, question),
-        Wrapping::Opaque => asked(alloc, &mut Opaque(tape), question),
-        Wrapping::Buffered => {
-            // With room for a byte nothing is read ahead.
-            let buffered = BufReader::with_capacity(alloc, 1, tape);
-            asked(alloc, &mut buffered.expect(rt, "memory"), question)
-        }
+        Wrapping::Opaque => opaquely(alloc, tape, question),
+        Wrapping::Buffered => by_bytes(rt, alloc, tape, question),
     }
 }
 

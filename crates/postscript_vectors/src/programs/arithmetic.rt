@@ -1,7 +1,7 @@
 //! Rows of arithmetic, and of the operators that work on the stack alone.
 use super::Row;
 
-/// Arithmetic, and the operators that work on the stack alone.
+/// Arithmetic and truth.
 pub(super) const ARITHMETIC: &[Row] = &[
     ("8a0c0916", "", "HMoveTo 1 | end | width none"),
     ("ff800000000c09", "", "fault 26 | width none"),
@@ -56,7 +56,10 @@ pub(super) const ARITHMETIC: &[Row] = &[
     ("8c8d8e8e0c1616", "", "HMoveTo 1 | end | width none"),
     ("8c8d8a8b0c1616", "", "HMoveTo 1 | end | width none"),
     ("8c8d8f8e0c1616", "", "HMoveTo 2 | end | width none"),
-    // The stack.
+];
+
+/// The operators that work on the stack alone, and all of these with too few operands or around a width.
+pub(super) const STACK: &[Row] = &[
     ("8c8d0c1216", "", "HMoveTo 1 | end | width none"),
     ("8c8d0c1c06", "", "HLineTo 2 1 | end | width none"),
     ("8d0c1b06", "", "HLineTo 2 2 | end | width none"),

@@ -80,8 +80,8 @@ pub(super) const PATHS_AND_NUMBERS: &[Row] = &[
     ("0c17", "", "fault 16 | width none"),
 ];
 
-/// The other operators that draw, stems and masks.
-pub(super) const PATHS_AND_HINTS: &[Row] = &[
+/// The other operators that draw.
+pub(super) const PATHS: &[Row] = &[
     (
         "8c8d8e8f909108",
         "",
@@ -188,7 +188,10 @@ pub(super) const PATHS_AND_HINTS: &[Row] = &[
         "HFlex1 2 3 4 5 6 7 8 9 10 | end | width 1",
     ),
     ("8c8d8e8f909192930c24", "", "fault 20 | width none"),
-    // Stems, in pairs.
+];
+
+/// Stems, in pairs, and masks.
+pub(super) const HINTS: &[Row] = &[
     ("8c8d8e01", "", "HStem 2 3 | end | width 1"),
     ("8c8d8e8f9003", "", "VStem 2 3 4 5 | end | width 1"),
     (
