@@ -58,7 +58,7 @@ pub(super) const ARITHMETIC: &[Row] = &[
     ("8c8d8f8e0c1616", "", "HMoveTo 2 | end | width none"),
 ];
 
-/// The operators that work on the stack alone, and all of these with too few operands or around a width.
+/// The operators that work on the stack alone; the operators of both tables with too few operands; and some around a width.
 pub(super) const STACK: &[Row] = &[
     ("8c8d0c1216", "", "HMoveTo 1 | end | width none"),
     ("8c8d0c1c06", "", "HLineTo 2 1 | end | width none"),
