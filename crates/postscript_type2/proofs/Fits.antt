@@ -2,9 +2,8 @@
 use Rattle.std.proofs.lemmas.Bool.{cases_lt}
 use Rattle.std.proofs.lemmas.Bool.Decides.{nat_tests}
 use Rattle.std.proofs.Math.Nat.{mul-le-mul}
-use Rattle.std.proofs.lemmas.Int.{fits_signed_mul, to_z-of_z, unsigned_abs-mul}
-use Rattle.std.proofs.Common.{◌≡◌, ap, ◌∙◌, ℕ, ◌^◌, ◌<◌, ◌≤◌, Bool, true, false, cond, ℤ, pos, negsuc, nat_le, ◌⊎◌, inl, inr, ◌||◌, Ok, Err, FitsSigned, w32, w64, to_z, of_z, ◌*ℤ◌, unsigned_abs, arith}
-use Rattle.std.specs.Int.{Width}
+use Rattle.std.proofs.lemmas.Int.{fits_signed_mul, unsigned_abs-mul}
+use Rattle.std.proofs.Common.{◌≡◌, ap, ℕ, ◌^◌, ◌<◌, ◌≤◌, Bool, true, false, cond, ℤ, pos, negsuc, nat_le, ◌⊎◌, inl, inr, ◌||◌, Ok, Err, FitsSigned, w32, w64, ◌*ℤ◌, unsigned_abs, arith}
 use Rattle.postscript_base.specs.Refusal.{overflow}
 use Rattle.postscript_type2.specs.Program.FixedPoint.{fit}
 
@@ -31,22 +30,10 @@ pub fit-past : (x : ℤ) → (FitsSigned w32 x → ⊥) → fit x ≡ Err overfl
 fit-past (pos a) out = natural a true (above a (λ low. out (record { sfits = low })))
 fit-past (negsuc a) out = negative a true (above a (λ low. out (record { sfits = low })))
 
-size : (a : ℤ) → FitsSigned w32 a → unsigned_abs a ≤ 2 ^ 31
-size (pos n) f = let h = f.sfits in omega arith
-size (negsuc n) f = let h = f.sfits in omega arith
-
 -- 64 bits hold the product of two numbers of 32 bits
-pub product_fits : (a b : ℤ) → FitsSigned w32 a → FitsSigned w32 b → FitsSigned w64 (a *ℤ b)
-product_fits a b f g = fits_signed_mul w64 a b (2 ^ 31) (2 ^ 31) (size a f) (size b g) (omega arith)
+pub product_fits : (a b : ℤ) → unsigned_abs a ≤ 2 ^ 31 → unsigned_abs b ≤ 2 ^ 31 → FitsSigned w64 (a *ℤ b)
+product_fits a b f g = fits_signed_mul w64 a b (2 ^ 31) (2 ^ 31) f g (omega arith)
 
 -- their product is no more than 62 bits hold
-pub product_room : (a b : ℤ) → FitsSigned w32 a → FitsSigned w32 b → unsigned_abs (a *ℤ b) ≤ 2 ^ 62
-product_room a b f g = let size = mul-le-mul (size a f) (size b g) in omega (arith, unsigned_abs-mul a b, size)
-
--- a number that is kept in a type that holds it
-pub kept : (w : Width) (x y : ℤ) → FitsSigned w x → x ≡ y → to_z w (of_z w x) ≡ y
-kept w x y f e = to_z-of_z w x f ∙ e
-
--- the same, converted from the type of 32 bits
-pub widened : (x y : ℤ) → FitsSigned w32 y → FitsSigned w64 x → x ≡ to_z w32 (of_z w32 y) → to_z w64 (of_z w64 x) ≡ y
-widened x y f g e = kept w64 x y g (e ∙ to_z-of_z w32 y f)
+pub product_room : (a b : ℤ) → unsigned_abs a ≤ 2 ^ 31 → unsigned_abs b ≤ 2 ^ 31 → unsigned_abs (a *ℤ b) ≤ 2 ^ 62
+product_room a b f g = let size = mul-le-mul f g in omega (arith, unsigned_abs-mul a b, size)

@@ -16,28 +16,36 @@ fn fit(bits: i64) -> Result<Operand>
     }
 }
 
+/// The bits, with room for sums and products.
+fn wide(a: Operand) -> i64
+    ensures value { result ≡ a }
+    ensures room { unsigned_abs result ≤ 2 ^ 31 }
+{
+    i64::from(a.bits())
+}
+
 pub(crate) fn absolute_value(a: Operand) -> Result<Operand>
     ensures { Gives (the_absolute_value a) result }
 {
-    fit(i64::from(a.bits()).abs())
+    fit(wide(a).abs())
 }
 
 pub(crate) fn opposite(a: Operand) -> Result<Operand>
     ensures { Gives (the_opposite a) result }
 {
-    fit(-i64::from(a.bits()))
+    fit(-wide(a))
 }
 
 pub(crate) fn sum(a: Operand, b: Operand) -> Result<Operand>
     ensures { Gives (the_sum a b) result }
 {
-    fit(i64::from(a.bits()) + i64::from(b.bits()))
+    fit(wide(a) + wide(b))
 }
 
 pub(crate) fn difference(a: Operand, b: Operand) -> Result<Operand>
     ensures { Gives (the_difference a b) result }
 {
-    fit(i64::from(a.bits()) - i64::from(b.bits()))
+    fit(wide(a) - wide(b))
 }
 
 /// The quotient, cut towards zero.
@@ -50,12 +58,11 @@ fn cut(x: i64, y: i64) -> i64
 }
 
 /// The product of the bits.
-#[tactic(auto, using(crate::proofs::Fits::product_fits))]
 fn times(a: Operand, b: Operand) -> i64
     ensures value { result ≡ a *ℤ b }
     ensures room { unsigned_abs result ≤ 2 ^ 62 }
 {
-    i64::from(a.bits()) * i64::from(b.bits())
+    wide(a) * wide(b)
 }
 
 pub(crate) fn product(a: Operand, b: Operand) -> Result<Operand>
@@ -70,7 +77,7 @@ pub(crate) fn quotient(a: Operand, b: Operand) -> Result<Operand>
     if b.bits() == 0 {
         return Err(Refused::ZeroDivisor);
     }
-    fit(cut(i64::from(a.bits()) * 65536, i64::from(b.bits())))
+    fit(cut(times(a, Operand::from_bits(65536)), wide(b)))
 }
 
 /// The greatest number whose square is at most n.

@@ -1,7 +1,8 @@
 //! Subroutines, by their numbers.
-ghost use Rattle.std.specs.Prelude.{◌≡◌, option_map};
+ghost use Rattle.std.specs.Prelude.{◌≡◌, ◌+ℤ◌, option_map};
 ghost use Rattle.postscript_type2.specs.Program.Effects.{bias as the_bias, named as the_named};
 ghost use Rattle.postscript_type2.specs.Program.Routines.{texts};
+ghost use Rattle.postscript_type2.specs.Program.Works.{at as the_at};
 
 /// The subroutines of a font set and those of one font.
 #[derive(Clone, Copy)]
@@ -23,16 +24,24 @@ fn bias(count: usize) -> i64
     }
 }
 
+/// The bytes of the subroutine at a place of a list.
+fn at<'l>(routines: &'l [Vec<u8>], place: i64) -> Option<&'l [u8]>
+    ensures { option_map (λ routine. routine.now) result ≡ the_at (texts routines.now) place }
+{
+    let routine = routines.get(usize::try_from(place).ok()?)?;
+    Some(routine.as_slice())
+}
+
+/// The place of the subroutine that a number names, among so many.
+fn place(number: i16, count: usize) -> i64
+    ensures { result ≡ number +ℤ the_bias count }
+{
+    i64::from(number) + bias(count)
+}
+
 /// The subroutine that a number names.
 pub(super) fn named<'l>(routines: &'l [Vec<u8>], number: i16) -> Option<&'l [u8]>
     ensures { option_map (λ routine. routine.now) result ≡ the_named (texts routines.now) number }
 {
-    let place = i64::from(number) + bias(routines.len());
-    if place < 0 {
-        return None;
-    }
-    match routines.get(place as usize) {
-        Some(routine) => Some(routine.as_slice()),
-        None => None,
-    }
+    at(routines, place(number, routines.len()))
 }

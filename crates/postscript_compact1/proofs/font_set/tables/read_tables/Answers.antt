@@ -4,4 +4,4 @@ use Rattle.postscript_compact1.proofs.font_set.tables.read_tables.Goals as goal
 
 pub returns-clause-exact : goal.returns-clause-exact
 unfolding tables
-returns-clause-exact g c = search rules
+returns-clause-exact g c = search rules steps 1000000
