@@ -5,7 +5,7 @@ use Rattle.std.proofs.lemmas.Int.{ints, by_lt_z}
 use Rattle.std.proofs.lemmas.List.{take-append-drop, length-drop, length-take-le}
 use Rattle.std.proofs.lemmas.Option.{slice_get-get_or, slice_get_past}
 use Rattle.std.proofs.Math.Seq.{take-append_seam, drop-append_seam}
-use Rattle.std.proofs.Common.{◌≡◌, ◌≢◌, refl, ap, sym, subst, ◌∙◌, ◌⊎◌, inl, inr, ℕ, zero, suc, ◌+◌, ◌-◌, ◌*◌, ◌/◌, ◌%◌, ◌^◌, ◌<◌, ◌≤◌, ℤ, pos, negsuc, neg_ℤ, nat_abs, ◌+ℤ◌, ◌-ℤ◌, ◌*ℤ◌, ◌≤ℤ◌, ◌<ℤ◌, int_lt, int_le, nat_lt, ◌==◌, ◌&&◌, ◌||◌, not, Bool, true, false, IsTrue, List, [], ◌∷◌, ◌++◌, length, length-append, append_assoc, append-nil, take, drop as drop_of, slice_get, slice_set, get_or, Option, Some, None, Result, Ok, Err, if◌then◌else◌, arith}
+use Rattle.std.proofs.Common.{◌≡◌, ◌≢◌, refl, ap, sym, subst, ◌∙◌, ◌⊎◌, inl, inr, ℕ, zero, suc, ◌+◌, ◌-◌, ◌*◌, ◌/◌, ◌%◌, ◌^◌, ◌<◌, ◌≤◌, ℤ, pos, negsuc, neg_ℤ, nat_abs, ◌+ℤ◌, ◌-ℤ◌, ◌*ℤ◌, int_lt, int_le, nat_lt, ◌==◌, ◌&&◌, ◌||◌, not, Bool, true, false, IsTrue, List, [], ◌∷◌, ◌++◌, length, length-append, append_assoc, append-nil, take, drop as drop_of, slice_get, slice_set, get_or, Option, Some, None, Result, Ok, Err, if◌then◌else◌, arith}
 use Rattle.std.specs.Option.{ok_or}
 use Rattle.std.specs.Ordering.{int_eq}
 use Rattle.postscript_base.specs.Refusal.{Refusal, OfPart, unexpected_eof, malformed_operands, expected_operand, expected_integer, expected_more_operands, invalid_operand, missing_subroutine, overflow, zero_divisor, negative_root, too_many_stems}
@@ -609,12 +609,15 @@ split-at : (takes : ℕ → Bool) (stack : List ℤ) → Longest takes (length s
 split-at takes stack one =
     let front = take (length stack - one.0) stack in
     let back = drop_of (length stack - one.0) stack in
-    let many : length back ≡ one.0 = length-drop (length stack - one.0) stack ∙ (let low : one.0 ≤ length stack = one.1 in omega arith) in
-    (front, back, record {
-      parts = sym (take-append-drop (length stack - one.0) stack);
-      allowed = subst (λ k. IsTrue (takes k)) (sym many) one.2;
-      longest = λ j above under. one.3 j (subst (λ k. k < j) many above) under;
-    })
+    let many : length back ≡ one.0 = length-drop (length stack - one.0) stack ∙ (let low : one.0 ≤ length stack = one.1 in omega arith) in (
+      front,
+      back,
+      record {
+        parts = sym (take-append-drop (length stack - one.0) stack);
+        allowed = subst (λ k. IsTrue (takes k)) (sym many) one.2;
+        longest = λ j above under. one.3 j (subst (λ k. k < j) many above) under;
+      },
+    )
 
 -- the width beneath them
 settle : (before : Option (Option ℤ)) (beneath : List ℤ) → (width : Option ℤ) × IsSettled before beneath width
@@ -663,9 +666,10 @@ found-mask lists op behind st k = by_count (cases_lt (stems_after st) (2 ^ 32))
         let rest = drop_of odd st.stack in
         let many : length rest ≡ length st.stack - odd = length-drop odd st.stack in
         let few_beneath : length beneath ≡ odd = length-take-le odd st.stack (omega arith) in
-        let width = settle st.width beneath in
-        (Clears [] (stems_after st) width.0 (mask_len (stems_after st)),
-        masks beneath rest width.0 (stems_after st) k (count-stems st) few there (sym (take-append-drop odd st.stack)) (omega arith) (omega arith) width.1)
+        let width = settle st.width beneath in (
+          Clears [] (stems_after st) width.0 (mask_len (stems_after st)),
+          masks beneath rest width.0 (stems_after st) k (count-stems st) few there (sym (take-append-drop odd st.stack)) (omega arith) (omega arith) width.1,
+        )
 
     by_count : (stems_after st < 2 ^ 32) ⊎ (2 ^ 32 ≤ stems_after st) → Found lists op behind st
     by_count (inr many) = (Refuses too_many_stems, masks_too_many (exactly 0) (stems_after st) k (count-stems st) many)
@@ -741,6 +745,7 @@ found lists CntrMask behind st = found-other lists CntrMask behind st (kind Cntr
 found lists op behind st = found-other lists op behind st (kind op) refl tt
 
 pub law : OperatorsDoSo
-law lists op behind st move =
-    (does-on lists op behind st move,
-    λ is. let one = found lists op behind st in subst (Does lists op behind st) (sym (does-on lists op behind st one.0 one.1) ∙ is) one.1)
+law lists op behind st move = (
+  does-on lists op behind st move,
+  λ is. let one = found lists op behind st in subst (Does lists op behind st) (sym (does-on lists op behind st one.0 one.1) ∙ is) one.1,
+)

@@ -1,15 +1,14 @@
 -- Works on the end of a stack.
 use Rattle.std.proofs.Math.Seq.{take-append_seam}
-use Rattle.std.proofs.lemmas.Option.{slice_get-get_or, slice_get_past}
+use Rattle.std.proofs.lemmas.Option.{slice_get-get_or}
 use Rattle.std.proofs.Math.Seq.{get_or-append_seam}
-use Rattle.std.proofs.lemmas.Bool.{cases_lt}
 use Rattle.std.proofs.lemmas.Bool.Decides.{nat_tests}
-use Rattle.std.proofs.Common.{◌≡◌, refl, ap, sym, ◌∙◌, ℕ, ◌+◌, ◌-◌, ◌<◌, ◌≤◌, ℤ, int_le, nat_lt, Bool, true, false, List, [], ◌∷◌, ◌++◌, length, length-append, append_assoc, take, slice_get, Option, Some, None, Result, Ok, Err, if◌then◌else◌, arith}
+use Rattle.std.proofs.Common.{◌≡◌, ap, sym, ◌∙◌, ℕ, ◌+◌, ◌-◌, ◌≤◌, ℤ, int_le, nat_lt, true, false, List, [], ◌∷◌, ◌++◌, length, length-append, append_assoc, slice_get, Some, None, Result, Ok, Err, if◌then◌else◌, arith}
 use Rattle.std.specs.Option.{ok_or}
 use Rattle.postscript_base.specs.Refusal.{Refusal, expected_operand, expected_integer, expected_more_operands}
 use Rattle.postscript_type2.specs.Number.{whole, to_int}
 use Rattle.postscript_type2.specs.Program.Stacks.{one_to_one, two_to_one, choice, removal, exchange}
-use Rattle.postscript_type2.specs.Program.Works.{Work, after, ◌>>=◌, given, top_of, pop, operand, whole_operand, operand_below, push}
+use Rattle.postscript_type2.specs.Program.Works.{Work, after, ◌>>=◌, given, pop, operand, whole_operand, operand_below, push}
 use Rattle.postscript_type2.proofs.Wholes.{to_int-whole}
 
 -- the item behind a front

@@ -1,10 +1,10 @@
 -- The width of a glyph, over a whole run (Technical Note 5177, "Type 2 Charstring Organization").
-use Rattle.std.specs.Prelude.{◌≡◌, ℕ, suc, ◌<◌, ℤ, ◌⊎◌, List, [], ◌∷◌, ◌++◌, length, Option, None, All}
+use Rattle.std.specs.Prelude.{◌≡◌, ℕ, suc, ◌<◌, ℤ, ◌⊎◌, List, [], ◌++◌, Option, None, All}
 use Rattle.postscript_type2.specs.declared.operation.Operator.{Operator}
 use Rattle.postscript_type2.specs.Program.Effects.{State, start, Keeps, Clears, Calls, Ends, stacked, holding}
 use Rattle.postscript_type2.specs.Program.Meaning.{Moves, Means, IsRunOf}
 use Rattle.postscript_type2.specs.Program.Routines.{Lists}
-use Rattle.postscript_type2.specs.Program.Runs.{Answer, Said, End, UsedUp, Returned, Finished, Fault, Run, width_of}
+use Rattle.postscript_type2.specs.Program.Runs.{Said, End, UsedUp, Returned, Finished, Fault, Run, width_of}
 
 -- The first operator that clears the stack or ends the glyph settles this width: the one at the front, one behind operators that
 -- do neither, one in a subroutine, or one behind a subroutine in which none does.
@@ -34,19 +34,20 @@ pub record HasWidth (run : Run) (width : Option ℤ) : Type 0 where
   pub answers : All (λ answer. answer.width ≡ width) run.answers
   pub end : EndsWith width run.end
 
--- no operator settled one
+-- the glyph was not finished
 abbrev pub NeverFinished : End → Type 0
 NeverFinished (Finished last) = ⊥
 NeverFinished (Returned st) = Unit {0}
 NeverFinished UsedUp = Unit {0}
 NeverFinished (Fault e) = Unit {0}
 
+-- nor was an operation answered
 pub record HasNoWidth (run : Run) : Type 0 where
   pub answers : run.answers ≡ []
   pub end : NeverFinished run.end
 
 -- A law of the definitions: the width of a run is the one that the first such operator settles, and each answer and the glyph's end
--- have that one; or no such operator came, and there is none.
+-- have that one; or nothing was answered, the glyph was not finished, and there is none.
 abbrev pub WidthIsSettledOnce : Type 0
 WidthIsSettledOnce = (lists : Lists) (code : List ℕ) (run : Run) → IsRunOf lists code run →
     (FirstSettles lists (width_of run) 0 code start × HasWidth run (width_of run)) ⊎ (HasNoWidth run × (width_of run ≡ None))
