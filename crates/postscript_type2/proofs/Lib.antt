@@ -24,6 +24,9 @@ pub mod InliningRows
 pub mod PhraseLaws
 pub mod MeaningLaws
 pub mod EndingLaws
+pub mod StackEnds
+pub mod OperatorLaws
+pub mod WidthLaws
 pub mod Telling
 pub mod RollingLaws
 pub mod RuleRows

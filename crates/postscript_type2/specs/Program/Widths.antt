@@ -1,0 +1,53 @@
+-- The width of a glyph, over a whole run (Technical Note 5177, "Type 2 Charstring Organization").
+use Rattle.std.specs.Prelude.{◌≡◌, ℕ, suc, ◌<◌, ℤ, ◌⊎◌, List, [], ◌++◌, Option, None, All}
+use Rattle.postscript_type2.specs.declared.operation.Operator.{Operator}
+use Rattle.postscript_type2.specs.Program.Effects.{State, start, Keeps, Clears, Calls, Ends, stacked, holding}
+use Rattle.postscript_type2.specs.Program.Meaning.{Moves, Means, IsRunOf}
+use Rattle.postscript_type2.specs.Program.Routines.{Lists}
+use Rattle.postscript_type2.specs.Program.Runs.{Said, End, UsedUp, Returned, Finished, Fault, Run, width_of}
+
+-- The first operator that clears the stack or ends the glyph settles this width: the one at the front, one behind operators that
+-- do neither, one in a subroutine, or one behind a subroutine in which none does.
+pub data FirstSettles (lists : Lists) (width : Option ℤ) : (depth : ℕ) → (rest : List ℕ) → State → Type 0 where
+  clears : (depth : ℕ) (phrase behind : List ℕ) (numbers : List ℤ) (op : Operator) (st : State) (taken : List ℤ) (stems mask : ℕ) →
+      Moves lists st phrase numbers op behind (Clears taken stems width mask) → FirstSettles lists width depth (phrase ++ behind) st
+  ends : (depth : ℕ) (phrase behind : List ℕ) (numbers : List ℤ) (op : Operator) (st : State) →
+      Moves lists st phrase numbers op behind (Ends width) → FirstSettles lists width depth (phrase ++ behind) st
+  behind_others : (depth : ℕ) (phrase behind : List ℕ) (numbers : List ℤ) (op : Operator) (st : State) (stack stored : List ℤ) →
+      Moves lists st phrase numbers op behind (Keeps stack stored) → FirstSettles lists width depth behind (holding stack stored st) →
+      FirstSettles lists width depth (phrase ++ behind) st
+  in_subroutine : (depth : ℕ) (phrase behind : List ℕ) (numbers : List ℤ) (op : Operator) (st : State) (subroutine : List ℕ) (stack : List ℤ) →
+      Moves lists st phrase numbers op behind (Calls subroutine stack) → depth < 10 → FirstSettles lists width (suc depth) subroutine (stacked stack st) →
+      FirstSettles lists width depth (phrase ++ behind) st
+  behind_subroutine : (depth : ℕ) (phrase behind : List ℕ) (numbers : List ℤ) (op : Operator) (st : State) (subroutine : List ℕ) (stack : List ℤ) (trace : List Said) (back : State) →
+      Moves lists st phrase numbers op behind (Calls subroutine stack) → depth < 10 → Means lists (suc depth) subroutine (stacked stack st) [] trace (Returned back) →
+      FirstSettles lists width depth behind back → FirstSettles lists width depth (phrase ++ behind) st
+
+-- every answer has this width, and so has the end of the glyph
+abbrev pub EndsWith : Option ℤ → End → Type 0
+EndsWith width (Finished last) = last ≡ width
+EndsWith width (Returned st) = Unit {0}
+EndsWith width UsedUp = Unit {0}
+EndsWith width (Fault e) = Unit {0}
+
+pub record HasWidth (run : Run) (width : Option ℤ) : Type 0 where
+  pub answers : All (λ answer. answer.width ≡ width) run.answers
+  pub end : EndsWith width run.end
+
+-- the glyph was not finished
+abbrev pub NeverFinished : End → Type 0
+NeverFinished (Finished last) = ⊥
+NeverFinished (Returned st) = Unit {0}
+NeverFinished UsedUp = Unit {0}
+NeverFinished (Fault e) = Unit {0}
+
+-- nor was an operation answered
+pub record HasNoWidth (run : Run) : Type 0 where
+  pub answers : run.answers ≡ []
+  pub end : NeverFinished run.end
+
+-- A law of the definitions: the width of a run is the one that the first such operator settles, and each answer and the glyph's end
+-- have that one; or nothing was answered, the glyph was not finished, and there is none.
+abbrev pub WidthIsSettledOnce : Type 0
+WidthIsSettledOnce = (lists : Lists) (code : List ℕ) (run : Run) → IsRunOf lists code run →
+    (FirstSettles lists (width_of run) 0 code start × HasWidth run (width_of run)) ⊎ (HasNoWidth run × (width_of run ≡ None))
