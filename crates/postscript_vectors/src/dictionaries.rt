@@ -116,7 +116,7 @@ fn rows_of_dictionaries(rt: HostRuntime) {
 
 /// Each operator: its code, its name, and the texts of its default operands, `-` where it has none (Technical Note 5176,
 /// Tables 9, 10 and 23).
-const OPERATORS: &[(u16, &str, &str)] = &[
+pub const OPERATORS: &[(u16, &str, &str)] = &[
     (0x00, "Version", "-"),
     (0x01, "Notice", "-"),
     (0x02, "FullName", "-"),

@@ -1,5 +1,6 @@
 //! The numbers and the texts of refusals.
 use crate::checks::{holds, holds_at, is_text};
+use crate::dictionaries::OPERATORS;
 use postscript::Error;
 use postscript::compact1::Operator;
 use postscript::error::Part;
@@ -28,16 +29,6 @@ const REFUSALS: &[(Error, u8, &str)] = &[
         Error::UnknownCharStringFormat,
         12,
         "found an unknown char-string format",
-    ),
-    (
-        Error::MalformedOperation(Operator::Private),
-        13,
-        "found a malformed operation with operator Private",
-    ),
-    (
-        Error::MissingOperation(Operator::CharStrings),
-        14,
-        "failed to find an operation with operator CharStrings",
     ),
     (Error::OutOfRangeOffset, 15, "found an offset out of range"),
     (
@@ -83,6 +74,31 @@ pub fn check<R: Abort>(rt: &R, alloc: Global, error: &Error, code: u8, message: 
     holds_at(rt, error.code() == code, "refusal", usize::from(code));
     let text = error.to_string(alloc).expect(rt, "memory");
     is_text(rt, text.as_str(), message, message);
+}
+
+/// Whether the refusal with this number, at an operator of this name, has this front of its text and then the name.
+fn names<R: Abort>(rt: &R, alloc: Global, error: &Error, code: u8, front: &str, name: &str) -> bool {
+    let text = error.to_string(alloc).expect(rt, "memory");
+    error.code() == code && text.as_str().strip_prefix(front) == Some(name)
+}
+
+/// Whether both refusals that name an operator name this one.
+fn is_named<R: Abort>(rt: &R, alloc: Global, operator: Operator, name: &str) -> bool {
+    let malformed = Error::MalformedOperation(operator);
+    let missing = Error::MissingOperation(operator);
+    let front = "found a malformed operation with operator ";
+    let other = "failed to find an operation with operator ";
+    names(rt, alloc, &malformed, 13, front, name) && names(rt, alloc, &missing, 14, other, name)
+}
+
+#[test]
+fn refusals_at_each_operator(rt: HostRuntime) {
+    let alloc = rt.alloc();
+    for (code, name, _) in OPERATORS {
+        let operator = Operator::from(*code).expect(&rt, "an operator");
+        let is_so = is_named(&rt, alloc, operator, name);
+        holds_at(&rt, is_so, "code", usize::from(*code));
+    }
 }
 
 /// Whether a fault of this kind stays a fault of the tape.

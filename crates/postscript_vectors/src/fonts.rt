@@ -249,6 +249,15 @@ fn changed_and_cut_fonts(rt: HostRuntime) {
     }
 }
 
+#[test]
+fn local_subroutines_among_the_strings(rt: HostRuntime) {
+    let alloc = rt.alloc();
+    // Nothing stands behind the char strings any more: the list of local subroutines is that of the strings.
+    let bytes = changed(&rt, alloc, FONT, 30, 0x81);
+    let text = told_of(&rt, alloc, &bytes.as_slice()[..32]);
+    is_text(&rt, text.as_str(), OF_FONT, "a font cut to 32");
+}
+
 /// Whether a tape holds the smallest font.
 pub fn holds_font<R: Abort, T: Tape>(rt: &R, alloc: Global, tape: &mut T) -> bool {
     told_on(rt, alloc, tape).as_str() == OF_FONT

@@ -1,8 +1,9 @@
 //! Hostile fonts and tapes.
 use crate::checks::{bytes_of, changed, code_of, holds};
-use crate::fonts::{FONT, font_of, holds_font, told_on};
+use crate::fonts::{FONT, OF_FONT, font_of, told, told_on};
 use crate::tapes::{Trouble, TroubledTape};
 use postscript::Tape;
+use postscript::compact1::FontSet;
 use std::alloc::Global;
 use std::process::Abort;
 
@@ -34,9 +35,12 @@ fn fonts_with_a_byte_changed(rt: HostRuntime) {
     }
 }
 
-/// Whether a font on a troubled tape is told so.
+/// Whether a font on a troubled tape is told so by both readings.
 fn is_told<R: Abort>(rt: &R, alloc: Global, bytes: &[u8], trouble: Trouble, wanted: &str) -> bool {
-    told_on(rt, alloc, &mut TroubledTape::new(bytes, trouble)).as_str() == wanted
+    let strictly = told_on(rt, alloc, &mut TroubledTape::new(bytes, trouble));
+    let read = FontSet::read_lenient(alloc, &mut TroubledTape::new(bytes, trouble));
+    let leniently = told(rt, alloc, &read);
+    strictly.as_str() == wanted && leniently.as_str() == wanted
 }
 
 /// Reads three zeros of a tape of zeros whose place is always the first.
@@ -52,8 +56,8 @@ fn check_still<R: Abort>(rt: &R, alloc: Global) {
 fn fonts_on_strange_tapes(rt: HostRuntime) {
     let alloc = rt.alloc();
     let font = bytes_of(&rt, alloc, FONT);
-    let mut interrupted = TroubledTape::new(font.as_slice(), Trouble::Interrupted);
-    holds(&rt, holds_font(&rt, alloc, &mut interrupted), "interrupted");
+    let interrupted = is_told(&rt, alloc, font.as_slice(), Trouble::Interrupted, OF_FONT);
+    holds(&rt, interrupted, "interrupted");
     // The lists stand behind the header, where no place is left.
     let far = is_told(
         &rt,

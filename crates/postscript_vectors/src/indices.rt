@@ -474,6 +474,23 @@ fn codes_around<R: Abort>(rt: &R, alloc: Global, item: &[u8]) -> [u8; 4] {
     [first, second, third, code_of(dictionaries.into(alloc))]
 }
 
+/// The numbers of the refusals of two items, one by one, the second being this one, and of both of them.
+fn codes_of_two<R: Abort>(rt: &R, alloc: Global, item: &[u8]) -> [u8; 3] {
+    let dictionaries = dictionaries_of(rt, alloc, &[&[0x8c, 0x00], item]);
+    let first = code_of(dictionaries.operations(alloc, 0));
+    let second = code_of(dictionaries.operations(alloc, 1));
+    [first, second, code_of(dictionaries.into(alloc))]
+}
+
+#[test]
+fn refused_dictionaries_of_two_items(rt: HostRuntime) {
+    let alloc = rt.alloc();
+    for (item, code) in REFUSED {
+        let is_so = codes_of_two(&rt, alloc, item) == [0, *code, *code];
+        holds_at(&rt, is_so, "code", usize::from(*code));
+    }
+}
+
 #[test]
 fn refused_dictionaries_of_items(rt: HostRuntime) {
     let alloc = rt.alloc();

@@ -20,6 +20,9 @@ const WITH_WIDTH: &str =
 const WITHOUT: &str =
     "header 1 0 4 1|name A|strings 0|globals 0|font Standard ISOAdobe glyphs 1 locals 0|local 0 width 0";
 
+const FIRST_WITHOUT: &str =
+    "header 1 0 4 1|strings 0|globals 0|font Standard ISOAdobe glyphs 1 locals 0|font Standard ISOAdobe glyphs 1 locals 0|local 0 width 0|local 1 width 0";
+
 const ROWS: &[Row] = &[
     (FONT, 0, 0x01, OF_FONT, OF_FONT),
     // No Private, and no Subrs behind DefaultWidthX.
@@ -63,7 +66,7 @@ const ROWS: &[Row] = &[
         16,
         0x13,
         "fault 14",
-        "header 1 0 4 1|strings 0|globals 0|font Standard ISOAdobe glyphs 1 locals 0|font Standard ISOAdobe glyphs 1 locals 0|local 0 width 0|local 1 width 0",
+        FIRST_WITHOUT,
     ),
 ];
 
@@ -111,6 +114,22 @@ pub fn check_lenient<R: Abort>(rt: &R, alloc: Global) {
     let bytes = bytes_of(rt, alloc, FONT);
     let text = told_leniently(rt, alloc, bytes.as_slice());
     is_text(rt, text.as_str(), OF_FONT, "the lenient reading");
+}
+
+/// What is told of the clone of a font that is read leniently.
+fn told_of_clone<R: Abort>(rt: &R, alloc: Global, bytes: &[u8]) -> String {
+    let read = FontSet::read_lenient(alloc, &mut Cursor::new(bytes));
+    let copy = read.expect(rt, "a font").clone();
+    told_long(rt, alloc, &copy)
+}
+
+#[test]
+fn clone_of_a_font_with_empty_lists(rt: HostRuntime) {
+    let alloc = rt.alloc();
+    // The first of two dictionaries has no private one, and so no local subroutines.
+    let bytes = changed(&rt, alloc, TWO_DICTIONARIES, 16, 0x13);
+    let text = told_of_clone(&rt, alloc, bytes.as_slice());
+    is_text(&rt, text.as_str(), FIRST_WITHOUT, "a clone");
 }
 
 #[test]

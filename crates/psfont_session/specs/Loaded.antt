@@ -1,6 +1,7 @@
 -- What a run is given, and what a line of the input makes of it.
 use Rattle.std.specs.Prelude.{◌≡◌, ℕ, List, [], ◌∷◌, ◌++◌, Ok}
 use Rattle.hex.specs.Hex.{decode_of}
+use Rattle.postscript.specs.Program.Routines.{Lists}
 use Rattle.psfont_session.specs.Command.{name_of}
 use Rattle.psfont_session.specs.Line.{word_of, argument_of}
 use Rattle.psfont_session.specs.declared.command.Command.TheVariants.{Load}
@@ -12,6 +13,10 @@ pub record Loaded : Type 0 where
   pub code : List ℕ
   pub global : List (List ℕ)
   pub local : List (List ℕ)
+
+-- the lists that a run is given
+abbrev pub lists_of : Loaded → Lists
+lists_of loaded = record { global = loaded.global; local = loaded.local }
 
 -- bytes put in their place; new code starts without subroutines
 abbrev pub put : Place → List ℕ → Loaded → Loaded

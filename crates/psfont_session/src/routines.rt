@@ -1,10 +1,19 @@
 //! What a run is given.
-ghost use Rattle.std.specs.Prelude.{◌≡◌, [], OnOk, OnErr, ◌∷◌, map, vec_items};
+ghost use Rattle.std.specs.Prelude.{◌≡◌, ◌⊎◌, [], OnOk, OnErr, ◌∷◌, map, vec_items, IfOk, IfErr, MatchResult};
 ghost use Rattle.postscript.specs.Error.{IsListed};
-ghost use Rattle.psfont_session.specs.Loaded.{Loaded, put};
+ghost use Rattle.postscript.specs.Refusal.{refusal_of};
+ghost use Rattle.postscript.specs.Program.Endings.{flatten_refusals};
+ghost use Rattle.postscript.specs.Program.Evaluation.{run_of};
+ghost use Rattle.postscript.specs.Program.Flat.{flat_text};
+ghost use Rattle.postscript.specs.Program.Inlining.{KeepsMeaning};
+ghost use Rattle.postscript.specs.Program.Meaning.{IsRunOf};
+ghost use Rattle.postscript.specs.Program.Routines.{Lists};
+ghost use Rattle.postscript.specs.Program.Runs.{Run, fault_of};
+ghost use Rattle.postscript.specs.Program.Whole.{Tells};
+ghost use Rattle.psfont_session.specs.Loaded.{Loaded, put, lists_of};
 
 use crate::command::Place;
-use postscript::Result;
+use postscript::{Error, Result};
 use postscript::type2::{self, Answers, Program};
 use std::alloc::Global;
 use std::marker::Model;
@@ -58,7 +67,12 @@ impl Routines {
     }
 
     /// Runs the code. Refused: `Memory`.
-    pub fn run(&self, alloc: Global) -> Result<Answers> {
+    pub fn run(&self, alloc: Global) -> Result<Answers>
+        ensures meant { IfOk result (λ told. (run : Run) × IsRunOf (lists_of self.now) self.now.code run × Tells told run) }
+        ensures tells { MatchResult result
+            (λ told. Tells told (run_of (lists_of self.now) self.now.code))
+            (λ e. e ≡ Error.Memory) }
+    {
         type2::run(
             alloc,
             self.code.as_slice(),
@@ -68,7 +82,13 @@ impl Routines {
     }
 
     /// The code without calls. Refused: what the run is refused with, `Memory`.
-    pub fn flatten(&self, alloc: Global) -> Result<Vec<u8>> {
+    pub fn flatten(&self, alloc: Global) -> Result<Vec<u8>>
+        ensures faultless { OnOk result (fault_of (run_of (lists_of self.now) self.now.code).end ≡ None) }
+        ensures text { IfOk result (λ flat. flat.items ≡ flat_text (run_of (lists_of self.now) self.now.code).trace) }
+        ensures keeps { IfOk result (λ flat. (other : Lists) → KeepsMeaning other flat.items (run_of (lists_of self.now) self.now.code)) }
+        ensures refused { IfErr result (λ e. (e ≡ Error.Memory) ⊎ (fault_of (run_of (lists_of self.now) self.now.code).end ≡ Some (refusal_of e))) }
+        ensures listed { IsListed flatten_refusals result }
+    {
         Program::flatten(
             alloc,
             self.code.as_slice(),
