@@ -55,7 +55,7 @@ unfolding number
 number_got size bytes place n h = rw (slice_got size bytes place h.0) (ap (λ n. Got n (place + size)) (sym h.1))
 
 -- an offset that stands there and may follow the last one
-abbrev Follows : Option ℕ → List ℕ → Type 0
+abbrev pub Follows : Option ℕ → List ℕ → Type 0
 Follows None [] = Unit {0}
 Follows None (first ∷ offsets) = (first ≡ 1) × RisesFrom first offsets
 Follows (Some last) offsets = RisesFrom last offsets
@@ -103,11 +103,11 @@ IsChain count size last bytes place (Got os next) = (length os ≡ count) × Off
 IsChain count size last bytes place (Fault refusal) = Refuses refusal
 IsChain count size last bytes place Past = ⊥
 
-nothing_follows : (last : Option ℕ) → Follows last []
+pub nothing_follows : (last : Option ℕ) → Follows last []
 nothing_follows None = tt
 nothing_follows (Some last) = tt
 
-follows_on : (last : Option ℕ) (n : ℕ) (os : List ℕ) → rises last n ≡ true → RisesFrom n os → Follows last (n ∷ os)
+pub follows_on : (last : Option ℕ) (n : ℕ) (os : List ℕ) → rises last n ≡ true → RisesFrom n os → Follows last (n ∷ os)
 follows_on None n os up rest = (grind (arith, nat_tests), rest)
 follows_on (Some last) n os up rest = (grind (arith, nat_tests), rest)
 

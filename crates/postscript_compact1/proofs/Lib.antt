@@ -11,6 +11,7 @@ pub mod EachPart
 pub mod GlyphRuns
 pub mod CharSetIs
 pub mod IndexIs
+pub mod IndexOnAnyTape
 pub mod Steps
 pub mod OperandLaws
 pub mod FontLaws

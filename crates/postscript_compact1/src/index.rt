@@ -1,12 +1,14 @@
 //! Indices: items with the offsets that bound them (Technical Note 5176, "INDEX Data").
-ghost use Rattle.std.specs.Prelude.{◌≡◌, ℕ, ◌+◌, List, [], ◌∷◌, length, map, refl, IfOk, slice_get};
+ghost use Rattle.std.specs.Prelude.{◌≡◌, ℕ, ◌+◌, ◌<◌, List, [], ◌∷◌, length, map, refl, IfOk, IsTrue, None, slice_get, vec_len};
 ghost use Rattle.std.specs.Option.{option_copied};
 ghost use Rattle.postscript_base.specs.Error.{IsListed};
 ghost use Rattle.postscript_base.specs.Numbers.{slice};
 ghost use Rattle.postscript_base.specs.Tape.{Reads, IsHonest};
+ghost use Rattle.postscript_base.specs.Compact1.Offset.{behind, rises};
+ghost use Rattle.postscript_base.specs.Tape.Loops.{AreLinked};
 ghost use Rattle.postscript_base.specs.Tape.Outcome.{same};
 ghost use Rattle.postscript_base.specs.Tape.Seen.{each_as_it_is};
-ghost use Rattle.postscript_compact1.specs.IndexLaw.{IsWhole};
+ghost use Rattle.postscript_compact1.specs.IndexLaw.{IsFilled, IsWhole};
 ghost use Rattle.postscript_compact1.specs.Index.{empty as no_items, filled, index, lengths, lengths_from, offsets as the_offsets};
 
 mod char_strings;
@@ -134,7 +136,7 @@ impl Index {
 /// Refused: `UnexpectedEof` where the count or the size is cut; `MalformedOffset` for offsets of no byte or of more
 /// than four; then, offset by offset, `UnexpectedEof` where it is cut and `MalformedIndex` where the first is not 1 or
 /// a next one is not greater than the last; `UnexpectedEof` where an item is cut; `Io`, `Memory`.
-#[tactic(auto, using(crate::proofs::IndexIs::read_whole, crate::proofs::IndexIs::empty_whole), unfolding(crate::specs::Index::index))]
+#[tactic(auto, using(crate::proofs::IndexIs::empty_whole), unfolding(crate::specs::Index::index))]
 impl Value for Index {
     ghost use Rattle.std.specs.Prelude.{[], ◌∷◌};
     ghost use Rattle.postscript_base.specs.Tape.Outcome.{same};
@@ -159,6 +161,7 @@ impl Value for Index {
         ensures exact { Reads same (T.state tape.old) result (T.state tape.new) index }
         ensures listed { IsListed (1 ∷ 2 ∷ 3 ∷ 5 ∷ 6 ∷ []) result }
         ensures whole { IsHonest (T.state tape.old) → IfOk result IsWhole }
+        ensures whole_anywhere { IfOk result IsWhole }
     {
         let count = u16::read(alloc, tape)?;
         if count == 0 {
@@ -173,6 +176,7 @@ impl Value for Index {
 fn read_filled<T: Tape>(alloc: Global, tape: &mut T, count: u16) -> Result<Index>
     ensures exact { Reads same (T.state tape.old) result (T.state tape.new) (filled count) }
     ensures listed { IsListed (1 ∷ 2 ∷ 3 ∷ 5 ∷ 6 ∷ []) result }
+    ensures filled { 0 < count → IfOk result IsFilled }
 {
     let offset_size = u8::read(alloc, tape)?;
     let offsets = read_offsets(alloc, tape, offset_size, count)?;
@@ -196,6 +200,7 @@ fn read_offsets<T: Tape>(
 ) -> Result<Vec<Offset>>
     ensures exact { Reads (λ offsets. offsets.items) (T.state tape.old) result (T.state tape.new) (the_offsets size (count + 1)) }
     ensures listed { IsListed (3 ∷ 1 ∷ 2 ∷ 5 ∷ 6 ∷ []) result }
+    ensures linked { IfOk result (λ offsets. AreLinked (λ given next. IsTrue (rises given.1 next)) behind (size, None) (count + 1) offsets.items) }
 {
     read_chain(alloc, tape, (size, None), usize::from(count) + 1)
 }
@@ -224,6 +229,8 @@ impl Source for Length {
     ghost reading = { λ _. slice };
 
     ghost refusals = { 1 ∷ 2 ∷ 3 ∷ [] };
+
+    ghost fits = { λ length item. vec_len item ≡ length.0 };
 
     #[inline(always)]
     fn read<T: Tape>(&self, alloc: Global, tape: &mut T, _given: ()) -> Result<Vec<u8>> {

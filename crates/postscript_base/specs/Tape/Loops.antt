@@ -71,3 +71,17 @@ abbrev pub IsNext : {V A : Type 0} → (V → A) → Result (Option V) Error →
 IsNext view (Ok None) next outcome = outcome ≡ end
 IsNext view (Ok (Some value)) next outcome = outcome ≡ Got (view value) next
 IsNext view (Err e) next outcome = e ≢ Memory → RefusedAs e outcome × (e ≢ UnexpectedEof)
+
+-- So many values, each of which may follow what the ones before it leave.
+abbrev pub AreLinked : {P A : Type 0} → (P → A → Type 0) → (P → A → P) → P → ℕ → List A → Type 0
+AreLinked follows next given zero [] = Unit {0}
+AreLinked follows next given zero (value ∷ values) = ⊥
+AreLinked follows next given (suc count) [] = ⊥
+AreLinked follows next given (suc count) (value ∷ values) = follows given value × AreLinked follows next (next given value) count values
+
+-- a value for each of a list, which may be its value
+abbrev pub AreFor : {A B : Type 0} → (A → B → Type 0) → List A → List B → Type 0
+AreFor fits [] [] = Unit {0}
+AreFor fits (x ∷ xs) (value ∷ values) = fits x value × AreFor fits xs values
+AreFor fits [] (value ∷ values) = ⊥
+AreFor fits (x ∷ xs) [] = ⊥

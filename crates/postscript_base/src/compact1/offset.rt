@@ -1,5 +1,5 @@
 //! Offsets.
-ghost use Rattle.std.specs.Prelude.{◌≡◌, ℕ, List, [], ◌∷◌};
+ghost use Rattle.std.specs.Prelude.{◌≡◌, ℕ, List, [], ◌∷◌, IsTrue};
 ghost use Rattle.postscript_base.specs.Error.{IsListed};
 ghost use Rattle.postscript_base.specs.Numbers.{number};
 ghost use Rattle.postscript_base.specs.Compact1.Offset.{offset, rising, behind, rises as the_test};
@@ -89,6 +89,8 @@ impl Linked for Offset {
     ghost refusals = { 1 ∷ 2 ∷ 5 ∷ 6 ∷ [] };
 
     ghost left = { behind };
+
+    ghost follows = { λ given next. IsTrue (the_test given.1 next) };
 
     fn read<T: Tape>(alloc: Global, tape: &mut T, given: Self::Given) -> Result<Offset> {
         let (size, last) = given;

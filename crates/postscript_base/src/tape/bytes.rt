@@ -1,5 +1,5 @@
 //! So many bytes, as a list.
-ghost use Rattle.std.specs.Prelude.{◌≡◌, ℕ, ◌+◌, List, [], ◌∷◌, OnOk, vec_len, map, refl};
+ghost use Rattle.std.specs.Prelude.{◌≡◌, ℕ, ◌+◌, List, [], ◌∷◌, IfOk, OnOk, vec_len, map, refl};
 ghost use Rattle.postscript_base.specs.Error.{IsListed};
 ghost use Rattle.postscript_base.specs.Tape.{Reads};
 ghost use Rattle.postscript_base.specs.Numbers.{slice, slice_behind};
@@ -32,7 +32,11 @@ impl Walue for Vec<u8> {
     ghost refusals = { 1 ∷ 2 ∷ 3 ∷ [] };
 
     #[inline(always)]
-    fn read<T: Tape>(alloc: Global, tape: &mut T, count: usize) -> Result<Vec<u8>> {
+    fn read<T: Tape>(alloc: Global, tape: &mut T, count: usize) -> Result<Vec<u8>>
+        ensures exact { Reads (λ bytes. bytes.items) (T.state tape.old) result (T.state tape.new) (slice count) }
+        ensures listed { IsListed (1 ∷ 2 ∷ 3 ∷ []) result }
+        ensures len { IfOk result (λ bytes. vec_len bytes ≡ count) }
+    {
         let mut bytes = Vec::new(alloc);
         while bytes.len() < count {
             let more = (count - bytes.len()).min(PIECE);

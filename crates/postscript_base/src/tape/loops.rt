@@ -1,10 +1,10 @@
 //! Values one after the other.
-ghost use Rattle.std.specs.Prelude.{◌≡◌, ℕ, Bool, List, [], ◌∷◌, length, map};
+ghost use Rattle.std.specs.Prelude.{◌≡◌, ℕ, Bool, List, [], ◌∷◌, length, map, IfOk};
 ghost use Rattle.postscript_base.specs.Error.{IsListed};
 ghost use Rattle.postscript_base.specs.Tape.Outcome.{Reading, Got, same};
 ghost use Rattle.postscript_base.specs.Tape.Onward.{TakesBytes};
 ghost use Rattle.postscript_base.specs.Tape.{Reads, IsHonest, Kept};
-ghost use Rattle.postscript_base.specs.Tape.Loops.{many, chain, until, to_end, each, IsNext};
+ghost use Rattle.postscript_base.specs.Tape.Loops.{many, chain, until, to_end, each, AreFor, AreLinked, IsNext};
 
 use super::{Tape, Value};
 use crate::error::{Error, Result};
@@ -56,13 +56,17 @@ pub trait Linked: Sized {
     /// What a value leaves of what it was given.
     ghost left: { Self.Given → Shown → Self.Given };
 
+    /// What holds of a value by what it was given, on any tape.
+    ghost follows: { Self.Given → Self → Type 0 } = { λ _ _. Unit {0} };
+
     /// Reads a value, given what the ones before it left. On an honest tape the value and the next place are those
     /// that the bytes say by `reading`, and so is the refusal.
     ///
     /// Refused: as the comment at the type's `impl` says, and with no error whose number `refusals` lacks.
     fn read<T: Tape>(alloc: Global, tape: &mut T, given: Self::Given) -> Result<Self>
         ensures exact { Reads view (T.state tape.old) result (T.state tape.new) (reading given) }
-        ensures listed { IsListed refusals result };
+        ensures listed { IsListed refusals result }
+        ensures follows { IfOk result (λ value. follows given value) };
 
     /// What this value leaves of what it was given, for the next one. Never refused.
     fn left(&self, given: Self::Given) -> Self::Given
@@ -83,6 +87,7 @@ pub fn read_chain<W: Linked + Drop, T: Tape>(
     ensures exact { Reads (λ values. W.views values.items) (T.state tape.old) result (T.state tape.new)
         (chain W.reading W.left first length) }
     ensures listed { IsListed (3 ∷ W.refusals) result }
+    ensures linked { IfOk result (λ values. AreLinked W.follows (λ given value. W.left given (W.view value)) first length values.items) }
 {
     let mut values = Vec::new(alloc);
     let mut given = first;
@@ -204,13 +209,17 @@ pub trait Source {
     /// The numbers of the refusals that a reading may answer. Without 3 a reading never answers `Memory`.
     ghost refusals: { List ℕ };
 
+    /// What holds of a value by its source, on any tape.
+    ghost fits: { Self → Self.Value → Type 0 } = { λ _ _. Unit {0} };
+
     /// Reads the value for this source. On an honest tape the value and the next place are those that the bytes say by
     /// `reading`, and so is the refusal.
     ///
     /// Refused: as the comment at the type's `impl` says, and with no error whose number `refusals` lacks.
     fn read<T: Tape>(&self, alloc: Global, tape: &mut T, given: Self::Given) -> Result<Self::Value>
         ensures exact { Reads view (T.state tape.old) result (T.state tape.new) (reading given (seen self.now)) }
-        ensures listed { IsListed refusals result };
+        ensures listed { IsListed refusals result }
+        ensures fits { IfOk result (λ value. fits self.now value) };
 
     ghost views_each: { (xs : List Self.Value) → views xs ≡ map view xs };
 }
@@ -227,6 +236,7 @@ pub fn read_each<S: Source, T: Tape>(
     ensures exact { Reads (λ values. S.views values.items) (T.state tape.old) result (T.state tape.new)
         (each (S.reading given) (map S.seen sources.now)) }
     ensures listed { IsListed (3 ∷ S.refusals) result }
+    ensures fitting { IfOk result (λ values. AreFor S.fits sources.now values.items) }
 {
     let mut values = Vec::new(alloc);
     for source in sources {
