@@ -1,8 +1,12 @@
 -- An offset: a number of one to four bytes (Technical Note 5176, "Data Types").
-use Rattle.std.specs.Prelude.{ℕ, Bool, Option, Some, None, nat_lt, ◌==◌, ◌||◌, if◌then◌else◌}
+use Rattle.std.specs.Prelude.{◌<◌, ◌≤◌, ℕ, Bool, Option, Some, None, nat_lt, ◌==◌, ◌||◌, if◌then◌else◌}
 use Rattle.postscript_base.specs.Refusal.{malformed_offset, malformed_index}
 use Rattle.postscript_base.specs.Tape.Outcome.{Reading, ◌>>=◌, pure, fault}
 use Rattle.postscript_base.specs.Numbers.{number}
+
+-- the numbers of bytes that offsets have
+abbrev pub IsOffsetSize : ℕ → Type 0
+IsOffsetSize size = (0 < size) × (size ≤ 4)
 
 -- another size is malformed, and nothing is read for it
 unfoldable pub offset : (size : ℕ) → Reading ℕ

@@ -1,8 +1,8 @@
 //! Offsets.
-ghost use Rattle.std.specs.Prelude.{◌≡◌, ℕ, List, [], ◌∷◌, IsTrue};
+ghost use Rattle.std.specs.Prelude.{◌≡◌, ◌≢◌, ℕ, List, [], ◌∷◌, IsTrue};
 ghost use Rattle.postscript_base.specs.Error.{IsListed};
 ghost use Rattle.postscript_base.specs.Numbers.{number};
-ghost use Rattle.postscript_base.specs.Compact1.Offset.{offset, rising, behind, rises as the_test};
+ghost use Rattle.postscript_base.specs.Compact1.Offset.{IsOffsetSize, offset, rising, behind, rises as the_test};
 ghost use Rattle.postscript_base.specs.Tape.Outcome.{same};
 ghost use Rattle.postscript_base.specs.Tape.Seen.{each_as_it_is};
 ghost use Rattle.postscript_base.specs.Tape.{Reads};
@@ -34,8 +34,8 @@ impl Model for Offset {
 
 /// The number of so many bytes, the high byte first. The parameter is the number of bytes, from 1 to 4.
 ///
-/// Refused: `MalformedOffset` for another number of bytes, with the tape as it was; `UnexpectedEof` where fewer are
-/// left, `Io`.
+/// Refused: `MalformedOffset` for another number of bytes, whatever stands there, with the tape as it was; `UnexpectedEof`
+/// where fewer are left, `Io`.
 #[tactic(auto, unfolding(crate::specs::Compact1::Offset::offset))]
 impl Walue for Offset {
     type Parameter = OffsetSize;
@@ -56,6 +56,8 @@ impl Walue for Offset {
         ensures exact { Reads same (T.state tape.old) result (T.state tape.new) (offset size) }
         ensures listed { IsListed (1 ∷ 2 ∷ 5 ∷ []) result }
         ensures untouched { result ≡ Err Error.MalformedOffset → T.state tape.new ≡ T.state tape.old }
+        ensures refused { ¬ IsOffsetSize size → (result ≡ Err Error.MalformedOffset) × (tape.new ≡ tape.old) }
+        ensures sized { IsOffsetSize size → result ≢ Err Error.MalformedOffset }
     {
         match size {
             1 => Ok(Offset(u32::from(u8::read(alloc, tape)?))),

@@ -9,7 +9,7 @@ use std::marker::Model;
 
 /// A decimal number, `mantissa * 10^exponent`, in its one form: the mantissa has at most eighteen digits and does not
 /// end in 0, the exponent is from -1000 to 1000, and zero is `(0, 0)`.
-#[derive(Clone, Copy, Debug, PartialEq, Eq, Hash)]
+#[derive(Clone, Copy, Debug, Eq, Hash)]
 pub struct Operand {
     mantissa: i64,
     exponent: i32,
@@ -112,6 +112,26 @@ impl Operand {
             return None;
         }
         in_32_bits(raised(mantissa, exponent))
+    }
+}
+
+/// Operands are equal exactly if their values are, and then they are the same operand. Never refused.
+impl PartialEq for Operand {
+    ghost use Rattle.std.specs.Prelude.{◌≡◌, ◌↔◌, ◌&&◌, IsTrue};
+    ghost use Rattle.std.specs.Cmp.{and_per, on_per, partial_equiv_from_equiv, int_eq_equiv};
+    ghost use Rattle.std.specs.Ordering.{eq_of_both, int_eq, on};
+    ghost use Rattle.postscript_base.specs.Compact1.Decimal.{AreEqual};
+
+    ghost eq = { eq_of_both (on (λ o. o.mantissa) int_eq) (on (λ o. o.exponent) int_eq) };
+
+    ghost laws = { and_per (on_per (λ o. o.mantissa) (partial_equiv_from_equiv int_eq_equiv)) (on_per (λ o. o.exponent) (partial_equiv_from_equiv int_eq_equiv)) };
+
+    fn eq(&self, other: &Operand) -> bool
+        ensures exact { result ≡ (int_eq self.now.mantissa other.now.mantissa && int_eq self.now.exponent other.now.exponent) }
+        ensures equal { IsTrue result ↔ AreEqual self.now other.now }
+        ensures one_operand { IsTrue result → self.now ≡ other.now }
+    {
+        self.mantissa() == other.mantissa() && self.exponent() == other.exponent()
     }
 }
 
