@@ -1,2 +1,3 @@
 pub mod Glyphs
+pub mod Passing
 pub mod Readers

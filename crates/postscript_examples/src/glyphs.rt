@@ -1,10 +1,12 @@
 //! Glyphs from their charstrings.
 ghost use Rattle.std.specs.Prelude.{◌≡◌, ◌⊎◌, None, Some, map, IfOk, IfErr, OnOk};
 ghost use Rattle.postscript_base.specs.Refusal.{refusal_of};
+ghost use Rattle.postscript_type2.specs.Program.Evaluation.{run_of};
 ghost use Rattle.postscript_type2.specs.Program.Routines.{subroutines, texts};
 ghost use Rattle.postscript_examples.specs.Glyphs.{drawn, drawn_by, refused_by, first_refused_by};
+ghost use Rattle.postscript_examples.specs.Passing.{Passes, operator_in};
 
-use postscript::type2::{self, Operand, Operations, Program};
+use postscript::type2::{self, Operand, Operations, Operator, Program};
 use postscript::{Error, Result};
 use std::alloc::Global;
 
@@ -52,10 +54,37 @@ pub fn operand_count(
     let mut program = Program::new(alloc, code, global, local);
     let mut count = 0u64;
     for _ in 0..u64::MAX {
-        let Some((_operator, operands)) = program.next()? else {
+        let Some((_operator, operands)) = program.step()? else {
             break;
         };
         count = count.saturating_add(operands.len() as u64);
     }
     Ok((count, program.width()))
+}
+
+/// Passes the next operation, and answers its operator and how many operands it has.
+pub fn pass(program: &mut Program<'_>) -> Result<Option<(Operator, usize)>>
+    ensures { Passes program.old result program.new }
+{
+    match program.step()? {
+        Some((operator, operands)) => Ok(Some((operator, operands.len()))),
+        None => Ok(None),
+    }
+}
+
+/// The operators of a glyph.
+pub fn operators(
+    alloc: Global,
+    code: &[u8],
+    global: &[Vec<u8>],
+    local: &[Vec<u8>],
+) -> Result<Vec<Operator>>
+    ensures { IfOk result (λ told. told.items ≡ map operator_in (run_of (subroutines global.now local.now) code.now).answers) }
+{
+    let mut program = Program::new(alloc, code, global, local);
+    let mut operators = Vec::new(alloc);
+    while let Some((operator, _operands)) = program.step()? {
+        operators.push(operator)?;
+    }
+    Ok(operators)
 }

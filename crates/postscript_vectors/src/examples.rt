@@ -1,12 +1,12 @@
 //! Each example once.
 use crate::checks::holds;
 use postscript::compact1::{FontSet, Operator as Key};
-use postscript::type2::{Operand, Operator};
+use postscript::type2::{Operand, Operator, Program};
 use postscript::{Error, Value};
 use postscript_examples::dictionaries::{dictionary_of, italic_angle, texts_of};
 use postscript_examples::flat::{flat, flat_glyphs_of};
 use postscript_examples::fonts::{font_of, glyphs_of, names_of};
-use postscript_examples::glyphs::{Glyph, each_glyph, glyph, operand_count};
+use postscript_examples::glyphs::{Glyph, each_glyph, glyph, operand_count, operators, pass};
 use postscript_examples::own_tapes::{Counted, held_font};
 use postscript_examples::readers::{
     Rising, Run, Size, offsets, private_size, runs, texts, word_at, words,
@@ -78,6 +78,21 @@ fn is_counted(alloc: Global, local: &[Vec<u8>]) -> bool {
     }
 }
 
+/// Whether the first operation of `CODE` is passed as a move by two operands, with the width 3.
+fn is_passed(alloc: Global, local: &[Vec<u8>]) -> bool {
+    let mut program = Program::new(alloc, &CODE, &[], local);
+    let moves = matches!(pass(&mut program), Ok(Some((Operator::RMoveTo, 2))));
+    moves && program.width() == Some(whole(3))
+}
+
+/// Whether the operators of `CODE` are a move and a line.
+fn are_its_operators(alloc: Global, local: &[Vec<u8>]) -> bool {
+    match operators(alloc, &CODE, &[], local) {
+        Ok(operators) => matches!(operators.as_slice(), [Operator::RMoveTo, Operator::HLineTo]),
+        Err(_) => false,
+    }
+}
+
 /// Whether `CODE` is `FLAT` as flat code with these local subroutines, which then draws it with none.
 fn is_flat(alloc: Global, local: &[Vec<u8>]) -> bool {
     match flat(alloc, &CODE, &[], local) {
@@ -99,6 +114,8 @@ fn a_glyph(rt: HostRuntime) -> Result<(), Fail> {
     let local = vec![in rt.alloc(); line]?;
     assert!(rt; draws_it(rt.alloc(), &CODE, local.as_slice()));
     assert!(rt; is_counted(rt.alloc(), local.as_slice()));
+    assert!(rt; is_passed(rt.alloc(), local.as_slice()));
+    assert!(rt; are_its_operators(rt.alloc(), local.as_slice()));
     assert!(rt; is_flat(rt.alloc(), local.as_slice()));
     Ok(())
 }

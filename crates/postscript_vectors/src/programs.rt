@@ -17,7 +17,7 @@ use postscript::{Error, Result};
 use std::alloc::Global;
 use std::io::Cursor;
 use std::process::Abort;
-use steps::STEPS;
+use steps::{BY_TURNS, STEPS};
 use storage::STORAGE;
 
 /// A code in hex, its local subroutines in hex, each after a space, and the answers of the run: a text for each
@@ -83,12 +83,16 @@ fn long_list<R: Abort>(rt: &R, alloc: Global, count: usize) -> Vec<Vec<u8>> {
 }
 
 /// Adds the operator's name, and each operand after a space.
-fn put_operation<R: Abort>(rt: &R, text: &mut String, operation: &Operation) {
-    let (operator, operands) = operation;
+fn put_operands<R: Abort>(rt: &R, text: &mut String, operator: Operator, operands: &[Operand]) {
     put(rt, text, operator.name());
     for operand in operands {
         put_shown(rt, text, " ", operand);
     }
+}
+
+/// Adds an operation.
+fn put_operation<R: Abort>(rt: &R, text: &mut String, operation: &Operation) {
+    put_operands(rt, text, operation.0, operation.1.as_slice());
 }
 
 /// Adds the width.
@@ -337,6 +341,45 @@ fn step_by_step(rt: HostRuntime) {
     let alloc = rt.alloc();
     for row in STEPS {
         check_steps(&rt, alloc, row);
+    }
+}
+
+/// What the next step of a program answers where its operands are lent, and the width after it.
+fn lent_step<R: Abort>(rt: &R, alloc: Global, program: &mut Program<'_>) -> String {
+    let mut text = String::new(alloc);
+    match program.step() {
+        Ok(Some((operator, operands))) => put_operands(rt, &mut text, operator, operands),
+        Ok(None) => put_end(rt, &mut text, None),
+        Err(fault) => put_end(rt, &mut text, Some(&fault)),
+    }
+    put(rt, &mut text, ", ");
+    put_width(rt, &mut text, program.width());
+    text
+}
+
+/// Asks a program by `next` and by `step` in turn.
+fn check_by_turns<R: Abort>(rt: &R, alloc: Global, row: &(&str, &str, &[&str]), lends_first: bool) {
+    let bytes = bytes_of(rt, alloc, row.0);
+    let local = routines_of(rt, alloc, row.1);
+    let mut program = Program::new(alloc, bytes.as_slice(), &[], local.as_slice());
+    let mut lends = lends_first;
+    for wanted in row.2 {
+        let told = if lends {
+            lent_step(rt, alloc, &mut program)
+        } else {
+            step(rt, alloc, &mut program)
+        };
+        is_text(rt, told.as_str(), wanted, row.0);
+        lends = !lends;
+    }
+}
+
+#[test]
+fn next_and_step_by_turns(rt: HostRuntime) {
+    let alloc = rt.alloc();
+    for row in BY_TURNS {
+        check_by_turns(&rt, alloc, row, true);
+        check_by_turns(&rt, alloc, row, false);
     }
 }
 
