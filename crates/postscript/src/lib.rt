@@ -8,6 +8,8 @@
 //! - An honest tape is one of which contracts know the bytes and the place, as a `Cursor` over bytes
 //!   (`tape::ReadSeek`). On it the parts of fonts are read exactly: what is said of bytes is said of such a tape.
 //!   There `Io` is answered only where a place past the end is sought.
+//! - `clone` is handed no allocator. Of a type that is `Copy` it takes no memory; another type's asks the global allocator for
+//!   memory for the copy, as its comment says, and is refused with `Memory` where there is none.
 //! - Where a tape stands after a refusal is told only where a comment says so.
 //! - Places and sizes are counted in bytes, places from the beginning of the tape; operands of dictionaries are exact
 //!   decimals, operands of charstrings and widths are 16.16 bits; glyphs and items are counted from 0.

@@ -104,7 +104,7 @@ impl CharSet {
         }
     }
 
-    /// An equal char set.
+    /// An equal char set, in memory of its own: the list of its glyphs or of its ranges. A predefined one takes none.
     ///
     /// Refused: `Memory`.
     pub fn clone(&self) -> Result<Self>

@@ -29,6 +29,11 @@ use tables::{Tables, read_behind};
 /// A font set: what a file of the Compact Font Format holds (Technical Note 5176). In one that was read from an honest
 /// tape the encodings, char sets, char strings, local dictionaries and local subroutines are one for each of the
 /// global dictionaries, in their order, and item g of char strings is the code of glyph g.
+///
+/// A CID-keyed font (chapter 18) is one whose dictionary has the operator `ROS`: `get(Operator::ROS)` of its global
+/// dictionary is not None. Its private dictionaries and local subroutines are those of the fonts in its `FDArray`, a glyph's
+/// by `FDSelect`. These two are not read here, so its glyphs have no local subroutines: a run of one that calls them is
+/// refused, or comes out wrong.
 #[derive(Drop)]
 pub struct FontSet {
     /// The header.
@@ -54,7 +59,8 @@ pub struct FontSet {
 }
 
 impl FontSet {
-    /// An equal font: each field is equal.
+    /// An equal font: each field is equal. It stands in memory of its own: what the clone of each field takes, and the lists of
+    /// dictionaries, char strings, char sets and subroutines.
     ///
     /// Refused: `Memory`.
     pub fn clone(&self) -> Result<Self>
@@ -96,6 +102,9 @@ impl FontSet {
     /// dictionary has an empty private one, and without an operand of `Subrs` no local subroutines. On an honest tape
     /// it is answered exactly where such a font stands at the tape's place, want of memory aside; the layout leaves
     /// open where the font ends.
+    ///
+    /// A CID-keyed font is mostly read so, since its dictionary has no `Private`; but its glyphs find no local subroutines
+    /// (`FontSet`).
     ///
     /// Refused: as `read` is, but never for operands of `Private` or `Subrs` that are missing; one that is there and
     /// is no whole number of `i32` is `MalformedOperation`.

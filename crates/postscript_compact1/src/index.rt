@@ -113,7 +113,7 @@ impl Index {
         self.items.iter()
     }
 
-    /// An equal INDEX.
+    /// An equal INDEX, in memory of its own: a list of the offsets, one of the items, and one for the bytes of each item.
     ///
     /// Refused: `Memory`.
     pub fn clone(&self) -> Result<Self>

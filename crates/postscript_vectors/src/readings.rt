@@ -369,6 +369,14 @@ pub fn check_lists<R: Abort>(rt: &R, alloc: Global) {
     check_numbers(rt, alloc);
 }
 
+/// Whether a list that no memory holds is refused for memory, with the list and the place of the tape as they were.
+fn is_growth_refused<R: Abort>(rt: &R, alloc: Global) -> bool {
+    let mut tape = TroubledTape::new(TWELVE.as_slice(), Trouble::OneByte);
+    let mut bytes = Vec::from_array(alloc, [7u8]).expect(rt, "memory");
+    let code = code_of(tape.read_onto(&mut bytes, usize::MAX));
+    code == 3 && bytes.as_slice() == [7].as_slice() && tape.place() == 0
+}
+
 #[test]
 fn lists(rt: HostRuntime) {
     let alloc = rt.alloc();
@@ -376,4 +384,5 @@ fn lists(rt: HostRuntime) {
     holds(&rt, are_wanting(alloc, 3), "one byte is wanting");
     holds(&rt, are_wanting(alloc, 65_537), "many are wanting");
     holds(&rt, are_wanting(alloc, usize::MAX), "all are wanting");
+    holds(&rt, is_growth_refused(&rt, alloc), "a list too long");
 }

@@ -91,7 +91,7 @@ impl Operations {
         }
     }
 
-    /// An equal dictionary.
+    /// An equal dictionary, in memory of its own: a map, and a list for each operator's operands.
     ///
     /// Refused: `Memory`.
     pub fn clone(&self) -> Result<Self>

@@ -32,7 +32,7 @@ impl Model for CharSet0 {
 }
 
 impl CharSet0 {
-    /// An equal char set.
+    /// An equal char set, in memory of its own: the list of its glyphs.
     ///
     /// Refused: `Memory`.
     pub fn clone(&self) -> Result<Self>

@@ -33,7 +33,7 @@ impl Model for CharSet2 {
 }
 
 impl CharSet2 {
-    /// An equal char set.
+    /// An equal char set, in memory of its own: the list of its ranges.
     ///
     /// Refused: `Memory`.
     pub fn clone(&self) -> Result<Self>

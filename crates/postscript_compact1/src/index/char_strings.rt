@@ -37,7 +37,7 @@ impl Deref for CharStrings {
 }
 
 impl CharStrings {
-    /// Equal char strings.
+    /// Equal char strings, in memory of their own, as `Index::clone` takes it.
     ///
     /// Refused: `Memory`.
     pub fn clone(&self) -> Result<Self>

@@ -36,7 +36,7 @@ impl Deref for Dictionaries {
 }
 
 impl Dictionaries {
-    /// Equal dictionaries.
+    /// Equal dictionaries, in memory of their own, as `Index::clone` takes it.
     ///
     /// Refused: `Memory`.
     pub fn clone(&self) -> Result<Self>

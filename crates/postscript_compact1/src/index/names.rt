@@ -34,7 +34,7 @@ impl Deref for Names {
 }
 
 impl Names {
-    /// Equal names.
+    /// Equal names, in memory of their own, as `Index::clone` takes it.
     ///
     /// Refused: `Memory`.
     pub fn clone(&self) -> Result<Self>

@@ -38,7 +38,7 @@ impl Deref for Strings {
 }
 
 impl Strings {
-    /// Equal strings.
+    /// Equal strings, in memory of their own, as `Index::clone` takes it.
     ///
     /// Refused: `Memory`.
     pub fn clone(&self) -> Result<Self>

@@ -41,7 +41,7 @@ impl Subroutines {
         Subroutines(Index::empty(alloc))
     }
 
-    /// Equal subroutines.
+    /// Equal subroutines, in memory of their own, as `Index::clone` takes it.
     ///
     /// Refused: `Memory`.
     pub fn clone(&self) -> Result<Self>
