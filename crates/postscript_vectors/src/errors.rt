@@ -77,7 +77,14 @@ pub fn check<R: Abort>(rt: &R, alloc: Global, error: &Error, code: u8, message: 
 }
 
 /// Whether the refusal with this number, at an operator of this name, has this front of its text and then the name.
-fn names<R: Abort>(rt: &R, alloc: Global, error: &Error, code: u8, front: &str, name: &str) -> bool {
+fn names<R: Abort>(
+    rt: &R,
+    alloc: Global,
+    error: &Error,
+    code: u8,
+    front: &str,
+    name: &str,
+) -> bool {
     let text = error.to_string(alloc).expect(rt, "memory");
     error.code() == code && text.as_str().strip_prefix(front) == Some(name)
 }

@@ -61,13 +61,7 @@ const ROWS: &[Row] = &[
         "fault 13",
     ),
     // Two dictionaries, the first of which has no Private.
-    (
-        TWO_DICTIONARIES,
-        16,
-        0x13,
-        "fault 14",
-        FIRST_WITHOUT,
-    ),
+    (TWO_DICTIONARIES, 16, 0x13, "fault 14", FIRST_WITHOUT),
 ];
 
 /// Adds how many operators a private dictionary has, and its default width.

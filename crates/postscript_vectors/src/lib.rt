@@ -26,6 +26,8 @@ mod indices;
 #[cfg(test)]
 mod lenient;
 #[cfg(test)]
+mod outlines;
+#[cfg(test)]
 mod parts;
 #[cfg(test)]
 mod programs;

@@ -1,7 +1,7 @@
 //! Readings of tapes of every kind.
 use crate::checks::{code_of, holds, holds_at};
 use crate::tapes::{Trouble, TroubledTape};
-use postscript::tape::{Opaque, fixed, read_many};
+use postscript::tape::{Opaque, ReadSeek, fixed, read_many};
 use postscript::{Error, Result, Tape};
 use std::alloc::Global;
 use std::fs;

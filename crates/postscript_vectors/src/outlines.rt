@@ -1,0 +1,129 @@
+//! Outlines of glyphs, as path data.
+use crate::checks::{bytes_of, holds, is_text};
+use postscript::Result;
+use postscript::type2::{Operand, Operator};
+use postscript_outline::{Bounds, Outline, Pen};
+use std::alloc::Global;
+use std::process::Abort;
+
+/// A code in hex, with spaces, and the path that it draws: each operator that draws, with each form of its operands. The
+/// paths are those that fontTools 4.38 draws.
+const ROWS: &[(&str, &str)] = &[
+    ("8c8d15 8e8f9091 05 0e", "M1 2L4 6L9 12Z"),
+    (
+        "8c16 8e06 8e8f06 8e8f9006 0e",
+        "M1 0L4 0L7 0L7 4L10 4L10 8L15 8Z",
+    ),
+    (
+        "8c04 8e07 8e8f07 8e8f9007 0e",
+        "M0 1L0 4L0 7L4 7L4 10L8 10L8 15Z",
+    ),
+    (
+        "8c8d15 8c8d8e8f9091929394959697 08 0e",
+        "M1 2C2 4 5 8 10 14C17 22 26 32 37 44Z",
+    ),
+    (
+        "8c8d15 8c8d8e8f1b 8c8d8e8f901b 0e",
+        "M1 2C2 2 4 5 8 5C10 6 13 10 18 10Z",
+    ),
+    (
+        "8c8d15 8c8d8e8f1a 8c8d8e8f901a 0e",
+        "M1 2C1 3 3 6 3 10C4 12 7 16 7 21Z",
+    ),
+    (
+        "8c8d15 8c8d8e8f1f 8c8d8e8f901f 8c8d8e8f909192931f 8c8d8e8f90919293941f 0e",
+        "M1 2C2 2 4 5 4 9C5 9 7 12 12 16C13 16 15 19 15 23C15 28 21 35 29 35C30 35 32 38 32 42C32 47 38 54 46 63Z",
+    ),
+    (
+        "8c8d15 8c8d8e8f1e 8c8d8e8f901e 8c8d8e8f909192931e 8c8d8e8f90919293941e 0e",
+        "M1 2C1 3 3 6 7 6C7 7 9 10 13 15C13 16 15 19 19 19C24 19 30 26 30 34C30 35 32 38 36 38C41 38 47 45 56 53Z",
+    ),
+    ("8c8d15 8c8d8e8f9091929318 0e", "M1 2C2 4 5 8 10 14L17 22Z"),
+    ("8c8d15 8c8d8e8f9091929319 0e", "M1 2L2 4C5 8 10 14 17 22Z"),
+    (
+        "8c8d15 8c8d8e8f9091929394959697980c23 0e",
+        "M1 2C2 4 5 8 10 14C17 22 26 32 37 44Z",
+    ),
+    (
+        "8c8d15 8c8d8e8f9091920c22 0e",
+        "M1 2C2 2 4 5 8 5C13 5 19 2 26 2Z",
+    ),
+    (
+        "8c8d15 8c8d8e8f90919293940c24 0e",
+        "M1 2C2 4 5 8 10 8C16 8 23 16 32 2Z",
+    ),
+    (
+        "8c8d15 8c8d8e8f909192939495960c25 0e",
+        "M1 2C2 4 5 8 10 14C17 22 26 32 1 43Z",
+    ),
+    (
+        "8c8d15 8d8c8f8e91909392959496 0c25 0e",
+        "M1 2C3 3 7 6 13 11C21 18 31 27 42 2Z",
+    ),
+    ("8c8d15 8e06 8f16 9007 0e", "M1 2L4 2ZM8 2L8 7Z"),
+    ("90 8c8d01 8e8f15 8e06 0e", "M3 4L6 4Z"),
+    ("ff00018000 8b15 8b ff00008000 05 0e", "M1.5 0L1.5 0.5Z"),
+];
+
+/// The path of a code, or the number of its refusal.
+fn path_of<R: Abort>(rt: &R, alloc: Global, digits: &str) -> String {
+    let code = bytes_of(rt, alloc, digits);
+    match Outline::of(alloc, code.as_slice(), &[], &[]) {
+        Ok(outline) => outline.to_string(alloc).expect(rt, "memory"),
+        Err(e) => e.code().to_string(alloc).expect(rt, "memory"),
+    }
+}
+
+#[test]
+fn paths_of_each_operator(rt: HostRuntime) {
+    let alloc = rt.alloc();
+    for (digits, path) in ROWS {
+        is_text(&rt, path_of(&rt, alloc, digits).as_str(), path, digits);
+    }
+}
+
+/// The corners of an outline's box, in units.
+fn corners_of(outline: &Outline) -> Option<[i32; 4]> {
+    let Bounds { low, high } = outline.bounds()?;
+    Some([low.x / 65536, low.y / 65536, high.x / 65536, high.y / 65536])
+}
+
+#[test]
+fn box_and_width_of_an_outline(rt: HostRuntime) {
+    let alloc = rt.alloc();
+    // A width of 5 stands before the first stem.
+    let code = bytes_of(&rt, alloc, "90 8c8d01 8e8f15 8e8f908b8d8e08 0e");
+    let outline = Outline::of(alloc, code.as_slice(), &[], &[]).expect(&rt, "an outline");
+    let width = outline.width.and_then(|width| width.to_int());
+    holds(&rt, width == Some(5), "the width");
+    let corners = corners_of(&outline);
+    holds(&rt, corners == Some([3, 4, 13, 11]), "the box");
+}
+
+#[test]
+fn outlines_that_are_refused(rt: HostRuntime) {
+    let alloc = rt.alloc();
+    // A line past the greatest coordinate, and a run that is refused behind a line.
+    let past = path_of(&rt, alloc, "1c7fff 16 1c7fff 06 0e");
+    is_text(&rt, past.as_str(), "26", "a line too long");
+    let fault = path_of(&rt, alloc, "8c8d15 8e06 0b");
+    is_text(&rt, fault.as_str(), "23", "a return");
+}
+
+/// The path of one line after a move, drawn by a pen.
+fn path_by_pen(alloc: Global) -> Result<String> {
+    let mut pen = Pen::new();
+    let mut segments = Vec::new(alloc);
+    let one = [Operand::from_int(1), Operand::from_int(2)];
+    pen.apply(Operator::RMoveTo, &one, &mut segments)?;
+    pen.apply(Operator::RLineTo, &one, &mut segments)?;
+    pen.close(&mut segments)?;
+    let width = None;
+    Ok(Outline { segments, width }.to_string(alloc)?)
+}
+
+#[test]
+fn a_pen_of_ones_own(rt: HostRuntime) {
+    let path = path_by_pen(rt.alloc()).expect(&rt, "a path");
+    is_text(&rt, path.as_str(), "M1 2L2 4Z", "a pen");
+}
