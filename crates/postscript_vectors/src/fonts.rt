@@ -253,8 +253,9 @@ fn changed_and_cut_fonts(rt: HostRuntime) {
 fn local_subroutines_among_the_strings(rt: HostRuntime) {
     let alloc = rt.alloc();
     // Nothing stands behind the char strings any more: the list of local subroutines is that of the strings.
-    let bytes = changed(&rt, alloc, FONT, 30, 0x81);
-    let text = told_of(&rt, alloc, &bytes.as_slice()[..32]);
+    let mut bytes = changed(&rt, alloc, FONT, 30, 0x81);
+    bytes.truncate(32);
+    let text = told_of(&rt, alloc, bytes.as_slice());
     is_text(&rt, text.as_str(), OF_FONT, "a font cut to 32");
 }
 
