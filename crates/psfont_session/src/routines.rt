@@ -13,8 +13,8 @@ ghost use Rattle.postscript.specs.Program.Whole.{Tells};
 ghost use Rattle.psfont_session.specs.Loaded.{Loaded, put, lists_of};
 
 use crate::command::Place;
-use postscript::{Error, Result};
 use postscript::type2::{self, Answers, Program};
+use postscript::{Error, Result};
 use std::alloc::Global;
 use std::marker::Model;
 
