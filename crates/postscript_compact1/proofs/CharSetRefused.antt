@@ -1,5 +1,5 @@
 -- A char set is refused where none stands, and for what the bytes are not.
-use Rattle.std.proofs.Common.{◌≡◌, ◌⊎◌, inl, inr, refl, sym, ap, subst, ◌∙◌, ℕ, zero, suc, ◌+◌, ◌-◌, ◌<◌, ◌≤◌, Bool, true, false, ◌==◌, nat_lt, List, [], ◌∷◌, length, arith, if◌then◌else◌}
+use Rattle.std.proofs.Common.{◌≡◌, ◌≢◌, ◌⊎◌, inl, inr, refl, sym, ap, subst, ◌∙◌, ℕ, zero, suc, ◌+◌, ◌-◌, ◌<◌, ◌≤◌, Bool, true, false, ◌==◌, nat_lt, List, [], ◌∷◌, length, arith, if◌then◌else◌}
 use Rattle.std.specs.Prelude.{sum_by}
 use Rattle.std.proofs.lemmas.Bool.Decides.{nat_tests}
 use Rattle.std.proofs.lemmas.List.Sums.{sum_by-cons}
@@ -9,9 +9,9 @@ use Rattle.postscript_base.specs.Tape.Loops.{many, until, until_from}
 use Rattle.postscript_base.specs.Tape.Onward.{MovesOn, TakesBytes}
 use Rattle.postscript_base.specs.Tape.Outcome.{Outcome, Got, Fault, Past, Reading, after, pure, fault}
 use Rattle.postscript_base.proofs.Onward.{number_takes}
-use Rattle.postscript_compact1.specs.CharSets.{char_set, covered, covered_1, covered_2, covering, glyphs_of_1, glyphs_of_2, if_any, listed, none_wanting, range_1, range_2, ranges, uncovered}
+use Rattle.postscript_compact1.specs.CharSets.{char_set, char_set_0, char_set_of, covered, covered_1, covered_2, covering, glyphs_of_1, glyphs_of_2, if_any, listed, none_wanting, range_1, range_2, ranges, uncovered}
 use Rattle.postscript_compact1.specs.CharSets.Formats.{Listed, Covered}
-use Rattle.postscript_compact1.specs.CharSetLaw.{CutIdentifier, CutRange, NoCharSet, NoCover, NoFormat, NoGlyphs, NoRanges1, NoRanges2, OtherFormat, ReadsCharSets, StandAt, TooManyGlyphs, ListsGlyphs, CoversGlyphs1, CoversGlyphs2, IsCharSet}
+use Rattle.postscript_compact1.specs.CharSetLaw.{BehindFormat, CutFormat, CutIdentifier, CutRange, NoCharSet, NoCharSet0, NoCharSet1, NoCharSet2, NoCover, NoFormat, NoGlyphs, NoneToName, NoRanges1, NoRanges2, NoRangesOf, OtherFormat, WrongFormat, ReadsCharSets, StandAt, TooManyGlyphs, ListsGlyphs, CoversGlyphs1, CoversGlyphs2, IsCharSet}
 use Rattle.postscript_compact1.specs.declared.char_set.CharSet.{CharSet}
 use Rattle.postscript_compact1.specs.declared.char_set.CharSet.TheVariants.{Format0, Format1, Format2}
 use Rattle.postscript_compact1.proofs.Ranges.{range_1_takes, range_2_takes}
@@ -219,6 +219,66 @@ refused glyphs bytes place refusal (OtherFormat format behind e greater is) =
     let second : (format == 2) ≡ false = grind (arith, nat_tests) in
     rw (e, zeroth, first, second) (ap Fault (sym is))
 
+-- ---- char sets of one format
+fails_more : {A : Type 0} (o : Outcome A) (P Q : Refusal → Type 0) → ((refusal : Refusal) → P refusal → Q refusal) → Fails P o → Fails Q o
+fails_more (Got value next) P Q more h = tt
+fails_more (Fault refusal) P Q more h = more refusal h
+fails_more Past P Q more h = h
+
+other_format : (first format : ℕ) → first ≢ format → (first == format) ≡ false
+other_format first format other = by (first == format) refl
+  where
+    by : (b : Bool) → (first == format) ≡ b → b ≡ false
+    by true e = absurd (other (is_format first format e))
+    by false e = refl
+
+wrong_format : (first format : ℕ) → (first == format) ≡ false → first ≢ format
+wrong_format first format e is = absurd (grind (arith, nat_tests))
+
+not_listed : (bytes : List ℕ) (place glyphs format behind : ℕ) → number 1 bytes place ≡ Got format behind → format ≡ 0 → (refusal : Refusal) → NoneOr glyphs (CutBehind (number 2) (glyphs - 1) bytes behind) refusal → NoCharSet0 bytes place glyphs refusal
+not_listed bytes place glyphs format behind e is refusal (inl h) = NoneToName behind (e ∙ ap (λ format. Got format behind) is) h.0 h.1
+not_listed bytes place glyphs format behind e is refusal (inr h) = let fewer = h.3 in BehindFormat (behind, h.0, h.1, e ∙ ap (λ format. Got format behind) is, h.2, omega arith, h.4)
+
+fails_0 : (glyphs : ℕ) (bytes : List ℕ) (place : ℕ) → Fails (NoCharSet0 bytes place glyphs) (char_set_0 glyphs bytes place)
+unfolding char_set_0
+fails_0 glyphs bytes place = fails_after (number 1 bytes place) _ _ _ (moves_fails (number 1 bytes place) place (length bytes) (number_takes 1 (omega arith) bytes place)) (λ refusal e. CutFormat e) (λ format behind e. by format behind e (format == 0) refl)
+  where
+    by : (format behind : ℕ) → number 1 bytes place ≡ Got format behind → (b : Bool) → (format == 0) ≡ b → Fails {A = Listed} (NoCharSet0 bytes place glyphs) ((if b then listed glyphs else fault malformed_char_set) bytes behind)
+    by format behind e true is = fails_more (listed glyphs bytes behind) _ _ (not_listed bytes place glyphs format behind e (is_format format 0 is)) (listed_fails glyphs bytes behind)
+    by format behind e false is = WrongFormat format behind e (wrong_format format 0 is) refl
+
+refused_0 : (glyphs : ℕ) (bytes : List ℕ) (place : ℕ) (refusal : Refusal) → NoCharSet0 bytes place glyphs refusal → char_set_0 glyphs bytes place ≡ Fault refusal
+unfolding char_set_0
+refused_0 glyphs bytes place refusal (CutFormat e) = rw e refl
+refused_0 glyphs bytes place refusal (WrongFormat first behind e other is) = rw (e, other_format first 0 other) (ap Fault (sym is))
+refused_0 glyphs bytes place refusal (NoneToName behind e none is) = rw (e, listed_none glyphs bytes behind none) (ap Fault (sym is))
+refused_0 glyphs bytes place refusal (BehindFormat h) = rw (h.3, listed_cut glyphs bytes h.0 h.1 h.2 refusal h.4 h.5 h.6) refl
+
+module _ {A : Type 0} (format : ℕ) (size : A → ℕ) (one : Reading A) (takes : TakesBytes one) where
+  fails_of : (glyphs : ℕ) (bytes : List ℕ) (place : ℕ) → Fails (NoRangesOf format size one bytes place glyphs) (char_set_of format size one glyphs bytes place)
+  unfolding char_set_of
+  fails_of glyphs bytes place = fails_after (number 1 bytes place) _ _ _ (moves_fails (number 1 bytes place) place (length bytes) (number_takes 1 (omega arith) bytes place)) (λ refusal e. CutFormat e) (λ first behind e. by first behind e (first == format) refl)
+    where
+      by : (first behind : ℕ) → number 1 bytes place ≡ Got first behind → (b : Bool) → (first == format) ≡ b → Fails {A = Covered A} (NoRangesOf format size one bytes place glyphs) ((if b then covered format size one glyphs else fault malformed_char_set) bytes behind)
+      by first behind e true is =
+          let same = is_format first format is in
+          fails_more (covered format size one glyphs bytes behind) _ _
+          (no_cover format size one takes bytes place glyphs first behind e same (NoRangesOf format size one bytes place glyphs) (λ refusal none is. NoneToName behind (e ∙ ap (λ first. Got first behind) same) none is) (λ refusal h. BehindFormat h))
+          (covered_fails format size one takes glyphs bytes behind)
+      by first behind e false is = WrongFormat first behind e (wrong_format first format is) refl
+
+  refused_of : (glyphs : ℕ) (bytes : List ℕ) (place : ℕ) (refusal : Refusal) → NoRangesOf format size one bytes place glyphs refusal → char_set_of format size one glyphs bytes place ≡ Fault refusal
+  unfolding char_set_of
+  refused_of glyphs bytes place refusal (CutFormat e) = rw e refl
+  refused_of glyphs bytes place refusal (WrongFormat first behind e other is) = rw (e, other_format first format other) (ap Fault (sym is))
+  refused_of glyphs bytes place refusal (NoneToName behind e none is) =
+      let same : (format == format) ≡ true = grind (arith, nat_tests) in
+      rw (e, same, covered_none format size one takes glyphs bytes behind none) (ap Fault (sym is))
+  refused_of glyphs bytes place refusal (BehindFormat h) =
+      let same : (format == format) ≡ true = grind (arith, nat_tests) in
+      let stop = covered_refused format size one takes glyphs bytes place refusal h in
+      rw (stop.1, same, stop.2) refl
+
 pub reads_char_sets : ReadsCharSets
 reads_char_sets = record {
   all = all;
@@ -232,4 +292,13 @@ reads_char_sets = record {
   only_1 = λ glyphs bytes place set next e. subst (Gives (CoversGlyphs1 bytes place glyphs)) e (gives_of 1 glyphs_of_1 range_1 glyphs bytes place);
   all_2 = all_of 2 glyphs_of_2 range_2 range_2_takes covers_some_2;
   only_2 = λ glyphs bytes place set next e. subst (Gives (CoversGlyphs2 bytes place glyphs)) e (gives_of 2 glyphs_of_2 range_2 glyphs bytes place);
+  why_0 = λ glyphs bytes place refusal e. subst (Fails (NoCharSet0 bytes place glyphs)) e (fails_0 glyphs bytes place);
+  refused_0 = refused_0;
+  never_past_0 = λ glyphs bytes place e. subst (Fails (NoCharSet0 bytes place glyphs)) e (fails_0 glyphs bytes place);
+  why_1 = λ glyphs bytes place refusal e. subst (Fails (NoCharSet1 bytes place glyphs)) e (fails_of 1 glyphs_of_1 range_1 range_1_takes glyphs bytes place);
+  refused_1 = refused_of 1 glyphs_of_1 range_1 range_1_takes;
+  never_past_1 = λ glyphs bytes place e. subst (Fails (NoCharSet1 bytes place glyphs)) e (fails_of 1 glyphs_of_1 range_1 range_1_takes glyphs bytes place);
+  why_2 = λ glyphs bytes place refusal e. subst (Fails (NoCharSet2 bytes place glyphs)) e (fails_of 2 glyphs_of_2 range_2 range_2_takes glyphs bytes place);
+  refused_2 = refused_of 2 glyphs_of_2 range_2 range_2_takes;
+  never_past_2 = λ glyphs bytes place e. subst (Fails (NoCharSet2 bytes place glyphs)) e (fails_of 2 glyphs_of_2 range_2 range_2_takes glyphs bytes place);
 }

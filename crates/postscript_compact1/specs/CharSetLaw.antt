@@ -67,6 +67,33 @@ pub data NoCharSet (bytes : List ℕ) (place glyphs : ℕ) (refusal : Refusal) :
   NoRanges2 : NoCover 2 glyphs_of_2 range_2 bytes place glyphs refusal → NoCharSet bytes place glyphs refusal
   OtherFormat : (format behind : ℕ) → number 1 bytes place ≡ Got format behind → 2 < format → refusal ≡ unknown_char_set_format → NoCharSet bytes place glyphs refusal
 
+-- Why no char set of one format stands at a place for so many glyphs: the byte of the format is cut; it is another; there are no
+-- glyphs, though the first one always is; or what stands behind the byte does not name them.
+pub data NoneOfFormat (format : ℕ) (NotNamed : Type 0) (bytes : List ℕ) (place glyphs : ℕ) (refusal : Refusal) : Type 0 where
+  CutFormat : number 1 bytes place ≡ Fault refusal → NoneOfFormat format NotNamed bytes place glyphs refusal
+  WrongFormat : (first behind : ℕ) → number 1 bytes place ≡ Got first behind → first ≢ format → refusal ≡ malformed_char_set → NoneOfFormat format NotNamed bytes place glyphs refusal
+  NoneToName : (behind : ℕ) → number 1 bytes place ≡ Got format behind → glyphs ≡ 0 → refusal ≡ malformed_char_set → NoneOfFormat format NotNamed bytes place glyphs refusal
+  BehindFormat : NotNamed → NoneOfFormat format NotNamed bytes place glyphs refusal
+
+-- behind identifiers for fewer glyphs than there are, one is cut
+abbrev pub NoList : List ℕ → ℕ → ℕ → Refusal → Type 0
+NoList bytes place glyphs refusal =
+    (behind : ℕ) × (identifiers : List ℕ) × (next : ℕ) × (number 1 bytes place ≡ Got 0 behind) × StandAt (number 2) bytes behind identifiers next
+    × (1 + length identifiers < glyphs) × (number 2 bytes next ≡ Fault refusal)
+
+-- of format 0, and of the formats of ranges
+abbrev pub NoCharSet0 : List ℕ → ℕ → ℕ → Refusal → Type 0
+NoCharSet0 bytes place glyphs refusal = NoneOfFormat 0 (NoList bytes place glyphs refusal) bytes place glyphs refusal
+
+abbrev pub NoRangesOf : {A : Type 0} → ℕ → (A → ℕ) → Reading A → List ℕ → ℕ → ℕ → Refusal → Type 0
+NoRangesOf format size one bytes place glyphs refusal = NoneOfFormat format (NoCover format size one bytes place glyphs refusal) bytes place glyphs refusal
+
+abbrev pub NoCharSet1 : List ℕ → ℕ → ℕ → Refusal → Type 0
+NoCharSet1 bytes place glyphs refusal = NoRangesOf 1 glyphs_of_1 range_1 bytes place glyphs refusal
+
+abbrev pub NoCharSet2 : List ℕ → ℕ → ℕ → Refusal → Type 0
+NoCharSet2 bytes place glyphs refusal = NoRangesOf 2 glyphs_of_2 range_2 bytes place glyphs refusal
+
 -- What is read is the char set that stands there, with its next place, and every char set is read. A refusal says why there
 -- is none.
 pub record ReadsCharSets : Type 0 where
@@ -81,3 +108,12 @@ pub record ReadsCharSets : Type 0 where
   pub only_1 : (glyphs : ℕ) (bytes : List ℕ) (place : ℕ) (set : Covered Range1) (next : ℕ) → char_set_1 glyphs bytes place ≡ Got set next → CoversGlyphs1 bytes place glyphs set next
   pub all_2 : (glyphs : ℕ) (bytes : List ℕ) (place : ℕ) (set : Covered Range2) (next : ℕ) → CoversGlyphs2 bytes place glyphs set next → char_set_2 glyphs bytes place ≡ Got set next
   pub only_2 : (glyphs : ℕ) (bytes : List ℕ) (place : ℕ) (set : Covered Range2) (next : ℕ) → char_set_2 glyphs bytes place ≡ Got set next → CoversGlyphs2 bytes place glyphs set next
+  pub why_0 : (glyphs : ℕ) (bytes : List ℕ) (place : ℕ) (refusal : Refusal) → char_set_0 glyphs bytes place ≡ Fault refusal → NoCharSet0 bytes place glyphs refusal
+  pub refused_0 : (glyphs : ℕ) (bytes : List ℕ) (place : ℕ) (refusal : Refusal) → NoCharSet0 bytes place glyphs refusal → char_set_0 glyphs bytes place ≡ Fault refusal
+  pub never_past_0 : (glyphs : ℕ) (bytes : List ℕ) (place : ℕ) → char_set_0 glyphs bytes place ≢ Past
+  pub why_1 : (glyphs : ℕ) (bytes : List ℕ) (place : ℕ) (refusal : Refusal) → char_set_1 glyphs bytes place ≡ Fault refusal → NoCharSet1 bytes place glyphs refusal
+  pub refused_1 : (glyphs : ℕ) (bytes : List ℕ) (place : ℕ) (refusal : Refusal) → NoCharSet1 bytes place glyphs refusal → char_set_1 glyphs bytes place ≡ Fault refusal
+  pub never_past_1 : (glyphs : ℕ) (bytes : List ℕ) (place : ℕ) → char_set_1 glyphs bytes place ≢ Past
+  pub why_2 : (glyphs : ℕ) (bytes : List ℕ) (place : ℕ) (refusal : Refusal) → char_set_2 glyphs bytes place ≡ Fault refusal → NoCharSet2 bytes place glyphs refusal
+  pub refused_2 : (glyphs : ℕ) (bytes : List ℕ) (place : ℕ) (refusal : Refusal) → NoCharSet2 bytes place glyphs refusal → char_set_2 glyphs bytes place ≡ Fault refusal
+  pub never_past_2 : (glyphs : ℕ) (bytes : List ℕ) (place : ℕ) → char_set_2 glyphs bytes place ≢ Past
