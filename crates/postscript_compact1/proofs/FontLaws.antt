@@ -310,7 +310,7 @@ module _ (d : ReadsDictionaries) where
       (place, rw (a, no_operations, none) refl, is_open manner next place lacking.0)
 
   -- ---- a part
-  part_is : (manner : Manner) (bytes : List ℕ) (start : ℕ) (m : Dictionary) (p : Part) (place next : ℕ) → IsPart manner bytes start m p next → (to : ℕ) × (part manner start m bytes place ≡ Got p to) × IsNext manner next to
+  pub part_is : (manner : Manner) (bytes : List ℕ) (start : ℕ) (m : Dictionary) (p : Part) (place next : ℕ) → IsPart manner bytes start m p next → (to : ℕ) × (part manner start m bytes place ≡ Got p to) × IsNext manner next to
   unfolding part glyphs
   part_is manner bytes start m p place next h =
       let set = char_set_is start (length p.char_strings.items) m bytes p.char_set h.char_strings_next h.char_set in

@@ -20,4 +20,5 @@ pub mod ItemsAre
 pub mod TextsAre
 pub mod FontClauses
 pub mod FontCauses
+pub mod FontRefused
 pub mod FontRows

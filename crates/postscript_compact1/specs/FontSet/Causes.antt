@@ -1,5 +1,5 @@
 -- Why a font is refused: each step before met its clause of the layout, and one is refused so.
-use Rattle.std.specs.Prelude.{◌≡◌, ◌⊎◌, ℕ, ◌+◌, ◌<◌, ◌≤◌, ℤ, pos, negsuc, ◌+ℤ◌, List, [], ◌∷◌, length, Option, Some, None}
+use Rattle.std.specs.Prelude.{◌≡◌, ◌↔◌, ◌⊎◌, ℕ, ◌+◌, ◌<◌, ◌≤◌, ℤ, pos, negsuc, ◌+ℤ◌, List, [], ◌∷◌, length, Option, Some, None}
 use Rattle.postscript_base.specs.Error.{code}
 use Rattle.postscript_base.specs.Refusal.{refusal_of, OfPart, OfMalformed, OfMissing, out_of_range_offset, unknown_char_string_format}
 use Rattle.postscript_base.specs.Numbers.{slice}
@@ -22,8 +22,9 @@ use Rattle.postscript_compact1.specs.declared.char_set.CharSet.{CharSet}
 use Rattle.postscript_compact1.specs.declared.encoding.Encoding.{Encoding}
 use Rattle.postscript_compact1.specs.declared.font_set.manner.Manner.{Manner}
 use Rattle.postscript_compact1.specs.declared.font_set.manner.Manner.TheVariants.{Strict, Lenient}
-use Rattle.postscript_compact1.specs.FontSet.Font.{Part, Tables}
-use Rattle.postscript_compact1.specs.FontSet.Layout.{HasFirst, HasTwo, IsSlice, IsPlace, Stands, HasEncoding, HasCharStrings, HasCharSet, HasPrivate, IsLacking, IsPart, AreTables}
+use Rattle.postscript_compact1.specs.FontSet.Font.{Part, Tables, Font}
+use Rattle.postscript_compact1.specs.FontSet.Order.{font, lenient_font}
+use Rattle.postscript_compact1.specs.FontSet.Layout.{HasFirst, HasTwo, IsSlice, IsPlace, Stands, HasEncoding, HasCharStrings, HasCharSet, HasPrivate, IsLacking, IsPart, AreTables, IsFont, IsLenientFont}
 
 -- the place sought lies past the end, or what stands there is refused
 abbrev pub RefusedAt : {A : Type 0} → Error → Reading A → List ℕ → ℕ → Type 0
@@ -108,3 +109,13 @@ NoFont e bytes start = NoFontBy Strict e bytes start
 
 abbrev pub NoLenientFont : Error → List ℕ → ℕ → Type 0
 NoLenientFont e bytes start = NoFontBy Lenient e bytes start
+
+-- A reading refuses a font with an error exactly where that is the cause of the first step of the layout that fails; the same of a
+-- lenient reading. The causes at one place are one, or each of them says that bytes are wanting; and where there is a cause, no font
+-- stands.
+pub record RefusesLayout : Type 0 where
+  pub both_ways : (e : Error) (bytes : List ℕ) (start : ℕ) → RefusedAs e (font bytes start) ↔ NoFont e bytes start
+  pub leniently : (e : Error) (bytes : List ℕ) (start : ℕ) → RefusedAs e (lenient_font bytes start) ↔ NoLenientFont e bytes start
+  pub alone : (manner : Manner) (e g : Error) (bytes : List ℕ) (start : ℕ) → NoFontBy manner e bytes start → NoFontBy manner g bytes start → (refusal_of e ≡ refusal_of g) ⊎ ((code e ≤ 2) × (code g ≤ 2))
+  pub no_font : (e : Error) (bytes : List ℕ) (start : ℕ) (f : Font) (next : ℕ) → NoFont e bytes start → IsFont bytes start f next → ⊥
+  pub no_lenient_font : (e : Error) (bytes : List ℕ) (start : ℕ) (f : Font) → NoLenientFont e bytes start → IsLenientFont bytes start f → ⊥
