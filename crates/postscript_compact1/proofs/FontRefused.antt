@@ -7,10 +7,10 @@ use Rattle.postscript_base.specs.Numbers.{slice}
 use Rattle.postscript_base.specs.Refusal.{refusal_of, OfPart, OfMalformed, out_of_range_offset, unknown_char_string_format}
 use Rattle.postscript_base.specs.Tape.At.{at, bytes_at}
 use Rattle.postscript_base.specs.Tape.Loops.{each}
-use Rattle.postscript_base.specs.Tape.Outcome.{Outcome, Got, Fault, Past, Reading, RefusedAs, after, pure, fault}
+use Rattle.postscript_base.specs.Tape.Outcome.{Outcome, Got, Fault, Past, Reading, RefusedAs, pure, fault}
 use Rattle.postscript_base.specs.Compact1.Decimal.{Decimal, to_i32}
 use Rattle.postscript_base.specs.Compact1.Defaults.{look, first_of, first_two_of}
-use Rattle.postscript_base.specs.Compact1.Dictionary.{Dictionary, dictionary}
+use Rattle.postscript_base.specs.Compact1.Dictionary.{Dictionary}
 use Rattle.postscript_base.specs.Compact1.DictionaryLaw.{IsRefused, ReadsDictionaries}
 use Rattle.postscript_base.specs.Compact1.Header.{header}
 use Rattle.postscript_base.specs.declared.compact1.header.Header.{Header}
@@ -21,7 +21,7 @@ use Rattle.postscript_base.specs.declared.error.Part.TheVariants as unsupported
 use Rattle.postscript_compact1.specs.Index.{Index, index}
 use Rattle.postscript_compact1.specs.IndexLaw.{IsIndex}
 use Rattle.postscript_compact1.specs.ItemsLaw.{AreDictionaries, HasRefused}
-use Rattle.postscript_compact1.specs.Kinds.{map_of, maps_of}
+use Rattle.postscript_compact1.specs.Kinds.{map_of}
 use Rattle.postscript_compact1.specs.Texts.{text}
 use Rattle.postscript_compact1.specs.CharSets.{char_set as the_set}
 use Rattle.postscript_compact1.specs.declared.char_set.CharSet.{CharSet}
@@ -30,7 +30,7 @@ use Rattle.postscript_compact1.specs.declared.font_set.manner.Manner.TheVariants
 use Rattle.postscript_compact1.specs.FontSet.Operands.{goes_without, first, two, in_range, place_of, place_at, only_two, type_two, bounded, bounds}
 use Rattle.postscript_compact1.specs.FontSet.Font.{Tables}
 use Rattle.postscript_compact1.specs.FontSet.Order.{encoding_of, encoding, char_strings, own_char_set, char_set_offset, char_set, glyphs, private, subroutines, own_subroutines, own_locals, locals, part, names, dictionaries, tables, behind, parts, font_by}
-use Rattle.postscript_compact1.specs.FontSet.Layout.{HasFirst, HasPrivate, HasCharStrings, HasCharSet, IsPlace, IsSlice, AreTables}
+use Rattle.postscript_compact1.specs.FontSet.Layout.{HasFirst, HasPrivate, HasCharStrings, HasCharSet, IsPlace, AreTables}
 use Rattle.postscript_compact1.specs.FontSet.Causes.{RefusedAt, NoFirst, Missing, Malformed, NoPlace, NoOffset, OfOperand, OutOfRange, NoEncoding, EncodingOperand, OtherEncoding, NoCharStrings, StringsOffset, TypeOperand, OtherType, StringsRefused, NoCharSet, SetOperand, SetNegative, SetFar, SetRefused, NoBounds, TooFew, NotWhole, BoundsRange, NoPrivate, PrivateBounds, PrivateSlice, PrivateRefused, NoSubroutines, SubrsOffset, SubrsRefused, IsSought, NoPart, OfEncoding, OfStrings, OfSet, OfPrivate, OfSubroutines, NoParts, NoTables, OfNames, OfItems, OfDictionaries, OfStringList, OfGlobalList, NoFontBy, OfHeader, HeaderSize, OfTables, OfParts, RefusesLayout}
 use Rattle.postscript_compact1.proofs.IndexIs.{reads_indices}
 use Rattle.postscript_compact1.proofs.ItemsAre.{reads_items}
