@@ -111,8 +111,8 @@ abbrev pub NoLenientFont : Error → List ℕ → ℕ → Type 0
 NoLenientFont e bytes start = NoFontBy Lenient e bytes start
 
 -- A reading refuses a font with an error exactly where that is the cause of the first step of the layout that fails; the same of a
--- lenient reading. The causes at one place are one, or each of them says that bytes are wanting; and where there is a cause, no font
--- stands.
+-- lenient reading. The errors at one place have one cause, or each is 1 or 2, for a place past the end; and where there is a cause,
+-- no font stands.
 pub record RefusesLayout : Type 0 where
   pub both_ways : (e : Error) (bytes : List ℕ) (start : ℕ) → RefusedAs e (font bytes start) ↔ NoFont e bytes start
   pub leniently : (e : Error) (bytes : List ℕ) (start : ℕ) → RefusedAs e (lenient_font bytes start) ↔ NoLenientFont e bytes start
