@@ -172,13 +172,13 @@ begun_is first bytes place operand next e = by (first == 0x1c) (first == 0x1d) (
   where
     by : (a b c d l m n : Bool) → (first == 0x1c) ≡ a → (first == 0x1d) ≡ b → (first == 0x1e) ≡ c → nat_lt first 0x20 ≡ d → nat_lt first 0xf7 ≡ l → nat_lt first 0xfb ≡ m → nat_lt first 0xff ≡ n
         → (if a then made 2 (λ n. whole (two_sided 0x8000 n))
-           else if b then made 4 (λ n. whole (two_sided 0x80000000 n))
-           else if c then real
-           else if d then fault malformed_number
-           else if l then pure (whole (small first))
-           else if m then made 1 (λ second. whole (above first second))
-           else if n then made 1 (λ second. whole (below first second))
-           else fault malformed_number) bytes place ≡ Got operand next
+        else if b then made 4 (λ n. whole (two_sided 0x80000000 n))
+        else if c then real
+        else if d then fault malformed_number
+        else if l then pure (whole (small first))
+        else if m then made 1 (λ second. whole (above first second))
+        else if n then made 1 (λ second. whole (below first second))
+        else fault malformed_number) bytes place ≡ Got operand next
         → (first ≡ 0x1e) ⊎ IsRead bytes place first operand next
     by true b c d l m n t1 t2 t3 t4 t5 t6 t7 got = let is : 0x1c ≡ first = grind (arith, nat_tests) in inr (subst (λ f. IsRead bytes place f operand next) is (two bytes place operand next (is_made 2 _ bytes place operand next got)))
     by false true c d l m n t1 t2 t3 t4 t5 t6 t7 got = let is : 0x1d ≡ first = grind (arith, nat_tests) in inr (subst (λ f. IsRead bytes place f operand next) is (four bytes place operand next (is_made 4 _ bytes place operand next got)))

@@ -58,7 +58,7 @@ values-preserved g c = (
       let reached : c.in_ok-reached.reached ≡ (g.T.ReadSeek.state c.next.new.tape).place = at.0 in
       (omega (arith, c.in_ok-push.ensures.len, few.0, c.if-reached-place.false), omega (arith, c.in_ok-push.ensures.len, few.0, so_far.1, moved.0, moved.1)),
   let few = c.values.invariant.2 in
-  omega (arith, c.in_ok-push.ensures.len, few, c.if-reached-place.false),
+      omega (arith, c.in_ok-push.ensures.len, few, c.if-reached-place.false),
 )
 
 pub returns-clause-exact : goal.returns-clause-exact
