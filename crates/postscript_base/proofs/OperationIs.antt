@@ -7,7 +7,7 @@ use Rattle.postscript_base.specs.Tape.Onward.{MovesOn}
 use Rattle.postscript_base.specs.Compact1.Decimal.{Decimal}
 use Rattle.postscript_base.specs.Compact1.Number.{number}
 use Rattle.postscript_base.specs.Compact1.Operation.{Operation, ended_or, operation, operation_from, step}
-use Rattle.postscript_base.specs.Compact1.DictionaryLaw.{OperandsAt, OperationAt, UnfinishedAt, BadAt, operator}
+use Rattle.postscript_base.specs.Compact1.DictionaryLaw.{IsNoOperation, ReadsOperations, OperandsAt, OperationAt, UnfinishedAt, BadAt, operator}
 use Rattle.postscript_base.proofs.Onward.{Goes, dict_number_takes}
 use Rattle.postscript_base.proofs.OperationSteps.{Found, step_goes, stepped}
 use Rattle.postscript_base.proofs.Cuts.{IsStep, step_is, operand_step, operator_step, bad_step, cut_step}
@@ -48,16 +48,9 @@ pub record IsBehind (front : List Decimal) (bytes : List ℕ) (place : ℕ) (o :
   pub last : operator bytes at ≡ Got o.0 next
   pub all : o.1 ≡ front ++ more
 
--- operands, and what is refused behind them
-pub record StopsAt (bytes : List ℕ) (place : ℕ) (refusal : Refusal) : Type 0 where
-  pub operands : List Decimal
-  pub next : ℕ
-  pub are : OperandsAt bytes place operands next
-  pub bad : BadAt bytes next refusal
-
 abbrev pub IsOperation : List Decimal → List ℕ → ℕ → Outcome Operation → Type 0
 IsOperation front bytes place (Got o next) = IsBehind front bytes place o next
-IsOperation front bytes place (Fault refusal) = StopsAt bytes place refusal
+IsOperation front bytes place (Fault refusal) = IsNoOperation bytes place refusal
 IsOperation front bytes place Past = ⊥
 
 one_more : (front : List Decimal) (operand : Decimal) (all : List Decimal) (bytes : List ℕ) (place at : ℕ) → all ≡ front ++ operand ∷ [] → number bytes place ≡ Got operand at
@@ -85,3 +78,12 @@ operation_is bytes place = operation_from_is (suc (length bytes)) [] bytes place
 
 pub is_at : (bytes : List ℕ) (place : ℕ) (o : Operation) (next : ℕ) → IsBehind [] bytes place o next → OperationAt bytes place o next
 is_at bytes place o next h = (h.at, subst (λ all. OperandsAt bytes place all h.at) (sym h.all) h.are, h.last)
+
+pub reads_operations : ReadsOperations
+reads_operations = record {
+  all = reads;
+  only = λ bytes place o next e. is_at bytes place o next (subst (IsOperation [] bytes place) e (operation_is bytes place));
+  refused = λ bytes place refusal h. bad_ends bytes place h.next h.operands refusal h.are h.bad;
+  refused_only = λ bytes place refusal e. subst (IsOperation [] bytes place) e (operation_is bytes place);
+  never_past = λ bytes place e. subst (IsOperation [] bytes place) e (operation_is bytes place);
+}

@@ -5,6 +5,7 @@ pub mod Operators
 pub mod Decimal
 pub mod Number
 pub mod Reals
+pub mod Integers
 pub mod Nibbles
 pub mod Significant
 pub mod Operation

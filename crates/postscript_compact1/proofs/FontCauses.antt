@@ -30,7 +30,7 @@ use Rattle.postscript_compact1.specs.FontSet.Font.{Part, Tables, Font, columns, 
 use Rattle.postscript_compact1.specs.FontSet.Order.{encoding_of, encoding, char_strings, own_char_set, char_set_of, char_set_offset, char_set, glyphs, private, subroutines, own_subroutines, own_locals, locals, part, names, dictionaries, tables, behind, parts, font_by}
 use Rattle.postscript_compact1.specs.FontSet.Layout.{HasFirst, IsPlace, IsSlice, HasEncoding, HasCharStrings, HasCharSet, HasPrivate, AreTables}
 use Rattle.postscript_compact1.specs.FontSet.Causes.{RefusedAt, NoFirst, Missing, Malformed, NoPlace, NoOffset, OfOperand, OutOfRange, NoEncoding, EncodingOperand, OtherEncoding, NoCharStrings, StringsOffset, TypeOperand, OtherType, StringsRefused, NoCharSet, SetOperand, SetNegative, SetFar, SetRefused, NoBounds, TooFew, NotWhole, BoundsRange, NoPrivate, PrivateBounds, PrivateSlice, PrivateRefused, NoSubroutines, SubrsOffset, SubrsRefused, IsSought, NoPart, OfEncoding, OfStrings, OfSet, OfPrivate, OfSubroutines, NoParts, NoTables, OfNames, OfItems, OfDictionaries, OfStringList, OfGlobalList, NoFontBy, OfHeader, HeaderSize, OfTables, OfParts}
-use Rattle.postscript_compact1.proofs.IndexIs.{reads_indices}
+use Rattle.postscript_compact1.proofs.IndexRefused.{reads_indices}
 use Rattle.postscript_compact1.proofs.ItemsAre.{reads_items}
 use Rattle.postscript_compact1.proofs.OperandLaws.{none_lacking, first_has, two_has, size_has, in_range_has, placed_has, type_has, bounds_has}
 use Rattle.postscript_compact1.proofs.FontLaws.{index_at_has, slice_has, encoding_has, char_strings_has, private_has, glyphs_have, part_has, tables_have}

@@ -30,7 +30,7 @@ use Rattle.postscript_compact1.specs.FontSet.Order.{encoding_of, encoding, char_
 use Rattle.postscript_compact1.specs.FontSet.Layout.{HasFirst, HasTwo, IsSlice, IsPlace, HasEncoding, HasCharStrings, HasCharSet, Is_0, Is_1, Is_2, Own, HasPrivate, HasSubroutines, IsLacking, HasLocals, WithBoth, WithoutSubrs, WithoutPrivate, IsPart, AreParts, AreTables, IsFontBy, IsFont, IsLenientFont, ReadsLayout, ReadsLeniently}
 use Rattle.postscript_compact1.proofs.CharSetIs.{char_set_needs}
 use Rattle.postscript_compact1.proofs.CharSetRefused.{reads_char_sets}
-use Rattle.postscript_compact1.proofs.IndexIs.{reads_indices}
+use Rattle.postscript_compact1.proofs.IndexRefused.{reads_indices}
 use Rattle.postscript_compact1.proofs.ItemsAre.{reads_items}
 use Rattle.postscript_compact1.proofs.OperandLaws.{faulty, lacking_is, lacking_has, there_is, first_is, first_has, size_has, in_range_is, in_range_has, placed_is, placed_has, type_is, type_has, bounds_is, bounds_has}
 use Rattle.postscript_compact1.proofs.Outcomes.{got}

@@ -31,7 +31,7 @@ use Rattle.postscript_compact1.specs.declared.char_set.CharSet.TheVariants.{ISOA
 use Rattle.postscript_compact1.specs.declared.encoding.Encoding.TheVariants.{Standard}
 use Rattle.postscript_compact1.specs.declared.font_set.manner.Manner.{Manner}
 use Rattle.postscript_compact1.specs.declared.font_set.manner.Manner.TheVariants.{Strict, Lenient}
-use Rattle.postscript_compact1.proofs.IndexIs.{reads_indices}
+use Rattle.postscript_compact1.proofs.IndexRefused.{reads_indices}
 use Rattle.postscript_compact1.proofs.TextsAre.{keeps_utf8}
 
 -- no names, no dictionaries, no strings and no subroutines, at the place 0, where the header ends by its own size

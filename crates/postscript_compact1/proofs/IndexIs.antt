@@ -11,7 +11,7 @@ use Rattle.postscript_base.specs.Tape.Outcome.{Outcome, Got, Fault, Past, after,
 use Rattle.postscript_base.proofs.Onward.{needs_after, number_needs}
 use Rattle.postscript_compact1.specs.Index.{Index, empty, filled, index, lengths, lengths_from, offsets}
 use Rattle.postscript_compact1.specs.Kinds.{char_strings}
-use Rattle.postscript_compact1.specs.IndexLaw.{AreOffsets, IsFilledAt, IsIndex, IsWhole, ItemsAt, ItemsFrom, NumberAt, OffsetsAt, ReadsIndices, RisesFrom, before_data, last_of}
+use Rattle.postscript_compact1.specs.IndexLaw.{AreOffsets, IsFilledAt, IsIndex, IsWhole, ItemsAt, ItemsFrom, NumberAt, OffsetsAt, RisesFrom, before_data, last_of}
 
 -- what refuses an INDEX: no place past the end is sought
 abbrev Refuses : Refusal → Type 0
@@ -31,17 +31,17 @@ is_slice count bytes place some = by (nat_lt (length bytes - place) count) refl
     by true e = inl refl
     by false e = (grind (arith, nat_tests), refl, refl)
 
-slice_got : (count : ℕ) (bytes : List ℕ) (place : ℕ) → place + count ≤ length bytes → slice count bytes place ≡ Got (take count (drop place bytes)) (place + count)
+pub slice_got : (count : ℕ) (bytes : List ℕ) (place : ℕ) → place + count ≤ length bytes → slice count bytes place ≡ Got (take count (drop place bytes)) (place + count)
 unfolding slice
 slice_got count bytes place within = let enough : nat_lt (length bytes - place) count ≡ false = grind (arith, nat_tests) in rw enough refl
 
 -- a number that stands there
-abbrev IsNumber : ℕ → List ℕ → ℕ → Outcome ℕ → Type 0
+abbrev pub IsNumber : ℕ → List ℕ → ℕ → Outcome ℕ → Type 0
 IsNumber size bytes place (Got n next) = NumberAt bytes place size n × (next ≡ place + size)
 IsNumber size bytes place (Fault refusal) = Refuses refusal
 IsNumber size bytes place Past = ⊥
 
-is_number : (size : ℕ) (bytes : List ℕ) (place : ℕ) → 0 < size → IsNumber size bytes place (number size bytes place)
+pub is_number : (size : ℕ) (bytes : List ℕ) (place : ℕ) → 0 < size → IsNumber size bytes place (number size bytes place)
 unfolding number
 is_number size bytes place some = by (slice size bytes place) (is_slice size bytes place some)
   where
@@ -50,7 +50,7 @@ is_number size bytes place some = by (slice size bytes place) (is_slice size byt
     by (Fault refusal) h = h
     by Past h = h
 
-number_got : (size : ℕ) (bytes : List ℕ) (place n : ℕ) → NumberAt bytes place size n → number size bytes place ≡ Got n (place + size)
+pub number_got : (size : ℕ) (bytes : List ℕ) (place n : ℕ) → NumberAt bytes place size n → number size bytes place ≡ Got n (place + size)
 unfolding number
 number_got size bytes place n h = rw (slice_got size bytes place h.0) (ap (λ n. Got n (place + size)) (sym h.1))
 
@@ -60,19 +60,19 @@ Follows None [] = Unit {0}
 Follows None (first ∷ offsets) = (first ≡ 1) × RisesFrom first offsets
 Follows (Some last) offsets = RisesFrom last offsets
 
-abbrev IsSize : ℕ → Type 0
+abbrev pub IsSize : ℕ → Type 0
 IsSize size = (1 ≤ size) × (size ≤ 4)
 
-abbrev IsRising : ℕ → Option ℕ → List ℕ → ℕ → Outcome ℕ → Type 0
+abbrev pub IsRising : ℕ → Option ℕ → List ℕ → ℕ → Outcome ℕ → Type 0
 IsRising size last bytes place (Got n next) = IsSize size × (NumberAt bytes place size n × (next ≡ place + size)) × (rises last n ≡ true)
 IsRising size last bytes place (Fault refusal) = Refuses refusal
 IsRising size last bytes place Past = ⊥
 
-sizes : (size : ℕ) → ((size == 0) || nat_lt 4 size) ≡ false → IsSize size
+pub sizes : (size : ℕ) → ((size == 0) || nat_lt 4 size) ≡ false → IsSize size
 sizes zero e = absurd (cc)
 sizes (suc size) e = (omega arith, grind (arith, nat_tests))
 
-is_rising : (size : ℕ) (last : Option ℕ) (bytes : List ℕ) (place : ℕ) → IsRising size last bytes place (rising (size, last) bytes place)
+pub is_rising : (size : ℕ) (last : Option ℕ) (bytes : List ℕ) (place : ℕ) → IsRising size last bytes place (rising (size, last) bytes place)
 unfolding rising offset
 is_rising size last bytes place = by ((size == 0) || nat_lt 4 size) refl
   where
@@ -89,7 +89,7 @@ is_rising size last bytes place = by ((size == 0) || nat_lt 4 size) refl
     by true e = inr (inl refl)
     by false e = let sized = sizes size e in read (number size bytes place) sized (is_number size bytes place sized.0)
 
-rising_got : (size : ℕ) (last : Option ℕ) (bytes : List ℕ) (place n : ℕ) → IsSize size → NumberAt bytes place size n → rises last n ≡ true → rising (size, last) bytes place ≡ Got n (place + size)
+pub rising_got : (size : ℕ) (last : Option ℕ) (bytes : List ℕ) (place n : ℕ) → IsSize size → NumberAt bytes place size n → rises last n ≡ true → rising (size, last) bytes place ≡ Got n (place + size)
 unfolding rising offset
 rising_got size last bytes place n sized h up =
     let least = sized.0 in
@@ -98,7 +98,7 @@ rising_got size last bytes place n sized h up =
     rw (good, number_got size bytes place n h, up) refl
 
 -- offsets one behind the other, of which the first may follow the last one
-abbrev IsChain : ℕ → ℕ → Option ℕ → List ℕ → ℕ → Outcome (List ℕ) → Type 0
+abbrev pub IsChain : ℕ → ℕ → Option ℕ → List ℕ → ℕ → Outcome (List ℕ) → Type 0
 IsChain count size last bytes place (Got os next) = (length os ≡ count) × OffsetsAt bytes place size os × Follows last os × (next ≡ place + count * size) × (0 < count → IsSize size)
 IsChain count size last bytes place (Fault refusal) = Refuses refusal
 IsChain count size last bytes place Past = ⊥
@@ -111,7 +111,7 @@ pub follows_on : (last : Option ℕ) (n : ℕ) (os : List ℕ) → rises last n 
 follows_on None n os up rest = (grind (arith, nat_tests), rest)
 follows_on (Some last) n os up rest = (grind (arith, nat_tests), rest)
 
-is_chain : (count size : ℕ) (last : Option ℕ) (bytes : List ℕ) (place : ℕ) → IsChain count size last bytes place (chain rising behind (size, last) count bytes place)
+pub is_chain : (count size : ℕ) (last : Option ℕ) (bytes : List ℕ) (place : ℕ) → IsChain count size last bytes place (chain rising behind (size, last) count bytes place)
 unfolding chain
 is_chain zero size last bytes place = (refl, tt, nothing_follows last, omega arith, λ none. absurd (omega arith))
 is_chain (suc count) size last bytes place = by (rising (size, last) bytes place) (is_rising size last bytes place) (λ n at. is_chain count size (Some n) bytes at)
@@ -129,11 +129,11 @@ is_chain (suc count) size last bytes place = by (rising (size, last) bytes place
     by (Fault refusal) h later = h
     by Past h later = h
 
-up_by : (last : Option ℕ) (n : ℕ) (os : List ℕ) → Follows last (n ∷ os) → (rises last n ≡ true) × RisesFrom n os
+pub up_by : (last : Option ℕ) (n : ℕ) (os : List ℕ) → Follows last (n ∷ os) → (rises last n ≡ true) × RisesFrom n os
 up_by None n os h = let first = h.0 in (grind (arith, nat_tests), h.1)
 up_by (Some last) n os h = let up = h.0 in (grind (arith, nat_tests), h.1)
 
-chain_got : (size : ℕ) (last : Option ℕ) (bytes : List ℕ) (place : ℕ) (os : List ℕ) → IsSize size → OffsetsAt bytes place size os → Follows last os → chain rising behind (size, last) (length os) bytes place ≡ Got os (place + length os * size)
+pub chain_got : (size : ℕ) (last : Option ℕ) (bytes : List ℕ) (place : ℕ) (os : List ℕ) → IsSize size → OffsetsAt bytes place size os → Follows last os → chain rising behind (size, last) (length os) bytes place ≡ Got os (place + length os * size)
 unfolding chain
 chain_got size last bytes place [] sized h up = ap (λ p. Got [] p) (omega arith)
 chain_got size last bytes place (n ∷ os) sized h up =
@@ -179,7 +179,7 @@ items_got before low (high ∷ os) bytes (item ∷ items) place up h at =
     let rest = items_got before high os bytes items (place + (high - low)) up.1 h.2 (omega arith) in
     rw (one, rest) (ap (λ item. Got (item ∷ items) (before + last_of high os)) (ap (λ p. take (high - low) (drop p bytes)) at ∙ sym h.1))
 
-abbrev Is : List ℕ → ℕ → Outcome Index → Type 0
+abbrev pub Is : List ℕ → ℕ → Outcome Index → Type 0
 Is bytes place (Got i next) = IsIndex bytes place i next
 Is bytes place (Fault refusal) = Refuses refusal
 Is bytes place Past = ⊥
@@ -246,7 +246,7 @@ module _ (bytes : List ℕ) (place count : ℕ) where
       let items_are = items_got (place + 2 + (count + 1) * size) first rest bytes items (place + 3 + (count + 1) * size) f.rise.1 f.items (omega arith) in
       rw (number_got 1 bytes (place + 2) size f.size, offsets_got size (first ∷ rest) (f.least, f.most) f.many f.offsets f.rise, items_are) (ap (λ n. Got (made size (first ∷ rest) items) n) (sym f.behind))
 
-is_index : (bytes : List ℕ) (place : ℕ) → Is bytes place (index bytes place)
+pub is_index : (bytes : List ℕ) (place : ℕ) → Is bytes place (index bytes place)
 unfolding index
 is_index bytes place = by (number 2 bytes place) (is_number 2 bytes place (omega arith))
   where
@@ -259,7 +259,7 @@ is_index bytes place = by (number 2 bytes place) (is_number 2 bytes place (omega
     by (Fault refusal) h = h
     by Past h = h
 
-all : (bytes : List ℕ) (place : ℕ) (i : Index) (next : ℕ) → IsIndex bytes place i next → index bytes place ≡ Got i next
+pub all : (bytes : List ℕ) (place : ℕ) (i : Index) (next : ℕ) → IsIndex bytes place i next → index bytes place ≡ Got i next
 unfolding index
 all bytes place i next (inl h) = rw (number_got 2 bytes place 0 h.0, h.1, h.2) refl
 all bytes place i next (inr f) =
@@ -267,7 +267,7 @@ all bytes place i next (inr f) =
     let more : (i.count == 0) ≡ false = grind (arith, nat_tests) in
     rw (number_got 2 bytes place i.count f.count, more) (filled_got bytes place i.count i.offset_size i.offsets i.items next f)
 
-only : (bytes : List ℕ) (place : ℕ) (i : Index) (next : ℕ) → index bytes place ≡ Got i next → IsIndex bytes place i next
+pub only : (bytes : List ℕ) (place : ℕ) (i : Index) (next : ℕ) → index bytes place ≡ Got i next → IsIndex bytes place i next
 only bytes place i next e = subst (Is bytes place) e (is_index bytes place)
 
 -- as many items as there are offsets behind the first, and as long as the offsets say
@@ -285,7 +285,7 @@ measured before low (high ∷ os) bytes (item ∷ items) up h =
     let later = rest.3 in
     (ap suc rest.0, rw (long, rest.1) refl, λ _. rest.2 within, omega arith)
 
-whole : (bytes : List ℕ) (place : ℕ) (i : Index) (next : ℕ) → IsIndex bytes place i next → IsWhole i
+pub whole : (bytes : List ℕ) (place : ℕ) (i : Index) (next : ℕ) → IsIndex bytes place i next → IsWhole i
 whole bytes place i next (inl h) = inl h.1
 whole bytes place i next (inr f) = inr (record { some = f.some; items = parts.0; offsets = f.many; rise = f.rise; lengths = parts.1 })
   where
@@ -311,7 +311,7 @@ moves bytes place i next (inr f) = by i.offsets i.items f.many f.rise f.items f.
         let more = up.1.0 in
         (omega arith, omega arith)
 
-takes : TakesBytes index
+pub takes : TakesBytes index
 takes bytes place = by (index bytes place) (is_index bytes place)
   where
     by : (o : Outcome Index) → Is bytes place o → MovesOn place (length bytes) o
@@ -322,17 +322,6 @@ takes bytes place = by (index bytes place) (is_index bytes place)
 pub needs : NeedsBytes index
 unfolding index
 needs = needs_after (number 2) (λ count. if count == 0 then pure empty else filled count) (number_needs 2 (omega arith))
-
--- what an INDEX is, and that it is read
-pub reads_indices : ReadsIndices
-reads_indices = record {
-  all = all;
-  only = only;
-  whole = λ bytes place i next e. whole bytes place i next (only bytes place i next e);
-  refusals = λ bytes place refusal e. subst (Is bytes place) e (is_index bytes place);
-  takes = takes;
-  needs = needs;
-}
 
 -- the reading of char strings of type 2 is that of an INDEX
 pub char_strings_need : NeedsBytes (char_strings (pos 2))

@@ -16,6 +16,7 @@ pub mod Steps
 pub mod OperandLaws
 pub mod FontLaws
 pub mod CharSetRefused
+pub mod IndexRefused
 pub mod ItemsAre
 pub mod TextsAre
 pub mod FontClauses

@@ -22,6 +22,7 @@ pub mod InFlat
 pub mod Inlining
 pub mod InliningRows
 pub mod PhraseLaws
+pub mod NumberLaws
 pub mod MeaningLaws
 pub mod EndingLaws
 pub mod StackEnds

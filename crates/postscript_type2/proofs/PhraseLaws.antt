@@ -27,7 +27,7 @@ second-of : (t u : Bool) → (t || u) ≡ true → t ≡ false → u ≡ true
 second-of true u h e = absurd (cc)
 second-of false u h e = h
 
-neither : (t u : Bool) → (t || u) ≡ false → (t ≡ false) × (u ≡ false)
+pub neither : (t u : Bool) → (t || u) ≡ false → (t ≡ false) × (u ≡ false)
 neither true u h = absurd (cc)
 neither false u h = (refl, h)
 
@@ -35,11 +35,11 @@ no-number_by : (b : ℕ) → (b == 0x1c) ≡ false → b < 0x20 → is_number b 
 no-number_by b e low = ap (λ t. t || nat_lt 0x1f b) e ∙ le-ltb 0x1f b (omega (arith, low))
 
 -- which reading a first byte begins
-hit : (b : Bool) (x y : Reading ℤ) (bytes : List ℕ) (place : ℕ) → b ≡ true → (if b then x else y) bytes place ≡ x bytes place
+pub hit : (b : Bool) (x y : Reading ℤ) (bytes : List ℕ) (place : ℕ) → b ≡ true → (if b then x else y) bytes place ≡ x bytes place
 hit true x y bytes place h = refl
 hit false x y bytes place h = absurd (cc)
 
-skip : (b : Bool) (x y : Reading ℤ) (bytes : List ℕ) (place : ℕ) → b ≡ false → (if b then x else y) bytes place ≡ y bytes place
+pub skip : (b : Bool) (x y : Reading ℤ) (bytes : List ℕ) (place : ℕ) → b ≡ false → (if b then x else y) bytes place ≡ y bytes place
 skip true x y bytes place h = absurd (cc)
 skip false x y bytes place h = refl
 
@@ -109,10 +109,10 @@ is-number : (b : ℕ) → 0x20 ≤ b → is_number b ≡ true
 is-number b h = either (b == 0x1c) (nat_lt 0x1f b) (lt-ltb 0x1f b (omega (arith, h)))
 
 -- a number is read, whatever follows it
-abbrev ReadsSo : List ℕ → ℤ → Type 0
+abbrev pub ReadsSo : List ℕ → ℤ → Type 0
 ReadsSo number x = (b : ℕ) × (s : List ℕ) × (number ≡ b ∷ s) × (is_number b ≡ true) × ((tail : List ℕ) → spelled b (s ++ tail) 0 ≡ Got x (length s))
 
-reads-number : (number : List ℕ) (x : ℤ) → IsNumber number x → ReadsSo number x
+pub reads-number : (number : List ℕ) (x : ℤ) → IsNumber number x → ReadsSo number x
 reads-number number x (spellings.of_two_bytes a b) = (0x1c, a ∷ b ∷ [], refl, refl, λ tail. unsigned-there 2 (λ n. whole (two_sided 0x8000 n)) (a ∷ b ∷ tail) (omega arith))
 reads-number number x (spellings.small b low high) = (b, [], refl, is-number b low, λ tail. reads-small b tail low high)
 reads-number number x (spellings.positive b second low high) =
@@ -149,10 +149,10 @@ spelled-front b s x is tail =
     )
 
 -- the forms of a first byte
-abbrev Form : ℕ → Type 0
+abbrev pub Form : ℕ → Type 0
 Form b = (b ≡ 0x1c) ⊎ (((0x20 ≤ b) × (b < 0xf7)) ⊎ (((0xf7 ≤ b) × (b < 0xfb)) ⊎ (((0xfb ≤ b) × (b < 0xff)) ⊎ (0xff ≤ b))))
 
-form : (b : ℕ) → is_number b ≡ true → Form b
+pub form : (b : ℕ) → is_number b ≡ true → Form b
 form b h = by_tests (b == 0x1c) (nat_lt b 0xf7) (nat_lt b 0xfb) (nat_lt b 0xff) refl refl refl refl
   where
     by_tests : (t u v w : Bool) → (b == 0x1c) ≡ t → nat_lt b 0xf7 ≡ u → nat_lt b 0xfb ≡ v → nat_lt b 0xff ≡ w → Form b
@@ -163,14 +163,14 @@ form b h = by_tests (b == 0x1c) (nat_lt b 0xf7) (nat_lt b 0xfb) (nat_lt b 0xff) 
     by_tests false false false false e f g i = inr (inr (inr (inr (ltb-false b 0xff i))))
 
 -- a number stands there
-abbrev Stands : ℕ → List ℕ → Type 0
+abbrev pub Stands : ℕ → List ℕ → Type 0
 Stands b r = (more : ℕ) × (x : ℤ) × (spelled b r 0 ≡ Got x more) × IsNumber (b ∷ take more r) x × (more ≤ length r)
 
 -- it is cut
-abbrev IsCut : ℕ → List ℕ → Type 0
+abbrev pub IsCut : ℕ → List ℕ → Type 0
 IsCut b r = (missing : List ℕ) × (x : ℤ) × (spelled b r 0 ≡ Fault unexpected_eof) × (missing ≢ []) × IsNumber (b ∷ (r ++ missing)) x
 
-number-at : (b : ℕ) (r : List ℕ) → Form b → Stands b r ⊎ IsCut b r
+pub number-at : (b : ℕ) (r : List ℕ) → Form b → Stands b r ⊎ IsCut b r
 number-at b r (inl e) = subst (λ c. Stands c r ⊎ IsCut c r) (sym e) (at_two r)
   where
     at_two : (r : List ℕ) → Stands 0x1c r ⊎ IsCut 0x1c r

@@ -11,7 +11,7 @@ use Rattle.postscript_base.specs.Compact1.Decimal.{Decimal}
 use Rattle.postscript_base.specs.Compact1.Number.{number}
 use Rattle.postscript_base.specs.Compact1.Reals.{is_in_text, nibbles}
 use Rattle.postscript_base.specs.Compact1.Operators.{operator_cmp}
-use Rattle.postscript_base.specs.Compact1.Operation.{Operation, begins_operand, operator_begun}
+use Rattle.postscript_base.specs.Compact1.Operation.{Operation, begins_operand, operation, operator_begun}
 use Rattle.postscript_base.specs.Compact1.Dictionary.{Dictionary, dictionary}
 use Rattle.postscript_base.specs.declared.compact1.operator.Operator.{Operator}
 
@@ -84,6 +84,22 @@ RefusedBy false bytes place refusal = operator bytes place ≡ Fault refusal
 
 abbrev pub BadAt : List ℕ → ℕ → Refusal → Type 0
 BadAt bytes place refusal = RefusedBy (begins (drop place bytes)) bytes place refusal
+
+-- Behind operands stands what is refused: a number or an operator that is bad, or that the end cuts.
+pub record IsNoOperation (bytes : List ℕ) (place : ℕ) (refusal : Refusal) : Type 0 where
+  pub operands : List Decimal
+  pub next : ℕ
+  pub are : OperandsAt bytes place operands next
+  pub bad : BadAt bytes next refusal
+
+-- What is read is the operation that stands there: operands spelled one behind the other, then an operator. Every such
+-- operation is read. Other bytes are refused as what stands behind the operands.
+pub record ReadsOperations : Type 0 where
+  pub all : (bytes : List ℕ) (place : ℕ) (o : Operation) (next : ℕ) → OperationAt bytes place o next → operation bytes place ≡ Got o next
+  pub only : (bytes : List ℕ) (place : ℕ) (o : Operation) (next : ℕ) → operation bytes place ≡ Got o next → OperationAt bytes place o next
+  pub refused : (bytes : List ℕ) (place : ℕ) (refusal : Refusal) → IsNoOperation bytes place refusal → operation bytes place ≡ Fault refusal
+  pub refused_only : (bytes : List ℕ) (place : ℕ) (refusal : Refusal) → operation bytes place ≡ Fault refusal → IsNoOperation bytes place refusal
+  pub never_past : (bytes : List ℕ) (place : ℕ) → operation bytes place ≢ Past
 
 -- Behind operations and operands of one more, what stands is refused, though the end does not cut it.
 pub record IsRefused (bytes : List ℕ) (place : ℕ) (refusal : Refusal) : Type 0 where

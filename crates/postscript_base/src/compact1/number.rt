@@ -5,6 +5,7 @@ ghost use Rattle.postscript_base.specs.Error.{IsListed};
 ghost use Rattle.postscript_base.specs.Tape.Outcome.{same};
 ghost use Rattle.postscript_base.specs.Tape.{Reads};
 ghost use Rattle.postscript_base.specs.Tape.Onward.{TakesBytes};
+ghost use Rattle.postscript_base.specs.Compact1.Integers.{ReadsIntegers};
 ghost use Rattle.postscript_base.specs.Compact1.Reals.{ReadsSpellings, real as the_real};
 ghost use Rattle.postscript_base.specs.Compact1.Number.{number as the_number, BeginsNoReal, begun as the_begun, whole as the_whole};
 
@@ -27,12 +28,13 @@ use std::alloc::Global;
 ///     Ok((operand.mantissa(), operand.exponent()))
 /// }
 /// ```
-#[tactic(auto, unfolding(crate::specs::Compact1::Number::number), using(crate::proofs::Spellings::reads_spellings, crate::proofs::Operands::finds_operands, crate::proofs::Onward::dict_number_takes, crate::proofs::Outcomes::refused_after))]
+#[tactic(auto, unfolding(crate::specs::Compact1::Number::number), using(crate::proofs::Spellings::reads_spellings, crate::proofs::Integers::reads_integers, crate::proofs::Operands::finds_operands, crate::proofs::Onward::dict_number_takes, crate::proofs::Outcomes::refused_after))]
 pub fn read<T: Tape>(alloc: Global, tape: &mut T) -> Result<Operand>
     ensures exact { Reads same (T.state tape.old) result (T.state tape.new) the_number }
     ensures listed { IsListed (1 ∷ 2 ∷ 3 ∷ 7 ∷ 8 ∷ []) result }
     ensures no_memory { BeginsNoReal (T.state tape.old) → IsListed (1 ∷ 2 ∷ 7 ∷ []) result }
     ensures grammar { ReadsSpellings }
+    ensures integers { ReadsIntegers }
     ensures operands { FindsOperands }
     ensures onward { TakesBytes the_number }
 {

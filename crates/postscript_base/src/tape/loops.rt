@@ -1,5 +1,5 @@
 //! Values one after the other.
-ghost use Rattle.std.specs.Prelude.{◌≡◌, ℕ, Bool, List, [], ◌∷◌, length, map, IfOk};
+ghost use Rattle.std.specs.Prelude.{◌≡◌, ◌<◌, ◌≤◌, ◌-◌, ◌^◌, ℕ, Bool, List, [], ◌∷◌, length, map, vec_len, IfOk};
 ghost use Rattle.postscript_base.specs.Error.{IsListed};
 ghost use Rattle.postscript_base.specs.Tape.Outcome.{Reading, Got, same};
 ghost use Rattle.postscript_base.specs.Tape.Onward.{TakesBytes};
@@ -135,7 +135,8 @@ pub fn read_until<W: Until + Drop, T: Tape>(
 
 /// Reads values up to the end of the tape, where one that is cut by the end is none. The tape then stands at the end.
 /// The caller proves that a value takes a byte at least and stays within the bytes (`numbers_move_on`), so that it
-/// stands in `postscript_base` alone.
+/// stands in `postscript_base` alone. The place rises with each value, on any tape: so there are fewer values than 2^64, and
+/// on an honest tape no more than bytes behind the place.
 ///
 /// Refused: as the first value that is refused is, but for `UnexpectedEof`, which ends the list; `TapeStuck` where the
 /// place of the tape does not rise, as an honest tape's does; `UnexpectedEof` from a seek; `Io`, `Memory`.
@@ -144,6 +145,8 @@ pub fn read_to_end<V: Value + Drop, T: Tape>(alloc: Global, tape: &mut T) -> Res
     ensures exact { Reads (λ values. V.views values.items) (T.state tape.old) result (T.state tape.new)
         (to_end V.reading) }
     ensures listed { IsListed (1 ∷ 2 ∷ 3 ∷ 4 ∷ V.refusals) result }
+    ensures rises { IfOk result (λ values. vec_len values < 2 ^ 64) }
+    ensures takes { IsHonest (T.state tape.old) → IfOk result (λ values. vec_len values ≤ length (T.state tape.old).bytes - (T.state tape.old).place) }
 {
     let mut values = Vec::with_capacity(alloc, ROOM)?;
     let mut place = tape.position()?;

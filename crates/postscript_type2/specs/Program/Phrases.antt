@@ -1,9 +1,10 @@
 -- How phrases are spelled (Technical Note 5177, "Charstring Number Encoding" and "Charstring Operator Encoding").
-use Rattle.std.specs.Prelude.{◌≡◌, ◌≢◌, ℕ, ◌+◌, ◌<◌, ◌≤◌, ℤ, pos, ◌-ℤ◌, List, [], ◌∷◌, ◌++◌, Some, None}
+use Rattle.std.specs.Prelude.{◌≡◌, ◌≢◌, ℕ, ◌+◌, ◌<◌, ◌≤◌, ℤ, pos, ◌-ℤ◌, List, [], ◌∷◌, ◌++◌, length, take, drop, Some, None}
 use Rattle.postscript_base.specs.Numbers.{big_endian, two_sided, above, below}
+use Rattle.postscript_base.specs.Tape.Outcome.{Got}
 use Rattle.postscript_base.specs.Refusal.{Refusal, unexpected_eof, unknown_operator}
 use Rattle.postscript_type2.specs.declared.operation.Operator.{Operator}
-use Rattle.postscript_type2.specs.Number.{whole}
+use Rattle.postscript_type2.specs.Number.{number, whole}
 use Rattle.postscript_type2.specs.Operation.Operators.{operator_of}
 
 -- The bytes of a number, over its bits.
@@ -17,6 +18,18 @@ pub data IsNumber : List ℕ → ℤ → Type 0 where
   negative : (first second : ℕ) → 0xfb ≤ first → first < 0xff → IsNumber (first ∷ second ∷ []) (whole (below first second))
   -- four bytes behind ff: the bits themselves
   of_bits : (first a b c d : ℕ) → 0xff ≤ first → IsNumber (first ∷ a ∷ b ∷ c ∷ d ∷ []) (two_sided 0x80000000 (big_endian (a ∷ b ∷ c ∷ d ∷ [])))
+
+-- A number stands at a place: its spelling is the bytes there, and the next place is behind it.
+pub record IsNumberAt (bytes : List ℕ) (place : ℕ) (bits : ℤ) (next : ℕ) : Type 0 where
+  pub spelling : List ℕ
+  pub is : IsNumber spelling bits
+  pub stands : take (length spelling) (drop place bytes) ≡ spelling
+  pub behind : next ≡ place + length spelling
+
+-- What is read is the number that stands there, and every number is read.
+pub record ReadsNumbers : Type 0 where
+  pub all : (bytes : List ℕ) (place : ℕ) (bits : ℤ) (next : ℕ) → IsNumberAt bytes place bits next → number bytes place ≡ Got bits next
+  pub only : (bytes : List ℕ) (place : ℕ) (bits : ℤ) (next : ℕ) → number bytes place ≡ Got bits next → IsNumberAt bytes place bits next
 
 -- The bytes of a phrase: as many numbers as there are, and then one operator, of one byte or of two.
 pub data IsPhrase : List ℕ → List ℤ → Operator → Type 0 where
