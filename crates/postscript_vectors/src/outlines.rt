@@ -1,7 +1,7 @@
 //! Outlines of glyphs, as path data.
 use crate::checks::{bytes_of, holds, is_text};
 use postscript::Result;
-use postscript::type2::{Operand, Operator};
+use postscript::type2::{Operand, Operator, run};
 use postscript_outline::{Bounds, Outline, Pen};
 use std::alloc::Global;
 use std::process::Abort;
@@ -126,4 +126,37 @@ fn path_by_pen(alloc: Global) -> Result<String> {
 fn a_pen_of_ones_own(rt: HostRuntime) {
     let path = path_by_pen(rt.alloc()).expect(&rt, "a path");
     is_text(&rt, path.as_str(), "M1 2L2 4Z", "a pen");
+}
+
+/// The path of a code's operations, drawn all at once.
+fn path_of_operations(alloc: Global, code: &[u8]) -> Result<String> {
+    let answers = run(alloc, code, &[], &[])?;
+    let outline = Outline::of_operations(alloc, answers.operations.as_slice(), answers.width)?;
+    Ok(outline.to_string(alloc)?)
+}
+
+/// The outline of one operation with one operand.
+fn outline_of_one(alloc: Global, operator: Operator) -> Result<Outline> {
+    let operands = vec![in alloc; Operand::from_int(1)]?;
+    let operations = vec![in alloc; (operator, operands)]?;
+    Outline::of_operations(alloc, operations.as_slice(), None)
+}
+
+#[test]
+fn outlines_of_operations(rt: HostRuntime) {
+    let alloc = rt.alloc();
+    let code = bytes_of(&rt, alloc, "8c8d15 8e06 8f16 9007 0e");
+    let path = path_of_operations(alloc, code.as_slice()).expect(&rt, "a path");
+    is_text(&rt, path.as_str(), "M1 2L4 2ZM8 2L8 7Z", "operations");
+    holds(
+        &rt,
+        outline_of_one(alloc, Operator::HLineTo).is_ok(),
+        "one operand that fits",
+    );
+    let misfit = outline_of_one(alloc, Operator::RLineTo);
+    holds(
+        &rt,
+        misfit.is_err_and(|e| e.code() == 20),
+        "one operand that does not fit",
+    );
 }
