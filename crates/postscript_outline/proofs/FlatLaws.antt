@@ -1,15 +1,13 @@
 -- Outlines of flat code.
 use Rattle.std.proofs.Common.{◌≡◌, refl, sym, ap, ◌∙◌, List, None, Result, Ok, Err}
 use Rattle.postscript_base.specs.Refusal.{Refusal}
-use Rattle.postscript_outline.specs.declared.pen.Segment.{Segment}
 use Rattle.postscript_outline.specs.Drawing.{Drawing, ◌>>=◌, blank, closed}
-use Rattle.postscript_outline.specs.Flat.{SameGlyph, FlatTextDrawsTheSame}
+use Rattle.postscript_outline.specs.Flat.{FlatTextDrawsTheSame}
 use Rattle.postscript_outline.specs.Outline.{drawing_of, finished, outline_of, outlined}
 use Rattle.postscript_type2.specs.Program.Evaluation.{run_of}
 use Rattle.postscript_type2.specs.Program.Flat.{flat_text}
 use Rattle.postscript_type2.specs.Program.Inlining.{FlatTextKeepsMeaning}
-use Rattle.postscript_type2.specs.Program.Routines.{Lists}
-use Rattle.postscript_type2.specs.Program.Runs.{Answer, End, Fault, Finished, Returned, Run, UsedUp, fault_of, width_of}
+use Rattle.postscript_type2.specs.Program.Runs.{Answer, End, Fault, Finished, Returned, Run, UsedUp, fault_of}
 
 -- an end without fault ends the contour, whichever it is
 faultless-finished : (end : End) → fault_of end ≡ None → (d : Drawing) → finished end d ≡ Ok (closed d).segments

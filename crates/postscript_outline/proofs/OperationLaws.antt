@@ -1,6 +1,6 @@
 -- Operations that are applied: they fit, and draw what a run of them draws.
 use Rattle.std.proofs.lemmas.Bool.{eqb-true}
-use Rattle.std.proofs.Common.{◌≡◌, refl, ap, sym, subst, ◌∙◌, ℕ, Bool, true, false, List, [], ◌∷◌, length, Option, Some, None, Result, Ok, Err, IfOk, OnOk, MatchResult, if◌then◌else◌}
+use Rattle.std.proofs.Common.{◌≡◌, refl, ap, sym, subst, ℕ, Bool, true, false, List, [], ◌∷◌, length, Option, Some, None, Result, Ok, Err, IfOk, OnOk, MatchResult, if◌then◌else◌}
 use Rattle.postscript_base.specs.declared.error.Error.{Error}
 use Rattle.postscript_base.specs.Refusal.{Refusal, malformed_operands}
 use Rattle.postscript_outline.proofs.ContourLaws.{contours}
@@ -12,7 +12,7 @@ use Rattle.postscript_outline.specs.Drawing.{Drawing, ◌>>=◌, blank, drawing}
 use Rattle.postscript_outline.specs.Fitting.{AllFit, fits, is_length}
 use Rattle.postscript_outline.specs.Operations.{OutlinesApplied, applied_all, outline_applied}
 use Rattle.postscript_outline.specs.Operators.{strokes}
-use Rattle.postscript_outline.specs.Outline.{Outlines, drawing_of, finished, outline_of, outlined}
+use Rattle.postscript_outline.specs.Outline.{Outlines, drawing_of, finished, outline_of}
 use Rattle.postscript_type2.specs.Operation.Kinds.{taken}
 use Rattle.postscript_type2.specs.Program.Runs.{Answer, Run}
 
