@@ -1,6 +1,5 @@
 use Rattle.postscript_outline.proofs.FlatLaws.{flat-draws-the-same}
 use Rattle.postscript_outline.proofs.laws.flat_text_draws_the_same.Goals as goal
-use Rattle.postscript_type2.proofs.Inlining.{law}
 
 pub returns : goal.returns
-returns c = flat-draws-the-same law
+returns c = flat-draws-the-same c.flat_text_keeps_meaning.ensures.law
