@@ -25,11 +25,11 @@ printf '[package]\nname = "postscript"\nversion = "0.14.1"\nedition = "2021"\n' 
 
 own="$copy/crates/charstrings"
 mkdir -p "$own/src" "$own/specs" "$own/proofs"
-cp -R "$tools/../crates/postscript_base" "$tools/../crates/postscript_type2" "$copy/crates"
+cp -R "$tools/../crates/postscript_base" "$tools/../crates/postscript_items" "$tools/../crates/postscript_type2" "$copy/crates"
 cp "$tools/charstrings_main.txt" "$own/src/main.rt"
 : > "$own/specs/Lib.antt"
 : > "$own/proofs/Lib.antt"
-printf 'postscript_base: thiserror\npostscript_type2: postscript_base\ncharstrings: postscript_type2 postscript_base hex anyhow\n' > "$copy/crates.txt"
+(grep -E '^postscript_(base|items|type2):' "$tools/../crates.txt" && echo 'charstrings: postscript_type2 postscript_base hex anyhow') > "$copy/crates.txt"
 (cd "$own" && rt run < /dev/null 2> "$copy/messages") || { cat "$copy/messages" >&2; exit 1; }
 
 for _ in 1 2 3 4 5; do

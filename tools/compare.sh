@@ -16,16 +16,19 @@ copy=$(mktemp -d)
 trap 'rm -r "$copy"' EXIT
 mkdir "$copy/fonts" "$copy/before" "$copy/now"
 /usr/bin/python3 "$tools/charstrings.py" fonts "$copy/fonts" "$@"
-git -C "$tools/.." archive "$revision" crates/postscript_base crates/postscript_type2 | tar -x -C "$copy/before"
+libraries='postscript_(base|items|type2)'
+git -C "$tools/.." archive "$revision" crates.txt crates | tar -x -C "$copy/before"
 mkdir "$copy/now/crates"
-cp -R "$tools/../crates/postscript_base" "$tools/../crates/postscript_type2" "$copy/now/crates"
+cp "$tools/../crates.txt" "$copy/now"
+cp -R "$tools/../crates/postscript_base" "$tools/../crates/postscript_items" "$tools/../crates/postscript_type2" "$copy/now/crates"
 for side in before now; do
     own="$copy/$side/crates/flat"
     mkdir -p "$own/src" "$own/specs" "$own/proofs"
     cp "$tools/flat_main.txt" "$own/src/main.rt"
     : > "$own/specs/Lib.antt"
     : > "$own/proofs/Lib.antt"
-    printf 'postscript_base: thiserror\npostscript_type2: postscript_base\nflat: postscript_type2 postscript_base hex anyhow\n' > "$copy/$side/crates.txt"
+    (grep -E "^$libraries:" "$copy/$side/crates.txt" && echo 'flat: postscript_type2 postscript_base hex anyhow') > "$copy/crates.txt"
+    mv "$copy/crates.txt" "$copy/$side/crates.txt"
     (cd "$own" && rt run < /dev/null > "$copy/printed" 2> "$copy/messages") || { cat "$copy/messages" >&2; exit 1; }
 done
 python3 "$tools/compare.py" "$copy/before/crates/flat/out/flat" "$copy/now/crates/flat/out/flat" "$copy/fonts"

@@ -28,11 +28,11 @@ printf '[package]\nname = "postscript"\nversion = "0.14.1"\nedition = "2021"\n' 
 
 own="$copy/crates/flat"
 mkdir -p "$own/src" "$own/specs" "$own/proofs"
-cp -R "$tools/../crates/postscript_base" "$tools/../crates/postscript_type2" "$copy/crates"
+cp -R "$tools/../crates/postscript_base" "$tools/../crates/postscript_items" "$tools/../crates/postscript_type2" "$copy/crates"
 cp "$tools/flat_main.txt" "$own/src/main.rt"
 : > "$own/specs/Lib.antt"
 : > "$own/proofs/Lib.antt"
-printf 'postscript_base: thiserror\npostscript_type2: postscript_base\nflat: postscript_type2 postscript_base hex anyhow\n' > "$copy/crates.txt"
+(grep -E '^postscript_(base|items|type2):' "$tools/../crates.txt" && echo 'flat: postscript_type2 postscript_base hex anyhow') > "$copy/crates.txt"
 (cd "$own" && rt run < /dev/null > "$copy/printed" 2> "$copy/messages") || { cat "$copy/messages" >&2; exit 1; }
 
 for font in "$copy/fonts"/*; do

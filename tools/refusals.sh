@@ -12,10 +12,10 @@ trap 'rm -r "$copy"' EXIT
 cc -shared -fPIC -O2 "$tools/refused.c" -o "$copy/refused.so"
 own="$copy/crates/refusals"
 mkdir -p "$own/src" "$own/specs" "$own/proofs"
-cp -R "$tools/../crates/postscript_base" "$tools/../crates/postscript_type2" "$copy/crates"
+cp -R "$tools/../crates/postscript_base" "$tools/../crates/postscript_items" "$tools/../crates/postscript_type2" "$copy/crates"
 cp "$tools/refusals_main.txt" "$own/src/main.rt"
 : > "$own/specs/Lib.antt"
 : > "$own/proofs/Lib.antt"
-printf 'postscript_base: thiserror\npostscript_type2: postscript_base\nrefusals: postscript_type2 postscript_base hex anyhow\n' > "$copy/crates.txt"
+(grep -E '^postscript_(base|items|type2):' "$tools/../crates.txt" && echo 'refusals: postscript_type2 postscript_base hex anyhow') > "$copy/crates.txt"
 (cd "$own" && rt run < /dev/null > "$copy/printed" 2> "$copy/messages") || { cat "$copy/printed" "$copy/messages" >&2; exit 1; }
 python3 "$tools/refusals.py" "$own/out/refusals" "$copy/refused.so"
