@@ -1,3 +1,4 @@
 pub mod Glyphs
+pub mod Advances
 pub mod Passing
 pub mod Readers

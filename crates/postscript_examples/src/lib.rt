@@ -1,6 +1,7 @@
 //! Examples of use. Each is proved from the library's public contracts alone.
 #![tactic(auto)]
 
+pub mod advances;
 pub mod dictionaries;
 pub mod flat;
 pub mod fonts;

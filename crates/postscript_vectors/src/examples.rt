@@ -3,6 +3,7 @@ use crate::checks::holds;
 use postscript::compact1::{FontSet, Operator as Key};
 use postscript::type2::{Operand, Operator, Program};
 use postscript::{Error, Value};
+use postscript_examples::advances::advance;
 use postscript_examples::dictionaries::{dictionary_of, italic_angle, texts_of};
 use postscript_examples::flat::{flat, flat_glyphs_of};
 use postscript_examples::fonts::{font_of, glyphs_of, names_of};
@@ -33,6 +34,13 @@ const FLAT: [u8; 13] = [
 const FONT: [u8; 46] = [
     1, 0, 4, 1, 0, 1, 1, 1, 2, 0x41, 0, 1, 1, 1, 6, 0xa3, 0x11, 0x8d, 0xaf, 0x12, 0, 0, 0, 0, 0, 1,
     1, 1, 8, 0x8e, 0x8c, 0x8d, 0x15, 0x20, 0x0a, 0x0e, 0x8d, 0x13, 0, 1, 1, 1, 4, 0x8c, 0x06, 0x0b,
+];
+
+/// The same font with the nominal width 100 in its private dictionary, which has 4 bytes (`Subrs` 4 behind it).
+const WIDE: [u8; 48] = [
+    1, 0, 4, 1, 0, 1, 1, 1, 2, 0x41, 0, 1, 1, 1, 6, 0xa3, 0x11, 0x8f, 0xaf, 0x12, 0, 0, 0, 0, 0, 1,
+    1, 1, 8, 0x8e, 0x8c, 0x8d, 0x15, 0x20, 0x0a, 0x0e, 0xef, 0x15, 0x8f, 0x13, 0, 1, 1, 1, 4, 0x8c,
+    0x06, 0x0b,
 ];
 
 #[test]
@@ -157,6 +165,25 @@ fn a_font(rt: HostRuntime) {
     let font = font_of(alloc, &FONT).expect(&rt, "a font");
     holds(&rt, has_the_glyph(&rt, alloc, &font), "the glyph");
     holds(&rt, has_it_flat(&rt, alloc, &font), "its flat code");
+}
+
+/// Whether the only glyph of a font has this advance, in whole units.
+fn advances_by(alloc: Global, bytes: &[u8], units: i64) -> bool {
+    let Ok(font) = font_of(alloc, bytes) else {
+        return false;
+    };
+    let none = matches!(advance(alloc, &font, 0, 1), Ok(None));
+    match advance(alloc, &font, 0, 0) {
+        Ok(Some(found)) => none && found / 65536 == units && found % 65536 == 0,
+        _ => false,
+    }
+}
+
+#[test]
+fn an_advance(rt: HostRuntime) {
+    let alloc = rt.alloc();
+    holds(&rt, advances_by(alloc, &FONT, 3), "no nominal width");
+    holds(&rt, advances_by(alloc, &WIDE, 103), "a nominal width");
 }
 
 #[test]
