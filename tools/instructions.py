@@ -1,18 +1,23 @@
 #!/usr/bin/env python3
-"""Counts the instructions a glyph of three programs by valgrind's callgrind, and prints a table.
+"""Counts the instructions a glyph of three programs by valgrind's callgrind, and prints a table; then the requests for memory of
+each glyph by `step`.
 
-    tools/instructions.py OURS RUST TTF GLYPHS FONT..
+    tools/instructions.py OURS RUST TTF COUNTER GLYPHS FONT..
 
 The programs are those of instructions_main.txt, charstrings_rust.txt and instructions_ttf.txt, built. GLYPHS is a folder with
 a file for each FONT, by its name without `.otf`, as charstrings.py writes it. A count is that of two rounds over all
-glyphs, less that of none, so starting and reading the file are left out. It stops where `step`, `next` and the Rust crate answer
+glyphs, less that of none, so starting and reading the file are left out. COUNTER is tools/refused.c, built: loaded before the C
+library it counts requests. Those of a glyph are counted alone, one round less none. It stops where `step`, `next` and the Rust crate answer
 different numbers of operations.
 """
 
+import collections
+import os
 import pathlib
 import re
 import subprocess
 import sys
+import tempfile
 
 WAYS = ["step", "next", "run", "flat_len", "flatten"]
 ROUNDS = 2
@@ -43,13 +48,37 @@ def print_line(programs, given, font):
     print(f"| {given.name} | {glyphs} | {' | '.join(str(count) for count, _ in counts)} |", flush=True)
 
 
+def requests(counter, command, lines):
+    """How many requests for memory a command makes with these lines as its input."""
+    with tempfile.NamedTemporaryFile("r") as told:
+        environment = {**os.environ, "LD_PRELOAD": counter, "TOLD": told.name}
+        subprocess.run(command, input=lines, env=environment, stdout=subprocess.DEVNULL, check=True)
+        return int(told.read().split()[0])
+
+
+def print_requests(ours, counter, given):
+    lines = given.read_bytes().splitlines(keepends=True)
+    lists = [line for line in lines if not line.startswith(b"code ")]
+    counts = collections.Counter()
+    for line in lines:
+        if line.startswith(b"code "):
+            alone = b"".join([*lists, line])
+            counts[requests(counter, [ours, "step", "1"], alone) - requests(counter, [ours, "step", "0"], alone)] += 1
+    told = ", ".join(f"{count} requests: {glyphs} glyphs" for count, glyphs in sorted(counts.items()))
+    print(f"{given.name}, `step`: {told}", flush=True)
+
+
 def main(words):
-    if len(words) < 5:
+    if len(words) < 6:
         sys.exit(__doc__)
+    words, counter = [*words[:3], *words[4:]], os.path.abspath(words[3])
     print(f"| font | glyphs | {' | '.join(f'`{way}`' for way in WAYS)} | the Rust crate's `next` | `ttf-parser` |")
     print("|---" * (len(WAYS) + 4) + "|")
     for font in words[4:]:
         print_line(words[:3], pathlib.Path(words[3]) / pathlib.Path(font).stem, font)
+    print()
+    for font in words[4:]:
+        print_requests(words[0], counter, pathlib.Path(words[3]) / pathlib.Path(font).stem)
 
 
 if __name__ == "__main__":

@@ -1,11 +1,11 @@
 #!/bin/sh
 # Counts the instructions that the glyphs of a font take here, in the Rust crate `postscript` and in `ttf-parser`, and prints a
-# table.
+# table; then how many requests for memory each glyph makes here by `step`.
 #
 #     tools/instructions.sh CRATE FONT..
 #
 # CRATE is the folder of the Rust crate's source, with its folder src/. Each FONT is a font file with a table `CFF ` and one
-# Private dictionary. Needs `rt`, `cargo` and `valgrind` on the path, and Debian's python3-fonttools and librust-ttf-parser-dev.
+# Private dictionary. Needs `rt`, `cargo`, `gcc` and `valgrind` on the path, and Debian's python3-fonttools and librust-ttf-parser-dev.
 # Neither folder is written to. The program over this repository is tools/instructions_main.txt, proved in a copy with what the
 # crates keep in out/; the others are tools/charstrings_rust.txt and tools/instructions_ttf.txt.
 set -e
@@ -38,5 +38,6 @@ cp "$tools/instructions_main.txt" "$own/src/main.rt"
 (grep -E '^postscript_(base|items|type2):' "$tools/../crates.txt" && echo 'instructions: postscript_type2 postscript_base hex anyhow') > "$copy/crates.txt"
 (cd "$own" && rt run < /dev/null > "$copy/printed" 2> "$copy/messages") || { cat "$copy/messages" >&2; exit 1; }
 
+gcc -shared -fPIC -O2 "$tools/refused.c" -o "$copy/refused.so"
 /usr/bin/python3 "$tools/instructions.py" "$own/out/instructions" "$copy/rust/target/release/charstrings" \
-    "$copy/ttf/target/release/drawn" "$copy/fonts" "$@"
+    "$copy/ttf/target/release/drawn" "$copy/refused.so" "$copy/fonts" "$@"
