@@ -2,6 +2,11 @@
 ghost use Rattle.std.specs.Prelude.{◌≡◌, ℕ, ◌+◌, ◌*◌, ◌<◌, ◌≤◌, length, MatchOption};
 ghost use Rattle.postscript_items.specs.Items.{number_at as the_number};
 
+mod chars;
+mod roman;
+mod utf16;
+
+pub use chars::NameChars;
 use postscript_items::number::number_at;
 
 /// A text of the table `name`, lent.
@@ -11,6 +16,17 @@ pub enum Name<'l> {
     Utf16(&'l [u8]),
     /// Mac OS Roman.
     MacRoman(&'l [u8]),
+}
+
+impl<'l> Name<'l> {
+    ghost use Rattle.postscript_sfnt.specs.NameChars.{name_left};
+
+    /// The characters in order.
+    pub fn chars(&self) -> NameChars<'l>
+        ensures { name_left result ≡ self.now }
+    {
+        NameChars { name: *self }
+    }
 }
 
 /// The records of the table `name`.
