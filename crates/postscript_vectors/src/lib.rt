@@ -36,6 +36,8 @@ mod readings;
 #[cfg(test)]
 mod sessions;
 #[cfg(test)]
+mod sfnt;
+#[cfg(test)]
 mod starts;
 pub mod synthetic;
 #[cfg(test)]

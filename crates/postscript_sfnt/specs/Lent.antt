@@ -1,0 +1,30 @@
+-- What is lent from a file: a face, its tables and its advances.
+use Rattle.std.specs.Prelude.{◌≡◌, ℕ, ◌<◌, List}
+use Rattle.postscript_sfnt.specs.Directory.{IsFace, IsDirectory, IsTable, Names}
+use Rattle.postscript_sfnt.specs.Metrics.{HasAdvances, advance_of}
+use Rattle.postscript_sfnt.specs.declared.file.FontFile.{FontFile}
+use Rattle.postscript_sfnt.specs.declared.metrics.Advances.{Advances}
+
+-- the face of that number, whose directory stands where it begins
+pub record IsFaceOf (bytes : List ℕ) (face : ℕ) (file : FontFile) : Type 0 where
+  pub lent : file.bytes.now ≡ bytes
+  pub begins : IsFace bytes face file.start
+  pub directory : IsDirectory bytes file.start file.count
+
+-- how many tables the directory of a face lists
+abbrev pub tables_of : FontFile → ℕ
+tables_of file = file.count
+
+abbrev pub IsTableOf : FontFile → (tag : ℕ) → List ℕ → Type 0
+IsTableOf file tag table = IsTable file.bytes.now file.start file.count tag table
+
+abbrev pub HasNoTable : FontFile → (tag : ℕ) → Type 0
+HasNoTable file tag = (i : ℕ) → i < file.count → Names file.bytes.now file.start tag i → ⊥
+
+-- the advances that two tables tell
+pub record AreAdvancesOf (hhea hmtx : List ℕ) (advances : Advances) : Type 0 where
+  pub lent : advances.hmtx.now ≡ hmtx
+  pub told : HasAdvances hhea hmtx advances.count
+
+abbrev pub advance_in : Advances → (glyph : ℕ) → ℕ
+advance_in advances glyph = advance_of advances.hmtx.now advances.count glyph

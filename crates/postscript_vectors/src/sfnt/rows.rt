@@ -1,0 +1,116 @@
+//! OpenType files and tables in hex, with spaces.
+
+/// A face of three records: `head`, and `maxp` twice, first of bytes past the end.
+pub const FILE: &str =
+    "4f54544f 0003 0000 0000 0000 68656164 00000000 0000003c 0000002c 6d617870 00000000 \
+        000003e8 00000006 6d617870 00000000 00000068 00000006 00010000 00000000 00000000 \
+        5f0f3cf5 0000 03e8 0000000000000000 0000000000000000 ffec ff06 03e8 02ee 00005000 \
+        0003";
+
+/// A collection of two faces without tables.
+pub const COLLECTION: &str =
+    "74746366 00020000 00000002 00000014 00000020 00010000 0000 0000 0000 0000 74727565 \
+        0000 0000 0000 0000";
+
+/// Files, the number of a face, and how it is read: how many tables it has, or its refusal.
+pub const REFUSALS: &[(&str, usize, &str)] = &[
+    ("", 0, "the file is cut"),
+    ("4f5454", 0, "the file is cut"),
+    ("4f54544f 0000 0000 0000", 0, "the file is cut"),
+    (
+        "4f54544f 0001 0000 0000 0000 68656164 00000000 0000003c 000000",
+        0,
+        "the file is cut",
+    ),
+    ("774f4646 0000 0000 0000 0000", 0, "no OpenType file"),
+    ("4f54544f", 1, "there is no such face"),
+    ("74746366 00010000 000000", 0, "the file is cut"),
+    ("74746366 00030000 00000001 00000010", 0, "no OpenType file"),
+    ("74746366 00010000 00000000", 0, "there is no such face"),
+    ("74746366 00010000 00000001 000000", 0, "the file is cut"),
+    ("74746366 00010000 00000001 00000010", 0, "the file is cut"),
+    (
+        "74746366 00010000 00000001 00000010 74746366 0000 0000 0000 0000",
+        0,
+        "no OpenType file",
+    ),
+    (COLLECTION, 0, "0"),
+    (COLLECTION, 1, "0"),
+    (COLLECTION, 2, "there is no such face"),
+];
+
+/// Names: the family for Macintosh, in German and in English; a style of Unicode; a typographic family past the end, and a
+/// typographic style for Macintosh.
+pub const NAMES: &str =
+    "0000 0006 004e 0001 0000 0000 0001 0002 0000 0003 0001 0407 0001 0002 0002 0003 0001 \
+        0409 0001 0006 0004 0000 0003 0000 0002 0005 000a 0003 0001 0409 0010 0004 7fff 0001 \
+        0000 0000 0011 0007 000f 418e00d60042d83dde00d8000043004b728a66746967";
+
+/// Tables `cmap`, and characters in hex with their glyphs.
+pub const MAPS: &[(&str, &str)] = &[
+    // Format 4: a shift, a list of two glyphs (the second is none), an offset past the end, and the last segment.
+    (
+        "0000 0001 0003 0001 0000000c 0004 0034 0000 0008 0000 0000 0000 0043 0062 0070 ffff \
+        0000 0041 0061 0070 ffff ffc0 0002 0000 0001 0000 0006 7000 0000 0005 0000",
+        "40:0 41:1 43:3 44:0 61:7 62:0 70:0 ffff:0 10041:0",
+    ),
+    // Format 4: segments that overlap and fall; the first that holds the character gives its glyph.
+    (
+        "0000 0001 0000 0003 0000000c 0004 0020 0000 0004 0000 0000 0000 0060 0055 0000 0050 \
+        0041 ffb1 ffdf 0000 0000",
+        "41:32 4f:46 50:1 52:3 60:17 61:0",
+    ),
+    // Format 12: a group past the first plane, and one whose second glyph is past 65535.
+    (
+        "0000 0001 0003 000a 0000000c 000c 0000 00000028 00000000 00000002 0001f600 0001f602 \
+        00000009 00020000 00020001 0000ffff",
+        "41:0 1f600:9 1f602:11 1f603:0 20000:65535 20001:0",
+    ),
+    // Format 12: groups that overlap and fall.
+    (
+        "0000 0001 0000 0004 0000000c 000c 0000 00000028 00000000 00000002 00000030 00000039 \
+        00000005 00000020 0000007e 00000001",
+        "1f:0 20:1 30:5 39:14 3a:27 7e:95 7f:0",
+    ),
+    // Format 6.
+    (
+        "0000 0001 0000 0000 0000000c 0006 000e 0000 0041 0002 0007 0009",
+        "40:0 41:7 42:9 43:0",
+    ),
+    // The choice: all of Unicode for Windows before all others.
+    (
+        "0000 0003 0000 0003 0000001c 0003 0001 00000028 0003 000a 00000034 0006 000c 0000 \
+        0041 0001 0001 0006 000c 0000 0041 0001 0002 0006 000c 0000 0041 0001 0003",
+        "41:3",
+    ),
+    // The choice: all of Unicode before the first plane.
+    (
+        "0000 0003 0003 0001 0000001c 0000 0004 00000028 0000 0006 00000034 0006 000c 0000 \
+        0041 0001 0001 0006 000c 0000 0041 0001 0002 0006 000c 0000 0041 0001 0003",
+        "41:2",
+    ),
+    // The choice: the first plane for Windows; no other platform.
+    (
+        "0000 0003 0001 0000 0000001c 0000 0003 00000028 0003 0001 00000034 0006 000c 0000 \
+        0041 0001 0001 0006 000c 0000 0041 0001 0002 0006 000c 0000 0041 0001 0003",
+        "41:3",
+    ),
+];
+
+/// Tables `cmap` of which none is read.
+pub const NO_MAPS: &[&str] = &[
+    // An empty table.
+    "",
+    // Macintosh alone.
+    "0000 0001 0001 0000 0000000c 0006 000c 0000 0041 0001 0001",
+    // A place past the end.
+    "0000 0001 0003 0001 000000ff 0006 000c 0000 0041 0001 0001",
+    // Format 2.
+    "0000 0001 0003 0001 0000000c 0002 0000",
+    // A row that is cut.
+    "0000 0001 0003 0001 0000000c 0006 000c 0000 0041 0002 0001",
+    // A group that is cut.
+    "0000 0001 0003 000a 0000000c 000c 0000 00000010 00000000 00000001",
+    // A segment that is cut.
+    "0000 0001 0003 0001 0000000c 0004 0010 0000 0002 0000 0000 0000 0000",
+];
