@@ -1,0 +1,56 @@
+//! Decimals as texts.
+use postscript_base::compact1::Operand;
+use std::alloc::AllocError;
+
+/// The greatest number of zeros, or of digits behind the point, that is written out.
+const MOST: u32 = 30;
+
+/// Adds a decimal: without an exponent, where it is short so.
+pub fn put(text: &mut String, value: &Operand) -> Result<(), AllocError> {
+    let (mantissa, exponent) = (value.mantissa(), value.exponent());
+    let size = exponent.unsigned_abs();
+    if size > MOST {
+        write!(text, "{value}")?;
+        return Ok(());
+    }
+    if exponent < 0 {
+        if mantissa < 0 {
+            text.push('-')?;
+        }
+        return put_fraction(text, mantissa.unsigned_abs(), size);
+    }
+    write!(text, "{mantissa}")?;
+    for _ in 0..size {
+        text.push('0')?;
+    }
+    Ok(())
+}
+
+/// Adds a number with so many digits behind the point.
+fn put_fraction(text: &mut String, number: u64, places: u32) -> Result<(), AllocError> {
+    let mut unit = 1u128;
+    for _ in 0..places {
+        unit = unit.wrapping_mul(10);
+    }
+    let number = u128::from(number);
+    let whole = number.checked_div(unit).unwrap_or(0);
+    write!(text, "{whole}.")?;
+    put_digits(
+        text,
+        number.wrapping_sub(whole.wrapping_mul(unit)),
+        unit,
+        places,
+    )
+}
+
+/// Adds the digits of a part of a unit.
+fn put_digits(text: &mut String, part: u128, unit: u128, places: u32) -> Result<(), AllocError> {
+    let mut rest = part;
+    for _ in 0..places {
+        let ten = rest.wrapping_mul(10);
+        let digit = ten.checked_div(unit).unwrap_or(0);
+        rest = ten.wrapping_sub(digit.wrapping_mul(unit));
+        text.push(char::from_digit((digit % 10) as u32, 10).unwrap_or('0'))?;
+    }
+    Ok(())
+}

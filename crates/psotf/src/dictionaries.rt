@@ -1,0 +1,37 @@
+//! Dictionaries by the names of their operators.
+use crate::sheet::Sheet;
+use postscript_base::compact1::{Operations, Operator};
+use std::alloc::AllocError;
+
+/// The operators of the dictionary of a font (Technical Note 5176, Table 9).
+pub const TOP: [u16; 25] = [
+    0x00, 0x01, 0x02, 0x03, 0x04, 0x05, 0x0d, 0x0e, 0x0f, 0x10, 0x11, 0x12, 0x0c00, 0x0c01, 0x0c02,
+    0x0c03, 0x0c04, 0x0c05, 0x0c06, 0x0c07, 0x0c08, 0x0c14, 0x0c15, 0x0c16, 0x0c17,
+];
+
+/// Those that the dictionary of a CID-keyed font may have (Tables 9 and 10).
+pub const CID_TOP: [u16; 34] = [
+    0x00, 0x01, 0x02, 0x03, 0x04, 0x05, 0x0d, 0x0e, 0x0f, 0x10, 0x11, 0x12, 0x0c00, 0x0c01, 0x0c02,
+    0x0c03, 0x0c04, 0x0c05, 0x0c06, 0x0c07, 0x0c08, 0x0c14, 0x0c15, 0x0c16, 0x0c17, 0x0c1e, 0x0c1f,
+    0x0c20, 0x0c21, 0x0c22, 0x0c23, 0x0c24, 0x0c25, 0x0c26,
+];
+
+/// The operators of private dictionaries (Table 23).
+pub const PRIVATE: [u16; 18] = [
+    0x06, 0x07, 0x08, 0x09, 0x0a, 0x0b, 0x13, 0x14, 0x15, 0x0c09, 0x0c0a, 0x0c0b, 0x0c0c, 0x0c0d,
+    0x0c0e, 0x0c11, 0x0c12, 0x0c13,
+];
+
+/// Writes the operators that have operands, in the dictionary or by default.
+pub fn write(sheet: &mut Sheet, dictionary: &Operations, codes: &[u16]) -> Result<(), AllocError> {
+    sheet.json.begin_object()?;
+    for code in codes {
+        if let Ok(operator) = Operator::from(*code) {
+            if let Some(operands) = dictionary.get(operator) {
+                sheet.json.key(operator.name())?;
+                sheet.decimals(operands.as_slice())?;
+            }
+        }
+    }
+    sheet.json.end_object()
+}

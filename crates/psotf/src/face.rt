@@ -1,0 +1,102 @@
+//! Faces of files.
+use crate::failure::Failure;
+use postscript_base::compact1::{Operator, StringID};
+use postscript_compact1::index::get_standard_string;
+use postscript_sfnt::{Advances, CharacterMap, FontFile, Names, faces, glyphs, units_per_em};
+use postscript_view::{CharSetView, FontView};
+use std::alloc::Global;
+
+/// A face of a file with a table `CFF `.
+#[derive(Drop)]
+pub struct Face<'l> {
+    pub faces: usize,
+    pub units: u16,
+    pub glyphs: u16,
+    pub advances: Advances<'l>,
+    pub map: Option<CharacterMap<'l>>,
+    pub names: Option<Names<'l>>,
+    /// The bytes of the table `CFF `.
+    pub cff: &'l [u8],
+    pub font: FontView<'l>,
+    pub set: Option<CharSetView<'l>>,
+}
+
+/// A table that is needed.
+fn needed<'l>(file: &FontFile<'l>, tag: [u8; 4], name: &'static str) -> Result<&'l [u8], Failure> {
+    match file.table(tag) {
+        Some(table) => Ok(table),
+        None => Err(Failure::Lacks(name)),
+    }
+}
+
+/// The advances of a face.
+fn advances_of<'l>(file: &FontFile<'l>) -> Result<Advances<'l>, Failure> {
+    let hhea = needed(file, [b'h', b'h', b'e', b'a'], "table hhea")?;
+    let hmtx = needed(file, [b'h', b'm', b't', b'x'], "table hmtx")?;
+    match Advances::read(hhea, hmtx) {
+        Some(advances) => Ok(advances),
+        None => Err(Failure::Lacks("advances")),
+    }
+}
+
+impl<'l> Face<'l> {
+    /// The face of this number.
+    pub fn open(alloc: Global, bytes: &'l [u8], number: u16) -> Result<Face<'l>, Failure> {
+        let file = FontFile::read(bytes, usize::from(number))?;
+        let cff = needed(&file, [b'C', b'F', b'F', b' '], "table CFF")?;
+        let head = needed(&file, [b'h', b'e', b'a', b'd'], "table head")?;
+        let maxp = needed(&file, [b'm', b'a', b'x', b'p'], "table maxp")?;
+        let Some(units) = units_per_em(head) else {
+            return Err(Failure::Lacks("units per em"));
+        };
+        let Some(glyphs) = glyphs(maxp) else {
+            return Err(Failure::Lacks("number of glyphs"));
+        };
+        let advances = advances_of(&file)?;
+        let map = match file.table([b'c', b'm', b'a', b'p']) {
+            Some(cmap) => CharacterMap::read(cmap),
+            None => None,
+        };
+        let names = match file.table(*b"name") {
+            Some(names) => Names::read(names),
+            None => None,
+        };
+        let font = FontView::read(alloc, cff)?;
+        let set = font.char_set().ok();
+        Ok(Face {
+            faces: faces(bytes)?,
+            units,
+            glyphs,
+            advances,
+            map,
+            names,
+            cff,
+            font,
+            set,
+        })
+    }
+
+    /// Whether the font is CID-keyed.
+    pub fn is_cid(&self) -> bool {
+        self.font.dictionary.get(Operator::ROS).is_some()
+    }
+
+    /// The identifier that the char set tells of a glyph.
+    pub fn identifier(&self, gid: u16) -> Option<StringID> {
+        match &self.set {
+            Some(set) => set.identifier(usize::from(gid)),
+            None => None,
+        }
+    }
+
+    /// The bytes of a string.
+    pub fn string(&self, identifier: StringID) -> Option<&[u8]> {
+        match get_standard_string(identifier) {
+            Some(text) => Some(text.as_bytes()),
+            None => self
+                .font
+                .strings
+                .get(usize::from(identifier.saturating_sub(391))),
+        }
+    }
+}

@@ -1,0 +1,214 @@
+//! What a glyph is.
+use crate::characters::{Mapped, by_glyph, of_glyph};
+use crate::drawing::{count, outline_of, width_of};
+use crate::face::Face;
+use crate::failure::Failure;
+use crate::sheet::Sheet;
+use clap::ArgMatches;
+use postscript_outline::Outline;
+use postscript_type2::Operand;
+use postscript_view::Glyph;
+use std::alloc::{AllocError, Global};
+use std::io::Write;
+
+/// Writes the name of a glyph, or its CID.
+fn name(alloc: Global, sheet: &mut Sheet, face: &Face<'_>, gid: u16) -> Result<(), AllocError> {
+    let identifier = face.identifier(gid);
+    if face.is_cid() {
+        if let Some(cid) = identifier {
+            sheet.number("cid", u64::from(cid))?;
+        }
+        sheet.json.key("name")?;
+        return sheet.json.null();
+    }
+    sheet.json.key("name")?;
+    match identifier {
+        Some(sid) => match face.string(sid) {
+            Some(bytes) => sheet.bytes(alloc, bytes),
+            None => sheet.json.null(),
+        },
+        None => sheet.json.null(),
+    }
+}
+
+/// Writes the characters of a glyph.
+fn chars(alloc: Global, sheet: &mut Sheet, chars: &[Mapped]) -> Result<(), AllocError> {
+    sheet.json.key("chars")?;
+    sheet.json.begin_array()?;
+    for mapped in chars {
+        let char = mapped.char;
+        let text = format!(in alloc; "U+{char:04X}")?;
+        sheet.json.string(text.as_str())?;
+    }
+    sheet.json.end_array()
+}
+
+/// Writes what a glyph draws.
+fn drawn(sheet: &mut Sheet, glyph: &Glyph<'_, '_>, outline: &Outline) -> Result<(), AllocError> {
+    sheet.json.key("width")?;
+    match width_of(glyph, outline) {
+        Some(bits) => sheet.shown(&Operand::from_bits(bits))?,
+        None => sheet.json.null()?,
+    }
+    sheet.json.key("bounds")?;
+    match outline.bounds() {
+        Some(bounds) => sheet.corners(bounds.low, bounds.high)?,
+        None => sheet.json.null()?,
+    }
+    sheet.json.key("segments")?;
+    sheet.json.begin_array()?;
+    for segment in &outline.segments {
+        sheet.segment(*segment)?;
+    }
+    sheet.json.end_array()
+}
+
+/// Writes the operations of a glyph, each as a text.
+fn operations(alloc: Global, sheet: &mut Sheet, glyph: &Glyph<'_, '_>) -> Result<(), Failure> {
+    let mut program = glyph.program(alloc);
+    sheet.json.key("operations")?;
+    sheet.json.begin_array()?;
+    for _ in 0..u64::MAX {
+        let Some((operator, operands)) = program.next()? else {
+            break;
+        };
+        sheet.operation(operator.name(), operands.as_slice())?;
+    }
+    sheet.json.end_array()?;
+    Ok(())
+}
+
+/// Writes a glyph as an object.
+fn object(
+    alloc: Global,
+    sheet: &mut Sheet,
+    face: &Face<'_>,
+    mapped: &[Mapped],
+    gid: u16,
+) -> Result<(), Failure> {
+    sheet.json.begin_object()?;
+    sheet.number("gid", u64::from(gid))?;
+    name(alloc, sheet, face, gid)?;
+    chars(alloc, sheet, of_glyph(mapped, gid))?;
+    sheet.number("advance", u64::from(face.advances.of(gid)))?;
+    let Some(glyph) = face.font.glyph(usize::from(gid)) else {
+        return Err(Failure::Lacks("such glyph"));
+    };
+    match outline_of(alloc, &glyph) {
+        Ok(outline) => {
+            drawn(sheet, &glyph, &outline)?;
+            operations(alloc, sheet, &glyph)?;
+        }
+        Err(refusal) => {
+            sheet.json.key("refused")?;
+            sheet.shown(&refusal)?;
+        }
+    }
+    sheet.json.end_object()?;
+    Ok(())
+}
+
+/// Writes a glyph as a line of words.
+fn line<W: Write>(alloc: Global, face: &Face<'_>, gid: u16, out: &mut W) -> Result<(), Failure> {
+    let Some(glyph) = face.font.glyph(usize::from(gid)) else {
+        return Err(Failure::Lacks("such glyph"));
+    };
+    let advance = face.advances.of(gid);
+    match outline_of(alloc, &glyph) {
+        Ok(outline) => {
+            writeln!(out, "{gid} {advance} {outline}")?;
+        }
+        Err(refusal) => writeln!(out, "{gid} {advance} refused: {refusal}")?,
+    }
+    Ok(())
+}
+
+/// Writes glyphs from one to another, each on a line.
+fn lines<W: Write>(
+    alloc: Global,
+    face: &Face<'_>,
+    from: u16,
+    to: u16,
+    out: &mut W,
+) -> Result<(), Failure> {
+    for gid in from..to {
+        line(alloc, face, gid, out)?;
+    }
+    Ok(())
+}
+
+/// Writes glyphs from one to another, each as an object on a line.
+fn objects<W: Write>(
+    alloc: Global,
+    face: &Face<'_>,
+    from: u16,
+    to: u16,
+    out: &mut W,
+) -> Result<(), Failure> {
+    let mapped = by_glyph(alloc, &face.map)?;
+    let mut sheet = Sheet::new(alloc);
+    for gid in from..to {
+        object(alloc, &mut sheet, face, &mapped, gid)?;
+        sheet = sheet.end(out)?;
+    }
+    Ok(())
+}
+
+/// The first glyph of a name.
+fn named(face: &Face<'_>, name: &str) -> Option<u16> {
+    for gid in 0..count(face) {
+        if let Some(identifier) = face.identifier(gid) {
+            if face.string(identifier) == Some(name.as_bytes()) {
+                return Some(gid);
+            }
+        }
+    }
+    None
+}
+
+/// The glyph that words name.
+fn asked(face: &Face<'_>, words: &ArgMatches<'_>) -> Result<u16, Failure> {
+    if let Some(gid) = words.get_one::<u16>("gid") {
+        return Ok(gid);
+    }
+    if let Some(name) = words.get_str("name") {
+        if face.is_cid() {
+            return Err(Failure::Lacks("names of glyphs"));
+        }
+        return match named(face, name) {
+            Some(gid) => Ok(gid),
+            None => Err(Failure::Lacks("glyph of this name")),
+        };
+    }
+    let mut chars = words.get_str("char").unwrap_or("").chars();
+    let (Some(char), None) = (chars.next(), chars.next()) else {
+        return Err(Failure::Lacks("glyph of more than one character"));
+    };
+    match &face.map {
+        Some(map) => Ok(map.glyph_of(u32::from(char))),
+        None => Err(Failure::Lacks("character map")),
+    }
+}
+
+/// Writes the glyphs that words name.
+pub fn write<W: Write>(
+    alloc: Global,
+    face: &Face<'_>,
+    words: &ArgMatches<'_>,
+    out: &mut W,
+) -> Result<(), Failure> {
+    let (from, to) = if words.get_flag("all") {
+        (0, count(face))
+    } else {
+        let gid = asked(face, words)?;
+        if gid >= count(face) {
+            return Err(Failure::Lacks("such glyph"));
+        }
+        (gid, gid.saturating_add(1))
+    };
+    if words.get_flag("json") {
+        objects(alloc, face, from, to, out)
+    } else {
+        lines(alloc, face, from, to, out)
+    }
+}

@@ -1,0 +1,207 @@
+//! What a face holds.
+use crate::characters::by_glyph;
+use crate::dictionaries::{self, CID_TOP, PRIVATE, TOP};
+use crate::face::Face;
+use crate::failure::Failure;
+use crate::sheet::Sheet;
+use postscript_base::Tape;
+use postscript_base::compact1::Operator;
+use postscript_compact1::font_set::FontSet;
+use postscript_sfnt::Name;
+use postscript_view::CharSetView;
+use std::alloc::{AllocError, Global};
+use std::io::{Cursor, Write};
+
+/// The family and the style.
+fn names<'l>(face: &Face<'l>) -> (Option<Name<'l>>, Option<Name<'l>>) {
+    match face.names {
+        Some(names) => (names.family(), names.style()),
+        None => (None, None),
+    }
+}
+
+/// The encoding: predefined, or the font's own.
+fn encoding(face: &Face<'_>) -> &'static str {
+    match face.font.dictionary.get_single(Operator::Encoding) {
+        Some(offset) => match offset.to_i32() {
+            Some(0) => "Standard",
+            Some(1) => "Expert",
+            _ => "own",
+        },
+        None => "Standard",
+    }
+}
+
+/// The char set: predefined, or the font's own.
+fn char_set(face: &Face<'_>) -> Option<&'static str> {
+    match face.set {
+        Some(CharSetView::ISOAdobe) => Some("ISOAdobe"),
+        Some(CharSetView::Expert) => Some("Expert"),
+        Some(CharSetView::ExpertSubset) => Some("ExpertSubset"),
+        Some(_) => Some("own"),
+        None => None,
+    }
+}
+
+/// Writes the private dictionaries, and how many local subroutines each has.
+fn parts(sheet: &mut Sheet, face: &Face<'_>) -> Result<(), AllocError> {
+    sheet.json.key("local_subroutines")?;
+    sheet.json.begin_array()?;
+    for part in &face.font.parts {
+        sheet.json.u64(part.subroutines.len() as u64)?;
+    }
+    sheet.json.end_array()?;
+    if face.is_cid() {
+        sheet.json.key("privates")?;
+        return privates(sheet, face);
+    }
+    if let Some(part) = face.font.parts.get(0) {
+        sheet.json.key("private")?;
+        dictionaries::write(sheet, &part.dictionary, &PRIVATE)?;
+    }
+    Ok(())
+}
+
+/// Writes the private dictionaries as a list.
+fn privates(sheet: &mut Sheet, face: &Face<'_>) -> Result<(), AllocError> {
+    sheet.json.begin_array()?;
+    for part in &face.font.parts {
+        dictionaries::write(sheet, &part.dictionary, &PRIVATE)?;
+    }
+    sheet.json.end_array()
+}
+
+/// Writes why a reading refuses the font, or null.
+fn refusal(
+    sheet: &mut Sheet,
+    key: &str,
+    outcome: postscript_base::Result<FontSet>,
+) -> Result<(), AllocError> {
+    sheet.json.key(key)?;
+    match outcome {
+        Ok(_) => sheet.json.null(),
+        Err(error) => {
+            sheet.json.begin_object()?;
+            sheet.number("code", u64::from(error.code()))?;
+            sheet.json.key("message")?;
+            sheet.shown(&error)?;
+            sheet.json.end_object()
+        }
+    }
+}
+
+/// Writes what the table `CFF ` holds.
+fn font(alloc: Global, sheet: &mut Sheet, face: &Face<'_>) -> Result<(), AllocError> {
+    sheet.json.key("cff")?;
+    sheet.json.begin_object()?;
+    sheet.json.key("name")?;
+    match face.font.names.get(0) {
+        Some(name) => sheet.bytes(alloc, name)?,
+        None => sheet.json.null()?,
+    }
+    sheet.json.key("is_cid")?;
+    sheet.json.boolean(face.is_cid())?;
+    let fds = if face.is_cid() {
+        face.font.parts.len()
+    } else {
+        0
+    };
+    sheet.number("fds", fds as u64)?;
+    sheet.number("glyphs", face.font.char_strings.len() as u64)?;
+    sheet.number("strings", face.font.strings.len() as u64)?;
+    sheet.json.key("encoding")?;
+    sheet.json.string(encoding(face))?;
+    sheet.json.key("char_set")?;
+    match char_set(face) {
+        Some(name) => sheet.json.string(name)?,
+        None => sheet.json.null()?,
+    }
+    let globals = face.font.global_subroutines.len();
+    sheet.number("global_subroutines", globals as u64)?;
+    sheet.json.key("top")?;
+    let codes = if face.is_cid() {
+        CID_TOP.as_slice()
+    } else {
+        TOP.as_slice()
+    };
+    dictionaries::write(sheet, &face.font.dictionary, codes)?;
+    parts(sheet, face)?;
+    let strict = Cursor::new(face.cff).take::<FontSet>(alloc);
+    refusal(sheet, "strict", strict)?;
+    let lenient = FontSet::read_lenient(alloc, &mut Cursor::new(face.cff));
+    refusal(sheet, "lenient", lenient)?;
+    sheet.json.end_object()
+}
+
+/// Writes an object of all that is told.
+fn object<W: Write>(alloc: Global, face: &Face<'_>, out: &mut W) -> Result<(), Failure> {
+    let mut sheet = Sheet::new(alloc);
+    sheet.json.begin_object()?;
+    let (family, style) = names(face);
+    sheet.name("family", family)?;
+    sheet.name("style", style)?;
+    sheet.number("faces", face.faces as u64)?;
+    sheet.number("units_per_em", u64::from(face.units))?;
+    sheet.number("glyphs", u64::from(face.glyphs))?;
+    let mapped = by_glyph(alloc, &face.map)?;
+    sheet.number("characters", mapped.len() as u64)?;
+    font(alloc, &mut sheet, face)?;
+    sheet.json.end_object()?;
+    let _ = sheet.end(out)?;
+    Ok(())
+}
+
+/// The characters of a name.
+fn text_of(alloc: Global, name: Option<Name<'_>>) -> Result<String, AllocError> {
+    let mut text = String::new(alloc);
+    if let Some(name) = name {
+        for char in name.chars() {
+            text.push(char)?;
+        }
+    }
+    Ok(text)
+}
+
+/// Writes lines of all that is told.
+fn lines<W: Write>(alloc: Global, face: &Face<'_>, out: &mut W) -> Result<(), Failure> {
+    let name = String::from_utf8_lossy(alloc, face.font.names.get(0).unwrap_or(&[]))?;
+    let (family, style) = names(face);
+    writeln!(out, "family: {}", text_of(alloc, family)?)?;
+    writeln!(out, "style: {}", text_of(alloc, style)?)?;
+    writeln!(out, "name: {name}")?;
+    writeln!(out, "faces: {}", face.faces)?;
+    writeln!(out, "units per em: {}", face.units)?;
+    writeln!(out, "glyphs: {}", face.glyphs)?;
+    if face.is_cid() {
+        writeln!(
+            out,
+            "CID-keyed, font dictionaries: {}",
+            face.font.parts.len()
+        )?;
+    }
+    writeln!(out, "encoding: {}", encoding(face))?;
+    writeln!(out, "char set: {}", char_set(face).unwrap_or("refused"))?;
+    writeln!(
+        out,
+        "global subroutines: {}",
+        face.font.global_subroutines.len()
+    )?;
+    if let Err(error) = Cursor::new(face.cff).take::<FontSet>(alloc) {
+        writeln!(out, "refused by the strict reading: {error}")?;
+    }
+    Ok(())
+}
+
+/// Writes what a face holds.
+pub fn write<W: Write>(
+    alloc: Global,
+    face: &Face<'_>,
+    as_json: bool,
+    out: &mut W,
+) -> Result<(), Failure> {
+    if as_json {
+        object(alloc, face, out)
+    } else {
+        lines(alloc, face, out)
+    }
+}

@@ -1,0 +1,77 @@
+//! Fonts in OpenType files: what they hold, glyphs and their outlines, and texts as pictures.
+#![tactic(auto)]
+
+mod characters;
+mod commands;
+mod decimal;
+mod dictionaries;
+mod drawing;
+mod face;
+mod failure;
+mod glyph;
+mod inspect;
+mod saving;
+mod sheet;
+mod specimen;
+mod svg;
+
+use clap::ArgMatches;
+use commands::psotf;
+use face::Face;
+use failure::Failure;
+use std::io::{BufWriter, Write};
+use std::process::ExitCode;
+use std::{env, fs, io};
+
+/// The face that the words of a subcommand name, and what is asked of it.
+fn answer<W: Write>(
+    rt: &HostRuntime,
+    name: &str,
+    words: &ArgMatches<'_>,
+    out: &mut W,
+) -> Result<(), Failure> {
+    let path = words.get_str("FILE").unwrap_or("");
+    let number = words.get_one::<u16>("face").unwrap_or(0);
+    let bytes = fs::read(rt, path)?;
+    let face = Face::open(rt.alloc(), bytes.as_slice(), number)?;
+    match name {
+        "inspect" => inspect::write(rt.alloc(), &face, words.get_flag("json"), out)?,
+        "glyph" => glyph::write(rt.alloc(), &face, words, out)?,
+        "svg" => svg::write(rt, &face, words, out)?,
+        _ => specimen::write(rt, &face, words, out)?,
+    }
+    out.flush()?;
+    Ok(())
+}
+
+/// Answers a command, and tells how it ended: 0, or 1 where it failed. A closed pipe is no failure.
+fn start(rt: &HostRuntime, name: &str, words: &ArgMatches<'_>) -> io::Result<ExitCode> {
+    let mut out = BufWriter::new(rt.alloc(), io::writer(rt))?;
+    match answer(rt, name, words, &mut out) {
+        Ok(()) => Ok(ExitCode::SUCCESS),
+        Err(failure) => {
+            if failure.is_closed_pipe() {
+                return Ok(ExitCode::SUCCESS);
+            }
+            let path = words.get_str("FILE").unwrap_or("");
+            eprintln!(rt; "psotf: {path}: {failure}")?;
+            Ok(ExitCode::from(1))
+        }
+    }
+}
+
+fn main(rt: HostRuntime) -> anyhow::Result<ExitCode> {
+    let words: Vec<String> = env::args(&rt)?.collect(rt.alloc())?;
+    let command = psotf(rt.alloc())?;
+    let matches = match command.try_get_matches_from(words.as_slice()) {
+        Ok(matches) => matches,
+        Err(error) => {
+            error.print(&rt)?;
+            return Ok(ExitCode::from(error.exit_code() as u8));
+        }
+    };
+    match matches.subcommand() {
+        Some((name, words)) => Ok(start(&rt, name, words)?),
+        None => Ok(ExitCode::from(2)),
+    }
+}

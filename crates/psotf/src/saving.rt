@@ -1,0 +1,46 @@
+//! Files that are there whole or not at all.
+use crate::failure::Failure;
+use clap::ArgMatches;
+use std::fs::File;
+use std::io::Write;
+use std::{fs, io};
+
+/// Writes bytes to a file that is new.
+fn write_beside(rt: &HostRuntime, path: &str, bytes: &[u8]) -> io::Result<()> {
+    let mut file = File::create(rt, path)?;
+    file.write_all(bytes)?;
+    file.sync_all()
+}
+
+/// Writes a file beside its place and moves it there.
+fn save(rt: &HostRuntime, path: &str, bytes: &[u8]) -> Result<(), Failure> {
+    let beside = format!(in rt.alloc(); "{path}.part")?;
+    let written = match write_beside(rt, beside.as_str(), bytes) {
+        Ok(()) => fs::rename(rt, beside.as_str(), path),
+        Err(error) => Err(error),
+    };
+    match written {
+        Ok(()) => Ok(()),
+        Err(error) => {
+            let _ = fs::remove_file(rt, beside.as_str());
+            let path = String::from_str(rt.alloc(), path)?;
+            Err(Failure::Saving { path, error })
+        }
+    }
+}
+
+/// Writes a picture where words say.
+pub fn put<W: Write>(
+    rt: &HostRuntime,
+    words: &ArgMatches<'_>,
+    picture: &str,
+    out: &mut W,
+) -> Result<(), Failure> {
+    match words.get_str("out") {
+        Some(path) => save(rt, path, picture.as_bytes()),
+        None => {
+            out.write_all(picture.as_bytes())?;
+            Ok(())
+        }
+    }
+}

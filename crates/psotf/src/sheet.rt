@@ -1,0 +1,131 @@
+//! Lines of JSON.
+use crate::decimal;
+use crate::failure::Failure;
+use json::Writer;
+use postscript_base::compact1;
+use postscript_outline::{Point, Segment};
+use postscript_sfnt::Name;
+use postscript_type2::Operand;
+use std::alloc::{AllocError, Global};
+use std::fmt::Display;
+use std::io::Write;
+
+/// A line of JSON that is written token by token.
+#[derive(Drop)]
+pub struct Sheet {
+    pub json: Writer<Global>,
+    text: String,
+}
+
+impl Sheet {
+    /// A line on which nothing stands.
+    pub fn new(alloc: Global) -> Sheet {
+        Sheet {
+            json: Writer::new(Vec::new(alloc)),
+            text: String::new(alloc),
+        }
+    }
+
+    /// A member with a number.
+    pub fn number(&mut self, key: &str, n: u64) -> Result<(), AllocError> {
+        self.json.key(key)?;
+        self.json.u64(n)
+    }
+
+    /// A value as text.
+    pub fn shown<T: Display>(&mut self, value: &T) -> Result<(), AllocError> {
+        self.text.clear();
+        write!(self.text, "{value}")?;
+        self.json.string(self.text.as_str())
+    }
+
+    /// Bytes as text.
+    pub fn bytes(&mut self, alloc: Global, bytes: &[u8]) -> Result<(), AllocError> {
+        let text = String::from_utf8_lossy(alloc, bytes)?;
+        self.json.string(text.as_str())
+    }
+
+    /// Operands of a dictionary, as a list of texts.
+    pub fn decimals(&mut self, operands: &[compact1::Operand]) -> Result<(), AllocError> {
+        self.json.begin_array()?;
+        for operand in operands {
+            self.text.clear();
+            decimal::put(&mut self.text, operand)?;
+            self.json.string(self.text.as_str())?;
+        }
+        self.json.end_array()
+    }
+
+    /// An operation, as a text.
+    pub fn operation(&mut self, name: &str, operands: &[Operand]) -> Result<(), AllocError> {
+        self.text.clear();
+        self.text.push_str(name)?;
+        for operand in operands {
+            write!(self.text, " {operand}")?;
+        }
+        self.json.string(self.text.as_str())
+    }
+
+    /// A member with a name of the font, or null.
+    pub fn name(&mut self, key: &str, name: Option<Name<'_>>) -> Result<(), AllocError> {
+        self.json.key(key)?;
+        let Some(name) = name else {
+            return self.json.null();
+        };
+        self.text.clear();
+        for char in name.chars() {
+            self.text.push(char)?;
+        }
+        self.json.string(self.text.as_str())
+    }
+
+    /// A point, as two texts.
+    fn point(&mut self, at: Point) -> Result<(), AllocError> {
+        self.shown(&Operand::from_bits(at.x))?;
+        self.shown(&Operand::from_bits(at.y))
+    }
+
+    /// The points of corners, as a list of texts.
+    pub fn corners(&mut self, low: Point, high: Point) -> Result<(), AllocError> {
+        self.json.begin_array()?;
+        self.point(low)?;
+        self.point(high)?;
+        self.json.end_array()
+    }
+
+    /// A segment: its letter, and its coordinates.
+    pub fn segment(&mut self, segment: Segment) -> Result<(), AllocError> {
+        self.json.begin_array()?;
+        match segment {
+            Segment::MoveTo(at) => {
+                self.json.string("M")?;
+                self.point(at)?;
+            }
+            Segment::LineTo(at) => {
+                self.json.string("L")?;
+                self.point(at)?;
+            }
+            Segment::CurveTo(first, second, at) => {
+                self.json.string("C")?;
+                self.point(first)?;
+                self.point(second)?;
+                self.point(at)?;
+            }
+            Segment::Close => self.json.string("Z")?,
+        }
+        self.json.end_array()
+    }
+
+    /// Writes the line, and gives an empty one on the same memory.
+    pub fn end<W: Write>(self, out: &mut W) -> Result<Sheet, Failure> {
+        let Sheet { json, text } = self;
+        let mut bytes = json.into_inner();
+        bytes.push(b'\n')?;
+        out.write_all(&bytes)?;
+        bytes.clear();
+        Ok(Sheet {
+            json: Writer::new(bytes),
+            text,
+        })
+    }
+}

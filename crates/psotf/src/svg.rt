@@ -1,0 +1,68 @@
+//! Lines of text as pictures.
+use crate::drawing::outline_of;
+use crate::face::Face;
+use crate::failure::Failure;
+use crate::saving;
+use clap::ArgMatches;
+use std::alloc::Global;
+use std::io::Write;
+
+/// Draws a glyph so far to the right.
+fn put(
+    alloc: Global,
+    face: &Face<'_>,
+    gid: u16,
+    x: u64,
+    picture: &mut String,
+) -> Result<(), Failure> {
+    let Some(glyph) = face.font.glyph(usize::from(gid)) else {
+        return Err(Failure::Lacks("such glyph"));
+    };
+    let outline = outline_of(alloc, &glyph)?;
+    writeln!(
+        picture,
+        "<path transform=\"translate({x} 0)\" d=\"{outline}\"/>"
+    )?;
+    Ok(())
+}
+
+/// The paths of a text, and its width.
+fn paths(alloc: Global, face: &Face<'_>, text: &str) -> Result<(String, u64), Failure> {
+    let Some(map) = &face.map else {
+        return Err(Failure::Lacks("character map"));
+    };
+    let mut picture = String::new(alloc);
+    let mut x = 0u64;
+    for char in text.chars() {
+        let gid = map.glyph_of(u32::from(char));
+        put(alloc, face, gid, x, &mut picture)?;
+        x = x.saturating_add(u64::from(face.advances.of(gid)));
+    }
+    Ok((picture, x))
+}
+
+/// The path of one glyph, and its advance.
+fn path(alloc: Global, face: &Face<'_>, gid: u16) -> Result<(String, u64), Failure> {
+    let mut picture = String::new(alloc);
+    put(alloc, face, gid, 0, &mut picture)?;
+    Ok((picture, u64::from(face.advances.of(gid))))
+}
+
+/// Writes a picture of the glyph or the text that words name.
+pub fn write<W: Write>(
+    rt: &HostRuntime,
+    face: &Face<'_>,
+    words: &ArgMatches<'_>,
+    out: &mut W,
+) -> Result<(), Failure> {
+    let (paths, width) = match words.get_one::<u16>("gid") {
+        Some(gid) => path(rt.alloc(), face, gid)?,
+        None => paths(rt.alloc(), face, words.get_str("text").unwrap_or(""))?,
+    };
+    let units = u64::from(face.units);
+    let height = units.saturating_mul(2);
+    let picture = format!(in rt.alloc();
+        "<svg xmlns=\"http://www.w3.org/2000/svg\" viewBox=\"0 -{units} {width} {height}\">\n<g transform=\"scale(1 -1)\">\n{paths}</g>\n</svg>\n"
+    )?;
+    saving::put(rt, words, picture.as_str(), out)
+}
