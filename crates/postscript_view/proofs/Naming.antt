@@ -1,12 +1,13 @@
 -- Identifiers of glyphs, by runs and by ranges.
-use Rattle.std.proofs.Common.{◌≡◌, ℕ, ◌+◌, ◌-◌, ◌/◌, ◌<◌, ◌≤◌, List, length, Option, Some, None, inl, inr, subst, arith}
+use Rattle.std.proofs.Common.{◌≡◌, ℕ, ◌+◌, ◌-◌, ◌/◌, ◌<◌, ◌≤◌, List, length, Option, Some, None, Bor, inl, inr, subst, arith}
 use Rattle.std.proofs.lemmas.Bool.Decides.{nat_tests}
 use Rattle.std.proofs.lemmas.Option.{slice_get_past}
 use Rattle.postscript_compact1.specs.CharSets.Predefined.{identifier_of, identifiers, runs_of}
 use Rattle.postscript_compact1.specs.declared.char_set.CharSet.TheVariants as sets
 use Rattle.postscript_view.specs.CharSet.{covered, first_of, more_of, IsNamed, IsFirstOfRanges}
-use Rattle.std.specs.Prelude.{IfSome, IfNone}
+use Rattle.std.specs.Prelude.{IfSome, IfNone, option_map}
 use Rattle.postscript_view.specs.Naming.{Names, NamesBehind}
+use Rattle.postscript_view.specs.Strings.{HasName, string_of}
 use Rattle.postscript_view.specs.declared.char_set.CharSetView.{CharSetView}
 use Rattle.postscript_view.specs.declared.char_set.CharSetView.TheVariants.{ISOAdobe, Expert, ExpertSubset, Listed, Ranges1, Ranges2}
 use Rattle.postscript_view.proofs.Covering.{covered_more}
@@ -114,3 +115,12 @@ one_more set identifier g before here other below names =
     let not_before : other < g → ⊥ = λ h. before other h names in
     let same : other ≡ g = omega (arith, below, not_before) in
     here (subst (λ k. Names set k identifier) same names)
+
+-- where the identifier of a glyph has no string, the glyph has no name
+pub name_none : (o : Option (Bor (List ℕ))) (set : CharSetView) (strings : List (List ℕ)) (glyph identifier : ℕ) → Names set glyph identifier → option_map (λ string. string.now) o ≡ string_of strings identifier
+    → IfNone o ((name : List ℕ) → HasName set strings glyph name → ⊥)
+name_none (Some name) set strings glyph identifier names is = tt
+name_none None set strings glyph identifier names is = λ name h.
+    let same : h.0 ≡ identifier = named_once set glyph h.0 identifier h.1 names in
+    let string = h.2 in
+    absurd (cc)
