@@ -124,3 +124,19 @@ name_none None set strings glyph identifier names is = λ name h.
     let same : h.0 ≡ identifier = named_once set glyph h.0 identifier h.1 names in
     let string = h.2 in
     absurd (cc)
+
+-- a glyph has one name
+pub one_name : (set : CharSetView) (strings : List (List ℕ)) (glyph : ℕ) (a b : List ℕ) → HasName set strings glyph a → HasName set strings glyph b → a ≡ b
+one_name set strings glyph a b x y =
+    let same : x.0 ≡ y.0 = named_once set glyph x.0 y.0 x.1 y.1 in
+    let one = x.2 in
+    let other = y.2 in
+    cc
+
+-- one more glyph that has not the name
+pub one_more_name : (set : CharSetView) (strings : List (List ℕ)) (name : List ℕ) (g : ℕ) → ((other : ℕ) → other < g → HasName set strings other name → ⊥) → (HasName set strings g name → ⊥)
+    → (other : ℕ) → other < g + 1 → HasName set strings other name → ⊥
+one_more_name set strings name g before here other below has =
+    let not_before : other < g → ⊥ = λ h. before other h has in
+    let same : other ≡ g = omega (arith, below, not_before) in
+    here (subst (λ k. HasName set strings k name) same has)
