@@ -6,7 +6,7 @@ ghost use Rattle.postscript_base.specs.Tape.{Reads};
 ghost use Rattle.postscript_base.specs.Tape.Outcome.{same};
 ghost use Rattle.postscript_base.specs.Tape.Seen.{each_as_it_is};
 ghost use Rattle.postscript_compact1.specs.CharSets.{char_set};
-ghost use Rattle.postscript_compact1.specs.CharSets.Predefined.{are_runs, is_predefined, name_of, name_of_glyph, runs_of};
+ghost use Rattle.postscript_compact1.specs.CharSets.Predefined.{are_runs, identifier_of, is_predefined, name_of, name_of_glyph, runs_of};
 ghost use Rattle.postscript_compact1.specs.StandardStrings.{standard_string};
 ghost use Rattle.postscript_compact1.specs.declared.char_set.CharSet.TheVariants as sets;
 
@@ -20,10 +20,10 @@ mod range;
 pub use format0::CharSet0;
 pub use format1::CharSet1;
 pub use format2::CharSet2;
-use postscript_base::compact1::GlyphID;
+use postscript_base::compact1::{GlyphID, StringID};
 use postscript_base::error::{Error, Result};
 use postscript_base::{Tape, Value, Walue};
-use predefined::{EXPERT, EXPERT_SUBSET, ISO_ADOBE, Run, name};
+use predefined::{EXPERT, EXPERT_SUBSET, ISO_ADOBE, Run, identifier, name};
 pub use range::{Range1, Range2};
 use std::alloc::{AllocError, Global};
 
@@ -89,6 +89,16 @@ impl CharSet {
         ensures iso_adobe_alone { self.now ≡ sets.ISOAdobe → (gid ≡ 0) ⊎ (228 < gid) → IsNone result }
     {
         name(self.runs(), gid)
+    }
+
+    /// The identifier of the string that names a glyph of a predefined set, by the glyph's number (Technical Note 5176,
+    /// Appendix C). None for glyph 0, which is `.notdef`, and for a glyph past the set. The caller proves that the set is
+    /// predefined. Never refused.
+    pub fn identifier(&self, gid: GlyphID) -> Option<StringID>
+        requires { IsTrue (is_predefined self.now) }
+        ensures { result ≡ identifier_of (runs_of self.now) gid }
+    {
+        identifier(self.runs(), gid)
     }
 
     /// The identifiers of a predefined set, by runs.

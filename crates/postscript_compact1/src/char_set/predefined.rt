@@ -38,7 +38,7 @@ pub fn name(runs: &[Run], gid: GlyphID) -> Option<&'static str>
 
 /// The identifier of a glyph by runs, which stand in the order of the glyphs from 1.
 #[tactic(auto, using(crate::proofs::GlyphRuns::sought_first), unfolding(crate::specs::CharSets::Predefined::identifier_of))]
-fn identifier(runs: &[Run], gid: GlyphID) -> Option<StringID>
+pub fn identifier(runs: &[Run], gid: GlyphID) -> Option<StringID>
     requires { IsTrue (are_runs runs.now) }
     ensures { result ≡ identifier_of runs.now gid }
 {

@@ -1,0 +1,86 @@
+-- Ranges of glyphs in order.
+use Rattle.std.proofs.Common.{◌≡◌, ℕ, zero, suc, ◌+◌, ◌-◌, ◌<◌, ◌≤◌, List, inl, inr, sym, subst, ap, arith}
+use Rattle.std.specs.Prelude.{Option, Some, None, IfNone}
+use Rattle.postscript_base.specs.Compact1.Dictionary.{Dictionary}
+use Rattle.postscript_base.specs.declared.compact1.operator.Operator.TheVariants as operators
+use Rattle.postscript_items.specs.Items.{number_at}
+use Rattle.postscript_view.specs.Selecting.{IsOf, StandsAt}
+use Rattle.postscript_view.specs.declared.select.Ranges.{Ranges}
+use Rattle.postscript_view.specs.declared.select.Select.{Select}
+use Rattle.postscript_view.specs.declared.select.Select.TheVariants.{Listed, InRanges, Unknown}
+use Rattle.postscript_view.specs.Select.{offset_of, IsInRanges, IsSelected, Selects, first_glyph, AreInOrder, LiesIn, IsFirstRange}
+
+-- what does not fall from each to the next does not fall
+rise : (f : ℕ → ℕ) (count : ℕ) → ((r : ℕ) → r < count → f r ≤ f (r + 1)) → (i k : ℕ) → k + i ≤ count → f i ≤ f (k + i)
+rise f count order i zero h =
+    let same : f i ≡ f (0 + i) = ap f (omega arith) in
+    omega (arith, same)
+rise f count order i (suc k) h =
+    let before = rise f count order i k (omega (arith, h)) in
+    let step = order (k + i) (omega (arith, h)) in
+    let next : f (k + i + 1) ≡ f (suc k + i) = ap f (omega arith) in
+    omega (arith, before, step, next)
+
+pub risen : (f : ℕ → ℕ) (count : ℕ) → ((r : ℕ) → r < count → f r ≤ f (r + 1)) → (i j : ℕ) → i ≤ j → j ≤ count → f i ≤ f j
+risen f count order i j below within =
+    let there : f (j - i + i) ≡ f j = ap f (omega (arith, below)) in
+    let h = rise f count order i (j - i) (omega (arith, below, within)) in
+    omega (arith, there, h)
+
+-- a glyph before the first range lies in none, nor does one behind the last
+pub before_all : (bytes : List ℕ) (start count glyph : ℕ) → AreInOrder bytes start count → glyph < first_glyph bytes start 0 → (r : ℕ) → r < count → LiesIn bytes start r glyph → ⊥
+before_all bytes start count glyph order before r there lies =
+    let h = risen (first_glyph bytes start) count order 0 r (omega arith) (omega (arith, there)) in
+    absurd (omega (arith, h, before, lies.0))
+
+pub behind_all : (bytes : List ℕ) (start count glyph : ℕ) → AreInOrder bytes start count → first_glyph bytes start count ≤ glyph → (r : ℕ) → r < count → LiesIn bytes start r glyph → ⊥
+behind_all bytes start count glyph order behind r there lies =
+    let h = risen (first_glyph bytes start) count order (r + 1) count (omega (arith, there)) (omega arith) in
+    absurd (omega (arith, h, behind, lies.1))
+
+-- the range that is left is the first that the glyph lies in
+pub is_first : (bytes : List ℕ) (start count glyph low high : ℕ) → AreInOrder bytes start count → low < high → high ≤ count → high ≤ low + 1
+    → first_glyph bytes start low ≤ glyph → glyph < first_glyph bytes start high → IsFirstRange bytes start count glyph low
+is_first bytes start count glyph low high order some within one from to =
+    let next : first_glyph bytes start high ≡ first_glyph bytes start (low + 1) = ap (first_glyph bytes start) (omega (arith, some, one)) in
+    record {
+      there = omega (arith, some, within);
+      lies = (from, omega (arith, to, next));
+      none_before = λ q below lies.
+          let h = risen (first_glyph bytes start) count order (q + 1) low (omega (arith, below)) (omega (arith, some, within)) in
+          absurd (omega (arith, h, from, lies.1));
+    }
+
+-- what stands at the place that a dictionary names is what it names
+pub named : (s : Select) (bytes : List ℕ) (map : Dictionary) (place glyphs : ℕ) → offset_of map operators.FDSelect ≡ Some place → StandsAt s bytes place glyphs → IsOf s bytes map glyphs
+named (Listed list) bytes map place glyphs names h =
+    let there = h.1 in
+    (h.0, cc, h.2)
+named (InRanges ranges) bytes map place glyphs names h =
+    let there = h.1 in
+    (h.0, cc)
+named Unknown bytes map place glyphs names h = λ glyph fd selected.
+    let other = selected.1 in
+    let same : selected.0 ≡ place = cc in
+    h glyph fd (subst (λ p. Selects bytes p glyphs glyph fd) same selected.2)
+
+-- where the ranges give none, none is selected
+ranges_none : (r : Ranges) (glyph : ℕ) → ((fd : ℕ) → IsInRanges r.bytes.now r.place glyph fd → ⊥) → (bytes : List ℕ) (map : Dictionary) (glyphs fd : ℕ) → IsOf (InRanges r) bytes map glyphs → IsSelected bytes map glyphs glyph fd → ⊥
+ranges_none r glyph none bytes map glyphs fd is selected =
+    let bytes_are = is.0 in
+    let names = is.1 in
+    let other = selected.1 in
+    let same : selected.0 ≡ r.place = cc in
+    let format : number_at bytes selected.0 1 ≡ number_at r.bytes.now r.place 1 = cc in
+    elim selected.2 [
+      | inl listed ↦ absurd (omega (arith, listed.format, r.format, format))
+      | inr ranges ↦ none fd (subst (λ p. IsInRanges r.bytes.now p glyph fd) same (subst (λ b. IsInRanges b selected.0 glyph fd) (sym bytes_are) ranges))
+    ]
+
+pub none_in_ranges : (o : Option ℕ) (s : Select) (r : Ranges) (glyph : ℕ) → s ≡ InRanges r → IfNone o ((fd : ℕ) → IsInRanges r.bytes.now r.place glyph fd → ⊥)
+    → IfNone o ((bytes : List ℕ) (map : Dictionary) (glyphs fd : ℕ) → IsOf s bytes map glyphs → IsSelected bytes map glyphs glyph fd → ⊥)
+none_in_ranges (Some fd) s r glyph is h = tt
+none_in_ranges None s r glyph is h = λ bytes map glyphs fd of selected. ranges_none r glyph h bytes map glyphs fd (subst (λ s. IsOf s bytes map glyphs) is of) selected
+
+pub none_known : (s : Select) (glyph : ℕ) → s ≡ Unknown → (bytes : List ℕ) (map : Dictionary) (glyphs fd : ℕ) → IsOf s bytes map glyphs → IsSelected bytes map glyphs glyph fd → ⊥
+none_known s glyph is bytes map glyphs fd of selected = subst (λ s. IsOf s bytes map glyphs) is of glyph fd selected

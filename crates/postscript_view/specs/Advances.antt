@@ -1,0 +1,26 @@
+-- The advance of a glyph (Technical Note 5176, Table 23, "defaultWidthX" and "nominalWidthX"; Technical Note 5177, 3.1).
+use Rattle.std.specs.Prelude.{◌≡◌, ℕ, ℤ, List, Option, Some, None}
+use Rattle.std.specs.Option.{option_map}
+use Rattle.postscript_base.specs.Compact1.Defaults.{look, first_of}
+use Rattle.postscript_base.specs.Compact1.Dictionary.{Dictionary}
+use Rattle.postscript_base.specs.declared.compact1.operator.Operator.TheVariants.{DefaultWidthX, NominalWidthX}
+use Rattle.postscript_items.specs.Lent.{items_of}
+use Rattle.postscript_type2.specs.Program.Evaluation.{run_of}
+use Rattle.postscript_type2.specs.Program.Routines.{lent}
+use Rattle.postscript_type2.specs.Program.Runs.{Run}
+use Rattle.postscript_view.specs.Glyphs.{HasGlyph}
+use Rattle.postscript_view.specs.declared.advance.Advance.{Advance}
+use Rattle.postscript_view.specs.declared.advance.Advance.TheVariants.{Default, Nominal}
+use Rattle.postscript_view.specs.declared.font.FontView.{FontView}
+use Rattle.postscript_view.specs.declared.part.Part.{Part}
+
+-- The default width, where a char string tells none; else the nominal width and the difference that it tells.
+abbrev pub advance_of : Dictionary → Option ℤ → Option Advance
+advance_of private None = option_map Default (first_of (look private DefaultWidthX))
+advance_of private (Some difference) = option_map (λ nominal. Nominal nominal difference) (first_of (look private NominalWidthX))
+
+-- A glyph has this run: that of its code, over the subroutines that all char strings share and those of its part.
+pub record HasRun (font : FontView) (glyph : ℕ) (part : Part) (run : Run) : Type 0 where
+  pub code : List ℕ
+  pub has : HasGlyph font glyph code part
+  pub runs : run ≡ run_of (lent (items_of font.global_subroutines) (items_of part.subroutines)) code

@@ -1,0 +1,27 @@
+-- The char set of a font (Technical Note 5176, section 13, "Charsets").
+use Rattle.std.specs.Prelude.{◌≡◌, ◌⊎◌, ℕ, ◌+◌, ◌-◌, ◌*◌, ◌≤◌, List, length, take, drop, Some}
+use Rattle.postscript_base.specs.Compact1.Dictionary.{Dictionary}
+use Rattle.postscript_base.specs.declared.compact1.operator.Operator.TheVariants as operators
+use Rattle.postscript_items.specs.Items.{number_at}
+use Rattle.postscript_view.specs.Select.{offset_of}
+use Rattle.postscript_view.specs.declared.char_set.CharSetView.{CharSetView}
+use Rattle.postscript_view.specs.declared.char_set.CharSetView.TheVariants.{ISOAdobe, Expert, ExpertSubset, Listed, Ranges1, Ranges2}
+
+-- At a place stands the byte of the format. Behind it stand two bytes for each of so many glyphs but the first, or ranges.
+abbrev pub StandsAt : CharSetView → List ℕ → (place glyphs : ℕ) → Type 0
+StandsAt ISOAdobe bytes place glyphs = ⊥
+StandsAt Expert bytes place glyphs = ⊥
+StandsAt ExpertSubset bytes place glyphs = ⊥
+StandsAt (Listed identifiers) bytes place glyphs =
+    (number_at bytes place 1 ≡ 0) × (place + 1 + 2 * (glyphs - 1) ≤ length bytes) × (identifiers.now ≡ take (2 * (glyphs - 1)) (drop (place + 1) bytes))
+StandsAt (Ranges1 ranges) bytes place glyphs = (number_at bytes place 1 ≡ 1) × (place + 1 ≤ length bytes) × (ranges.now ≡ drop (place + 1) bytes)
+StandsAt (Ranges2 ranges) bytes place glyphs = (number_at bytes place 1 ≡ 2) × (place + 1 ≤ length bytes) × (ranges.now ≡ drop (place + 1) bytes)
+
+-- The offsets 0, 1 and 2 name the predefined sets; at another one stands the font's own.
+abbrev pub IsNamedBy : CharSetView → List ℕ → (offset glyphs : ℕ) → Type 0
+IsNamedBy set bytes offset glyphs =
+    ((offset ≡ 0) × (set ≡ ISOAdobe)) ⊎ ((offset ≡ 1) × (set ≡ Expert)) ⊎ ((offset ≡ 2) × (set ≡ ExpertSubset)) ⊎ ((3 ≤ offset) × StandsAt set bytes offset glyphs)
+
+-- the char set that a dictionary names, for so many glyphs
+abbrev pub IsCharSetOf : CharSetView → List ℕ → Dictionary → (glyphs : ℕ) → Type 0
+IsCharSetOf set bytes map glyphs = (offset : ℕ) × (offset_of map operators.CharSet ≡ Some offset) × IsNamedBy set bytes offset glyphs
