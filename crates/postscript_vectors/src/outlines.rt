@@ -1,5 +1,5 @@
 //! Outlines of glyphs, as path data.
-ghost use Rattle.std.specs.Prelude.{◌≡◌, ◌⊎◌, ◌∷◌, ◌++◌, [], IfErr, OnOk};
+ghost use Rattle.std.specs.Prelude.{◌≡◌, ◌∷◌, ◌++◌, [], OnErr, OnOk};
 
 use crate::checks::{bytes_of, holds, is_text};
 use postscript::type2::{Operand, Operator, Program, run};
@@ -174,7 +174,7 @@ impl Few {
     /// Takes one more.
     fn take(&mut self, segment: Segment) -> Result<()>
         ensures given { OnOk result (self.new.segments.items ≡ self.old.segments.items ++ segment ∷ []) }
-        ensures refused { IfErr result (λ e. ((e ≡ Error.Memory) ⊎ (e ≡ Error.TrailingData)) × (self.new.segments.items ≡ self.old.segments.items)) }
+        ensures refused { OnErr result (self.new.segments.items ≡ self.old.segments.items) }
     {
         match self.left.checked_sub(1) {
             Some(left) => {
@@ -188,12 +188,9 @@ impl Few {
 }
 
 impl Sink for Few {
-    ghost use Rattle.std.specs.Prelude.{◌≡◌, ◌⊎◌};
-    ghost use Rattle.postscript_base.specs.declared.error.Error.TheVariants as errors;
-
     ghost given = { λ few. few.segments.items };
 
-    ghost refuses = { λ _ e. (e ≡ errors.Memory) ⊎ (e ≡ errors.TrailingData) };
+    ghost refuses = { λ _ _. Unit {0} };
 
     fn move_to(&mut self, to: Point) -> Result<()> {
         self.take(Segment::MoveTo(to))
