@@ -14,7 +14,7 @@ import re
 import subprocess
 import sys
 
-WAYS = ["step", "next", "run", "flat_len", "flatten"]
+WAYS = ["step", "next", "run", "flat_len", "flatten", "draw"]
 ROUNDS = 2
 
 

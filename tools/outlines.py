@@ -1,0 +1,88 @@
+#!/usr/bin/env python3
+"""Compares the path of each glyph of fonts with the one that fontTools draws.
+
+    tools/outlines.py PROGRAM WORD..
+
+PROGRAM is that of outlines_main.txt, built. Each WORD is an installed Debian package, of which each file .otf is taken, or a
+font file. Fonts without a table `CFF ` and those of several Private dictionaries are left out, and so are glyphs whose
+`endchar` names two others, which are not followed. Each segment and each coordinate is compared as an exact fraction, and the
+width with the nominal or the default one. The status is 1 where a glyph differs.
+"""
+
+import collections
+import re
+import subprocess
+import sys
+from fractions import Fraction
+
+from fontTools.pens.recordingPen import RecordingPen
+from fontTools.ttLib import TTFont
+
+from charstrings import files_of, lines_of
+
+NAMES = {"M": "moveTo", "L": "lineTo", "C": "curveTo", "Z": "closePath"}
+
+
+def segments_of(path):
+    """The segments of path data, as fontTools names them."""
+    for letter, rest in re.findall(r"([MLCZ])([^MLCZ]*)", path):
+        numbers = [Fraction(text) for text in rest.split()]
+        yield NAMES[letter], tuple(zip(numbers[::2], numbers[1::2]))
+
+
+def drawn(char_string):
+    """What fontTools draws, and the width."""
+    pen = RecordingPen()
+    char_string.draw(pen)
+    return [(kind, tuple((Fraction(x), Fraction(y)) for x, y in points)) for kind, points in pen.value if kind != "addComponent"]
+
+
+def is_accented(char_string):
+    """Whether the glyph is made of two others."""
+    pen = RecordingPen()
+    char_string.draw(pen)
+    return any(kind == "addComponent" for kind, _ in pen.value)
+
+
+def width_of(word, private):
+    return Fraction(private.defaultWidthX) if word == "-" else private.nominalWidthX + Fraction(int(word), 65536)
+
+
+def compare(program, path, counts):
+    """Counts the glyphs of a font file, and tells those that differ."""
+    lines = lines_of(path)
+    if not lines:
+        return
+    text = "".join(f"{kind} {code.hex()}\n" for kind, code in lines)
+    printed = subprocess.run([program], input=text.encode(), stdout=subprocess.PIPE, check=True).stdout.decode().split("\n")
+    font = TTFont(path, lazy=True)
+    strings = font["CFF "].cff[0].CharStrings
+    counts["fonts"] += 1
+    for name, line in zip(font.getGlyphOrder(), printed, strict=False):
+        char_string = strings[name]
+        if is_accented(char_string):
+            counts["left out"] += 1
+            continue
+        word, _, data = line.partition(" ")
+        wanted = drawn(char_string)
+        found = list(segments_of(data))
+        counts["glyphs"] += 1
+        counts["segments"] += len(wanted)
+        if word == "refused" or found != wanted or width_of(word, char_string.private) != Fraction(char_string.width):
+            counts["different"] += 1
+            print(f"{path}: {name}: {line[:60]}", flush=True)
+
+
+def main(words):
+    if len(words) < 2:
+        sys.exit(__doc__)
+    counts = collections.Counter({"different": 0, "left out": 0})
+    for word in words[1:]:
+        for path in files_of(word):
+            compare(words[0], path, counts)
+    print(", ".join(f"{count} {kind}" for kind, count in sorted(counts.items())))
+    sys.exit(counts["different"] > 0)
+
+
+if __name__ == "__main__":
+    main(sys.argv[1:])
