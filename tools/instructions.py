@@ -19,7 +19,7 @@ import subprocess
 import sys
 import tempfile
 
-WAYS = ["step", "next", "run", "flat_len", "flatten"]
+WAYS = ["step", "next", "run", "flat_len", "flatten", "draw"]
 ROUNDS = 2
 
 

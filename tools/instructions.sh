@@ -31,11 +31,13 @@ done
 
 own="$copy/crates/instructions"
 mkdir -p "$own/src" "$own/specs" "$own/proofs"
-cp -R "$tools/../crates/postscript_base" "$tools/../crates/postscript_items" "$tools/../crates/postscript_type2" "$copy/crates"
+for library in base items type2 outline; do
+    cp -R "$tools/../crates/postscript_$library" "$copy/crates"
+done
 cp "$tools/instructions_main.txt" "$own/src/main.rt"
 : > "$own/specs/Lib.antt"
 : > "$own/proofs/Lib.antt"
-(grep -E '^postscript_(base|items|type2):' "$tools/../crates.txt" && echo 'instructions: postscript_type2 postscript_base hex anyhow') > "$copy/crates.txt"
+(grep -E '^postscript_(base|items|type2|outline):' "$tools/../crates.txt" && echo 'instructions: postscript_outline postscript_type2 postscript_base hex anyhow') > "$copy/crates.txt"
 (cd "$own" && rt run < /dev/null > "$copy/printed" 2> "$copy/messages") || { cat "$copy/messages" >&2; exit 1; }
 
 gcc -shared -fPIC -O2 "$tools/refused.c" -o "$copy/refused.so"

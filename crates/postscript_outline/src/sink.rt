@@ -1,5 +1,6 @@
 //! Sinks, which are given the segments of an outline.
-ghost use Rattle.std.specs.Prelude.{◌≡◌, ◌∷◌, ◌++◌, [], OnOk};
+ghost use Rattle.std.specs.Prelude.{◌≡◌, ◌∷◌, ◌++◌, [], OnOk, IfErr};
+ghost use Rattle.postscript_outline.specs.Drawing.{IsFront};
 ghost use Rattle.postscript_outline.specs.declared.pen.Segment.TheVariants as pieces;
 
 use crate::outline::Outline;
@@ -10,26 +11,34 @@ use postscript_base::Result;
 /// What is given the segments of an outline, one call each, in their order.
 pub trait Sink {
     ghost use Rattle.std.specs.Prelude.{List};
+    ghost use Rattle.postscript_base.specs.declared.error.Error.{Error};
     ghost use Rattle.postscript_outline.specs.declared.pen.Segment.{Segment};
 
     /// The segments that it has been given.
     ghost given: { Self → List Segment };
 
+    /// What it may have refused a call with.
+    ghost refuses: { Self → Error → Type 0 };
+
     /// A contour begins here.
     fn move_to(&mut self, to: Point) -> Result<()>
-        ensures { OnOk result (given self.new ≡ given self.old ++ pieces.MoveTo to ∷ []) };
+        ensures given { OnOk result (given self.new ≡ given self.old ++ pieces.MoveTo to ∷ []) }
+        ensures refused { IfErr result (λ e. refuses self.new e × (given self.new ≡ given self.old)) };
 
     /// A straight line to here.
     fn line_to(&mut self, to: Point) -> Result<()>
-        ensures { OnOk result (given self.new ≡ given self.old ++ pieces.LineTo to ∷ []) };
+        ensures given { OnOk result (given self.new ≡ given self.old ++ pieces.LineTo to ∷ []) }
+        ensures refused { IfErr result (λ e. refuses self.new e × (given self.new ≡ given self.old)) };
 
     /// A Bézier curve: its two control points, and its end.
     fn curve_to(&mut self, first: Point, second: Point, to: Point) -> Result<()>
-        ensures { OnOk result (given self.new ≡ given self.old ++ pieces.CurveTo first second to ∷ []) };
+        ensures given { OnOk result (given self.new ≡ given self.old ++ pieces.CurveTo first second to ∷ []) }
+        ensures refused { IfErr result (λ e. refuses self.new e × (given self.new ≡ given self.old)) };
 
     /// The contour goes back to where it began, and ends.
     fn close(&mut self) -> Result<()>
-        ensures { OnOk result (given self.new ≡ given self.old ++ pieces.Close ∷ []) };
+        ensures given { OnOk result (given self.new ≡ given self.old ++ pieces.Close ∷ []) }
+        ensures refused { IfErr result (λ e. refuses self.new e × (given self.new ≡ given self.old)) };
 }
 
 impl Segment {
@@ -37,7 +46,8 @@ impl Segment {
     ///
     /// Refused: with what the sink refuses it with.
     pub fn give<S: Sink>(self, sink: &mut S) -> Result<()>
-        ensures { OnOk result (S.given sink.new ≡ S.given sink.old ++ self ∷ []) }
+        ensures given { OnOk result (S.given sink.new ≡ S.given sink.old ++ self ∷ []) }
+        ensures refused { IfErr result (λ e. S.refuses sink.new e × (S.given sink.new ≡ S.given sink.old)) }
     {
         match self {
             Segment::MoveTo(to) => sink.move_to(to),
@@ -53,7 +63,8 @@ impl Outline {
     ///
     /// Refused: with what the sink refuses one of them with.
     pub fn give<S: Sink>(&self, sink: &mut S) -> Result<()>
-        ensures { OnOk result (S.given sink.new ≡ S.given sink.old ++ self.now.segments.items) }
+        ensures given { OnOk result (S.given sink.new ≡ S.given sink.old ++ self.now.segments.items) }
+        ensures refused { IfErr result (λ e. S.refuses sink.new e × IsFront (S.given sink.new) (S.given sink.old ++ self.now.segments.items)) }
     {
         for segment in &self.segments {
             segment.give(sink)?;
@@ -63,7 +74,12 @@ impl Outline {
 }
 
 impl Sink for Vec<Segment> {
+    ghost use Rattle.std.specs.Prelude.{◌≡◌};
+    ghost use Rattle.postscript_base.specs.declared.error.Error.TheVariants as errors;
+
     ghost given = { λ segments. segments.items };
+
+    ghost refuses = { λ _ e. e ≡ errors.Memory };
 
     fn move_to(&mut self, to: Point) -> Result<()> {
         self.push(Segment::MoveTo(to))?;
@@ -82,6 +98,35 @@ impl Sink for Vec<Segment> {
 
     fn close(&mut self) -> Result<()> {
         self.push(Segment::Close)?;
+        Ok(())
+    }
+}
+
+impl Sink for Outline {
+    ghost use Rattle.std.specs.Prelude.{◌≡◌};
+    ghost use Rattle.postscript_base.specs.declared.error.Error.TheVariants as errors;
+
+    ghost given = { λ outline. outline.segments.items };
+
+    ghost refuses = { λ _ e. e ≡ errors.Memory };
+
+    fn move_to(&mut self, to: Point) -> Result<()> {
+        self.segments.push(Segment::MoveTo(to))?;
+        Ok(())
+    }
+
+    fn line_to(&mut self, to: Point) -> Result<()> {
+        self.segments.push(Segment::LineTo(to))?;
+        Ok(())
+    }
+
+    fn curve_to(&mut self, first: Point, second: Point, to: Point) -> Result<()> {
+        self.segments.push(Segment::CurveTo(first, second, to))?;
+        Ok(())
+    }
+
+    fn close(&mut self) -> Result<()> {
+        self.segments.push(Segment::Close)?;
         Ok(())
     }
 }

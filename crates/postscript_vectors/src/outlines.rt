@@ -1,8 +1,10 @@
 //! Outlines of glyphs, as path data.
+ghost use Rattle.std.specs.Prelude.{◌≡◌, ◌∷◌, ◌++◌, [], OnErr, OnOk};
+
 use crate::checks::{bytes_of, holds, is_text};
-use postscript::Result;
-use postscript::type2::{Operand, Operator, run};
-use postscript_outline::{Bounds, Outline, Pen};
+use postscript::type2::{Operand, Operator, Program, run};
+use postscript::{Error, Result};
+use postscript_outline::{Bounds, Outline, Pen, Point, Segment, Sink, draw, draw_program};
 use std::alloc::Global;
 use std::process::Abort;
 
@@ -159,4 +161,100 @@ fn outlines_of_operations(rt: HostRuntime) {
         misfit.is_err_and(|e| e.code() == 20),
         "one operand that does not fit",
     );
+}
+
+/// A sink that takes so many more segments, and then no other one.
+#[derive(Drop)]
+struct Few {
+    left: u32,
+    segments: Vec<Segment>,
+}
+
+impl Few {
+    /// Takes one more.
+    fn take(&mut self, segment: Segment) -> Result<()>
+        ensures given { OnOk result (self.new.segments.items ≡ self.old.segments.items ++ segment ∷ []) }
+        ensures refused { OnErr result (self.new.segments.items ≡ self.old.segments.items) }
+    {
+        match self.left.checked_sub(1) {
+            Some(left) => {
+                self.segments.push(segment)?;
+                self.left = left;
+                Ok(())
+            }
+            None => Err(Error::TrailingData),
+        }
+    }
+}
+
+impl Sink for Few {
+    ghost given = { λ few. few.segments.items };
+
+    ghost refuses = { λ _ _. Unit {0} };
+
+    fn move_to(&mut self, to: Point) -> Result<()> {
+        self.take(Segment::MoveTo(to))
+    }
+
+    fn line_to(&mut self, to: Point) -> Result<()> {
+        self.take(Segment::LineTo(to))
+    }
+
+    fn curve_to(&mut self, first: Point, second: Point, to: Point) -> Result<()> {
+        self.take(Segment::CurveTo(first, second, to))
+    }
+
+    fn close(&mut self) -> Result<()> {
+        self.take(Segment::Close)
+    }
+}
+
+#[test]
+fn a_sink_of_ones_own(rt: HostRuntime) {
+    let alloc = rt.alloc();
+    let code = bytes_of(&rt, alloc, "90 8c8d15 8e06 8f16 9007 0e");
+    let mut few = Few {
+        left: 4,
+        segments: Vec::new(alloc),
+    };
+    let refusal = draw(alloc, code.as_slice(), &[], &[], &mut few).err();
+    let number = refusal.map(|e| e.code());
+    holds(
+        &rt,
+        number == Some(Error::TrailingData.code()),
+        "the sink's refusal",
+    );
+    let segments = few.segments;
+    let told = Outline {
+        segments,
+        width: None,
+    }
+    .to_string(alloc)
+    .expect(&rt, "memory");
+    is_text(
+        &rt,
+        told.as_str(),
+        "M1 2L4 2ZM8 2",
+        "the segments before it",
+    );
+}
+
+/// The path that two programs draw into one outline, and the width of the latter.
+fn path_of_two(alloc: Global, first: &[u8], second: &[u8]) -> Result<(String, Option<Operand>)> {
+    let mut program = Program::new(alloc, first, &[], &[]);
+    let mut outline = Outline::of_program(alloc, &mut program)?;
+    let width = draw_program(&mut Program::new(alloc, second, &[], &[]), &mut outline)?;
+    Ok((outline.to_string(alloc)?, width))
+}
+
+#[test]
+fn programs_drawn_into_one_outline(rt: HostRuntime) {
+    let alloc = rt.alloc();
+    let first = bytes_of(&rt, alloc, "8c8d15 8e06 0e");
+    let second = bytes_of(&rt, alloc, "90 8f16 9007 0e");
+    let both = path_of_two(alloc, first.as_slice(), second.as_slice());
+    let (path, width) = both.expect(&rt, "a path");
+    is_text(&rt, path.as_str(), "M1 2L4 2ZM4 0L4 5Z", "both");
+    let width = width.and_then(|width| width.to_int());
+    holds(&rt, width == Some(5), "the width");
 }

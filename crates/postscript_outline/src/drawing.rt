@@ -1,0 +1,81 @@
+//! Drawing into sinks.
+ghost use Rattle.std.specs.Prelude.{◌≡◌, ◌⊎◌, Err, IfErr, IfOk, OnErr, MatchResult};
+ghost use Rattle.postscript_base.specs.declared.error.Error.TheVariants as errors;
+ghost use Rattle.postscript_base.specs.Error.{code as number, IsOneOf};
+ghost use Rattle.postscript_base.specs.Refusal.{refusal_of};
+ghost use Rattle.postscript_outline.specs.Drawing.{IsFront, held};
+ghost use Rattle.postscript_outline.specs.Given.{DrawsFrom, DrawsPending, DrawsRun, IsFrontDrawn, outlined_from};
+ghost use Rattle.postscript_outline.specs.Outline.{outline_of, outlined};
+ghost use Rattle.postscript_type2.specs.Program.Endings.{next_refusals};
+ghost use Rattle.postscript_type2.specs.Program.Evaluation.{run_of};
+ghost use Rattle.postscript_type2.specs.Program.Meaning.{IsRunOf};
+ghost use Rattle.postscript_type2.specs.Program.Programs.{ended};
+ghost use Rattle.postscript_type2.specs.Program.Routines.{subroutines};
+ghost use Rattle.postscript_type2.specs.Program.Runs.{Run, UsedUp};
+
+use crate::operators::Strokes;
+use crate::pen::Pen;
+use crate::sink::Sink;
+use postscript_base::Result;
+use postscript_type2::{Operand, Program};
+use std::alloc::Global;
+
+/// Draws a code into a sink, with the global and the local subroutines: gives it the segments of its outline, one after
+/// another, and answers the width. Takes no memory but the program's.
+///
+/// Refused: with what the run is refused with, as `Program::next` is; `Overflow` also where a coordinate leaves the range;
+/// `Memory`; and with what the sink refuses a segment with. The sink has been given the segments up to there.
+pub fn draw<S: Sink>(
+    alloc: Global,
+    code: &[u8],
+    global: &[Vec<u8>],
+    local: &[Vec<u8>],
+    sink: &mut S,
+) -> Result<Option<Operand>>
+    ensures exact { let run = run_of (subroutines global.now local.now) code.now in
+        MatchResult result (λ width. DrawsRun (S.given sink.old) (S.given sink.new) width run)
+        (λ e. (e ≡ errors.Memory) ⊎ (outline_of run ≡ Err (refusal_of e)) ⊎ S.refuses sink.new e) }
+    ensures kept { IsFront (S.given sink.old) (S.given sink.new) }
+    ensures front { let run = run_of (subroutines global.now local.now) code.now in
+        OnErr result (IsFrontDrawn (S.given sink.old) (S.given sink.new) run.answers) }
+    ensures meant { IfOk result (λ width. (run : Run) × IsRunOf (subroutines global.now local.now) code.now run × DrawsRun (S.given sink.old) (S.given sink.new) width run) }
+{
+    draw_program(&mut Program::new(alloc, code, global, local), sink)
+}
+
+/// Draws what a program still answers into a sink, from the origin: gives it the segments, one after another, and answers
+/// the width. The program is at its end then. Takes no memory but the program's.
+///
+/// Refused: with what the program is refused with, as `Program::next` is; `Overflow` also where a coordinate leaves the
+/// range; and with what the sink refuses a segment with. The sink has been given the segments up to there.
+pub fn draw_program<S: Sink>(program: &mut Program<'_>, sink: &mut S) -> Result<Option<Operand>>
+    ensures exact { MatchResult result (λ width. DrawsPending (S.given sink.old) (S.given sink.new) width program.old)
+        (λ e. (e ≡ errors.Memory) ⊎ (outlined program.old.answers program.old.end ≡ Err (refusal_of e)) ⊎ S.refuses sink.new e) }
+    ensures kept { IsFront (S.given sink.old) (S.given sink.new) }
+    ensures front { OnErr result (IsFrontDrawn (S.given sink.old) (S.given sink.new) program.old.answers) }
+    ensures listed { IfErr result (λ e. S.refuses sink.new e ⊎ IsOneOf next_refusals (number e)) }
+    ensures ended { IfOk result (λ width. program.new ≡ ended width) }
+{
+    draw_from(program, Pen::new(), sink)
+}
+
+/// The same, from where a pen stands.
+fn draw_from<S: Sink>(
+    program: &mut Program<'_>,
+    start: Pen,
+    sink: &mut S,
+) -> Result<Option<Operand>>
+    ensures exact { MatchResult result (λ width. DrawsFrom (held start (S.given sink.old)) (S.given sink.new) width program.old)
+        (λ e. (e ≡ errors.Memory) ⊎ (outlined_from (held start (S.given sink.old)) program.old.answers program.old.end ≡ Err (refusal_of e)) ⊎ S.refuses sink.new e) }
+    ensures kept { IsFront (S.given sink.old) (S.given sink.new) }
+    ensures front { OnErr result (IfOk (outlined_from (held start (S.given sink.old)) program.old.answers UsedUp) (λ segments. IsFront (S.given sink.new) segments)) }
+    ensures listed { IfErr result (λ e. S.refuses sink.new e ⊎ IsOneOf next_refusals (number e)) }
+    ensures ended { IfOk result (λ width. program.new ≡ ended width) }
+{
+    let mut pen = start;
+    while let Some((operator, operands)) = program.step()? {
+        pen.draw_all(Strokes::of(operator, operands), sink)?;
+    }
+    pen.end(sink)?;
+    Ok(program.width())
+}
