@@ -7,7 +7,7 @@ each glyph by `step`.
 The programs are those of instructions_main.txt, charstrings_rust.txt and instructions_ttf.txt, built. GLYPHS is a folder with
 a file for each FONT, by its name without `.otf`, as charstrings.py writes it. A count is that of two rounds over all
 glyphs, less that of none, so starting and reading the file are left out. COUNTER is tools/refused.c, built: loaded before the C
-library it counts requests. Those of a glyph are counted alone, one round less none. It stops where `step`, `next` and the Rust crate answer
+library it counts requests, those of one round less those of none: of all glyphs, and of each of the first 300 alone. It stops where `step`, `next` and the Rust crate answer
 different numbers of operations.
 """
 
@@ -19,6 +19,7 @@ import subprocess
 import sys
 import tempfile
 
+ALONE = 300
 WAYS = ["step", "next", "run", "flat_len", "flatten", "draw"]
 ROUNDS = 2
 
@@ -56,16 +57,19 @@ def requests(counter, command, lines):
         return int(told.read().split()[0])
 
 
+def of_a_round(counter, ours, lines):
+    """How many requests for memory one round over these lines makes by `step`."""
+    whole, start = (requests(counter, [ours, "step", rounds], b"".join(lines)) for rounds in "10")
+    return whole - start
+
+
 def print_requests(ours, counter, given):
     lines = given.read_bytes().splitlines(keepends=True)
+    codes = [line for line in lines if line.startswith(b"code ")]
     lists = [line for line in lines if not line.startswith(b"code ")]
-    counts = collections.Counter()
-    for line in lines:
-        if line.startswith(b"code "):
-            alone = b"".join([*lists, line])
-            counts[requests(counter, [ours, "step", "1"], alone) - requests(counter, [ours, "step", "0"], alone)] += 1
-    told = ", ".join(f"{count} requests: {glyphs} glyphs" for count, glyphs in sorted(counts.items()))
-    print(f"{given.name}, `step`: {told}", flush=True)
+    counts = collections.Counter(of_a_round(counter, ours, [*lists, code]) for code in codes[:ALONE])
+    told = ", ".join(f"{count} by {glyphs}" for count, glyphs in sorted(counts.items()))
+    print(f"{given.name}: {len(codes)} glyphs, {of_a_round(counter, ours, lines)} requests; of the first {ALONE} alone {told}", flush=True)
 
 
 def main(words):
