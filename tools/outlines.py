@@ -2,11 +2,13 @@
 """Compares the path of each glyph of fonts with the one that fontTools draws.
 
     tools/outlines.py PROGRAM WORD..
+    tools/outlines.py PROGRAM --sheet FONT
 
 PROGRAM is that of outlines_main.txt, built. Each WORD is an installed Debian package, of which each file .otf is taken, or a
 font file. Fonts without a table `CFF ` and those of several Private dictionaries are left out, and so are glyphs whose
 `endchar` names two others, which are not followed. Each segment and each coordinate is compared as an exact fraction, and the
-width with the nominal or the default one. The status is 1 where a glyph differs.
+width with the nominal or the default one. The status is 1 where a glyph differs. With --sheet it writes forty glyphs of a font
+file, as they are drawn, as SVG.
 """
 
 import collections
@@ -14,12 +16,14 @@ import re
 import subprocess
 import sys
 from fractions import Fraction
+from xml.sax.saxutils import escape
 
 from fontTools.pens.recordingPen import RecordingPen
 from fontTools.ttLib import TTFont
 
 from charstrings import files_of, lines_of
 
+LETTERS = "ABCDEFGHIJKLMNOPQRSTUVWXYZabcdefghijklmn"
 NAMES = {"M": "moveTo", "L": "lineTo", "C": "curveTo", "Z": "closePath"}
 
 
@@ -73,9 +77,33 @@ def compare(program, path, counts):
             print(f"{path}: {name}: {line[:60]}", flush=True)
 
 
+def sheet(program, path):
+    """Writes forty glyphs as SVG: eight in a row, with the font's name and licence."""
+    text = "".join(f"{kind} {code.hex()}\n" for kind, code in lines_of(path))
+    printed = subprocess.run([program], input=text.encode(), stdout=subprocess.PIPE, check=True).stdout.decode().split("\n")
+    font = TTFont(path, lazy=True)
+    drawn_paths = dict(zip(font.getGlyphOrder(), (line.partition(" ")[2] for line in printed), strict=False))
+    character_map = font.getBestCmap()
+    unit = font["head"].unitsPerEm
+    names = [character_map[ord(letter)] for letter in LETTERS]
+    print(f'<svg xmlns="http://www.w3.org/2000/svg" viewBox="0 0 {9 * unit} {7 * unit}">')
+    print(f"<title>{escape(font['name'].getDebugName(4))}</title>")
+    paragraphs = [" ".join(text.split()) for text in font["name"].getDebugName(0).split("\n\n")]
+    rights = [text for text in paragraphs if re.search("copyright|licensed", text, re.IGNORECASE)]
+    print(f"<desc>{escape(' '.join(rights[:2]))}</desc>")
+    print(f'<rect width="{9 * unit}" height="{7 * unit}" fill="white"/>')
+    for place, name in enumerate(names):
+        x, y = place % 8 * unit * 11 // 10 + unit // 4, (place // 8 + 1) * unit * 13 // 10
+        print(f'<path transform="translate({x} {y}) scale(1 -1)" d="{drawn_paths[name]}"/>')
+    print("</svg>")
+
+
 def main(words):
     if len(words) < 2:
         sys.exit(__doc__)
+    if words[1] == "--sheet":
+        sheet(words[0], words[2])
+        return
     counts = collections.Counter({"different": 0, "left out": 0})
     for word in words[1:]:
         for path in files_of(word):

@@ -2,12 +2,13 @@
 # Compares the path of each glyph of fonts with the one that fontTools draws.
 #
 #     tools/outlines.sh WORD..
+#     tools/outlines.sh --sheet FONT
 #
-# Each WORD is an installed Debian package, of which each file .otf is taken, or a font file. Needs `rt` on the path, and Debian's
-# python3-fonttools. The program is tools/outlines_main.txt, proved in a copy with what the crates keep in out/;
-# tools/outlines.py compares, and says what is left out.
+# The second line draws forty glyphs of a font file as SVG. Each WORD is an installed Debian package, of which each file .otf is
+# taken, or a font file. Needs `rt` on the path, and Debian's python3-fonttools. The program is tools/outlines_main.txt, proved in
+# a copy with what the crates keep in out/; tools/outlines.py compares, and says what is left out.
 set -e
-[ $# -ge 1 ] || { sed -n '2,8s/^# \{0,1\}//p' "$0" >&2; exit 2; }
+[ $# -ge 1 ] || { sed -n '2,10s/^# \{0,1\}//p' "$0" >&2; exit 2; }
 tools=$(cd "$(dirname "$0")" && pwd)
 copy=$(mktemp -d)
 trap 'rm -r "$copy"' EXIT
