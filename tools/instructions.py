@@ -4,11 +4,11 @@ each glyph by `step`.
 
     tools/instructions.py OURS RUST TTF COUNTER GLYPHS FONT..
 
-The programs are those of instructions_main.txt, charstrings_rust.txt and instructions_ttf.txt, built. GLYPHS is a folder with
-a file for each FONT, by its name without `.otf`, as charstrings.py writes it. A count is that of two rounds over all
-glyphs, less that of none, so starting and reading the file are left out. COUNTER is tools/refused.c, built: loaded before the C
-library it counts requests, those of one round less those of none: of all glyphs, and of each of the first 300 alone. It stops where `step`, `next` and the Rust crate answer
-different numbers of operations.
+The programs are those of instructions_main.txt, charstrings_rust.txt and instructions_ttf.txt, built. GLYPHS is a folder with a
+file for each FONT, by its name without `.otf`, as charstrings.py writes it. A count is that of two rounds over all glyphs, less
+that of none, so starting and reading the file are left out. COUNTER is tools/refused.c, built: loaded before the C library it
+counts requests, those of one round less those of none: of all glyphs, and of each of the first 300 alone. It stops where `step`,
+`next` and the Rust crate answer different numbers of operations.
 """
 
 import collections
@@ -69,7 +69,8 @@ def print_requests(ours, counter, given):
     lists = [line for line in lines if not line.startswith(b"code ")]
     counts = collections.Counter(of_a_round(counter, ours, [*lists, code]) for code in codes[:ALONE])
     told = ", ".join(f"{count} by {glyphs}" for count, glyphs in sorted(counts.items()))
-    print(f"{given.name}: {len(codes)} glyphs, {of_a_round(counter, ours, lines)} requests; of the first {ALONE} alone {told}", flush=True)
+    whole = of_a_round(counter, ours, lines)
+    print(f"{given.name}: {len(codes)} glyphs, {whole} requests; of the first {ALONE} alone {told}", flush=True)
 
 
 def main(words):

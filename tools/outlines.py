@@ -88,7 +88,8 @@ def sheet(program, path):
     names = [character_map[ord(letter)] for letter in LETTERS]
     print(f'<svg xmlns="http://www.w3.org/2000/svg" viewBox="0 0 {9 * unit} {7 * unit}">')
     print(f"<title>{escape(font['name'].getDebugName(4))}</title>")
-    paragraphs = [" ".join(text.split()) for text in font["name"].getDebugName(0).split("\n\n")]
+    notices = "\n\n".join(font["name"].getDebugName(number) or "" for number in (0, 13))
+    paragraphs = [" ".join(text.split()) for text in notices.split("\n\n")]
     rights = [text for text in paragraphs if re.search("copyright|licensed", text, re.IGNORECASE)]
     print(f"<desc>{escape(' '.join(rights[:2]))}</desc>")
     print(f'<rect width="{9 * unit}" height="{7 * unit}" fill="white"/>')
