@@ -108,11 +108,14 @@ fn names_of_a_font(rt: HostRuntime) {
         "a surrogate alone, and an odd byte",
     );
     holds(&rt, names.get(16).is_none(), "a text past the end");
-    holds(
-        &rt,
-        Names::read(&bytes[..70]).is_none(),
-        "records that are cut",
-    );
+}
+
+#[test]
+fn names_that_are_cut(rt: HostRuntime) {
+    let mut bytes = bytes_of(&rt, rt.alloc(), NAMES);
+    bytes.truncate(70);
+    let names = Names::read(bytes.as_slice());
+    holds(&rt, names.is_none(), "records that are cut");
 }
 
 /// Compares the glyph of a character, each spelled in digits: the character in hex, a colon, and the glyph.
