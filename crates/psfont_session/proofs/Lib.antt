@@ -1,2 +1,3 @@
 mod Known
 mod Places
+pub mod Writing

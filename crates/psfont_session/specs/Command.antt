@@ -1,5 +1,5 @@
 -- The commands.
-use Rattle.std.specs.Prelude.{ℕ, List, codes}
+use Rattle.std.specs.Prelude.{◌≡◌, ℕ, List, [], ⊤, codes}
 use Rattle.psfont_session.specs.declared.command.Command.{Command}
 use Rattle.psfont_session.specs.declared.command.Command.TheVariants.{Load, Run, Flat, Font}
 use Rattle.psfont_session.specs.declared.command.Manner.TheVariants.{Strict, Lenient}
@@ -14,3 +14,9 @@ name_of Run = codes "run"
 name_of Flat = codes "flat"
 name_of (Font Strict) = codes "font"
 name_of (Font Lenient) = codes "lenient"
+
+-- what may stand behind a command: nothing behind these two
+abbrev pub Takes : Command → List ℕ → Type 0
+Takes Run argument = argument ≡ []
+Takes Flat argument = argument ≡ []
+Takes command argument = ⊤

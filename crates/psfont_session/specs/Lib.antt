@@ -3,4 +3,7 @@ pub mod Line
 pub mod Loaded
 pub mod Manner
 pub mod Piece
+pub mod Summary
+pub mod Texts
+pub mod Told
 pub mod Words

@@ -1,15 +1,27 @@
 //! What a line is answered with.
-ghost use Rattle.std.specs.Prelude.{◌≡◌, List, [], ℕ, Ok, None, IsErr, IfOk, IfSome, ◌∷◌, OnOk, MatchResult};
+ghost use Rattle.std.specs.Prelude.{◌≡◌, List, [], ℕ, Ok, None, IsErr, IfOk, IfSome, ◌∷◌, ◌≢◌, OnOk, MatchResult, flat_map, codes};
+ghost use Rattle.std.specs.Io.KnownBytes.{Appends, Keeps};
 ghost use Rattle.hex.specs.Hex.{decode_of};
 ghost use Rattle.postscript.specs.Error.{IsListed};
 ghost use Rattle.psfont_session.specs.declared.command.Place.{Place};
+ghost use Rattle.psfont_session.specs.Command.{name_of as command_name};
+ghost use Rattle.psfont_session.specs.Line.{word_of, argument_of, IsBad};
 ghost use Rattle.psfont_session.specs.Loaded.{put, Loads};
+ghost use Rattle.psfont_session.specs.Texts.{operation_line, operand_text, fault_line, end_line, width_line, answers_text, flat_line, loaded_line};
+ghost use Rattle.psfont_session.specs.Told.{RunTold, FlatTold, FontTold};
+ghost use Rattle.psfont_session.specs.Manner.{reading_of};
+ghost use Rattle.psfont_session.specs.declared.command.Command.TheVariants as commands;
+ghost use Rattle.psfont_session.specs.declared.command.Manner.{Manner};
+ghost use Rattle.postscript.specs.FontSet.Shown.{font_shown};
+ghost use Rattle.postscript.specs.Tape.Outcome.{Answers as Answered};
+ghost use Rattle.postscript.specs.Program.Whole.{operation_of};
 
 use crate::command::{Command, Manner, Place, split};
 use crate::routines::Routines;
 use crate::summary::{read_font, write_font};
 use hex::FromHexError;
-use postscript::type2::{Answers, Operation};
+use postscript::compact1::FontSet;
+use postscript::type2::{Answers, Operand, Operation};
 use postscript::{Error, Result};
 use std::alloc::Global;
 use std::io::{Cursor, Write};
@@ -25,6 +37,17 @@ pub fn answer_line<W: Write>(
         → routines.new ≡ put place bytes routines.old) }
     ensures keeps { OnOk result (((place : Place) → (bytes : List ℕ) → Loads line.now place bytes → ⊥)
         → routines.new ≡ routines.old) }
+    ensures loaded { OnOk result ((place : Place) → word_of line.now ≡ command_name (commands.Load place)
+        → Appends (W.contents writer.old) (W.contents writer.new) (loaded_line (decode_of (argument_of line.now)))) }
+    ensures ran { OnOk result (word_of line.now ≡ command_name commands.Run → argument_of line.now ≡ []
+        → RunTold routines.old (W.contents writer.old) (W.contents writer.new)) }
+    ensures flattened { OnOk result (word_of line.now ≡ command_name commands.Flat → argument_of line.now ≡ []
+        → FlatTold routines.old (W.contents writer.old) (W.contents writer.new)) }
+    ensures shown { OnOk result ((manner : Manner) → word_of line.now ≡ command_name (commands.Font manner)
+        → FontTold manner (argument_of line.now) (W.contents writer.old) (W.contents writer.new)) }
+    ensures bad { OnOk result (IsBad line.now → line.now ≢ []
+        → Appends (W.contents writer.old) (W.contents writer.new) (codes "bad command\n")) }
+    ensures silent { OnOk result (line.now ≡ [] → Keeps (W.contents writer.old) (W.contents writer.new)) }
     ensures listed { IsListed (1 ∷ 2 ∷ 3 ∷ []) result }
 {
     if line.is_empty() {
@@ -53,6 +76,7 @@ fn load<W: Write>(
     ensures changed { OnOk result (MatchResult (decode_of digits.now)
         (λ bytes. routines.new ≡ put place bytes routines.old)
         (λ _. routines.new ≡ routines.old)) }
+    ensures told { OnOk result (Appends (W.contents writer.old) (W.contents writer.new) (loaded_line (decode_of digits.now))) }
 {
     match bytes_of(alloc, digits)? {
         Some(bytes) => {
@@ -79,6 +103,7 @@ fn bytes_of(alloc: Global, digits: &[u8]) -> Result<Option<Vec<u8>>>
 
 /// Runs the code, and tells what came of it.
 fn run<W: Write>(alloc: Global, routines: &Routines, writer: &mut W) -> Result<()>
+    ensures told { OnOk result (RunTold routines.now (W.contents writer.old) (W.contents writer.new)) }
     ensures listed { IsListed (1 ∷ 2 ∷ []) result }
 {
     match routines.run(alloc) {
@@ -89,25 +114,36 @@ fn run<W: Write>(alloc: Global, routines: &Routines, writer: &mut W) -> Result<(
 
 /// Writes the code without calls, as lower-case hex.
 fn flatten<W: Write>(alloc: Global, routines: &Routines, writer: &mut W) -> Result<()>
+    ensures told { OnOk result (FlatTold routines.now (W.contents writer.old) (W.contents writer.new)) }
     ensures listed { IsListed (1 ∷ 2 ∷ 3 ∷ []) result }
 {
     match routines.flatten(alloc) {
-        Ok(flat) if flat.is_empty() => writeln!(writer, "flat")?,
-        Ok(flat) => {
-            let digits = hex::encode(alloc, flat.as_slice())?;
-            writeln!(writer, "flat {digits}")?;
-        }
-        Err(fault) => write_fault(&fault, writer)?,
+        Ok(flat) => write_flat(alloc, flat.as_slice(), writer),
+        Err(fault) => write_fault(&fault, writer),
+    }
+}
+
+/// Writes code as lower-case hex behind `flat`, which stands alone where there is none.
+fn write_flat<W: Write>(alloc: Global, flat: &[u8], writer: &mut W) -> Result<()>
+    ensures told { OnOk result (Appends (W.contents writer.old) (W.contents writer.new) (flat_line flat.now)) }
+    ensures listed { IsListed (1 ∷ 2 ∷ 3 ∷ []) result }
+{
+    if flat.is_empty() {
+        writeln!(writer, "flat")?;
+    } else {
+        let digits = hex::encode(alloc, flat)?;
+        writeln!(writer, "flat {digits}")?;
     }
     Ok(())
 }
 
 /// Reads a font from the bytes that hex digits spell, and tells what it holds.
 fn font<W: Write>(alloc: Global, manner: Manner, digits: &[u8], writer: &mut W) -> Result<()>
+    ensures told { OnOk result (FontTold manner digits.now (W.contents writer.old) (W.contents writer.new)) }
     ensures listed { IsListed (1 ∷ 2 ∷ 3 ∷ []) result }
 {
     match bytes_of(alloc, digits)? {
-        Some(bytes) => match read_font(alloc, manner, &mut Cursor::new(bytes)) {
+        Some(bytes) => match font_of(alloc, manner, bytes) {
             Ok(font) => write_font(&font, writer)?,
             Err(fault) => write_fault(&fault, writer)?,
         },
@@ -116,18 +152,55 @@ fn font<W: Write>(alloc: Global, manner: Manner, digits: &[u8], writer: &mut W) 
     Ok(())
 }
 
+/// The font at the start of bytes, which may lack what its manner lets it.
+fn font_of(alloc: Global, manner: Manner, bytes: Vec<u8>) -> Result<FontSet>
+    ensures exact { (next : ℕ) × Answered font_shown result next (reading_of manner bytes.items 0) }
+{
+    read_font(alloc, manner, &mut Cursor::new(bytes))
+}
+
 /// A line for each operation, for the end and for the width.
+#[tactic(auto, using(crate::proofs::Writing::both, crate::proofs::Writing::none))]
 fn write_answers<W: Write>(answers: &Answers, writer: &mut W) -> Result<()>
+    ensures told { OnOk result (Appends (W.contents writer.old) (W.contents writer.new) (answers_text answers.now)) }
     ensures listed { IsListed (1 ∷ 2 ∷ []) result }
 {
-    for operation in &answers.operations {
+    write_operations(answers.operations.as_slice(), writer)?;
+    write_end(&answers.fault, writer)?;
+    write_width(answers.width, writer)
+}
+
+/// A line for each operation.
+#[tactic(auto, using(crate::proofs::Writing::more, crate::proofs::Writing::none))]
+fn write_operations<W: Write>(operations: &[Operation], writer: &mut W) -> Result<()>
+    ensures told { OnOk result (Appends (W.contents writer.old) (W.contents writer.new)
+        (flat_map (λ operation. operation_line (operation_of operation)) operations.now)) }
+    ensures listed { IsListed (1 ∷ 2 ∷ []) result }
+{
+    for operation in operations {
         write_operation(operation, writer)?;
     }
-    match &answers.fault {
+    Ok(())
+}
+
+/// A line for the end: the refusal, where there is one.
+fn write_end<W: Write>(fault: &Option<Error>, writer: &mut W) -> Result<()>
+    ensures told { OnOk result (Appends (W.contents writer.old) (W.contents writer.new) (end_line fault.now)) }
+    ensures listed { IsListed (1 ∷ 2 ∷ []) result }
+{
+    match fault {
         Some(fault) => write_fault(fault, writer)?,
         None => writeln!(writer, "end")?,
     }
-    match answers.width {
+    Ok(())
+}
+
+/// A line for the width.
+fn write_width<W: Write>(width: Option<Operand>, writer: &mut W) -> Result<()>
+    ensures told { OnOk result (Appends (W.contents writer.old) (W.contents writer.new) (width_line width)) }
+    ensures listed { IsListed (1 ∷ 2 ∷ []) result }
+{
+    match width {
         Some(width) => writeln!(writer, "width {width}")?,
         None => writeln!(writer, "width none")?,
     }
@@ -135,20 +208,33 @@ fn write_answers<W: Write>(answers: &Answers, writer: &mut W) -> Result<()>
 }
 
 /// The operator's name, and each operand after a space.
+#[tactic(auto, using(crate::proofs::Writing::both, crate::proofs::Writing::none))]
 fn write_operation<W: Write>(operation: &Operation, writer: &mut W) -> Result<()>
+    ensures told { OnOk result (Appends (W.contents writer.old) (W.contents writer.new) (operation_line (operation_of operation.now))) }
     ensures listed { IsListed (1 ∷ 2 ∷ []) result }
 {
     let (operator, operands) = operation;
     writer.write_all(operator.name().as_bytes())?;
-    for operand in operands {
-        write!(writer, " {operand}")?;
-    }
+    write_operands(operands.as_slice(), writer)?;
     writer.write_all(b"\n")?;
     Ok(())
 }
 
+/// Each operand after a space.
+#[tactic(auto, using(crate::proofs::Writing::more, crate::proofs::Writing::none))]
+fn write_operands<W: Write>(operands: &[Operand], writer: &mut W) -> Result<()>
+    ensures told { OnOk result (Appends (W.contents writer.old) (W.contents writer.new) (flat_map operand_text operands.now)) }
+    ensures listed { IsListed (1 ∷ 2 ∷ []) result }
+{
+    for operand in operands {
+        write!(writer, " {operand}")?;
+    }
+    Ok(())
+}
+
 /// The number of a fault.
-fn write_fault<W: Write>(fault: &Error, writer: &mut W) -> Result<()>
+pub fn write_fault<W: Write>(fault: &Error, writer: &mut W) -> Result<()>
+    ensures told { OnOk result (Appends (W.contents writer.old) (W.contents writer.new) (fault_line fault.now)) }
     ensures listed { IsListed (1 ∷ 2 ∷ []) result }
 {
     let code = fault.code();

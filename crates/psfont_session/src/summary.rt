@@ -1,12 +1,14 @@
 //! Fonts: how they are read, and what they hold, in lines.
-ghost use Rattle.std.specs.Prelude.{[], ◌∷◌};
+ghost use Rattle.std.specs.Prelude.{[], ◌∷◌, ◌++◌, map, flat_map, codes, string_bytes, OnOk};
+ghost use Rattle.std.specs.Io.KnownBytes.{Appends};
 ghost use Rattle.postscript.specs.Error.{IsListed};
 ghost use Rattle.postscript.specs.Tape.{Reads};
 ghost use Rattle.postscript.specs.FontSet.Shown.{font_shown};
 ghost use Rattle.psfont_session.specs.Manner.{reading_of};
+ghost use Rattle.psfont_session.specs.Summary.{header_line, field_text, names_text, name_line, shown_byte, sets_text, counts_text, line_at, lines_below, count_line, tables_text, dictionaries_text, font_text};
 
 use crate::command::Manner;
-use postscript::compact1::FontSet;
+use postscript::compact1::{CharSet, Encoding, FontSet, Header};
 use postscript::{Result, Tape, Value};
 use std::alloc::Global;
 use std::io::Write;
@@ -24,94 +26,204 @@ pub fn read_font<T: Tape>(alloc: Global, manner: Manner, tape: &mut T) -> Result
 
 /// The header, how many names there are and each, how many strings and global subroutines, and a line for each
 /// dictionary.
+#[tactic(auto, using(crate::proofs::Writing::both))]
 pub fn write_font<W: Write>(font: &FontSet, writer: &mut W) -> Result<()>
+    ensures told { OnOk result (Appends (W.contents writer.old) (W.contents writer.new) (font_text (font_shown font.now))) }
     ensures listed { IsListed (1 ∷ 2 ∷ []) result }
 {
-    write_header(font, writer)?;
-    write_names(&font.names, writer)?;
-    let strings = font.strings.len();
-    let globals = font.global_subroutines.len();
-    writeln!(writer, "strings {strings}")?;
-    writeln!(writer, "globals {globals}")?;
+    write_front(font, writer)?;
+    write_tables(font, writer)?;
     write_dictionaries(font, writer)?;
     writeln!(writer, "end")?;
     Ok(())
 }
 
-/// The header's four fields.
-fn write_header<W: Write>(font: &FontSet, writer: &mut W) -> Result<()>
+/// The header, and the names.
+#[tactic(auto, using(crate::proofs::Writing::both))]
+fn write_front<W: Write>(font: &FontSet, writer: &mut W) -> Result<()>
+    ensures told { OnOk result (Appends (W.contents writer.old) (W.contents writer.new)
+        (header_line font.now.header ++ names_text (map string_bytes font.now.names.items))) }
     ensures listed { IsListed (1 ∷ 2 ∷ []) result }
 {
-    let header = font.header;
+    write_header(font.header, writer)?;
+    write_names(font.names.as_slice(), writer)
+}
+
+/// How many strings and global subroutines there are.
+#[tactic(auto, using(crate::proofs::Writing::both))]
+fn write_tables<W: Write>(font: &FontSet, writer: &mut W) -> Result<()>
+    ensures told { OnOk result (Appends (W.contents writer.old) (W.contents writer.new) (tables_text (font_shown font.now))) }
+    ensures listed { IsListed (1 ∷ 2 ∷ []) result }
+{
+    let strings = font.strings.len();
+    let globals = font.global_subroutines.len();
+    writeln!(writer, "strings {strings}")?;
+    writeln!(writer, "globals {globals}")?;
+    Ok(())
+}
+
+/// The header's four fields.
+#[tactic(auto, using(crate::proofs::Writing::both, crate::proofs::Writing::none))]
+fn write_header<W: Write>(header: Header, writer: &mut W) -> Result<()>
+    ensures told { OnOk result (Appends (W.contents writer.old) (W.contents writer.new) (header_line header)) }
+    ensures listed { IsListed (1 ∷ 2 ∷ []) result }
+{
     writer.write_all(b"header")?;
-    for field in [
+    let fields = [
         header.major,
         header.minor,
         header.header_size,
         header.offset_size,
-    ] {
-        write!(writer, " {field}")?;
-    }
+    ];
+    write_fields(&fields, writer)?;
     writer.write_all(b"\n")?;
     Ok(())
 }
 
+/// Each field after a space.
+#[tactic(auto, using(crate::proofs::Writing::more, crate::proofs::Writing::none))]
+fn write_fields<W: Write>(fields: &[u8], writer: &mut W) -> Result<()>
+    ensures told { OnOk result (Appends (W.contents writer.old) (W.contents writer.new) (flat_map field_text fields.now)) }
+    ensures listed { IsListed (1 ∷ 2 ∷ []) result }
+{
+    for field in fields {
+        write!(writer, " {field}")?;
+    }
+    Ok(())
+}
+
 /// How many names there are, and each.
+#[tactic(auto, using(crate::proofs::Writing::both))]
 fn write_names<W: Write>(names: &[String], writer: &mut W) -> Result<()>
+    ensures told { OnOk result (Appends (W.contents writer.old) (W.contents writer.new)
+        (names_text (map string_bytes names.now))) }
     ensures listed { IsListed (1 ∷ 2 ∷ []) result }
 {
     let count = names.len();
     writeln!(writer, "names {count}")?;
+    write_each_name(names, writer)
+}
+
+/// A line for each name.
+#[tactic(auto, using(crate::proofs::Writing::more_of, crate::proofs::Writing::none))]
+fn write_each_name<W: Write>(names: &[String], writer: &mut W) -> Result<()>
+    ensures told { OnOk result (Appends (W.contents writer.old) (W.contents writer.new)
+        (flat_map name_line (map string_bytes names.now))) }
+    ensures listed { IsListed (1 ∷ 2 ∷ []) result }
+{
     for name in names {
-        write_name(name.as_str(), writer)?;
+        write_name(name.as_bytes(), writer)?;
     }
     Ok(())
 }
 
 /// A name, with `?` for each control character of ASCII.
-fn write_name<W: Write>(name: &str, writer: &mut W) -> Result<()>
+#[tactic(auto, using(crate::proofs::Writing::both, crate::proofs::Writing::none))]
+fn write_name<W: Write>(name: &[u8], writer: &mut W) -> Result<()>
+    ensures told { OnOk result (Appends (W.contents writer.old) (W.contents writer.new) (name_line name.now)) }
     ensures listed { IsListed (1 ∷ 2 ∷ []) result }
 {
     writer.write_all(b"name ")?;
-    for character in name.chars() {
-        let shown = if character.is_ascii_control() {
-            '?'
-        } else {
-            character
-        };
-        write!(writer, "{shown}")?;
-    }
+    write_shown(name, writer)?;
     writer.write_all(b"\n")?;
     Ok(())
 }
 
-/// How many dictionaries there are, and of each the names of encoding and char set, and how many glyphs and local
-/// subroutines it has.
-fn write_dictionaries<W: Write>(font: &FontSet, writer: &mut W) -> Result<()>
+/// Bytes of UTF-8, with `?` for each control character of ASCII.
+#[tactic(auto, using(crate::proofs::Writing::more, crate::proofs::Writing::none))]
+fn write_shown<W: Write>(text: &[u8], writer: &mut W) -> Result<()>
+    ensures told { OnOk result (Appends (W.contents writer.old) (W.contents writer.new) (flat_map shown_byte text.now)) }
     ensures listed { IsListed (1 ∷ 2 ∷ []) result }
 {
-    let count = font.global_dictionaries.len();
-    writeln!(writer, "dictionaries {count}")?;
-    let sets = font.encodings.iter().zip(font.char_sets.iter());
-    let programs = font.char_strings.iter().zip(font.local_subroutines.iter());
-    for ((encoding, char_set), (char_strings, local)) in sets.zip(programs) {
-        let (glyphs, locals) = (char_strings.len(), local.len());
-        write_dictionary(encoding.name(), char_set.name(), glyphs, locals, writer)?;
+    for byte in text {
+        let shown = if byte.is_ascii_control() { b'?' } else { *byte };
+        writer.write_all(&[shown])?;
     }
     Ok(())
 }
 
-/// A line for a dictionary.
-fn write_dictionary<W: Write>(
-    encoding: &str,
-    char_set: &str,
+/// How many dictionaries there are, and a line for each.
+fn write_dictionaries<W: Write>(font: &FontSet, writer: &mut W) -> Result<()>
+    ensures told { OnOk result (Appends (W.contents writer.old) (W.contents writer.new) (dictionaries_text (font_shown font.now))) }
+    ensures listed { IsListed (1 ∷ 2 ∷ []) result }
+{
+    write_counted(font, font.global_dictionaries.len(), writer)
+}
+
+/// A number of dictionaries, and a line for each.
+#[tactic(auto, using(crate::proofs::Writing::both))]
+fn write_counted<W: Write>(font: &FontSet, count: usize, writer: &mut W) -> Result<()>
+    ensures told { OnOk result (Appends (W.contents writer.old) (W.contents writer.new)
+        (count_line (codes "dictionaries ") count ++ lines_below (font_shown font.now) count)) }
+    ensures listed { IsListed (1 ∷ 2 ∷ []) result }
+{
+    writeln!(writer, "dictionaries {count}")?;
+    write_lines(font, count, writer)
+}
+
+/// A line for each of so many dictionaries.
+#[tactic(auto, using(crate::proofs::Writing::both, crate::proofs::Writing::none), unfolding(crate::specs::Summary::lines_below))]
+fn write_lines<W: Write>(font: &FontSet, count: usize, writer: &mut W) -> Result<()>
+    ensures told { OnOk result (Appends (W.contents writer.old) (W.contents writer.new) (lines_below (font_shown font.now) count)) }
+    ensures listed { IsListed (1 ∷ 2 ∷ []) result }
+{
+    for number in 0..count {
+        write_dictionary(font, number, writer)?;
+    }
+    Ok(())
+}
+
+/// Of a dictionary the names of encoding and char set, and how many glyphs and local subroutines it has.
+#[tactic(auto, using(crate::proofs::Writing::none))]
+fn write_dictionary<W: Write>(font: &FontSet, number: usize, writer: &mut W) -> Result<()>
+    ensures told { OnOk result (Appends (W.contents writer.old) (W.contents writer.new) (line_at (font_shown font.now) number)) }
+    ensures listed { IsListed (1 ∷ 2 ∷ []) result }
+{
+    let (Some(encoding), Some(char_set)) = (font.encodings.get(number), font.char_sets.get(number))
+    else {
+        return Ok(());
+    };
+    let (Some(codes), Some(local)) = (
+        font.char_strings.get(number),
+        font.local_subroutines.get(number),
+    ) else {
+        return Ok(());
+    };
+    write_line(*encoding, char_set, codes.len(), local.len(), writer)
+}
+
+/// A dictionary's line.
+#[tactic(auto, using(crate::proofs::Writing::both))]
+fn write_line<W: Write>(
+    encoding: Encoding,
+    char_set: &CharSet,
     glyphs: usize,
     locals: usize,
     writer: &mut W,
 ) -> Result<()>
+    ensures told { OnOk result (Appends (W.contents writer.old) (W.contents writer.new)
+        (sets_text encoding char_set.now ++ counts_text glyphs locals)) }
     ensures listed { IsListed (1 ∷ 2 ∷ []) result }
 {
+    write_sets(encoding, char_set, writer)?;
+    write_counts(glyphs, locals, writer)
+}
+
+/// The first half of a dictionary's line.
+fn write_sets<W: Write>(encoding: Encoding, char_set: &CharSet, writer: &mut W) -> Result<()>
+    ensures told { OnOk result (Appends (W.contents writer.old) (W.contents writer.new) (sets_text encoding char_set.now)) }
+    ensures listed { IsListed (1 ∷ 2 ∷ []) result }
+{
+    let (encoding, char_set) = (encoding.name(), char_set.name());
     write!(writer, "font {encoding} {char_set}")?;
+    Ok(())
+}
+
+/// The second half of a dictionary's line.
+fn write_counts<W: Write>(glyphs: usize, locals: usize, writer: &mut W) -> Result<()>
+    ensures told { OnOk result (Appends (W.contents writer.old) (W.contents writer.new) (counts_text glyphs locals)) }
+    ensures listed { IsListed (1 ∷ 2 ∷ []) result }
+{
     writeln!(writer, " glyphs {glyphs} locals {locals}")?;
     Ok(())
 }
