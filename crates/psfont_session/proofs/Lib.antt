@@ -1,3 +1,4 @@
+pub mod Hearing
 mod Known
 mod Places
 pub mod Writing

@@ -1,8 +1,10 @@
 pub mod Command
 pub mod Line
 pub mod Loaded
+pub mod Look
 pub mod Manner
 pub mod Piece
+pub mod Session
 pub mod Summary
 pub mod Texts
 pub mod Told

@@ -2,8 +2,11 @@
 //! font's file holds. The program is `psfont`.
 #![tactic(auto)]
 
-ghost use Rattle.std.specs.Prelude.{◌≡◌, [], ◌≤◌, ◌↔◌, ◌∷◌, map, string_bytes, IfOk, IsOk};
+ghost use Rattle.std.specs.Prelude.{◌≡◌, ℕ, List, OnOk, [], ◌≤◌, ◌↔◌, ◌∷◌, map, string_bytes, IfOk, IsOk};
 ghost use Rattle.postscript.specs.Error.{IsListed};
+ghost use Rattle.std.specs.Io.KnownBytes.{Consumes, Keeps};
+ghost use Rattle.psfont_session.specs.Look.{Looked, Goes};
+ghost use Rattle.psfont_session.specs.Session.{LineTold, Session};
 ghost use Rattle.psfont_session.specs.Words.{AreKnown};
 
 use postscript::{Error, Result};
@@ -31,7 +34,10 @@ use summary::{read_font, write_font};
 /// writer is flushed before each look that may wait, and at the end, also after a fault.
 ///
 /// Refused: `UnexpectedEof` and `Io` where a read or a write failed, `Memory`.
+#[tactic(auto, using(crate::proofs::Hearing::flushed))]
 pub fn session<R: BufRead, W: Write>(alloc: Global, reader: &mut R, writer: &mut W) -> Result<()>
+    ensures told { OnOk result ((input : List ℕ) × Consumes (R.remaining reader.old) (R.remaining reader.new) input
+        × Session input (W.contents writer.old) (W.contents writer.new)) }
     ensures listed { IsListed (1 ∷ 2 ∷ 3 ∷ []) result }
 {
     let outcome = answer_lines(alloc, reader, writer);
@@ -43,25 +49,88 @@ pub fn session<R: BufRead, W: Write>(alloc: Global, reader: &mut R, writer: &mut
 
 /// Answers each line, up to the end of the input.
 fn answer_lines<R: BufRead, W: Write>(alloc: Global, reader: &mut R, writer: &mut W) -> Result<()>
+    ensures told { OnOk result ((input : List ℕ) × Consumes (R.remaining reader.old) (R.remaining reader.new) input
+        × Session input (W.contents writer.old) (W.contents writer.new)) }
     ensures listed { IsListed (1 ∷ 2 ∷ 3 ∷ []) result }
 {
     let mut routines = Routines::new(alloc);
     let mut line = Vec::new(alloc);
+    hear(alloc, reader, &mut line, &mut routines, writer)?;
+    tell_line(alloc, line.as_slice(), &mut routines, writer)?;
+    Ok(())
+}
+
+/// Looks at the input up to its end, and answers each line that has its own.
+fn hear<R: BufRead, W: Write>(
+    alloc: Global,
+    reader: &mut R,
+    line: &mut Vec<u8>,
+    routines: &mut Routines,
+    writer: &mut W,
+) -> Result<()>
+    ensures told { OnOk result (Goes
+        (record { left = R.remaining reader.old; written = W.contents writer.old; loaded = routines.old; open_line = line.old.items })
+        (record { left = R.remaining reader.new; written = W.contents writer.new; loaded = routines.new; open_line = line.new.items })) }
+    ensures listed { IsListed (1 ∷ 2 ∷ 3 ∷ []) result }
+{
     for _ in 0..u64::MAX {
-        match read_piece(reader, &mut line)? {
-            Piece::Part => writer.flush()?,
-            Piece::Line { more } => {
-                let text = without_return(line.as_slice());
-                answer_line(alloc, text, &mut routines, writer)?;
-                line.clear();
-                if !more {
-                    writer.flush()?;
-                }
-            }
-            Piece::End => break,
+        if look(alloc, reader, line, routines, writer)? {
+            return Ok(());
         }
     }
-    answer_line(alloc, line.as_slice(), &mut routines, writer)
+    Ok(())
+}
+
+/// Answers a line.
+fn tell_line<W: Write>(
+    alloc: Global,
+    line: &[u8],
+    routines: &mut Routines,
+    writer: &mut W,
+) -> Result<()>
+    ensures told { OnOk result (LineTold line.now routines.old (W.contents writer.old) routines.new (W.contents writer.new)) }
+    ensures listed { IsListed (1 ∷ 2 ∷ 3 ∷ []) result }
+{
+    answer_line(alloc, line, routines, writer)?;
+    Ok(())
+}
+
+/// Looks at the input once, and answers the line that ends there, if one does. Tells whether the input is at its end.
+fn look<R: BufRead, W: Write>(
+    alloc: Global,
+    reader: &mut R,
+    line: &mut Vec<u8>,
+    routines: &mut Routines,
+    writer: &mut W,
+) -> Result<bool>
+    ensures told { OnOk result (Looked
+        (record { left = R.remaining reader.old; written = W.contents writer.old; loaded = routines.old; open_line = line.old.items })
+        (record { left = R.remaining reader.new; written = W.contents writer.new; loaded = routines.new; open_line = line.new.items })) }
+    ensures listed { IsListed (1 ∷ 2 ∷ 3 ∷ []) result }
+{
+    match read_piece(reader, line)? {
+        Piece::Part => writer.flush()?,
+        Piece::Line { more } => {
+            let text = without_return(line.as_slice());
+            tell_line(alloc, text, routines, writer)?;
+            line.clear();
+            flush_before_waiting(more, writer)?;
+        }
+        Piece::End => return Ok(true),
+    }
+    Ok(false)
+}
+
+/// Flushes the writer, unless more of the input is shown, so that the next look does not wait.
+#[tactic(auto, using(crate::proofs::Hearing::same))]
+fn flush_before_waiting<W: Write>(more: bool, writer: &mut W) -> Result<()>
+    ensures kept { Keeps (W.contents writer.old) (W.contents writer.new) }
+    ensures listed { IsListed (1 ∷ 2 ∷ []) result }
+{
+    if !more {
+        writer.flush()?;
+    }
+    Ok(())
 }
 
 /// Does what the words after the program's name ask for, and answers the status to end with: none is a session of the

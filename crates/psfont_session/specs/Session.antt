@@ -1,0 +1,61 @@
+-- A session: the lines of an input, one after the other, and what is told on each.
+use Rattle.std.specs.Prelude.{◌≡◌, ◌≢◌, ◌⊎◌, ℕ, List, [], ◌∷◌, ◌++◌, All, Option, codes, flat_map}
+use Rattle.std.specs.List.{FoldsTo}
+use Rattle.std.specs.Io.KnownBytes.{Appends, Consumes, Keeps}
+use Rattle.hex.specs.Hex.{decode_of}
+use Rattle.psfont_session.specs.declared.command.Command.TheVariants.{Load, Run, Flat, Font}
+use Rattle.psfont_session.specs.declared.command.Manner.{Manner}
+use Rattle.psfont_session.specs.declared.command.Place.{Place}
+use Rattle.psfont_session.specs.Command.{name_of}
+use Rattle.psfont_session.specs.Line.{word_of, argument_of, IsBad}
+use Rattle.psfont_session.specs.Loaded.{Loaded, put, Loads}
+use Rattle.psfont_session.specs.Texts.{loaded_line}
+use Rattle.psfont_session.specs.Told.{RunTold, FlatTold, FontTold}
+
+-- what a line does to what is loaded, and what is written on it
+pub record LineTold (line : List ℕ) (old : Loaded) (before : Option (List ℕ)) (new : Loaded) (after : Option (List ℕ)) : Type 0 where
+  pub puts : (place : Place) (bytes : List ℕ) → Loads line place bytes → new ≡ put place bytes old
+  pub keeps : ((place : Place) (bytes : List ℕ) → Loads line place bytes → ⊥) → new ≡ old
+  pub loaded : (place : Place) → word_of line ≡ name_of (Load place) → Appends before after (loaded_line (decode_of (argument_of line)))
+  pub ran : word_of line ≡ name_of Run → argument_of line ≡ [] → RunTold old before after
+  pub flattened : word_of line ≡ name_of Flat → argument_of line ≡ [] → FlatTold old before after
+  pub shown : (manner : Manner) → word_of line ≡ name_of (Font manner) → FontTold manner (argument_of line) before after
+  pub bad : IsBad line → line ≢ [] → Appends before after (codes "bad command\n")
+  pub silent : line ≡ [] → Keeps before after
+
+-- what is loaded, and what the writer holds, where that is known
+pub record Talk : Type 0 where
+  pub loaded : Loaded
+  pub written : Option (List ℕ)
+
+-- no subroutine, no code, and nothing said
+abbrev pub fresh : Option (List ℕ) → Talk
+fresh written = record { loaded = record { code = []; global = []; local = [] }; written = written }
+
+-- bytes without a line end
+abbrev pub IsFree : List ℕ → Type 0
+IsFree bytes = All (λ byte. byte ≢ 10) bytes
+
+-- a line that has its end, as it is answered: without the carriage return at its end, if it has one
+abbrev pub IsText : List ℕ → List ℕ → Type 0
+IsText line text = ((front : List ℕ) → line ≡ front ++ 13 ∷ [] → text ≡ front) × (((front : List ℕ) → line ≢ front ++ 13 ∷ []) → text ≡ line)
+
+-- a line is answered; the writer may be flushed before
+abbrev pub Answered : Talk → List ℕ → Talk → Type 0
+Answered old text new = (flushed : Option (List ℕ)) × Keeps old.written flushed × LineTold text old.loaded flushed new.loaded new.written
+
+-- the same of a line that has its end
+abbrev pub AnsweredLine : Talk → List ℕ → Talk → Type 0
+AnsweredLine old line new = (text : List ℕ) × IsFree line × IsText line text × Answered old text new
+
+-- an input is these lines, each with its end, and an open line behind them; each line is answered in its turn
+pub record Heard (input : List ℕ) (old : Talk) (open_line : List ℕ) (new : Talk) : Type 0 where
+  pub lines : List (List ℕ)
+  pub spelled : input ≡ flat_map (λ line. line ++ 10 ∷ []) lines ++ open_line
+  pub free : IsFree open_line
+  pub answered : FoldsTo AnsweredLine old lines new
+
+-- an input is answered, line by line, and its open line at last
+abbrev pub Session : List ℕ → Option (List ℕ) → Option (List ℕ) → Type 0
+Session input before after = (open_line : List ℕ) × (talk : Talk) × (last : Talk) × Heard input (fresh before) open_line talk
+    × Answered talk open_line last × Keeps last.written after
