@@ -4,7 +4,7 @@ use native.Mathlib.Numerals.{unary_clauses}
 use Rattle.std.specs.List.{flat_map}
 use Rattle.std.proofs.Math.Seq.{take-suc}
 use Rattle.std.proofs.lemmas.Grind.{flat_map-append}
-use Rattle.std.specs.Io.KnownBytes.{Appends}
+use Rattle.std.specs.Io.KnownBytes.{Appends, Keeps}
 
 -- nothing is written
 pub none : (u : Option (List ℕ)) → Appends u u []
@@ -49,3 +49,10 @@ more_of f g u v w items i d below so_far next =
 pub so : {T E : Type 0} (r : Result T E) {P Q : Type 0} → OnOk r P → (P → Q) → OnOk r Q
 so (Ok x) p f = f p
 so (Err e) p f = tt
+
+-- known bytes that grew, and were kept then
+pub kept : (u v w : Option (List ℕ)) (a : List ℕ) → Appends u v a → Keeps v w → Appends u w a
+kept None v w a x y = tt
+kept (Some xs) None w a x y = absurd x
+kept (Some xs) (Some ys) None a x y = absurd y
+kept (Some xs) (Some ys) (Some zs) a x y = y ∙ x

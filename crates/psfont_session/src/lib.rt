@@ -4,11 +4,14 @@
 
 ghost use Rattle.std.specs.Prelude.{◌≡◌, ℕ, List, OnOk, [], ◌≤◌, ◌↔◌, ◌∷◌, map, string_bytes, IfOk, IsOk};
 ghost use Rattle.postscript.specs.Error.{IsListed};
-ghost use Rattle.std.specs.Io.KnownBytes.{Consumes, Keeps};
+ghost use Rattle.std.specs.Io.KnownBytes.{Appends, Consumes, Keeps};
+ghost use Rattle.postscript.specs.FontSet.Shown.{font_shown};
+ghost use Rattle.psfont_session.specs.Summary.{font_text};
 ghost use Rattle.psfont_session.specs.Look.{Looked, Goes};
 ghost use Rattle.psfont_session.specs.Session.{LineTold, Session};
 ghost use Rattle.psfont_session.specs.Words.{AreKnown};
 
+use postscript::compact1::FontSet;
 use postscript::{Error, Result};
 use std::alloc::Global;
 use std::fs::File;
@@ -145,6 +148,8 @@ pub fn start<F: Files + AllocGlobal, R: BufRead, W: Write, E: Write>(
 ) -> u8
     ensures status { result ≤ 2 }
     ensures usage { (result ≡ 2) ↔ (¬ (AreKnown (map string_bytes words.now))) }
+    ensures answered { words.now ≡ [] → result ≡ 0 → (input : List ℕ) × Consumes (R.remaining reader.old) (R.remaining reader.new) input
+        × Session input (W.contents writer.old) (W.contents writer.new) }
 {
     match words {
         [] => status(session(files.alloc(), reader, writer), errors),
@@ -172,11 +177,24 @@ fn show_file<F: Files + AllocGlobal, W: Write>(
     manner: Manner,
     path: &str,
     writer: &mut W,
-) -> Result<()> {
+) -> Result<()>
+    ensures told { OnOk result ((font : FontSet) × Appends (W.contents writer.old) (W.contents writer.new) (font_text (font_shown font))) }
+    ensures listed { IsListed (1 ∷ 2 ∷ 3 ∷ 5 ∷ 6 ∷ 7 ∷ 8 ∷ 9 ∷ 10 ∷ 11 ∷ 12 ∷ 13 ∷ 14 ∷ 15 ∷ 16 ∷ []) result }
+{
     let alloc = files.alloc();
     let mut tape = BufReader::new(alloc, File::open(files, path)?).map_err(|_| Error::Memory)?;
-    write_font(&read_font(alloc, manner, &mut tape)?, writer)?;
-    Ok(writer.flush()?)
+    show(&read_font(alloc, manner, &mut tape)?, writer)
+}
+
+/// Writes what a font holds, and flushes the writer.
+#[tactic(auto, using(crate::proofs::Writing::kept))]
+fn show<W: Write>(font: &FontSet, writer: &mut W) -> Result<()>
+    ensures told { OnOk result (Appends (W.contents writer.old) (W.contents writer.new) (font_text (font_shown font.now))) }
+    ensures listed { IsListed (1 ∷ 2 ∷ []) result }
+{
+    write_font(font, writer)?;
+    writer.flush()?;
+    Ok(())
 }
 
 /// The status of an outcome, whose fault is told.
