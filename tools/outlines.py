@@ -7,17 +7,21 @@
 PROGRAM is that of outlines_main.txt, built. Each WORD is an installed Debian package, of which each file .otf is taken, or a
 font file. Fonts without a table `CFF ` and those of several Private dictionaries are left out, and so are glyphs whose
 `endchar` names two others, which are not followed. Each segment and each coordinate is compared as an exact fraction, and the
-width with the nominal or the default one. The status is 1 where a glyph differs. With --sheet it writes forty glyphs of a font
-file, as they are drawn, as SVG.
+width with the nominal or the default one; the bounds with those of ControlBoundsPen, and the tight bounds with those of
+BoundsPen, rounded outwards to 65536ths, which a side may leave by one more, and by one less where the float that was rounded
+lies within a thousandth of a whole one. The status is 1 where a glyph differs. With --sheet it writes forty glyphs of a font file,
+as they are drawn, as SVG.
 """
 
 import collections
+import math
 import re
 import subprocess
 import sys
 from fractions import Fraction
 from xml.sax.saxutils import escape
 
+from fontTools.pens.boundsPen import BoundsPen, ControlBoundsPen
 from fontTools.pens.recordingPen import RecordingPen
 from fontTools.ttLib import TTFont
 
@@ -39,6 +43,35 @@ def drawn(char_string):
     pen = RecordingPen()
     char_string.draw(pen)
     return [(kind, tuple((Fraction(x), Fraction(y)) for x, y in points)) for kind, points in pen.value if kind != "addComponent"]
+
+
+def sides_of(text):
+    return None if text == "-" else [int(side) for side in text.split(",")]
+
+
+def is_bounds(found, char_string):
+    """Whether these are the bounds of all points."""
+    pen = ControlBoundsPen(None)
+    char_string.draw(pen)
+    wanted = None if pen.bounds is None else [Fraction(side) * 65536 for side in pen.bounds]
+    return found == wanted
+
+
+def excess_of(side, exact, outwards):
+    """By how many 65536ths a side lies further out than fontTools' one, rounded outwards; None where it cuts the curve."""
+    exact *= 65536
+    further = math.floor(exact) - side if outwards < 0 else side - math.ceil(exact)
+    return 0 if further == -1 and abs(exact - round(exact)) < 0.001 else further if further >= 0 else None
+
+
+def tightness(found, char_string):
+    """How many sides lie one 65536th further out than fontTools' ones, or None where one lies elsewhere."""
+    pen = BoundsPen(None)
+    char_string.draw(pen)
+    if found is None or pen.bounds is None:
+        return 0 if found is None and pen.bounds is None else None
+    excess = [excess_of(*sides) for sides in zip(found, pen.bounds, (-1, -1, 1, 1), strict=True)]
+    return None if None in excess or max(excess) > 1 else sum(excess)
 
 
 def is_accented(char_string):
@@ -67,12 +100,14 @@ def compare(program, path, counts):
         if is_accented(char_string):
             counts["left out"] += 1
             continue
-        word, _, data = line.partition(" ")
+        word, bounds, tight, data = (line.split(" ", 3) + ["-", "-", ""])[:4]
         wanted = drawn(char_string)
+        further = tightness(sides_of(tight), char_string) if word != "refused" else None
         found = list(segments_of(data))
         counts["glyphs"] += 1
         counts["segments"] += len(wanted)
-        if word == "refused" or found != wanted or width_of(word, char_string.private) != Fraction(char_string.width):
+        counts["sides one further"] += further or 0
+        if further is None or not is_bounds(sides_of(bounds), char_string) or found != wanted or width_of(word, char_string.private) != Fraction(char_string.width):
             counts["different"] += 1
             print(f"{path}: {name}: {line[:60]}", flush=True)
 
@@ -82,7 +117,7 @@ def sheet(program, path):
     text = "".join(f"{kind} {code.hex()}\n" for kind, code in lines_of(path))
     printed = subprocess.run([program], input=text.encode(), stdout=subprocess.PIPE, check=True).stdout.decode().split("\n")
     font = TTFont(path, lazy=True)
-    drawn_paths = dict(zip(font.getGlyphOrder(), (line.partition(" ")[2] for line in printed), strict=False))
+    drawn_paths = dict(zip(font.getGlyphOrder(), (line.split(" ", 3)[-1] for line in printed), strict=False))
     character_map = font.getBestCmap()
     unit = font["head"].unitsPerEm
     names = [character_map[ord(letter)] for letter in LETTERS]

@@ -167,6 +167,11 @@ outlined-under xs answers end =
     ∙ ap (λ r. r >>= finished end) (drawing_of-under xs answers blank)
     ∙ then (prefixed xs) (λ ss. xs ++ ss) (drawing_of answers blank) (finished end) (finished-under xs end)
 
+pub outlined_from-under : (xs : List Segment) (answers : List Answer) (end : End) (d : Drawing) → outlined_from (prefixed xs d) answers end ≡ mapped (λ ss. xs ++ ss) (outlined_from d answers end)
+outlined_from-under xs answers end d =
+    ap (λ r. r >>= finished end) (drawing_of-under xs answers d)
+    ∙ then (prefixed xs) (λ ss. xs ++ ss) (drawing_of answers d) (finished end) (finished-under xs end)
+
 given-all : (xs ys : List Segment) (r : Result (List Segment) Refusal) → mapped (λ ss. xs ++ ss) r ≡ Ok ys → IsGiven xs ys r
 given-all xs ys (Ok ss) is = cc
 given-all xs ys (Err e) is = cc

@@ -4,7 +4,9 @@ ghost use Rattle.std.specs.Prelude.{◌≡◌, ◌∷◌, ◌++◌, [], OnErr, O
 use crate::checks::{bytes_of, holds, is_text};
 use postscript::type2::{Operand, Operator, Program, run};
 use postscript::{Error, Result};
-use postscript_outline::{Bounds, Outline, Pen, Point, Segment, Sink, draw, draw_program};
+use postscript_outline::{
+    Bounds, Outline, Pen, Point, Segment, Sink, Tally, draw, draw_program, tally_code,
+};
 use std::alloc::Global;
 use std::process::Abort;
 
@@ -67,6 +69,159 @@ const ROWS: &[(&str, &str)] = &[
     ("ff00018000 8b15 8b ff00008000 05 0e", "M1.5 0L1.5 0.5Z"),
 ];
 
+/// A code and its path, as above: each operator that takes lists of operands, with one list and more of each form, and with as many
+/// as the stack holds.
+const COUNTS: &[(&str, &str)] = &[
+    ("8c8d15 888f 05 0e", "M1 2L-2 6Z"),
+    ("8c8d15 888f8990 05 0e", "M1 2L-2 6L-4 11Z"),
+    ("8c8d15 888f89908a91 05 0e", "M1 2L-2 6L-4 11L-5 17Z"),
+    (
+        "8c8d15 888f89908a9194858c868d878e888f89908a9194858c868d878e888f89908a9194858c868d878e888f89908a9194858c 05 0e",
+        "M1 2L-2 6L-4 11L-5 17L4 11L5 6L7 2L10 -1L14 -3L19 -4L25 5L19 6L14 8L10 11L7 15L5 20L4 26L13 20L14 15L16 11L19 8L23 6L28 5L34 14L28 15Z",
+    ),
+    ("8c8d15 888f8990 06 0e", "M1 2L-2 2L-2 6L-4 6L-4 11Z"),
+    (
+        "8c8d15 888f89908a 06 0e",
+        "M1 2L-2 2L-2 6L-4 6L-4 11L-5 11Z",
+    ),
+    (
+        "8c8d15 888f89908a9194858c868d878e888f89908a9194858c868d878e888f89908a9194858c868d878e888f89908a919485 06 0e",
+        "M1 2L-2 2L-2 6L-4 6L-4 11L-5 11L-5 17L4 17L4 11L5 11L5 6L7 6L7 2L10 2L10 -1L14 -1L14 -3L19 -3L19 -4L25 -4L25 5L19 5L19 6L14 6L14 8L10 8L10 11L7 11L7 15L5 15L5 20L4 20L4 26L13 26L13 20L14 20L14 15L16 15L16 11L19 11L19 8L23 8L23 6L28 6L28 5L34 5L34 14L28 14Z",
+    ),
+    (
+        "8c8d15 888f89908a9194858c868d878e888f89908a9194858c868d878e888f89908a9194858c868d878e888f89908a9194858c 06 0e",
+        "M1 2L-2 2L-2 6L-4 6L-4 11L-5 11L-5 17L4 17L4 11L5 11L5 6L7 6L7 2L10 2L10 -1L14 -1L14 -3L19 -3L19 -4L25 -4L25 5L19 5L19 6L14 6L14 8L10 8L10 11L7 11L7 15L5 15L5 20L4 20L4 26L13 26L13 20L14 20L14 15L16 15L16 11L19 11L19 8L23 8L23 6L28 6L28 5L34 5L34 14L28 14L28 15Z",
+    ),
+    ("8c8d15 888f8990 07 0e", "M1 2L1 -1L5 -1L5 -3L10 -3Z"),
+    (
+        "8c8d15 888f89908a 07 0e",
+        "M1 2L1 -1L5 -1L5 -3L10 -3L10 -4Z",
+    ),
+    (
+        "8c8d15 888f89908a9194858c868d878e888f89908a9194858c868d878e888f89908a9194858c868d878e888f89908a919485 07 0e",
+        "M1 2L1 -1L5 -1L5 -3L10 -3L10 -4L16 -4L16 5L10 5L10 6L5 6L5 8L1 8L1 11L-2 11L-2 15L-4 15L-4 20L-5 20L-5 26L4 26L4 20L5 20L5 15L7 15L7 11L10 11L10 8L14 8L14 6L19 6L19 5L25 5L25 14L19 14L19 15L14 15L14 17L10 17L10 20L7 20L7 24L5 24L5 29L4 29L4 35L13 35L13 29Z",
+    ),
+    (
+        "8c8d15 888f89908a9194858c868d878e888f89908a9194858c868d878e888f89908a9194858c868d878e888f89908a9194858c 07 0e",
+        "M1 2L1 -1L5 -1L5 -3L10 -3L10 -4L16 -4L16 5L10 5L10 6L5 6L5 8L1 8L1 11L-2 11L-2 15L-4 15L-4 20L-5 20L-5 26L4 26L4 20L5 20L5 15L7 15L7 11L10 11L10 8L14 8L14 6L19 6L19 5L25 5L25 14L19 14L19 15L14 15L14 17L10 17L10 20L7 20L7 24L5 24L5 29L4 29L4 35L13 35L13 29L14 29Z",
+    ),
+    ("8c8d15 888f89908a91 08 0e", "M1 2C-2 6 -4 11 -5 17Z"),
+    (
+        "8c8d15 888f89908a9194858c868d878e888f89908a 08 0e",
+        "M1 2C-2 6 -4 11 -5 17C4 11 5 6 7 2C10 -1 14 -3 19 -4Z",
+    ),
+    (
+        "8c8d15 888f89908a9194858c868d878e888f89908a9194858c868d878e888f89908a9194858c868d878e888f89908a9194858c 08 0e",
+        "M1 2C-2 6 -4 11 -5 17C4 11 5 6 7 2C10 -1 14 -3 19 -4C25 5 19 6 14 8C10 11 7 15 5 20C4 26 13 20 14 15C16 11 19 8 23 6C28 5 34 14 28 15Z",
+    ),
+    (
+        "8c8d15 888f89908a919485 1b 0e",
+        "M1 2C-2 2 2 0 7 0C6 0 12 9 6 9Z",
+    ),
+    (
+        "8c8d15 888f89908a9194858c 1b 0e",
+        "M1 2C5 -1 3 4 2 4C8 4 17 -2 18 -2Z",
+    ),
+    (
+        "8c8d15 888f89908a9194858c868d87 1b 0e",
+        "M1 2C-2 2 2 0 7 0C6 0 12 9 6 9C7 9 2 11 -2 11Z",
+    ),
+    (
+        "8c8d15 888f89908a9194858c868d878e888f89908a9194858c868d878e888f89908a9194858c868d878e888f89908a9194858c 1b 0e",
+        "M1 2C-2 2 2 0 7 0C6 0 12 9 6 9C7 9 2 11 -2 11C1 11 -2 15 -4 15C1 15 0 21 9 21C3 21 4 16 6 16C2 16 5 13 9 13C7 13 12 12 18 12C27 12 21 13 16 13C18 13 14 16 11 16C15 16 13 21 12 21C18 21 27 15 28 15Z",
+    ),
+    (
+        "8c8d15 888f89908a919485 1a 0e",
+        "M1 2C1 -1 5 -3 5 2C5 1 11 10 11 4Z",
+    ),
+    (
+        "8c8d15 888f89908a9194858c 1a 0e",
+        "M1 2C-2 6 -4 11 -4 10C-4 16 5 10 5 11Z",
+    ),
+    (
+        "8c8d15 888f89908a9194858c868d87 1a 0e",
+        "M1 2C1 -1 5 -3 5 2C5 1 11 10 11 4C11 5 6 7 6 3Z",
+    ),
+    (
+        "8c8d15 888f89908a9194858c868d878e888f89908a9194858c868d878e888f89908a9194858c868d878e888f89908a9194858c 1a 0e",
+        "M1 2C1 -1 5 -3 5 2C5 1 11 10 11 4C11 5 6 7 6 3C6 6 3 10 3 8C3 13 2 19 2 28C2 22 3 17 3 19C3 15 6 12 6 16C6 14 11 13 11 19C11 28 5 29 5 24C5 26 1 29 1 26C1 30 -1 35 -1 34C-1 40 8 34 8 35Z",
+    ),
+    ("8c8d15 888f89908a 1f 0e", "M1 2C-2 2 2 0 1 5Z"),
+    (
+        "8c8d15 888f89908a9194858c868d87 1f 0e",
+        "M1 2C-2 2 2 0 2 5C2 4 8 13 2 13C3 13 -2 15 -2 11Z",
+    ),
+    (
+        "8c8d15 888f89908a9194858c868d878e 1f 0e",
+        "M1 2C-2 2 2 0 2 5C2 4 8 13 2 13C3 13 -2 15 1 11Z",
+    ),
+    (
+        "8c8d15 888f89908a9194858c868d878e888f89 1f 0e",
+        "M1 2C-2 2 2 0 2 5C2 4 8 13 2 13C3 13 -2 15 -2 11C-2 14 -5 18 -7 18Z",
+    ),
+    (
+        "8c8d15 888f89908a9194858c868d878e888f8990 1f 0e",
+        "M1 2C-2 2 2 0 2 5C2 4 8 13 2 13C3 13 -2 15 -2 11C-2 14 -5 18 -7 23Z",
+    ),
+    (
+        "8c8d15 888f89908a9194858c868d878e888f89908a9194858c868d878e888f89908a9194858c868d878e888f89908a91 1f 0e",
+        "M1 2C-2 2 2 0 2 5C2 4 8 13 2 13C3 13 -2 15 -2 11C-2 14 -5 18 -7 18C-2 18 -3 24 -3 33C-3 27 -2 22 0 22C-4 22 -1 19 -1 23C-1 21 4 20 10 20C19 20 13 21 13 16C13 18 9 21 6 21C10 21 8 26 14 25Z",
+    ),
+    (
+        "8c8d15 888f89908a9194858c868d878e888f89908a9194858c868d878e888f89908a9194858c868d878e888f89908a9194858c 1f 0e",
+        "M1 2C-2 2 2 0 2 5C2 4 8 13 2 13C3 13 -2 15 -2 11C-2 14 -5 18 -7 18C-2 18 -3 24 -3 33C-3 27 -2 22 0 22C-4 22 -1 19 -1 23C-1 21 4 20 10 20C19 20 13 21 13 16C13 18 9 21 6 21C10 21 8 26 8 25C8 31 17 25 18 25Z",
+    ),
+    ("8c8d15 888f89908a 1e 0e", "M1 2C1 -1 5 -3 10 -4Z"),
+    (
+        "8c8d15 888f89908a9194858c868d87 1e 0e",
+        "M1 2C1 -1 5 -3 10 -3C9 -3 15 6 15 0C15 1 10 3 6 3Z",
+    ),
+    (
+        "8c8d15 888f89908a9194858c868d878e 1e 0e",
+        "M1 2C1 -1 5 -3 10 -3C9 -3 15 6 15 0C15 1 10 3 6 6Z",
+    ),
+    (
+        "8c8d15 888f89908a9194858c868d878e888f89 1e 0e",
+        "M1 2C1 -1 5 -3 10 -3C9 -3 15 6 15 0C15 1 10 3 6 3C9 3 6 7 6 5Z",
+    ),
+    (
+        "8c8d15 888f89908a9194858c868d878e888f8990 1e 0e",
+        "M1 2C1 -1 5 -3 10 -3C9 -3 15 6 15 0C15 1 10 3 6 3C9 3 6 7 11 5Z",
+    ),
+    (
+        "8c8d15 888f89908a9194858c868d878e888f89908a9194858c868d878e888f89908a9194858c868d878e888f89908a91 1e 0e",
+        "M1 2C1 -1 5 -3 10 -3C9 -3 15 6 15 0C15 1 10 3 6 3C9 3 6 7 6 5C6 10 5 16 14 16C8 16 9 11 9 13C9 9 12 6 16 6C14 6 19 5 19 11C19 20 13 21 8 21C10 21 6 24 6 21C6 25 4 30 3 36Z",
+    ),
+    (
+        "8c8d15 888f89908a9194858c868d878e888f89908a9194858c868d878e888f89908a9194858c868d878e888f89908a9194858c 1e 0e",
+        "M1 2C1 -1 5 -3 10 -3C9 -3 15 6 15 0C15 1 10 3 6 3C9 3 6 7 6 5C6 10 5 16 14 16C8 16 9 11 9 13C9 9 12 6 16 6C14 6 19 5 19 11C19 20 13 21 8 21C10 21 6 24 6 21C6 25 4 30 3 30C9 30 18 24 18 25Z",
+    ),
+    (
+        "8c8d15 888f89908a9194858c868d878e88 18 0e",
+        "M1 2C-2 6 -4 11 -5 17C4 11 5 6 7 2L10 -1Z",
+    ),
+    (
+        "8c8d15 888f89908a9194858c868d878e888f89908a9194 18 0e",
+        "M1 2C-2 6 -4 11 -5 17C4 11 5 6 7 2C10 -1 14 -3 19 -4L25 5Z",
+    ),
+    (
+        "8c8d15 888f89908a9194858c868d878e888f89908a9194858c868d878e888f89908a9194858c868d878e888f89908a 18 0e",
+        "M1 2C-2 6 -4 11 -5 17C4 11 5 6 7 2C10 -1 14 -3 19 -4C25 5 19 6 14 8C10 11 7 15 5 20C4 26 13 20 14 15C16 11 19 8 23 6L28 5Z",
+    ),
+    (
+        "8c8d15 888f89908a9194858c86 19 0e",
+        "M1 2L-2 6L-4 11C-5 17 4 11 5 6Z",
+    ),
+    (
+        "8c8d15 888f89908a9194858c868d87 19 0e",
+        "M1 2L-2 6L-4 11L-5 17C4 11 5 6 7 2Z",
+    ),
+    (
+        "8c8d15 888f89908a9194858c868d878e888f89908a9194858c868d878e888f89908a9194858c868d878e888f89908a9194858c 19 0e",
+        "M1 2L-2 6L-4 11L-5 17L4 11L5 6L7 2L10 -1L14 -3L19 -4L25 5L19 6L14 8L10 11L7 15L5 20L4 26L13 20L14 15L16 11L19 8L23 6C28 5 34 14 28 15Z",
+    ),
+];
+
 /// The path of a code, or the number of its refusal.
 fn path_of<R: Abort>(rt: &R, alloc: Global, digits: &str) -> String {
     let code = bytes_of(rt, alloc, digits);
@@ -80,6 +235,14 @@ fn path_of<R: Abort>(rt: &R, alloc: Global, digits: &str) -> String {
 fn paths_of_each_operator(rt: HostRuntime) {
     let alloc = rt.alloc();
     for (digits, path) in ROWS {
+        is_text(&rt, path_of(&rt, alloc, digits).as_str(), path, digits);
+    }
+}
+
+#[test]
+fn paths_of_each_count_of_operands(rt: HostRuntime) {
+    let alloc = rt.alloc();
+    for (digits, path) in COUNTS {
         is_text(&rt, path_of(&rt, alloc, digits).as_str(), path, digits);
     }
 }
@@ -100,6 +263,55 @@ fn box_and_width_of_an_outline(rt: HostRuntime) {
     holds(&rt, width == Some(5), "the width");
     let corners = corners_of(&outline);
     holds(&rt, corners == Some([3, 4, 13, 11]), "the box");
+}
+
+/// A code in hex, and the left, lower, right and upper sides round its lines and curves, in 65536ths, rounded outwards. They are
+/// those of the bounds that fontTools 4.38 gives: the tops of curves, not their control points.
+const TIGHT_ROWS: &[(&str, [i32; 4])] = &[
+    // a curve up and back
+    ("8b8b15 8bef ef8b 8b27 08 0e", [0, 0, 6553600, 4915200]),
+    // one that leaves its ends to the left and to the right
+    (
+        "8b8b15 5995 f75c9f 27a9 08 0e",
+        [-535294, 0, 5139063, 3932160],
+    ),
+    // a line, and a curve whose control points lie between its ends
+    (
+        "8c8d15 8e06 8c8d8e8f9091 08 0e",
+        [65536, 131072, 851968, 917504],
+    ),
+    ("8c8d15 8e8f05 0e", [65536, 131072, 262144, 393216]),
+    // coordinates with fractions
+    (
+        "8b8b15 ff00008000 ff00010000 ff0000c000 8b ff0000c000 fffffe8000 08 0e",
+        [0, -32768, 131072, 45675],
+    ),
+];
+
+/// The corners of the box round the lines and curves of a code.
+fn tight_corners_of<R: Abort>(rt: &R, alloc: Global, digits: &str) -> Option<[i32; 4]> {
+    let code = bytes_of(rt, alloc, digits);
+    let outline = Outline::of(alloc, code.as_slice(), &[], &[]).expect(rt, "an outline");
+    let Bounds { low, high } = outline.tight_bounds()?;
+    Some([low.x, low.y, high.x, high.y])
+}
+
+#[test]
+fn boxes_round_curves(rt: HostRuntime) {
+    let alloc = rt.alloc();
+    for (digits, corners) in TIGHT_ROWS {
+        let found = tight_corners_of(&rt, alloc, digits);
+        holds(&rt, found == Some(*corners), digits);
+    }
+    let none = tight_corners_of(&rt, alloc, "0e");
+    holds(&rt, none.is_none(), "nothing drawn");
+    // The top at 12 units stands at a third, which no halving meets: the box may go one 65536th further.
+    let third = tight_corners_of(&rt, alloc, "8b8b15 8ba6 8b70 8b8b 08 0e");
+    holds(
+        &rt,
+        third == Some([0, 0, 0, 786432]) || third == Some([0, 0, 0, 786433]),
+        "a top at a third",
+    );
 }
 
 #[test]
@@ -257,4 +469,46 @@ fn programs_drawn_into_one_outline(rt: HostRuntime) {
     is_text(&rt, path.as_str(), "M1 2L4 2ZM4 0L4 5Z", "both");
     let width = width.and_then(|width| width.to_int());
     holds(&rt, width == Some(5), "the width");
+}
+
+/// The last segment.
+#[derive(Drop)]
+struct Last {
+    segment: Option<Segment>,
+}
+
+impl Tally for Last {
+    ghost use Rattle.std.specs.Prelude.{Some};
+
+    ghost after = { λ _ segment. record { segment = Some segment } };
+
+    fn add(&mut self, segment: Segment) {
+        self.segment = Some(segment);
+    }
+}
+
+#[test]
+fn a_tally_of_ones_own(rt: HostRuntime) {
+    let alloc = rt.alloc();
+    let code = bytes_of(&rt, alloc, "90 8c8d15 8e06 8f16 9007 0e");
+    let mut last = Last { segment: None };
+    let width = tally_code(alloc, code.as_slice(), &[], &[], &mut last).expect(&rt, "a glyph");
+    holds(&rt, last.segment == Some(Segment::Close), "the last one");
+    let width = width.and_then(|width| width.to_int());
+    holds(&rt, width == Some(5), "the width");
+}
+
+#[test]
+fn a_box_with_no_list(rt: HostRuntime) {
+    let alloc = rt.alloc();
+    let code = bytes_of(&rt, alloc, "90 8c8d01 8e8f15 8e8f908b8d8e08 0e");
+    let bounds = Bounds::of(alloc, code.as_slice(), &[], &[]).expect(&rt, "an outline");
+    let outline = Outline::of(alloc, code.as_slice(), &[], &[]).expect(&rt, "an outline");
+    holds(&rt, bounds == outline.bounds(), "the box");
+    let mut taken = None;
+    outline.tally(&mut taken);
+    holds(&rt, taken == bounds, "taken in from a list");
+    let refusal = Bounds::of(alloc, b"\x8c\x8d\x15\x0b", &[], &[]).err();
+    let number = refusal.map(|e| e.code());
+    holds(&rt, number == Some(23), "a return");
 }

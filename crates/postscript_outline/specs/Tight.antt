@@ -1,0 +1,88 @@
+-- The bounds of lines and curves.
+use Rattle.std.specs.Prelude.{◌≡◌, ℕ, ◌+◌, ◌<◌, ℤ, pos, ◌+ℤ◌, ◌*ℤ◌, ◌<ℤ◌, ◌≤ℤ◌, List, [], ◌∷◌, ◌++◌, All, Any, Option, Some, None}
+use Rattle.postscript_outline.specs.Arcs.{Reaches, bezier, cube, greatest, least}
+use Rattle.postscript_outline.specs.Bounds.{lower, upper}
+use Rattle.postscript_outline.specs.declared.bounds.Bounds.{Bounds}
+use Rattle.postscript_outline.specs.declared.pen.Segment.{Segment}
+use Rattle.postscript_outline.specs.declared.pen.Segment.TheVariants.{MoveTo, LineTo, CurveTo, Close}
+use Rattle.postscript_outline.specs.declared.point.Point.{Point}
+
+-- a curve: its first end, its control points, and its last end
+pub record Arc : Type 0 where
+  pub from : Point
+  pub first : Point
+  pub second : Point
+  pub to : Point
+
+abbrev pub arc : (from first second to : Point) → Arc
+arc from first second to = record { from = from; first = first; second = second; to = to }
+
+-- What a segment draws from there: a point that stays, a line, whose control points are its ends, or a curve. A Close goes back to an
+-- end that was met before.
+abbrev pub arcs_of : Point → Segment → List Arc
+arcs_of from (MoveTo p) = arc p p p p ∷ []
+arcs_of from (LineTo p) = arc from from p p ∷ []
+arcs_of from (CurveTo a b p) = arc from a b p ∷ []
+arcs_of from Close = []
+
+-- where the pen stands behind it
+abbrev pub after : Point → Segment → Point
+after from (MoveTo p) = p
+after from (LineTo p) = p
+after from (CurveTo a b p) = p
+after from Close = from
+
+-- what segments draw from there
+abbrev pub arcs : Point → List Segment → List Arc
+arcs from [] = []
+arcs from (segment ∷ segments) = arcs_of from segment ++ arcs (after from segment) segments
+
+-- Along an axis, where a curve is at the part n of m + n, times the cube of m + n.
+abbrev pub place : (axis : Point → ℤ) → Arc → (m n : ℕ) → ℤ
+place axis a m n = bezier (axis a.from) (axis a.first) (axis a.second) (axis a.to) m n
+
+-- each point of the curve, at each part, lies on this side, or on it
+abbrev pub IsAbove : (axis : Point → ℤ) → ℤ → Arc → Type 0
+IsAbove axis low a = (m n : ℕ) → (low *ℤ cube (m + n)) ≤ℤ place axis a m n
+
+abbrev pub IsBelow : (axis : Point → ℤ) → ℤ → Arc → Type 0
+IsBelow axis high a = (m n : ℕ) → place axis a m n ≤ℤ (high *ℤ cube (m + n))
+
+-- some point of the curve lies less than two units from it, and an end or a control point on it or beyond
+pub record DipsTo (axis : Point → ℤ) (low : ℤ) (a : Arc) : Type 0 where
+  pub near : (m : ℕ) × (n : ℕ) × (0 < m + n) × (place axis a m n <ℤ ((low +ℤ pos 2) *ℤ cube (m + n)))
+  pub within : least (axis a.from) (axis a.first) (axis a.second) (axis a.to) ≤ℤ low
+
+pub record RisesTo (axis : Point → ℤ) (high : ℤ) (a : Arc) : Type 0 where
+  pub near : (m : ℕ) × (n : ℕ) × (0 < m + n) × ((high *ℤ cube (m + n)) <ℤ (place axis a m n +ℤ pos 2 *ℤ cube (m + n)))
+  pub within : high ≤ℤ greatest (axis a.from) (axis a.first) (axis a.second) (axis a.to)
+
+-- each point of the curve lies within
+pub record Contains (b : Bounds) (a : Arc) : Type 0 where
+  pub left : IsAbove (λ p. p.x) b.low.x a
+  pub right : IsBelow (λ p. p.x) b.high.x a
+  pub bottom : IsAbove (λ p. p.y) b.low.y a
+  pub top : IsBelow (λ p. p.y) b.high.y a
+
+-- each curve lies within, and each side is nearly met
+pub record TightlyBounded (b : Bounds) (curves : List Arc) : Type 0 where
+  pub within : All (Contains b) curves
+  pub left : Any (DipsTo (λ p. p.x) b.low.x) curves
+  pub right : Any (RisesTo (λ p. p.x) b.high.x) curves
+  pub bottom : Any (DipsTo (λ p. p.y) b.low.y) curves
+  pub top : Any (RisesTo (λ p. p.y) b.high.y) curves
+
+abbrev pub IsTightBoundsOf : Option Bounds → List Arc → Type 0
+IsTightBoundsOf None curves = curves ≡ []
+IsTightBoundsOf (Some b) curves = TightlyBounded b curves
+
+-- the same of one curve, along either axis
+pub record Surrounds (b : Bounds) (a : Arc) : Type 0 where
+  pub across : Reaches b.low.x b.high.x a.from.x a.first.x a.second.x a.to.x
+  pub upwards : Reaches b.low.y b.high.y a.from.y a.first.y a.second.y a.to.y
+
+-- the bounds of both
+abbrev pub both : Option Bounds → Option Bounds → Option Bounds
+both None more = more
+both (Some b) None = Some b
+both (Some b) (Some c) = Some (record { low = lower b.low c.low; high = upper b.high c.high })
