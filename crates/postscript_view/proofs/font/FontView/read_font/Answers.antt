@@ -1,4 +1,4 @@
-use Rattle.postscript_view.proofs.Wider.{same_font, own_part_of, cid_font, wider_font}
+use Rattle.postscript_view.proofs.Wider.{same_font, own_part_of, cid_font, wider_font, set_of}
 use Rattle.postscript_view.proofs.font.FontView.read_font.Goals as goal
 
 pub returns-clause-same : goal.returns-clause-same
@@ -12,3 +12,6 @@ returns-clause-own c = own_part_of c.open.result c.args.bytes.now c.args.number 
 
 pub returns-clause-cid : goal.returns-clause-cid
 returns-clause-cid c = cid_font c.open.result c.args.bytes.now c.args.number (c.open.ensures.exact 0)
+
+pub returns-clause-char_set : goal.returns-clause-char_set
+returns-clause-char_set c = set_of c.open.result c.args.bytes.now c.args.number (c.open.ensures.exact 0) c.open.ensures.bytes
