@@ -42,3 +42,5 @@ mod starts;
 pub mod synthetic;
 #[cfg(test)]
 mod tapes;
+#[cfg(test)]
+mod views;

@@ -1,8 +1,10 @@
 //! Advances of glyphs.
-ghost use Rattle.std.specs.Prelude.{◌≡◌, ◌⊎◌, Some, None, IfOk, IfErr, OnOk};
+ghost use Rattle.std.specs.Prelude.{◌≡◌, ◌⊎◌, ◌≤◌, ◌^◌, Some, None, IfOk, IfErr, IfSome, OnOk};
+ghost use Rattle.std.specs.Int.RustNames.{unsigned_abs};
 ghost use Rattle.postscript_base.specs.Refusal.{refusal_of};
 ghost use Rattle.postscript_base.specs.declared.error.Error.TheVariants as errors;
 ghost use Rattle.postscript_type2.specs.Program.Runs.{fault_of, width_by};
+ghost use Rattle.postscript_view.specs.Advances.{whole_bits};
 
 use postscript_base::Result;
 use postscript_base::compact1::Operand;
@@ -16,6 +18,31 @@ pub enum Advance {
     /// The nominal width of the private dictionary, and the difference from it that the char string tells. The advance is
     /// their sum.
     Nominal(Operand, Difference),
+}
+
+impl Advance {
+    ghost use Rattle.postscript_view.specs.Advances.{bits_of};
+
+    /// The advance in 65536ths of a unit. None where the width of the private dictionary is no whole number of 32 bits. Never
+    /// refused.
+    pub fn in_bits(&self) -> Option<i64>
+        ensures { result ≡ bits_of self.now }
+    {
+        match self {
+            Advance::Default(width) => in_bits(*width),
+            Advance::Nominal(width, difference) => {
+                Some(in_bits(*width)? + i64::from(difference.bits()))
+            }
+        }
+    }
+}
+
+/// A width of a dictionary in 65536ths of a unit, where it is a whole number of 32 bits.
+fn in_bits(width: Operand) -> Option<i64>
+    ensures bits { result ≡ whole_bits width }
+    ensures small { IfSome result (λ bits. unsigned_abs bits ≤ 2 ^ 47) }
+{
+    Some(i64::from(width.to_i32()?) * 65536)
 }
 
 /// The width at the end of what a program still answers.

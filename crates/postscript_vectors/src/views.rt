@@ -1,0 +1,198 @@
+//! Fonts in place: a CID-keyed one, one with an encoding of its own, and what refuses only a part.
+mod rows;
+
+use crate::checks::{bytes_of, changed, code_of, holds, holds_at, is_text, put_shown};
+use crate::fonts::TWO_DICTIONARIES;
+use postscript_view::{Advance, FontView};
+use rows::{BROKEN, CID, CODES, GLYPHS, PLAIN, REFUSED, SELECTIONS};
+use std::alloc::Global;
+use std::process::Abort;
+
+/// The bytes of a font, and behind them others.
+fn joined<R: Abort>(rt: &R, alloc: Global, font: &str, behind: &str) -> Vec<u8> {
+    let mut bytes = bytes_of(rt, alloc, font);
+    let more = bytes_of(rt, alloc, behind);
+    bytes
+        .extend_from_slice(more.as_slice())
+        .expect(rt, "memory");
+    bytes
+}
+
+/// Adds the parts of an advance.
+fn put_advance<R: Abort>(rt: &R, text: &mut String, advance: &Advance) {
+    match advance {
+        Advance::Default(width) => put_shown(rt, text, " advance ", width),
+        Advance::Nominal(width, difference) => {
+            put_shown(rt, text, " advance ", width);
+            put_shown(rt, text, " and ", difference);
+        }
+    }
+    if let Some(bits) = advance.in_bits() {
+        put_shown(rt, text, " bits ", &bits);
+    }
+}
+
+/// What is told of a glyph of a CID-keyed font.
+fn told<R: Abort>(rt: &R, alloc: Global, font: &FontView<'_>, glyph: usize) -> String {
+    let mut text = String::new(alloc);
+    let set = font.char_set().expect(rt, "a char set");
+    if let Some(cid) = font.cid(&set, glyph) {
+        put_shown(rt, &mut text, "cid ", &cid);
+    }
+    if let Some(part) = font.part_of(glyph) {
+        put_shown(rt, &mut text, " part ", &part);
+    }
+    if let Some(found) = font.glyph(glyph) {
+        put_shown(rt, &mut text, " bytes ", &found.code.len());
+    }
+    if let Some(advance) = font.advance(alloc, glyph).expect(rt, "a run") {
+        put_advance(rt, &mut text, &advance);
+    }
+    if let Some(matrix) = font.font_matrix(glyph) {
+        for operand in matrix.as_slice() {
+            put_shown(rt, &mut text, " ", operand);
+        }
+    }
+    if let Some(private) = font.private(glyph) {
+        put_shown(rt, &mut text, " private ", &private.0.len());
+    }
+    text
+}
+
+#[test]
+fn glyphs_of_a_cid_keyed_font(rt: HostRuntime) {
+    let alloc = rt.alloc();
+    for selection in SELECTIONS {
+        let bytes = joined(&rt, alloc, CID, selection);
+        let font = FontView::read(alloc, bytes.as_slice()).expect(&rt, "a font");
+        holds(&rt, font.is_cid_keyed(), "a CID-keyed font");
+        for (glyph, wanted) in GLYPHS.iter().enumerate() {
+            let text = told(&rt, alloc, &font, glyph);
+            is_text(&rt, text.as_str(), wanted, selection);
+        }
+    }
+}
+
+#[test]
+fn glyphs_of_cids(rt: HostRuntime) {
+    let alloc = rt.alloc();
+    let bytes = joined(&rt, alloc, CID, SELECTIONS[0]);
+    let font = FontView::read(alloc, bytes.as_slice()).expect(&rt, "a font");
+    let set = font.char_set().expect(&rt, "a char set");
+    let found = [0, 1, 10, 11, 12, 100, 101].map(|cid| font.glyph_of_cid(&set, cid));
+    let wanted = [Some(0), None, Some(1), Some(2), None, Some(3), None];
+    holds(&rt, found == wanted, "the glyphs");
+    holds(&rt, font.string(391) == Some(b"Adobe"), "a string");
+    let mut text = String::new(alloc);
+    for operand in font.font_bbox().expect(&rt, "a box").as_slice() {
+        put_shown(&rt, &mut text, " ", operand);
+    }
+    is_text(&rt, text.as_str(), " -1e1 -2e1 3e2 4e2", "the box");
+    let program = font.program(alloc, 1).expect(&rt, "a program");
+    holds(&rt, program.width().is_none(), "a program before its run");
+}
+
+/// The codes that have a glyph, each with the glyph.
+fn codes_of<R: Abort>(rt: &R, alloc: Global, bytes: &[u8]) -> String {
+    let mut text = String::new(alloc);
+    let font = FontView::read(alloc, bytes).expect(rt, "a font");
+    let set = font.char_set().expect(rt, "a char set");
+    match font.encoding() {
+        Ok(encoding) => {
+            for code in 0..=255u8 {
+                if let Some(glyph) = font.glyph_of_code(&encoding, &set, code) {
+                    put_shown(rt, &mut text, " ", &code);
+                    put_shown(rt, &mut text, ":", &glyph);
+                }
+            }
+        }
+        Err(e) => put_shown(rt, &mut text, " fault ", &e.code()),
+    }
+    text
+}
+
+#[test]
+fn codes_of_encodings(rt: HostRuntime) {
+    let alloc = rt.alloc();
+    for (encoding, wanted) in CODES {
+        let bytes = joined(&rt, alloc, PLAIN, encoding);
+        let text = codes_of(&rt, alloc, bytes.as_slice());
+        is_text(&rt, text.as_str(), wanted, encoding);
+    }
+}
+
+#[test]
+fn names_of_glyphs(rt: HostRuntime) {
+    let alloc = rt.alloc();
+    let bytes = bytes_of(&rt, alloc, PLAIN);
+    let font = FontView::read(alloc, bytes.as_slice()).expect(&rt, "a font");
+    let set = font.char_set().expect(&rt, "a char set");
+    holds(&rt, !font.is_cid_keyed(), "no CID-keyed font");
+    holds(&rt, font.cid(&set, 1).is_none(), "no CID");
+    holds(
+        &rt,
+        font.glyph_of_cid(&set, 34).is_none(),
+        "no glyph of a CID",
+    );
+    let names: [&[u8]; 5] = [b".notdef", b"A", b"alpha", b"B", b"beta"];
+    for (glyph, name) in names.iter().enumerate() {
+        holds_at(&rt, font.name(&set, glyph) == Some(name), "name", glyph);
+        holds_at(
+            &rt,
+            font.glyph_of_name(&set, name) == Some(glyph),
+            "glyph",
+            glyph,
+        );
+    }
+    holds(&rt, font.name(&set, 5).is_none(), "no sixth glyph");
+    holds(
+        &rt,
+        font.glyph_of_name(&set, b"C").is_none(),
+        "no such name",
+    );
+}
+
+#[test]
+fn fonts_that_are_refused(rt: HostRuntime) {
+    let alloc = rt.alloc();
+    for (row, (place, byte, code)) in REFUSED.iter().enumerate() {
+        let bytes = changed(&rt, alloc, PLAIN, *place, *byte);
+        let found = code_of(FontView::read(alloc, bytes.as_slice()));
+        holds_at(&rt, found == *code, "refused row", row);
+    }
+    for (row, (place, byte, code)) in BROKEN.iter().enumerate() {
+        let bytes = changed(&rt, alloc, PLAIN, *place, *byte);
+        let font = FontView::read(alloc, bytes.as_slice()).expect(&rt, "a font");
+        holds_at(&rt, code_of(font.char_set()) == *code, "broken row", row);
+    }
+}
+
+#[test]
+fn codes_of_predefined_encodings(rt: HostRuntime) {
+    let alloc = rt.alloc();
+    let bytes = changed(&rt, alloc, PLAIN, 21, 0x00);
+    let text = codes_of(&rt, alloc, bytes.as_slice());
+    is_text(&rt, text.as_str(), " 65:1 66:3", "the standard encoding");
+    let bytes = changed(&rt, alloc, PLAIN, 21, 0x01);
+    let text = codes_of(&rt, alloc, bytes.as_slice());
+    is_text(&rt, text.as_str(), "", "the expert encoding");
+}
+
+#[test]
+fn fonts_of_a_set(rt: HostRuntime) {
+    let alloc = rt.alloc();
+    let bytes = bytes_of(&rt, alloc, TWO_DICTIONARIES);
+    holds(
+        &rt,
+        matches!(FontView::fonts(bytes.as_slice()), Ok(2)),
+        "two fonts",
+    );
+    for number in 0..2 {
+        let font = FontView::read_font(alloc, bytes.as_slice(), number).expect(&rt, "a font");
+        holds_at(&rt, font.char_strings.len() == 1, "font", number);
+    }
+    let found = code_of(FontView::read_font(alloc, bytes.as_slice(), 2));
+    holds(&rt, found == 1, "no third font");
+    let found = code_of(FontView::fonts(&[1, 0, 4, 1, 0]));
+    holds(&rt, found == 1, "names that are cut");
+}

@@ -1,0 +1,12 @@
+use Rattle.std.proofs.Common.{inl, inr, rules}
+use Rattle.postscript_view.proofs.Coding.{if_err}
+use Rattle.postscript_view.proofs.encoding.EncodingView.at.Goals as goal
+
+pub returns-in_default-clause-none : goal.returns-in_default-clause-none
+returns-in_default-clause-none c = if_err c.own.result c.own.ensures.none (λ none encoding h. elim h [
+  | inl standard ↦ absurd (search (rules, standard.0))
+  | inr other ↦ elim other [
+    | inl expert ↦ absurd (search (rules, expert.0))
+    | inr own ↦ none encoding own.1
+  ]
+])

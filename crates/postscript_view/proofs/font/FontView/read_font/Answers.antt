@@ -1,0 +1,17 @@
+use Rattle.postscript_view.proofs.Wider.{same_font, own_part_of, cid_font, wider_font, set_of}
+use Rattle.postscript_view.proofs.font.FontView.read_font.Goals as goal
+
+pub returns-clause-same : goal.returns-clause-same
+returns-clause-same c = same_font c.open.result c.args.bytes.now c.args.number (c.open.ensures.exact 0)
+
+pub returns-clause-wider : goal.returns-clause-wider
+returns-clause-wider c = wider_font c.open.result c.args.bytes.now c.args.number (c.open.ensures.exact 0)
+
+pub returns-clause-own : goal.returns-clause-own
+returns-clause-own c = own_part_of c.open.result c.args.bytes.now c.args.number (c.open.ensures.exact 0)
+
+pub returns-clause-cid : goal.returns-clause-cid
+returns-clause-cid c = cid_font c.open.result c.args.bytes.now c.args.number (c.open.ensures.exact 0)
+
+pub returns-clause-char_set : goal.returns-clause-char_set
+returns-clause-char_set c = set_of c.open.result c.args.bytes.now c.args.number (c.open.ensures.exact 0) c.open.ensures.bytes

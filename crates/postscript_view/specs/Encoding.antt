@@ -1,0 +1,78 @@
+-- Encodings in place (Technical Note 5176, section 12, "Encodings").
+use Rattle.std.specs.Prelude.{◌≡◌, ◌⊎◌, ℕ, zero, suc, ◌+◌, ◌-◌, ◌*◌, ◌/◌, ◌<◌, ◌≤◌, List, length, Some}
+use Rattle.postscript_compact1.specs.Encodings.{identifier_of}
+use Rattle.postscript_items.specs.Items.{number_at}
+use Rattle.postscript_view.specs.Naming.{Names}
+use Rattle.postscript_view.specs.declared.char_set.CharSetView.{CharSetView}
+use Rattle.postscript_view.specs.declared.encoding.Codes.{Codes}
+use Rattle.postscript_view.specs.declared.encoding.Codes.TheVariants.{Predefined, Listed, Ranges}
+use Rattle.postscript_view.specs.declared.encoding.EncodingView.{EncodingView}
+
+-- Format 0: a byte for each glyph from 1 on is its code.
+pub record IsInList (codes : List ℕ) (code glyph : ℕ) : Type 0 where
+  pub behind : 0 < glyph
+  pub there : glyph ≤ length codes
+  pub code_is : number_at codes (glyph - 1) 1 ≡ code
+
+-- Format 1: range r is its first code in a byte, and in another how many codes of the range follow it.
+abbrev pub first_code : List ℕ → (r : ℕ) → ℕ
+first_code ranges r = number_at ranges (r * 2) 1
+
+abbrev pub codes_left : List ℕ → (r : ℕ) → ℕ
+codes_left ranges r = number_at ranges (r * 2 + 1) 1
+
+-- how many glyphs the ranges before range r have codes for
+unfoldable pub coded : List ℕ → (r : ℕ) → ℕ
+coded ranges zero = 0
+coded ranges (suc r) = coded ranges r + (codes_left ranges r + 1)
+
+-- The codes of a range are those of sequential glyphs, and the ranges together begin with glyph 1.
+pub record IsInRanges (ranges : List ℕ) (code glyph : ℕ) : Type 0 where
+  pub range : ℕ
+  pub there : range < length ranges / 2
+  pub from : first_code ranges range ≤ code
+  pub to : code ≤ first_code ranges range + codes_left ranges range
+  pub glyph_is : glyph + first_code ranges range ≡ 1 + coded ranges range + code
+
+-- A supplement is a code in a byte, and in two the identifier of the name of a glyph that has this code too.
+abbrev pub supplement_code : List ℕ → (s : ℕ) → ℕ
+supplement_code supplements s = number_at supplements (s * 3) 1
+
+abbrev pub supplement_name : List ℕ → (s : ℕ) → ℕ
+supplement_name supplements s = number_at supplements (s * 3 + 1) 2
+
+-- some supplement has the code
+abbrev pub IsSupplemented : List ℕ → (code : ℕ) → Type 0
+IsSupplemented supplements code = (s : ℕ) × (s < length supplements / 3) × (supplement_code supplements s ≡ code)
+
+-- the first supplement with the code has this identifier
+pub record IsFirstSupplement (supplements : List ℕ) (code identifier : ℕ) : Type 0 where
+  pub supplement : ℕ
+  pub there : supplement < length supplements / 3
+  pub has : supplement_code supplements supplement ≡ code
+  pub named : identifier ≡ supplement_name supplements supplement
+  pub none_before : (s : ℕ) → s < supplement → supplement_code supplements s ≡ code → ⊥
+
+-- Without supplements: a predefined encoding tells the name of the glyph with a code, and a format tells the glyph.
+abbrev pub HasOwnCode : Codes → CharSetView → (code glyph : ℕ) → Type 0
+HasOwnCode (Predefined encoding) set code glyph = (identifier : ℕ) × (identifier_of encoding code ≡ Some identifier) × (0 < identifier) × Names set glyph identifier
+HasOwnCode (Listed codes) set code glyph = IsInList codes.now code glyph
+HasOwnCode (Ranges ranges) set code glyph = IsInRanges ranges.now code glyph
+
+-- A glyph has a code: by the first supplement with the code, where there is one.
+abbrev pub HasCode : EncodingView → CharSetView → (code glyph : ℕ) → Type 0
+HasCode encoding set code glyph =
+    ((identifier : ℕ) × IsFirstSupplement encoding.supplements.now code identifier × Names set glyph identifier)
+    ⊎ ((IsSupplemented encoding.supplements.now code → ⊥) × HasOwnCode encoding.codes set code glyph)
+
+-- the first of so many glyphs that has a code
+pub record IsFirstWithCode (encoding : EncodingView) (set : CharSetView) (glyphs code glyph : ℕ) : Type 0 where
+  pub there : glyph < glyphs
+  pub has : HasCode encoding set code glyph
+  pub none_before : (other : ℕ) → other < glyph → HasCode encoding set code other → ⊥
+
+-- and without supplements
+pub record IsFirstWithOwnCode (codes : Codes) (set : CharSetView) (glyphs code glyph : ℕ) : Type 0 where
+  pub there : glyph < glyphs
+  pub has : HasOwnCode codes set code glyph
+  pub none_before : (other : ℕ) → other < glyph → HasOwnCode codes set code other → ⊥
