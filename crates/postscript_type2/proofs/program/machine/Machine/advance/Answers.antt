@@ -138,10 +138,8 @@ returns-in_ok-enter-in-Calls-clause-advances c =
     let now : State = state_of c.act.new.self in
     let moves : effect lists op rest (stacked ys st) ≡ Calls c.in-Calls.code.now now.stack = does.0 ∙ ap (λ done. move_of done now) c.in-Calls.is in
     let becomes : now ≡ stacked now.stack st = does.1 ∙ ap (λ move. after_move move (stacked ys st)) moves in
-    let one_less : left ≡ suc (left - 1) = omega arith in
-    let pushed : rests c.enter.new.self ≡ rest ∷ callers = c.in_ok-enter-in-Calls.ensures.ok ∙ ap (λ caller. caller ∷ callers) c.replace-caller.ensures.value in
-    let entry : c.replace-caller.new.dest ≡ c.in-Calls.code.now = c.replace-caller.ensures.after ∙ c.new.ensures in
-    (entered lists left (left - 1) callers (rests c.enter.new.self) bytes rest c.passed-bytes.result.now st ys op more c.in-Calls.code.now c.replace-caller.new.dest now read moves becomes one_less pushed entry front, ap (λ (s : State). s.width) becomes)
+    let entry = c.in_ok-enter-in-Calls.ensures in
+    (rw (entry.lists, entry.state) (entered lists left c.enter.new.self.left callers (rests c.enter.new.self.callers) bytes rest c.passed-bytes.result.now st ys op more c.in-Calls.code.now c.enter.new.self.routine now read moves becomes entry.left entry.callers entry.routine front), ap (λ (s : State). s.width) (entry.state ∙ becomes))
 
 pub returns-in_default-leave-clause-advances : goal.returns-in_default-leave-clause-advances
 returns-in_default-leave-clause-advances c =
