@@ -56,6 +56,25 @@ returns-in-Keeps-clause-advances c =
     let becomes : now ≡ holding now.stack now.stored st = does.1 ∙ ap (λ move. after_move move (stacked ys st)) moves in
     (kept lists left callers bytes rest c.passed-bytes.result.now st ys op more now read moves becomes front, ap (λ (s : State). s.width) becomes)
 
+pub returns-in-Some-clause-advances : goal.returns-in-Some-clause-advances
+returns-in-Some-clause-advances c =
+    let lists : Lists = lists_of c.args.self.now.lists in
+    let left : ℕ = c.args.self.now.left in
+    let callers : List (List ℕ) = rests c.args.self.now.callers in
+    let bytes : List ℕ = c.args.self.now.routine in
+    let rest : List ℕ = c.phrase.new.self in
+    let st : State = state_of c.args.self.now.state in
+    let ys : List ℤ = c.phrase.new.stack.items in
+    let op = c.in_ok-operator.operator in
+    let more = c.in_ok-operator.ensures.0 in
+    let some : 0 < length bytes = rw (← c.rest-rest.ensures) (some-of (length c.rest-rest.result.now) c.if-is_empty.ensures) in
+    let read : IsRead bytes rest st ys op more = record { some = some; spelled = c.in_ok-operator.ensures.1; behind = c.in_ok-operator.ensures.2 } in
+    let front : List ℕ = c.passed-bytes.result.now in
+    let is_front : front ≡ take (length bytes - length rest) bytes = rw (← c.rest-rest.ensures) c.passed-bytes.ensures in
+    let taken : List ℤ = last_of ys c.in-Some.count in
+    let width : Option ℤ = settled st.width ys c.in-Some.count in
+    (answered lists left callers bytes rest rest front st ys op more 0 taken (cleared st.stems width st) width read (c.in-Some.ensures lists rest) refl refl is_front, refl)
+
 pub returns-in-Clears-clause-advances : goal.returns-in-Clears-clause-advances
 returns-in-Clears-clause-advances c =
     let lists : Lists = lists_of c.args.self.now.lists in
@@ -119,13 +138,11 @@ returns-in_ok-enter-in-Calls-clause-advances c =
     let now : State = state_of c.act.new.self in
     let moves : effect lists op rest (stacked ys st) ≡ Calls c.in-Calls.code.now now.stack = does.0 ∙ ap (λ done. move_of done now) c.in-Calls.is in
     let becomes : now ≡ stacked now.stack st = does.1 ∙ ap (λ move. after_move move (stacked ys st)) moves in
-    let one_less : left ≡ suc (left - 1) = omega arith in
-    let pushed : rests c.enter.new.self ≡ rest ∷ callers = c.in_ok-enter-in-Calls.ensures.ok ∙ ap (λ caller. caller ∷ callers) c.replace-caller.ensures.value in
-    let entry : c.replace-caller.new.dest ≡ c.in-Calls.code.now = c.replace-caller.ensures.after ∙ c.new.ensures in
-    (entered lists left (left - 1) callers (rests c.enter.new.self) bytes rest c.passed-bytes.result.now st ys op more c.in-Calls.code.now c.replace-caller.new.dest now read moves becomes one_less pushed entry front, ap (λ (s : State). s.width) becomes)
+    let entry = c.in_ok-enter-in-Calls.ensures in
+    (rw (entry.lists, entry.state) (entered lists left c.enter.new.self.left callers (rests c.enter.new.self.callers) bytes rest c.passed-bytes.result.now st ys op more c.in-Calls.code.now c.enter.new.self.routine now read moves becomes entry.left entry.callers entry.routine front), ap (λ (s : State). s.width) (entry.state ∙ becomes))
 
-pub returns-in_default-clause-advances : goal.returns-in_default-clause-advances
-returns-in_default-clause-advances c =
+pub returns-in_default-leave-clause-advances : goal.returns-in_default-leave-clause-advances
+returns-in_default-leave-clause-advances c =
     let lists : Lists = lists_of c.args.self.now.lists in
     let left : ℕ = c.args.self.now.left in
     let callers : List (List ℕ) = rests c.args.self.now.callers in
@@ -142,10 +159,10 @@ returns-in_default-clause-advances c =
     let moves : effect lists op rest (stacked ys st) ≡ Returns = does.0 ∙ ap (λ done. move_of done now) c.in-Returns.is in
     let becomes : now ≡ stacked ys st = does.1 ∙ ap (λ move. after_move move (stacked ys st)) moves in
     let refusal = no-caller lists left bytes rest st ys op more read moves in
-    (inr (rw c.in_default.ensures refusal), ap (λ (s : State). s.width) becomes)
+    (inr (rw c.in_default-leave.ensures refusal), ap (λ (s : State). s.width) becomes)
 
-pub returns-in-Some-clause-advances : goal.returns-in-Some-clause-advances
-returns-in-Some-clause-advances c =
+pub returns-in-Some-leave-clause-advances : goal.returns-in-Some-leave-clause-advances
+returns-in-Some-leave-clause-advances c =
     let lists : Lists = lists_of c.args.self.now.lists in
     let left : ℕ = c.args.self.now.left in
     let callers : List (List ℕ) = rests c.args.self.now.callers in
@@ -163,7 +180,7 @@ returns-in-Some-clause-advances c =
     let now : State = state_of c.act.new.self in
     let moves : effect lists op rest (stacked ys st) ≡ Returns = does.0 ∙ ap (λ done. move_of done now) c.in-Returns.is in
     let becomes : now ≡ stacked ys st = does.1 ∙ ap (λ move. after_move move (stacked ys st)) moves in
-    (returned lists left (left + 1) c.in-Some.caller callers (rests c.leave.new.self) bytes rest c.passed-bytes.result.now st ys op more now read moves becomes (add-one left) c.in-Some.ensures front, ap (λ (s : State). s.width) becomes)
+    (returned lists left (left + 1) c.in-Some-leave.caller callers (rests c.leave.new.self) bytes rest c.passed-bytes.result.now st ys op more now read moves becomes (add-one left) c.in-Some-leave.ensures front, ap (λ (s : State). s.width) becomes)
 
 pub returns-then-not-are_used_up-clause-advances : goal.returns-then-not-are_used_up-clause-advances
 returns-then-not-are_used_up-clause-advances c =
