@@ -43,7 +43,7 @@ KINDS = ("fn", "struct", "enum", "trait", "type", "const", "static")
 ITEM = re.compile(
     r"(?P<pub>pub(?P<within>\([^)]*\))? )?(?:final |unsafe )*(?P<kind>fn|struct|enum|trait|type|const|static|mod|use|impl)\b(?P<rest>.*)"
 )
-CLAUSE = re.compile(r"(requires|ensures|decreases)\b *(\w*)")
+CLAUSE = re.compile(r"(requires|ensures|decreases)\b\*? *(\w*)")
 
 
 @dataclasses.dataclass
