@@ -34,9 +34,11 @@ HEAD = """# The public items
 This page is printed by `tools/api.py` from the sources. Do not edit it: change the comments in the sources, and print it again.
 
 Each item has its signature, its comment, and the clauses of its contract. `requires` is what a caller has to prove. `ensures` is
-what is proved of every call. A clause is a statement about the definitions that [DEFINITIONS.md](DEFINITIONS.md) lists. In a
-clause `result` is the answer, `x.now` is what stands behind a reference, and `x.old` and `x.new` are what stood there before the call
-and after it.
+what is proved of every call that meets this. A function that implements a trait's, and has no clauses here, has those of the trait.
+
+A clause is a statement about the definitions that [DEFINITIONS.md](DEFINITIONS.md) lists. In a clause `result` is the answer, and `x`
+an argument. `x.now` is what stands behind a reference; `x.old` and `x.new` are what stood there before the call and after it; `x.entry`
+is the argument as it was passed. `ensures*` tells of what an answer lends, and how the lender stands after that.
 """
 SHOWN_ATTRIBUTES = ("#[derive", "#[error", "#[must_use", "#[non_exhaustive")
 KINDS = ("fn", "struct", "enum", "trait", "type", "const", "static")
