@@ -3,6 +3,7 @@ use crate::characters::by_glyph;
 use crate::dictionaries::{self, CID_TOP, PRIVATE, TOP};
 use crate::face::Face;
 use crate::failure::Failure;
+use crate::hints::hinted;
 use crate::sheet::Sheet;
 use postscript_base::Tape;
 use postscript_base::compact1::Operator;
@@ -17,6 +18,14 @@ fn names<'l>(face: &Face<'l>) -> (Option<Name<'l>>, Option<Name<'l>>) {
     match face.names {
         Some(names) => (names.family(), names.style()),
         None => (None, None),
+    }
+}
+
+/// The version as the font tells it (name 5).
+fn version<'l>(face: &Face<'l>) -> Option<Name<'l>> {
+    match face.names {
+        Some(names) => names.get(5),
+        None => None,
     }
 }
 
@@ -51,7 +60,7 @@ fn parts(sheet: &mut Sheet, face: &Face<'_>) -> Result<(), AllocError> {
         sheet.json.u64(part.subroutines.len() as u64)?;
     }
     sheet.json.end_array()?;
-    if face.is_cid() {
+    if face.font.is_cid_keyed() {
         sheet.json.key("privates")?;
         return privates(sheet, face);
     }
@@ -91,7 +100,7 @@ fn refusal(
 }
 
 /// Writes what the table `CFF ` holds.
-fn font(alloc: Global, sheet: &mut Sheet, face: &Face<'_>) -> Result<(), AllocError> {
+fn font(alloc: Global, sheet: &mut Sheet, face: &Face<'_>) -> Result<(), Failure> {
     sheet.json.key("cff")?;
     sheet.json.begin_object()?;
     sheet.json.key("name")?;
@@ -100,14 +109,15 @@ fn font(alloc: Global, sheet: &mut Sheet, face: &Face<'_>) -> Result<(), AllocEr
         None => sheet.json.null()?,
     }
     sheet.json.key("is_cid")?;
-    sheet.json.boolean(face.is_cid())?;
-    let fds = if face.is_cid() {
+    sheet.json.boolean(face.font.is_cid_keyed())?;
+    let fds = if face.font.is_cid_keyed() {
         face.font.parts.len()
     } else {
         0
     };
     sheet.number("fds", fds as u64)?;
     sheet.number("glyphs", face.font.char_strings.len() as u64)?;
+    sheet.number("hinted", hinted(alloc, face)?)?;
     sheet.number("strings", face.font.strings.len() as u64)?;
     sheet.json.key("encoding")?;
     sheet.json.string(encoding(face))?;
@@ -119,7 +129,7 @@ fn font(alloc: Global, sheet: &mut Sheet, face: &Face<'_>) -> Result<(), AllocEr
     let globals = face.font.global_subroutines.len();
     sheet.number("global_subroutines", globals as u64)?;
     sheet.json.key("top")?;
-    let codes = if face.is_cid() {
+    let codes = if face.font.is_cid_keyed() {
         CID_TOP.as_slice()
     } else {
         TOP.as_slice()
@@ -130,7 +140,8 @@ fn font(alloc: Global, sheet: &mut Sheet, face: &Face<'_>) -> Result<(), AllocEr
     refusal(sheet, "strict", strict)?;
     let lenient = FontSet::read_lenient(alloc, &mut Cursor::new(face.cff));
     refusal(sheet, "lenient", lenient)?;
-    sheet.json.end_object()
+    sheet.json.end_object()?;
+    Ok(())
 }
 
 /// Writes an object of all that is told.
@@ -140,6 +151,7 @@ fn object<W: Write>(alloc: Global, face: &Face<'_>, out: &mut W) -> Result<(), F
     let (family, style) = names(face);
     sheet.name("family", family)?;
     sheet.name("style", style)?;
+    sheet.name("version", version(face))?;
     sheet.number("faces", face.faces as u64)?;
     sheet.number("units_per_em", u64::from(face.units))?;
     sheet.number("glyphs", u64::from(face.glyphs))?;
@@ -168,11 +180,13 @@ fn lines<W: Write>(alloc: Global, face: &Face<'_>, out: &mut W) -> Result<(), Fa
     let (family, style) = names(face);
     writeln!(out, "family: {}", text_of(alloc, family)?)?;
     writeln!(out, "style: {}", text_of(alloc, style)?)?;
+    writeln!(out, "version: {}", text_of(alloc, version(face))?)?;
     writeln!(out, "name: {name}")?;
     writeln!(out, "faces: {}", face.faces)?;
     writeln!(out, "units per em: {}", face.units)?;
     writeln!(out, "glyphs: {}", face.glyphs)?;
-    if face.is_cid() {
+    writeln!(out, "glyphs with hints: {}", hinted(alloc, face)?)?;
+    if face.font.is_cid_keyed() {
         writeln!(
             out,
             "CID-keyed, font dictionaries: {}",

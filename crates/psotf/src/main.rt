@@ -9,6 +9,7 @@ mod drawing;
 mod face;
 mod failure;
 mod glyph;
+mod hints;
 mod inspect;
 mod saving;
 mod sheet;
