@@ -1,7 +1,5 @@
 //! Faces of files.
 use crate::failure::Failure;
-use postscript_base::compact1::{Operator, StringID};
-use postscript_compact1::index::get_standard_string;
 use postscript_sfnt::{Advances, CharacterMap, FontFile, Names, faces, glyphs, units_per_em};
 use postscript_view::{CharSetView, FontView};
 use std::alloc::Global;
@@ -76,27 +74,35 @@ impl<'l> Face<'l> {
         })
     }
 
-    /// Whether the font is CID-keyed.
-    pub fn is_cid(&self) -> bool {
-        self.font.dictionary.get(Operator::ROS).is_some()
-    }
-
-    /// The identifier that the char set tells of a glyph.
-    pub fn identifier(&self, gid: u16) -> Option<StringID> {
+    /// The name of a glyph. None where the font is CID-keyed, or tells none.
+    pub fn name(&self, gid: u16) -> Option<&[u8]> {
         match &self.set {
-            Some(set) => set.identifier(usize::from(gid)),
+            Some(set) => if self.font.is_cid_keyed() {
+                None
+            } else {
+                self.font.name(set, usize::from(gid))
+            },
             None => None,
         }
     }
 
-    /// The bytes of a string.
-    pub fn string(&self, identifier: StringID) -> Option<&[u8]> {
-        match get_standard_string(identifier) {
-            Some(text) => Some(text.as_bytes()),
-            None => self
-                .font
-                .strings
-                .get(usize::from(identifier.saturating_sub(391))),
+    /// The CID of a glyph. None where the font is not CID-keyed, or tells none.
+    pub fn cid(&self, gid: u16) -> Option<u16> {
+        match &self.set {
+            Some(set) => self.font.cid(set, usize::from(gid)),
+            None => None,
+        }
+    }
+
+    /// The first glyph of a name. None where the font is CID-keyed too.
+    pub fn glyph_of_name(&self, name: &[u8]) -> Option<usize> {
+        match &self.set {
+            Some(set) => if self.font.is_cid_keyed() {
+                None
+            } else {
+                self.font.glyph_of_name(set, name)
+            },
+            None => None,
         }
     }
 }

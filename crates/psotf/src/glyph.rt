@@ -5,28 +5,24 @@ use crate::face::Face;
 use crate::failure::Failure;
 use crate::sheet::Sheet;
 use clap::ArgMatches;
+use postscript_base::Error;
 use postscript_outline::Outline;
-use postscript_type2::Operand;
 use postscript_view::Glyph;
 use std::alloc::{AllocError, Global};
 use std::io::Write;
 
-/// Writes the name of a glyph, or its CID.
+/// Writes the name of a glyph, or in a CID-keyed font its CID.
 fn name(alloc: Global, sheet: &mut Sheet, face: &Face<'_>, gid: u16) -> Result<(), AllocError> {
-    let identifier = face.identifier(gid);
-    if face.is_cid() {
-        if let Some(cid) = identifier {
-            sheet.number("cid", u64::from(cid))?;
+    if face.font.is_cid_keyed() {
+        sheet.json.key("cid")?;
+        match face.cid(gid) {
+            Some(cid) => sheet.json.u64(u64::from(cid))?,
+            None => sheet.json.null()?,
         }
-        sheet.json.key("name")?;
-        return sheet.json.null();
     }
     sheet.json.key("name")?;
-    match identifier {
-        Some(sid) => match face.string(sid) {
-            Some(bytes) => sheet.bytes(alloc, bytes),
-            None => sheet.json.null(),
-        },
+    match face.name(gid) {
+        Some(name) => sheet.bytes(alloc, name),
         None => sheet.json.null(),
     }
 }
@@ -47,20 +43,29 @@ fn chars(alloc: Global, sheet: &mut Sheet, chars: &[Mapped]) -> Result<(), Alloc
 fn drawn(sheet: &mut Sheet, glyph: &Glyph<'_, '_>, outline: &Outline) -> Result<(), AllocError> {
     sheet.json.key("width")?;
     match width_of(glyph, outline) {
-        Some(bits) => sheet.shown(&Operand::from_bits(bits))?,
+        Some(bits) => sheet.bits(bits)?,
         None => sheet.json.null()?,
     }
     sheet.json.key("bounds")?;
-    match outline.bounds() {
-        Some(bounds) => sheet.corners(bounds.low, bounds.high)?,
-        None => sheet.json.null()?,
-    }
+    sheet.bounds(outline.bounds())?;
+    sheet.json.key("tight_bounds")?;
+    sheet.bounds(outline.tight_bounds())?;
     sheet.json.key("segments")?;
     sheet.json.begin_array()?;
     for segment in &outline.segments {
         sheet.segment(*segment)?;
     }
     sheet.json.end_array()
+}
+
+/// Writes of a glyph that is refused why it is, and nulls in the place of what it draws.
+fn refused(sheet: &mut Sheet, refusal: &Error) -> Result<(), AllocError> {
+    for key in ["width", "bounds", "tight_bounds", "segments", "operations"] {
+        sheet.json.key(key)?;
+        sheet.json.null()?;
+    }
+    sheet.json.key("refused")?;
+    sheet.shown(refusal)
 }
 
 /// Writes the operations of a glyph, each as a text.
@@ -100,8 +105,7 @@ fn object(
             operations(alloc, sheet, &glyph)?;
         }
         Err(refusal) => {
-            sheet.json.key("refused")?;
-            sheet.shown(&refusal)?;
+            refused(sheet, &refusal)?;
         }
     }
     sheet.json.end_object()?;
@@ -154,29 +158,14 @@ fn objects<W: Write>(
     Ok(())
 }
 
-/// The first glyph of a name.
-fn named(face: &Face<'_>, name: &str) -> Option<u16> {
-    for gid in 0..count(face) {
-        if let Some(identifier) = face.identifier(gid) {
-            if face.string(identifier) == Some(name.as_bytes()) {
-                return Some(gid);
-            }
-        }
-    }
-    None
-}
-
 /// The glyph that words name.
 fn asked(face: &Face<'_>, words: &ArgMatches<'_>) -> Result<u16, Failure> {
     if let Some(gid) = words.get_one::<u16>("gid") {
         return Ok(gid);
     }
     if let Some(name) = words.get_str("name") {
-        if face.is_cid() {
-            return Err(Failure::Lacks("names of glyphs"));
-        }
-        return match named(face, name) {
-            Some(gid) => Ok(gid),
+        return match face.glyph_of_name(name.as_bytes()) {
+            Some(gid) => Ok(u16::try_from(gid).unwrap_or(u16::MAX)),
             None => Err(Failure::Lacks("glyph of this name")),
         };
     }

@@ -12,11 +12,7 @@ const COLUMNS: u64 = 16;
 
 /// Adds the name of a glyph; what is neither a letter, a digit, a point nor a line is left out.
 fn put_name(picture: &mut String, face: &Face<'_>, gid: u16) -> Result<(), AllocError> {
-    let name = match face.identifier(gid) {
-        Some(identifier) => face.string(identifier).unwrap_or(&[]),
-        None => &[],
-    };
-    for byte in name {
+    for byte in face.name(gid).unwrap_or(&[]) {
         if byte.is_ascii_alphanumeric() || *byte == b'.' || *byte == b'_' {
             picture.push(*byte as char)?;
         }
@@ -38,9 +34,7 @@ fn put_cell(
     let (base, small) = (units.saturating_add(units / 4), units / 8);
     write!(picture, "<g transform=\"translate({x} {y})\">")?;
     write!(picture, "<text y=\"{small}\" font-size=\"{small}\">{gid} ")?;
-    if !face.is_cid() {
-        put_name(picture, face, gid)?;
-    }
+    put_name(picture, face, gid)?;
     write!(picture, "</text>")?;
     if let Some(glyph) = face.font.glyph(usize::from(gid)) {
         if let Ok(outline) = outline_of(alloc, &glyph) {
