@@ -1,13 +1,31 @@
 //! Drawings of glyphs.
 use crate::face::Face;
-use postscript_base::Result;
+use postscript_base::Error as Fault;
 use postscript_outline::Outline;
 use postscript_view::{Advance, Glyph};
 use std::alloc::Global;
+use thiserror::Error;
 
-/// The outline of a glyph.
-pub fn outline_of(alloc: Global, glyph: &Glyph<'_, '_>) -> Result<Outline> {
-    Outline::of_program(alloc, &mut glyph.program(alloc))
+/// Why a glyph is refused.
+#[derive(Debug, Drop, Error)]
+pub enum Refusal {
+    #[error("FDSelect gives it no font dictionary")]
+    NoPart,
+    #[error("{} (refusal {})", .0, .0.code())]
+    Run(#[from] Fault),
+}
+
+/// A glyph and its outline.
+pub fn draw<'f, 'l>(
+    alloc: Global,
+    face: &'f Face<'l>,
+    gid: u16,
+) -> Result<(Glyph<'f, 'l>, Outline), Refusal> {
+    let Some(glyph) = face.font.glyph(usize::from(gid)) else {
+        return Err(Refusal::NoPart);
+    };
+    let outline = Outline::of_program(alloc, &mut glyph.program(alloc))?;
+    Ok((glyph, outline))
 }
 
 /// The width of a glyph by its program in 65536ths of a unit: told there, and added to the nominal one, or else the default one.

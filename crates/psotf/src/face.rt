@@ -23,17 +23,17 @@ pub struct Face<'l> {
 fn needed<'l>(file: &FontFile<'l>, tag: [u8; 4], name: &'static str) -> Result<&'l [u8], Failure> {
     match file.table(tag) {
         Some(table) => Ok(table),
-        None => Err(Failure::Lacks(name)),
+        None => Err(Failure::NoTable(name)),
     }
 }
 
 /// The advances of a face.
 fn advances_of<'l>(file: &FontFile<'l>) -> Result<Advances<'l>, Failure> {
-    let hhea = needed(file, [b'h', b'h', b'e', b'a'], "table hhea")?;
-    let hmtx = needed(file, [b'h', b'm', b't', b'x'], "table hmtx")?;
+    let hhea = needed(file, [b'h', b'h', b'e', b'a'], "hhea")?;
+    let hmtx = needed(file, [b'h', b'm', b't', b'x'], "hmtx")?;
     match Advances::read(hhea, hmtx) {
         Some(advances) => Ok(advances),
-        None => Err(Failure::Lacks("advances")),
+        None => Err(Failure::Cut("hmtx")),
     }
 }
 
@@ -41,14 +41,14 @@ impl<'l> Face<'l> {
     /// The face of this number.
     pub fn open(alloc: Global, bytes: &'l [u8], number: u16) -> Result<Face<'l>, Failure> {
         let file = FontFile::read(bytes, usize::from(number))?;
-        let cff = needed(&file, [b'C', b'F', b'F', b' '], "table CFF")?;
-        let head = needed(&file, [b'h', b'e', b'a', b'd'], "table head")?;
-        let maxp = needed(&file, [b'm', b'a', b'x', b'p'], "table maxp")?;
+        let cff = needed(&file, [b'C', b'F', b'F', b' '], "CFF")?;
+        let head = needed(&file, [b'h', b'e', b'a', b'd'], "head")?;
+        let maxp = needed(&file, [b'm', b'a', b'x', b'p'], "maxp")?;
         let Some(units) = units_per_em(head) else {
-            return Err(Failure::Lacks("units per em"));
+            return Err(Failure::Cut("head"));
         };
         let Some(glyphs) = glyphs(maxp) else {
-            return Err(Failure::Lacks("number of glyphs"));
+            return Err(Failure::Cut("maxp"));
         };
         let advances = advances_of(&file)?;
         let map = match file.table([b'c', b'm', b'a', b'p']) {

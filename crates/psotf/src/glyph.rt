@@ -1,15 +1,16 @@
 //! What a glyph is.
 use crate::characters::{Mapped, by_glyph, of_glyph};
-use crate::drawing::{count, outline_of, width_of};
+use crate::drawing::{Refusal, count, draw, width_of};
 use crate::face::Face;
 use crate::failure::Failure;
+use crate::progress::Progress;
 use crate::sheet::Sheet;
 use clap::ArgMatches;
-use postscript_base::Error;
 use postscript_outline::Outline;
 use postscript_view::Glyph;
 use std::alloc::{AllocError, Global};
 use std::io::Write;
+use std::ops::Range;
 
 /// Writes the name of a glyph, or in a CID-keyed font its CID.
 fn name(alloc: Global, sheet: &mut Sheet, face: &Face<'_>, gid: u16) -> Result<(), AllocError> {
@@ -59,7 +60,7 @@ fn drawn(sheet: &mut Sheet, glyph: &Glyph<'_, '_>, outline: &Outline) -> Result<
 }
 
 /// Writes of a glyph that is refused why it is, and nulls in the place of what it draws.
-fn refused(sheet: &mut Sheet, refusal: &Error) -> Result<(), AllocError> {
+fn refused(sheet: &mut Sheet, refusal: &Refusal) -> Result<(), AllocError> {
     for key in ["width", "bounds", "tight_bounds", "segments", "operations"] {
         sheet.json.key(key)?;
         sheet.json.null()?;
@@ -83,79 +84,88 @@ fn operations(alloc: Global, sheet: &mut Sheet, glyph: &Glyph<'_, '_>) -> Result
     Ok(())
 }
 
-/// Writes a glyph as an object.
+/// Writes a glyph as an object, and tells whether it is drawn.
 fn object(
     alloc: Global,
     sheet: &mut Sheet,
     face: &Face<'_>,
     mapped: &[Mapped],
     gid: u16,
-) -> Result<(), Failure> {
+) -> Result<bool, Failure> {
     sheet.json.begin_object()?;
     sheet.number("gid", u64::from(gid))?;
     name(alloc, sheet, face, gid)?;
     chars(alloc, sheet, of_glyph(mapped, gid))?;
     sheet.number("advance", u64::from(face.advances.of(gid)))?;
-    let Some(glyph) = face.font.glyph(usize::from(gid)) else {
-        return Err(Failure::Lacks("such glyph"));
-    };
-    match outline_of(alloc, &glyph) {
-        Ok(outline) => {
+    let is_drawn = match draw(alloc, face, gid) {
+        Ok((glyph, outline)) => {
             drawn(sheet, &glyph, &outline)?;
             operations(alloc, sheet, &glyph)?;
+            true
         }
         Err(refusal) => {
             refused(sheet, &refusal)?;
+            false
         }
-    }
-    sheet.json.end_object()?;
-    Ok(())
-}
-
-/// Writes a glyph as a line of words.
-fn line<W: Write>(alloc: Global, face: &Face<'_>, gid: u16, out: &mut W) -> Result<(), Failure> {
-    let Some(glyph) = face.font.glyph(usize::from(gid)) else {
-        return Err(Failure::Lacks("such glyph"));
     };
+    sheet.json.end_object()?;
+    Ok(is_drawn)
+}
+
+/// Writes a glyph as a line of words, and tells whether it is drawn.
+fn line<W: Write>(alloc: Global, face: &Face<'_>, gid: u16, out: &mut W) -> Result<bool, Failure> {
     let advance = face.advances.of(gid);
-    match outline_of(alloc, &glyph) {
-        Ok(outline) => {
+    match draw(alloc, face, gid) {
+        Ok((_, outline)) => {
             writeln!(out, "{gid} {advance} {outline}")?;
+            Ok(true)
         }
-        Err(refusal) => writeln!(out, "{gid} {advance} refused: {refusal}")?,
+        Err(refusal) => {
+            writeln!(out, "{gid} {advance} refused: {refusal}")?;
+            Ok(false)
+        }
     }
-    Ok(())
 }
 
-/// Writes glyphs from one to another, each on a line.
+/// Writes glyphs, each on a line, and tells how many are refused.
 fn lines<W: Write>(
-    alloc: Global,
+    rt: &HostRuntime,
     face: &Face<'_>,
-    from: u16,
-    to: u16,
+    gids: Range<u16>,
     out: &mut W,
-) -> Result<(), Failure> {
-    for gid in from..to {
-        line(alloc, face, gid, out)?;
+) -> Result<u64, Failure> {
+    let mut refused = 0u64;
+    let mut progress = Progress::of_answers(rt, gids.end);
+    for gid in gids {
+        progress.at(gid);
+        if !line(rt.alloc(), face, gid, out)? {
+            refused = refused.saturating_add(1);
+        }
     }
-    Ok(())
+    progress.end();
+    Ok(refused)
 }
 
-/// Writes glyphs from one to another, each as an object on a line.
+/// Writes glyphs, each as an object on a line, and tells how many are refused.
 fn objects<W: Write>(
-    alloc: Global,
+    rt: &HostRuntime,
     face: &Face<'_>,
-    from: u16,
-    to: u16,
+    gids: Range<u16>,
     out: &mut W,
-) -> Result<(), Failure> {
-    let mapped = by_glyph(alloc, &face.map)?;
-    let mut sheet = Sheet::new(alloc);
-    for gid in from..to {
-        object(alloc, &mut sheet, face, &mapped, gid)?;
+) -> Result<u64, Failure> {
+    let mapped = by_glyph(rt.alloc(), &face.map)?;
+    let mut sheet = Sheet::new(rt.alloc());
+    let mut refused = 0u64;
+    let mut progress = Progress::of_answers(rt, gids.end);
+    for gid in gids {
+        progress.at(gid);
+        if !object(rt.alloc(), &mut sheet, face, &mapped, gid)? {
+            refused = refused.saturating_add(1);
+        }
         sheet = sheet.end(out)?;
     }
-    Ok(())
+    progress.end();
+    Ok(refused)
 }
 
 /// The glyph that words name.
@@ -171,33 +181,40 @@ fn asked(face: &Face<'_>, words: &ArgMatches<'_>) -> Result<u16, Failure> {
     }
     let mut chars = words.get_str("char").unwrap_or("").chars();
     let (Some(char), None) = (chars.next(), chars.next()) else {
-        return Err(Failure::Lacks("glyph of more than one character"));
+        return Err(Failure::Usage("--char takes one character"));
     };
-    match &face.map {
-        Some(map) => Ok(map.glyph_of(u32::from(char))),
-        None => Err(Failure::Lacks("character map")),
+    let Some(map) = &face.map else {
+        return Err(Failure::Lacks("character map"));
+    };
+    match map.glyph_of(u32::from(char)) {
+        0 => Err(Failure::Lacks("glyph of this character")),
+        gid => Ok(gid),
     }
 }
 
 /// Writes the glyphs that words name.
 pub fn write<W: Write>(
-    alloc: Global,
+    rt: &HostRuntime,
     face: &Face<'_>,
     words: &ArgMatches<'_>,
     out: &mut W,
 ) -> Result<(), Failure> {
-    let (from, to) = if words.get_flag("all") {
-        (0, count(face))
+    let gids = if words.get_flag("all") {
+        0..count(face)
     } else {
         let gid = asked(face, words)?;
         if gid >= count(face) {
-            return Err(Failure::Lacks("such glyph"));
+            return Err(Failure::NoGlyph(gid));
         }
-        (gid, gid.saturating_add(1))
+        gid..gid.saturating_add(1)
     };
-    if words.get_flag("json") {
-        objects(alloc, face, from, to, out)
+    let refused = if words.get_flag("json") {
+        objects(rt, face, gids, out)?
     } else {
-        lines(alloc, face, from, to, out)
+        lines(rt, face, gids, out)?
+    };
+    match refused {
+        0 => Ok(()),
+        refused => Err(Failure::Refused(refused)),
     }
 }

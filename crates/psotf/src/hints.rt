@@ -1,6 +1,7 @@
 //! Glyphs with hints.
 use crate::drawing::count;
 use crate::face::Face;
+use crate::progress::Progress;
 use postscript_base::{Error, Result};
 use postscript_type2::Operator;
 use postscript_view::Glyph;
@@ -34,14 +35,17 @@ fn has_hint(alloc: Global, glyph: &Glyph<'_, '_>) -> Result<bool> {
 }
 
 /// How many glyphs have a hint.
-pub fn hinted(alloc: Global, face: &Face<'_>) -> Result<u64> {
+pub fn hinted(rt: &HostRuntime, face: &Face<'_>) -> Result<u64> {
     let mut hinted = 0u64;
+    let mut progress = Progress::new(rt, count(face));
     for gid in 0..count(face) {
+        progress.at(gid);
         if let Some(glyph) = face.font.glyph(usize::from(gid)) {
-            if has_hint(alloc, &glyph)? {
+            if has_hint(rt.alloc(), &glyph)? {
                 hinted = hinted.saturating_add(1);
             }
         }
     }
+    progress.end();
     Ok(hinted)
 }

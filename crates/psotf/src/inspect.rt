@@ -100,12 +100,12 @@ fn refusal(
 }
 
 /// Writes what the table `CFF ` holds.
-fn font(alloc: Global, sheet: &mut Sheet, face: &Face<'_>) -> Result<(), Failure> {
+fn font(rt: &HostRuntime, sheet: &mut Sheet, face: &Face<'_>) -> Result<(), Failure> {
     sheet.json.key("cff")?;
     sheet.json.begin_object()?;
     sheet.json.key("name")?;
     match face.font.names.get(0) {
-        Some(name) => sheet.bytes(alloc, name)?,
+        Some(name) => sheet.bytes(rt.alloc(), name)?,
         None => sheet.json.null()?,
     }
     sheet.json.key("is_cid")?;
@@ -117,7 +117,7 @@ fn font(alloc: Global, sheet: &mut Sheet, face: &Face<'_>) -> Result<(), Failure
     };
     sheet.number("fds", fds as u64)?;
     sheet.number("glyphs", face.font.char_strings.len() as u64)?;
-    sheet.number("hinted", hinted(alloc, face)?)?;
+    sheet.number("hinted", hinted(rt, face)?)?;
     sheet.number("strings", face.font.strings.len() as u64)?;
     sheet.json.key("encoding")?;
     sheet.json.string(encoding(face))?;
@@ -136,17 +136,17 @@ fn font(alloc: Global, sheet: &mut Sheet, face: &Face<'_>) -> Result<(), Failure
     };
     dictionaries::write(sheet, &face.font.dictionary, codes)?;
     parts(sheet, face)?;
-    let strict = Cursor::new(face.cff).take::<FontSet>(alloc);
+    let strict = Cursor::new(face.cff).take::<FontSet>(rt.alloc());
     refusal(sheet, "strict", strict)?;
-    let lenient = FontSet::read_lenient(alloc, &mut Cursor::new(face.cff));
+    let lenient = FontSet::read_lenient(rt.alloc(), &mut Cursor::new(face.cff));
     refusal(sheet, "lenient", lenient)?;
     sheet.json.end_object()?;
     Ok(())
 }
 
 /// Writes an object of all that is told.
-fn object<W: Write>(alloc: Global, face: &Face<'_>, out: &mut W) -> Result<(), Failure> {
-    let mut sheet = Sheet::new(alloc);
+fn object<W: Write>(rt: &HostRuntime, face: &Face<'_>, out: &mut W) -> Result<(), Failure> {
+    let mut sheet = Sheet::new(rt.alloc());
     sheet.json.begin_object()?;
     let (family, style) = names(face);
     sheet.name("family", family)?;
@@ -155,9 +155,9 @@ fn object<W: Write>(alloc: Global, face: &Face<'_>, out: &mut W) -> Result<(), F
     sheet.number("faces", face.faces as u64)?;
     sheet.number("units_per_em", u64::from(face.units))?;
     sheet.number("glyphs", u64::from(face.glyphs))?;
-    let mapped = by_glyph(alloc, &face.map)?;
+    let mapped = by_glyph(rt.alloc(), &face.map)?;
     sheet.number("characters", mapped.len() as u64)?;
-    font(alloc, &mut sheet, face)?;
+    font(rt, &mut sheet, face)?;
     sheet.json.end_object()?;
     let _ = sheet.end(out)?;
     Ok(())
@@ -175,17 +175,17 @@ fn text_of(alloc: Global, name: Option<Name<'_>>) -> Result<String, AllocError> 
 }
 
 /// Writes lines of all that is told.
-fn lines<W: Write>(alloc: Global, face: &Face<'_>, out: &mut W) -> Result<(), Failure> {
-    let name = String::from_utf8_lossy(alloc, face.font.names.get(0).unwrap_or(&[]))?;
+fn lines<W: Write>(rt: &HostRuntime, face: &Face<'_>, out: &mut W) -> Result<(), Failure> {
+    let name = String::from_utf8_lossy(rt.alloc(), face.font.names.get(0).unwrap_or(&[]))?;
     let (family, style) = names(face);
-    writeln!(out, "family: {}", text_of(alloc, family)?)?;
-    writeln!(out, "style: {}", text_of(alloc, style)?)?;
-    writeln!(out, "version: {}", text_of(alloc, version(face))?)?;
+    writeln!(out, "family: {}", text_of(rt.alloc(), family)?)?;
+    writeln!(out, "style: {}", text_of(rt.alloc(), style)?)?;
+    writeln!(out, "version: {}", text_of(rt.alloc(), version(face))?)?;
     writeln!(out, "name: {name}")?;
     writeln!(out, "faces: {}", face.faces)?;
     writeln!(out, "units per em: {}", face.units)?;
     writeln!(out, "glyphs: {}", face.glyphs)?;
-    writeln!(out, "glyphs with hints: {}", hinted(alloc, face)?)?;
+    writeln!(out, "glyphs with hints: {}", hinted(rt, face)?)?;
     if face.font.is_cid_keyed() {
         writeln!(
             out,
@@ -200,7 +200,7 @@ fn lines<W: Write>(alloc: Global, face: &Face<'_>, out: &mut W) -> Result<(), Fa
         "global subroutines: {}",
         face.font.global_subroutines.len()
     )?;
-    if let Err(error) = Cursor::new(face.cff).take::<FontSet>(alloc) {
+    if let Err(error) = Cursor::new(face.cff).take::<FontSet>(rt.alloc()) {
         writeln!(out, "refused by the strict reading: {error}")?;
     }
     Ok(())
@@ -208,14 +208,14 @@ fn lines<W: Write>(alloc: Global, face: &Face<'_>, out: &mut W) -> Result<(), Fa
 
 /// Writes what a face holds.
 pub fn write<W: Write>(
-    alloc: Global,
+    rt: &HostRuntime,
     face: &Face<'_>,
     as_json: bool,
     out: &mut W,
 ) -> Result<(), Failure> {
     if as_json {
-        object(alloc, face, out)
+        object(rt, face, out)
     } else {
-        lines(alloc, face, out)
+        lines(rt, face, out)
     }
 }

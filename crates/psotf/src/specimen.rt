@@ -1,7 +1,8 @@
 //! Sheets of glyphs as pictures.
-use crate::drawing::{count, outline_of};
+use crate::drawing::{count, draw};
 use crate::face::Face;
 use crate::failure::Failure;
+use crate::progress::Progress;
 use crate::saving;
 use clap::ArgMatches;
 use std::alloc::{AllocError, Global};
@@ -36,14 +37,12 @@ fn put_cell(
     write!(picture, "<text y=\"{small}\" font-size=\"{small}\">{gid} ")?;
     put_name(picture, face, gid)?;
     write!(picture, "</text>")?;
-    if let Some(glyph) = face.font.glyph(usize::from(gid)) {
-        if let Ok(outline) = outline_of(alloc, &glyph) {
-            let left = units / 4;
-            write!(
-                picture,
-                "<path transform=\"translate({left} {base}) scale(1 -1)\" d=\"{outline}\"/>"
-            )?;
-        }
+    if let Ok((_, outline)) = draw(alloc, face, gid) {
+        let left = units / 4;
+        write!(
+            picture,
+            "<path transform=\"translate({left} {base}) scale(1 -1)\" d=\"{outline}\"/>"
+        )?;
     }
     writeln!(picture, "</g>")?;
     Ok(())
@@ -66,10 +65,13 @@ pub fn write<W: Write>(
     let mut picture = format!(in rt.alloc();
         "<svg xmlns=\"http://www.w3.org/2000/svg\" viewBox=\"0 0 {width} {height}\">\n"
     )?;
+    let mut progress = Progress::new(rt, to);
     for gid in from..to {
+        progress.at(gid);
         let cell = u64::from(gid.saturating_sub(from));
         put_cell(rt.alloc(), face, gid, cell, &mut picture)?;
     }
+    progress.end();
     writeln!(picture, "</svg>")?;
     saving::put(rt, words, picture.as_str(), out)
 }
