@@ -112,16 +112,24 @@ fn object(
     Ok(is_drawn)
 }
 
-/// Writes a glyph as a line of words, and tells whether it is drawn.
+/// Writes a glyph as a line: its number, its name or CID, its advance and its path; and tells whether it is drawn.
 fn line<W: Write>(alloc: Global, face: &Face<'_>, gid: u16, out: &mut W) -> Result<bool, Failure> {
+    write!(out, "{gid} ")?;
+    match face.cid(gid) {
+        Some(cid) => write!(out, "cid{cid:05}")?,
+        None => {
+            let name = String::from_utf8_lossy(alloc, face.name(gid).unwrap_or(b"-"))?;
+            write!(out, "{name}")?;
+        }
+    }
     let advance = face.advances.of(gid);
     match draw(alloc, face, gid) {
         Ok((_, outline)) => {
-            writeln!(out, "{gid} {advance} {outline}")?;
+            writeln!(out, " {advance} {outline}")?;
             Ok(true)
         }
         Err(refusal) => {
-            writeln!(out, "{gid} {advance} refused: {refusal}")?;
+            writeln!(out, " {advance} refused: {refusal}")?;
             Ok(false)
         }
     }

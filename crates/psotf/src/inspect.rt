@@ -1,5 +1,5 @@
 //! What a face holds.
-use crate::characters::by_glyph;
+use crate::characters::count;
 use crate::dictionaries::{self, CID_TOP, PRIVATE, TOP};
 use crate::face::Face;
 use crate::failure::Failure;
@@ -49,6 +49,15 @@ fn char_set(face: &Face<'_>) -> Option<&'static str> {
         Some(CharSetView::ExpertSubset) => Some("ExpertSubset"),
         Some(_) => Some("own"),
         None => None,
+    }
+}
+
+/// The operators that the font's dictionary may have.
+fn top_codes(face: &Face<'_>) -> &'static [u16] {
+    if face.font.is_cid_keyed() {
+        CID_TOP.as_slice()
+    } else {
+        TOP.as_slice()
     }
 }
 
@@ -129,12 +138,7 @@ fn font(rt: &HostRuntime, sheet: &mut Sheet, face: &Face<'_>) -> Result<(), Fail
     let globals = face.font.global_subroutines.len();
     sheet.number("global_subroutines", globals as u64)?;
     sheet.json.key("top")?;
-    let codes = if face.font.is_cid_keyed() {
-        CID_TOP.as_slice()
-    } else {
-        TOP.as_slice()
-    };
-    dictionaries::write(sheet, &face.font.dictionary, codes)?;
+    dictionaries::write(sheet, &face.font.dictionary, top_codes(face))?;
     parts(sheet, face)?;
     let strict = Cursor::new(face.cff).take::<FontSet>(rt.alloc());
     refusal(sheet, "strict", strict)?;
@@ -155,8 +159,7 @@ fn object<W: Write>(rt: &HostRuntime, face: &Face<'_>, out: &mut W) -> Result<()
     sheet.number("faces", face.faces as u64)?;
     sheet.number("units_per_em", u64::from(face.units))?;
     sheet.number("glyphs", u64::from(face.glyphs))?;
-    let mapped = by_glyph(rt.alloc(), &face.map)?;
-    sheet.number("characters", mapped.len() as u64)?;
+    sheet.number("characters", count(&face.map))?;
     font(rt, &mut sheet, face)?;
     sheet.json.end_object()?;
     let _ = sheet.end(out)?;
@@ -174,7 +177,7 @@ fn text_of(alloc: Global, name: Option<Name<'_>>) -> Result<String, AllocError> 
     Ok(text)
 }
 
-/// Writes lines of all that is told.
+/// Writes lines of the names and the numbers.
 fn lines<W: Write>(rt: &HostRuntime, face: &Face<'_>, out: &mut W) -> Result<(), Failure> {
     let name = String::from_utf8_lossy(rt.alloc(), face.font.names.get(0).unwrap_or(&[]))?;
     let (family, style) = names(face);
@@ -186,22 +189,50 @@ fn lines<W: Write>(rt: &HostRuntime, face: &Face<'_>, out: &mut W) -> Result<(),
     writeln!(out, "units per em: {}", face.units)?;
     writeln!(out, "glyphs: {}", face.glyphs)?;
     writeln!(out, "glyphs with hints: {}", hinted(rt, face)?)?;
+    writeln!(out, "characters: {}", count(&face.map))?;
+    font_lines(rt.alloc(), face, out)?;
+    part_lines(rt.alloc(), face, out)?;
+    refusal_lines(rt.alloc(), face, out)
+}
+
+/// Writes lines of what the table `CFF ` holds once.
+fn font_lines<W: Write>(alloc: Global, face: &Face<'_>, out: &mut W) -> Result<(), Failure> {
     if face.font.is_cid_keyed() {
-        writeln!(
-            out,
-            "CID-keyed, font dictionaries: {}",
-            face.font.parts.len()
-        )?;
+        let fds = face.font.parts.len();
+        writeln!(out, "CID-keyed, font dictionaries: {fds}")?;
     }
     writeln!(out, "encoding: {}", encoding(face))?;
     writeln!(out, "char set: {}", char_set(face).unwrap_or("refused"))?;
-    writeln!(
-        out,
-        "global subroutines: {}",
-        face.font.global_subroutines.len()
-    )?;
-    if let Err(error) = Cursor::new(face.cff).take::<FontSet>(rt.alloc()) {
-        writeln!(out, "refused by the strict reading: {error}")?;
+    let globals = face.font.global_subroutines.len();
+    writeln!(out, "global subroutines: {globals}")?;
+    dictionaries::list(alloc, "top", &face.font.dictionary, top_codes(face), out)
+}
+
+/// Writes lines of each private dictionary and its subroutines.
+fn part_lines<W: Write>(alloc: Global, face: &Face<'_>, out: &mut W) -> Result<(), Failure> {
+    for part in &face.font.parts {
+        let locals = part.subroutines.len();
+        writeln!(out, "local subroutines: {locals}")?;
+        dictionaries::list(alloc, "private", &part.dictionary, &PRIVATE, out)?;
+    }
+    Ok(())
+}
+
+/// Writes a line for each reading that refuses the font.
+fn refusal_lines<W: Write>(alloc: Global, face: &Face<'_>, out: &mut W) -> Result<(), Failure> {
+    if let Err(error) = Cursor::new(face.cff).take::<FontSet>(alloc) {
+        let code = error.code();
+        writeln!(
+            out,
+            "refused by the strict reading: {error} (refusal {code})"
+        )?;
+    }
+    if let Err(error) = FontSet::read_lenient(alloc, &mut Cursor::new(face.cff)) {
+        let code = error.code();
+        writeln!(
+            out,
+            "refused by the lenient reading: {error} (refusal {code})"
+        )?;
     }
     Ok(())
 }
