@@ -51,14 +51,14 @@ impl<'r> Progress<'r> {
         if seconds > self.told {
             self.told = seconds;
             let to = self.to;
-            let _ = eprint!(self.rt; "\rglyph {gid} of {to}");
+            let _ = eprint!(self.rt; "glyph {gid} of {to}\r");
         }
     }
 
     /// The work is done: nothing of what was told is left on the line.
     pub fn end(self) {
         if self.told > 0 {
-            let _ = eprint!(self.rt; "\r\x1b[K");
+            let _ = eprint!(self.rt; "\x1b[K");
         }
     }
 }
