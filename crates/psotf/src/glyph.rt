@@ -137,42 +137,40 @@ fn line<W: Write>(alloc: Global, face: &Face<'_>, gid: u16, out: &mut W) -> Resu
 
 /// Writes glyphs, each on a line, and tells how many are refused.
 fn lines<W: Write>(
-    rt: &HostRuntime,
+    alloc: Global,
     face: &Face<'_>,
     gids: Range<u16>,
+    progress: &mut Progress<'_>,
     out: &mut W,
 ) -> Result<u64, Failure> {
     let mut refused = 0u64;
-    let mut progress = Progress::of_answers(rt, gids.end);
     for gid in gids {
         progress.at(gid);
-        if !line(rt.alloc(), face, gid, out)? {
+        if !line(alloc, face, gid, out)? {
             refused = refused.saturating_add(1);
         }
     }
-    progress.end();
     Ok(refused)
 }
 
 /// Writes glyphs, each as an object on a line, and tells how many are refused.
 fn objects<W: Write>(
-    rt: &HostRuntime,
+    alloc: Global,
     face: &Face<'_>,
     gids: Range<u16>,
+    progress: &mut Progress<'_>,
     out: &mut W,
 ) -> Result<u64, Failure> {
-    let mapped = by_glyph(rt.alloc(), &face.map)?;
-    let mut sheet = Sheet::new(rt.alloc());
+    let mapped = by_glyph(alloc, &face.map)?;
+    let mut sheet = Sheet::new(alloc);
     let mut refused = 0u64;
-    let mut progress = Progress::of_answers(rt, gids.end);
     for gid in gids {
         progress.at(gid);
-        if !object(rt.alloc(), &mut sheet, face, &mapped, gid)? {
+        if !object(alloc, &mut sheet, face, &mapped, gid)? {
             refused = refused.saturating_add(1);
         }
         sheet = sheet.end(out)?;
     }
-    progress.end();
     Ok(refused)
 }
 
@@ -216,12 +214,14 @@ pub fn write<W: Write>(
         }
         gid..gid.saturating_add(1)
     };
+    let mut progress = Progress::of_answers(rt, gids.end);
     let refused = if words.get_flag("json") {
-        objects(rt, face, gids, out)?
+        objects(rt.alloc(), face, gids, &mut progress, out)
     } else {
-        lines(rt, face, gids, out)?
+        lines(rt.alloc(), face, gids, &mut progress, out)
     };
-    match refused {
+    progress.end();
+    match refused? {
         0 => Ok(()),
         refused => Err(Failure::Refused(refused)),
     }
