@@ -1,29 +1,69 @@
 #!/usr/bin/python3
-"""Compares what psotf tells of each glyph of fonts with what fontTools reads.
+"""Compares what psotf tells of fonts and of each glyph with what fontTools reads.
 
     (cd crates/psotf && rt run -- --help)
     /usr/bin/python3 tools/psotf.py WORD..
 
-Each WORD is an installed Debian package, of which each file .otf is taken, or a font file. Needs Debian's python3-fonttools. For
-each glyph it compares the number, the name (of a font that is not CID-keyed), the characters, the advance, the width of the
-charstring with the nominal or the default one, and each segment, coordinates as exact fractions; and of the face the units, the
-number of glyphs, the name in the table `CFF `, and whether it is CID-keyed. It prints each glyph that differs, and at the end how
-many fonts and glyphs were compared and how many differ. Nothing is drawn at random.
+Each WORD is an installed Debian package, of which each file .otf is taken, or a font file or a collection, of which each face is.
+Needs Debian's python3-fonttools. For each glyph it compares the number, the name or the CID, the characters, the advance, the width
+of the charstring with the nominal or the default one, each segment, coordinates as exact fractions, the bounds of all points, and
+the bounds of the curves, rounded outwards to 65536ths, which a side may leave by one more; glyphs that are made of two others are
+left out, since these are not followed. Of the face it compares each field of `inspect` but the refusals: operands of the
+dictionaries as floats, where fontTools reads numbers, and the glyphs with hints by its decompiler of charstrings. It prints each
+face and glyph that differs, and at the end how many were compared and how many differ. Nothing is drawn at random.
 """
 
+import itertools
 import json
 import pathlib
 import subprocess
 import sys
 from fractions import Fraction
 
+from fontTools.misc.psCharStrings import SimpleT2Decompiler
 from fontTools.pens.recordingPen import RecordingPen
 from fontTools.ttLib import TTFont
 
 from charstrings import files_of
+from outlines import is_accented, is_bounds, tightness
+from sfnt import faces_of, name_of
 
 PSOTF = pathlib.Path(__file__).resolve().parent.parent / "crates" / "psotf" / "out" / "psotf"
 LETTERS = {"moveTo": "M", "lineTo": "L", "curveTo": "C", "closePath": "Z", "endPath": "Z"}
+SETS = {0: "ISOAdobe", 1: "Expert", 2: "ExpertSubset"}
+TOP = {
+    "isFixedPitch": "IsFixedPitch", "ItalicAngle": "ItalicAngle", "UnderlinePosition": "UnderlinePosition",
+    "UnderlineThickness": "UnderlineThickness", "PaintType": "PaintType", "CharstringType": "CharStringType",
+    "FontMatrix": "FontMatrix", "FontBBox": "FontBBox", "StrokeWidth": "StrokeWidth",
+}  # fmt: skip
+PRIVATE = {
+    "StdHW": "StdHW", "StdVW": "StdVW", "BlueScale": "BlueScale", "BlueShift": "BlueShift", "BlueFuzz": "BlueFuzz",
+    "ForceBold": "ForceBold", "LanguageGroup": "LanguageGroup", "ExpansionFactor": "ExpansionFactor",
+    "initialRandomSeed": "InitialRandomSeed", "defaultWidthX": "DefaultWidthX", "nominalWidthX": "NominalWidthX",
+}  # fmt: skip
+DELTAS = ("BlueValues", "OtherBlues", "FamilyBlues", "FamilyOtherBlues", "StemSnapH", "StemSnapV")
+
+
+class Hints(SimpleT2Decompiler):
+    """Runs a charstring, and keeps whether it met a stem or a mask."""
+
+    met = False
+
+    def countHints(self):
+        self.met = True
+        super().countHints()
+
+    def op_hintmask(self, index):
+        self.met = True
+        return super().op_hintmask(index)
+
+    op_cntrmask = op_hintmask
+
+
+def has_hint(char_string):
+    hints = Hints(char_string.private and getattr(char_string.private, "Subrs", []), char_string.globalSubrs, char_string.private)
+    hints.execute(char_string)
+    return hints.met
 
 
 def told(*words):
@@ -38,55 +78,113 @@ def segments_of(char_string):
     return [[LETTERS[kind], *(Fraction(x) for point in points for x in point)] for kind, points in pen.value]
 
 
-def glyph_differs(glyph, number, name, font, char_string, characters):
-    segments = [[segment[0], *map(Fraction, segment[1:])] for segment in glyph.get("segments", [])]
-    wanted = segments_of(char_string)
+def sides_of(texts):
+    return None if texts is None else [int(Fraction(text) * 65536) for text in texts]
+
+
+def named_of(glyph, is_cid):
+    """The name of a glyph as fontTools makes it."""
+    return f"cid{glyph['cid']:05d}" if is_cid and glyph["name"] is None and glyph["gid"] else glyph["name"] or ".notdef"
+
+
+def drawing_differs(glyph, char_string):
     return (
-        glyph["gid"] != number
-        or glyph.get("name") not in (name, None)
-        or glyph["advance"] != font["hmtx"][name][0]
-        or sorted(glyph["chars"]) != sorted(characters)
-        or segments != wanted
+        [[segment[0], *map(Fraction, segment[1:])] for segment in glyph["segments"]] != segments_of(char_string)
         or Fraction(glyph["width"]) != Fraction(char_string.width)
+        or not is_bounds(sides_of(glyph["bounds"]), char_string)
+        or tightness(sides_of(glyph["tight_bounds"]), char_string) is None
     )
 
 
-def face_differs(face, font, top):
+def glyph_differs(glyph, number, name, font, char_string, characters):
     return (
-        face["units_per_em"] != font["head"].unitsPerEm
-        or face["glyphs"] != font["maxp"].numGlyphs
-        or face["cff"]["name"] != font["CFF "].cff.fontNames[0]
-        or face["cff"]["is_cid"] != hasattr(top, "ROS")
+        "refused" in glyph
+        or glyph["gid"] != number
+        or named_of(glyph, "cid" in glyph) != name
+        or glyph["advance"] != font["hmtx"][name][0]
+        or sorted(glyph["chars"]) != (sorted(characters) if number else [])
+        or drawing_differs(glyph, char_string)
     )
 
 
-def compare(path):
-    """How many glyphs a font has, and how many differ."""
-    font = TTFont(path, lazy=True)
+def floats_of(texts):
+    return None if texts is None else [float(Fraction(text)) for text in texts]
+
+
+def values_of(value):
+    return None if value is None else [float(number) for number in (value if isinstance(value, list) else [value])]
+
+
+def private_differs(found, private):
+    """Whether the operands of a private dictionary differ from those that fontTools reads; deltas are added up."""
+    return any(floats_of(found.get(ours)) != values_of(getattr(private, theirs, None)) for theirs, ours in PRIVATE.items()) or any(
+        list(itertools.accumulate(floats_of(found.get(name, [])))) != (values_of(getattr(private, name, None)) or []) for name in DELTAS
+    )
+
+
+def text_of(font, *identifiers):
+    points = name_of(font, identifiers)
+    return points and "".join(map(chr, points))
+
+
+def facts_of(face):
+    """What psotf tells of a face that is compared as it stands."""
+    cff = face["cff"]
+    fields = ("name", "is_cid", "fds", "glyphs", "hinted", "encoding", "char_set", "global_subroutines", "local_subroutines")
+    return [face[field] for field in ("units_per_em", "glyphs", "family", "style", "version", "faces")] + [cff[field] for field in fields]
+
+
+def wanted_facts(path, font, top, privates):
+    cff = font["CFF "].cff
+    encoding = top.rawDict.get("Encoding", 0)
+    return [
+        font["head"].unitsPerEm, font["maxp"].numGlyphs, text_of(font, 16, 1), text_of(font, 17, 2), text_of(font, 5), faces_of(path),
+        cff.fontNames[0], hasattr(top, "ROS"), len(privates) if hasattr(top, "ROS") else 0, len(top.CharStrings),
+        sum(has_hint(top.CharStrings[name]) for name in font.getGlyphOrder()), {0: "Standard", 1: "Expert"}.get(encoding, "own"),
+        SETS.get(top.rawDict.get("charset", 0), "own"), len(cff.GlobalSubrs), [len(getattr(private, "Subrs", [])) for private in privates],
+    ]  # fmt: skip
+
+
+def face_differs(face, path, font, top):
+    privates = [font_dictionary.Private for font_dictionary in top.FDArray] if hasattr(top, "ROS") else [top.Private]
+    found = face["cff"].get("privates") or [face["cff"]["private"]]
+    return (
+        facts_of(face) != wanted_facts(path, font, top, privates)
+        or any(floats_of(face["cff"]["top"].get(ours)) != values_of(getattr(top, theirs, None)) for theirs, ours in TOP.items())
+        or any(private_differs(*pair) for pair in zip(found, privates, strict=True))
+    )
+
+
+def compare(path, number):
+    """How many glyphs a face has, how many of them are left out, and how many differ."""
+    font = TTFont(path, lazy=True, fontNumber=number)
     top = font["CFF "].cff.topDictIndex[0]
     characters = {}
     for code, name in (font.getBestCmap() or {}).items():
         characters.setdefault(name, []).append(f"U+{code:04X}")
     names = font.getGlyphOrder()
-    glyphs = told("glyph", path, "--all")
-    different = abs(len(glyphs) - len(names))
-    if face_differs(told("inspect", path)[0], font, top):
+    glyphs = told("glyph", path, "--face", str(number), "--all")
+    different, left_out = abs(len(glyphs) - len(names)), 0
+    if face_differs(told("inspect", path, "--face", str(number))[0], path, font, top):
         different += 1
-        print(f"{path}: the face")
-    for number, (name, glyph) in enumerate(zip(names, glyphs, strict=False)):
-        if glyph_differs(glyph, number, name, font, top.CharStrings[name], characters.get(name, [])):
+        print(f"{path}: face {number}")
+    for gid, (name, glyph) in enumerate(zip(names, glyphs, strict=False)):
+        if is_accented(top.CharStrings[name]):
+            left_out += 1
+        elif glyph_differs(glyph, gid, name, font, top.CharStrings[name], characters.get(name, [])):
             different += 1
             print(f"{path}: {name}")
-    return len(names), different
+    return len(names), left_out, different
 
 
 def main(words):
     if not words:
         sys.exit(__doc__)
-    paths = [path for word in words for path in files_of(word)]
-    counts = [compare(path) for path in paths]
-    print(f"{len(paths)} fonts, {sum(glyphs for glyphs, _ in counts)} glyphs, {sum(bad for _, bad in counts)} different")
-    sys.exit(any(bad for _, bad in counts))
+    faces = [(path, number) for word in words for path in files_of(word) for number in range(faces_of(path))]
+    counts = [compare(path, number) for path, number in faces]
+    glyphs, left_out, different = (sum(column) for column in zip(*counts, strict=True))
+    print(f"{len(faces)} faces, {glyphs} glyphs, {left_out} left out, {different} different")
+    sys.exit(different > 0)
 
 
 if __name__ == "__main__":

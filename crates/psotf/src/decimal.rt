@@ -54,3 +54,25 @@ fn put_digits(text: &mut String, part: u128, unit: u128, places: u32) -> Result<
     }
     Ok(())
 }
+
+/// Adds a number of 65536ths, with the digits that it has behind the point: at most sixteen.
+pub fn put_bits(text: &mut String, bits: i64) -> Result<(), AllocError> {
+    if bits < 0 {
+        text.push('-')?;
+    }
+    let size = bits.unsigned_abs();
+    let whole = size / 65536;
+    write!(text, "{whole}")?;
+    let mut part = size % 65536;
+    if part > 0 {
+        text.push('.')?;
+    }
+    for _ in 0..16 {
+        if part > 0 {
+            let ten = part.wrapping_mul(10);
+            text.push(char::from_digit((ten / 65536 % 10) as u32, 10).unwrap_or('0'))?;
+            part = ten % 65536;
+        }
+    }
+    Ok(())
+}

@@ -1,7 +1,10 @@
 //! Dictionaries by the names of their operators.
+use crate::decimal;
+use crate::failure::Failure;
 use crate::sheet::Sheet;
 use postscript_base::compact1::{Operations, Operator};
-use std::alloc::AllocError;
+use std::alloc::{AllocError, Global};
+use std::io;
 
 /// The operators of the dictionary of a font (Technical Note 5176, Table 9).
 pub const TOP: [u16; 25] = [
@@ -34,4 +37,29 @@ pub fn write(sheet: &mut Sheet, dictionary: &Operations, codes: &[u16]) -> Resul
         }
     }
     sheet.json.end_object()
+}
+
+/// Writes a line for each operator that has operands, behind the dictionary's title.
+pub fn list<W: io::Write>(
+    alloc: Global,
+    title: &str,
+    dictionary: &Operations,
+    codes: &[u16],
+    out: &mut W,
+) -> Result<(), Failure> {
+    let mut line = String::new(alloc);
+    for code in codes {
+        if let Ok(operator) = Operator::from(*code) {
+            if let Some(operands) = dictionary.get(operator) {
+                line.clear();
+                for operand in operands.as_slice() {
+                    line.push(' ')?;
+                    decimal::put(&mut line, operand)?;
+                }
+                let name = operator.name();
+                writeln!(out, "{title} {name}:{line}")?;
+            }
+        }
+    }
+    Ok(())
 }

@@ -1,40 +1,41 @@
 //! Drawings of glyphs.
 use crate::face::Face;
-use postscript_base::Result;
-use postscript_outline::{Outline, Pen};
-use postscript_view::Glyph;
+use postscript_base::Error as Fault;
+use postscript_outline::Outline;
+use postscript_view::{Advance, Glyph};
 use std::alloc::Global;
+use thiserror::Error;
 
-/// The outline of a glyph.
-pub fn outline_of(alloc: Global, glyph: &Glyph<'_, '_>) -> Result<Outline> {
-    let mut program = glyph.program(alloc);
-    let mut pen = Pen::new();
-    let mut segments = Vec::new(alloc);
-    for _ in 0..u64::MAX {
-        let Some((operator, operands)) = program.next()? else {
-            break;
-        };
-        pen.apply(operator, &operands, &mut segments)?;
-    }
-    pen.close(&mut segments)?;
-    let width = program.width();
-    Ok(Outline { segments, width })
+/// Why a glyph is refused.
+#[derive(Debug, Drop, Error)]
+pub enum Refusal {
+    #[error("FDSelect gives it no font dictionary")]
+    NoPart,
+    #[error("{} (refusal {})", .0, .0.code())]
+    Run(#[from] Fault),
 }
 
-/// The width of a glyph by its program, in 16.16 bits: told there, and added to the nominal one, or else the default one.
-/// None where it is no whole number of these.
-pub fn width_of(glyph: &Glyph<'_, '_>, outline: &Outline) -> Option<i32> {
-    match outline.width {
-        Some(width) => {
-            let nominal = glyph.part.nominal_width()?.to_i32()?;
-            let bits = i64::from(nominal).saturating_mul(65536);
-            i32::try_from(bits.saturating_add(i64::from(width.bits()))).ok()
-        }
-        None => {
-            let default = glyph.part.default_width()?.to_i32()?;
-            i32::try_from(i64::from(default).saturating_mul(65536)).ok()
-        }
-    }
+/// A glyph and its outline.
+pub fn draw<'f, 'l>(
+    alloc: Global,
+    face: &'f Face<'l>,
+    gid: u16,
+) -> Result<(Glyph<'f, 'l>, Outline), Refusal> {
+    let Some(glyph) = face.font.glyph(usize::from(gid)) else {
+        return Err(Refusal::NoPart);
+    };
+    let outline = Outline::of_program(alloc, &mut glyph.program(alloc))?;
+    Ok((glyph, outline))
+}
+
+/// The width of a glyph by its program in 65536ths of a unit: told there, and added to the nominal one, or else the default one.
+/// None where the private dictionary tells no whole number of 32 bits.
+pub fn width_of(glyph: &Glyph<'_, '_>, outline: &Outline) -> Option<i64> {
+    let advance = match outline.width {
+        Some(difference) => Advance::Nominal(glyph.part.nominal_width()?, difference),
+        None => Advance::Default(glyph.part.default_width()?),
+    };
+    advance.in_bits()
 }
 
 /// How many glyphs a face has that have a program too.

@@ -1,7 +1,5 @@
 //! Faces of files.
 use crate::failure::Failure;
-use postscript_base::compact1::{Operator, StringID};
-use postscript_compact1::index::get_standard_string;
 use postscript_sfnt::{Advances, CharacterMap, FontFile, Names, faces, glyphs, units_per_em};
 use postscript_view::{CharSetView, FontView};
 use std::alloc::Global;
@@ -25,17 +23,17 @@ pub struct Face<'l> {
 fn needed<'l>(file: &FontFile<'l>, tag: [u8; 4], name: &'static str) -> Result<&'l [u8], Failure> {
     match file.table(tag) {
         Some(table) => Ok(table),
-        None => Err(Failure::Lacks(name)),
+        None => Err(Failure::NoTable(name)),
     }
 }
 
 /// The advances of a face.
 fn advances_of<'l>(file: &FontFile<'l>) -> Result<Advances<'l>, Failure> {
-    let hhea = needed(file, [b'h', b'h', b'e', b'a'], "table hhea")?;
-    let hmtx = needed(file, [b'h', b'm', b't', b'x'], "table hmtx")?;
+    let hhea = needed(file, [b'h', b'h', b'e', b'a'], "hhea")?;
+    let hmtx = needed(file, [b'h', b'm', b't', b'x'], "hmtx")?;
     match Advances::read(hhea, hmtx) {
         Some(advances) => Ok(advances),
-        None => Err(Failure::Lacks("advances")),
+        None => Err(Failure::Cut("hmtx")),
     }
 }
 
@@ -43,14 +41,14 @@ impl<'l> Face<'l> {
     /// The face of this number.
     pub fn open(alloc: Global, bytes: &'l [u8], number: u16) -> Result<Face<'l>, Failure> {
         let file = FontFile::read(bytes, usize::from(number))?;
-        let cff = needed(&file, [b'C', b'F', b'F', b' '], "table CFF")?;
-        let head = needed(&file, [b'h', b'e', b'a', b'd'], "table head")?;
-        let maxp = needed(&file, [b'm', b'a', b'x', b'p'], "table maxp")?;
+        let cff = needed(&file, [b'C', b'F', b'F', b' '], "CFF")?;
+        let head = needed(&file, [b'h', b'e', b'a', b'd'], "head")?;
+        let maxp = needed(&file, [b'm', b'a', b'x', b'p'], "maxp")?;
         let Some(units) = units_per_em(head) else {
-            return Err(Failure::Lacks("units per em"));
+            return Err(Failure::Cut("head"));
         };
         let Some(glyphs) = glyphs(maxp) else {
-            return Err(Failure::Lacks("number of glyphs"));
+            return Err(Failure::Cut("maxp"));
         };
         let advances = advances_of(&file)?;
         let map = match file.table([b'c', b'm', b'a', b'p']) {
@@ -76,27 +74,35 @@ impl<'l> Face<'l> {
         })
     }
 
-    /// Whether the font is CID-keyed.
-    pub fn is_cid(&self) -> bool {
-        self.font.dictionary.get(Operator::ROS).is_some()
-    }
-
-    /// The identifier that the char set tells of a glyph.
-    pub fn identifier(&self, gid: u16) -> Option<StringID> {
+    /// The name of a glyph. None where the font is CID-keyed, or tells none.
+    pub fn name(&self, gid: u16) -> Option<&[u8]> {
         match &self.set {
-            Some(set) => set.identifier(usize::from(gid)),
+            Some(set) => if self.font.is_cid_keyed() {
+                None
+            } else {
+                self.font.name(set, usize::from(gid))
+            },
             None => None,
         }
     }
 
-    /// The bytes of a string.
-    pub fn string(&self, identifier: StringID) -> Option<&[u8]> {
-        match get_standard_string(identifier) {
-            Some(text) => Some(text.as_bytes()),
-            None => self
-                .font
-                .strings
-                .get(usize::from(identifier.saturating_sub(391))),
+    /// The CID of a glyph. None where the font is not CID-keyed, or tells none.
+    pub fn cid(&self, gid: u16) -> Option<u16> {
+        match &self.set {
+            Some(set) => self.font.cid(set, usize::from(gid)),
+            None => None,
+        }
+    }
+
+    /// The first glyph of a name. None where the font is CID-keyed too.
+    pub fn glyph_of_name(&self, name: &[u8]) -> Option<usize> {
+        match &self.set {
+            Some(set) => if self.font.is_cid_keyed() {
+                None
+            } else {
+                self.font.glyph_of_name(set, name)
+            },
+            None => None,
         }
     }
 }

@@ -1,32 +1,29 @@
 //! What a glyph is.
 use crate::characters::{Mapped, by_glyph, of_glyph};
-use crate::drawing::{count, outline_of, width_of};
+use crate::drawing::{Refusal, count, draw, width_of};
 use crate::face::Face;
 use crate::failure::Failure;
+use crate::progress::Progress;
 use crate::sheet::Sheet;
 use clap::ArgMatches;
 use postscript_outline::Outline;
-use postscript_type2::Operand;
 use postscript_view::Glyph;
 use std::alloc::{AllocError, Global};
 use std::io::Write;
+use std::ops::Range;
 
-/// Writes the name of a glyph, or its CID.
+/// Writes the name of a glyph, or in a CID-keyed font its CID.
 fn name(alloc: Global, sheet: &mut Sheet, face: &Face<'_>, gid: u16) -> Result<(), AllocError> {
-    let identifier = face.identifier(gid);
-    if face.is_cid() {
-        if let Some(cid) = identifier {
-            sheet.number("cid", u64::from(cid))?;
+    if face.font.is_cid_keyed() {
+        sheet.json.key("cid")?;
+        match face.cid(gid) {
+            Some(cid) => sheet.json.u64(u64::from(cid))?,
+            None => sheet.json.null()?,
         }
-        sheet.json.key("name")?;
-        return sheet.json.null();
     }
     sheet.json.key("name")?;
-    match identifier {
-        Some(sid) => match face.string(sid) {
-            Some(bytes) => sheet.bytes(alloc, bytes),
-            None => sheet.json.null(),
-        },
+    match face.name(gid) {
+        Some(name) => sheet.bytes(alloc, name),
         None => sheet.json.null(),
     }
 }
@@ -47,20 +44,29 @@ fn chars(alloc: Global, sheet: &mut Sheet, chars: &[Mapped]) -> Result<(), Alloc
 fn drawn(sheet: &mut Sheet, glyph: &Glyph<'_, '_>, outline: &Outline) -> Result<(), AllocError> {
     sheet.json.key("width")?;
     match width_of(glyph, outline) {
-        Some(bits) => sheet.shown(&Operand::from_bits(bits))?,
+        Some(bits) => sheet.bits(bits)?,
         None => sheet.json.null()?,
     }
     sheet.json.key("bounds")?;
-    match outline.bounds() {
-        Some(bounds) => sheet.corners(bounds.low, bounds.high)?,
-        None => sheet.json.null()?,
-    }
+    sheet.bounds(outline.bounds())?;
+    sheet.json.key("tight_bounds")?;
+    sheet.bounds(outline.tight_bounds())?;
     sheet.json.key("segments")?;
     sheet.json.begin_array()?;
     for segment in &outline.segments {
         sheet.segment(*segment)?;
     }
     sheet.json.end_array()
+}
+
+/// Writes of a glyph that is refused why it is, and nulls in the place of what it draws.
+fn refused(sheet: &mut Sheet, refusal: &Refusal) -> Result<(), AllocError> {
+    for key in ["width", "bounds", "tight_bounds", "segments", "operations"] {
+        sheet.json.key(key)?;
+        sheet.json.null()?;
+    }
+    sheet.json.key("refused")?;
+    sheet.shown(refusal)
 }
 
 /// Writes the operations of a glyph, each as a text.
@@ -78,92 +84,94 @@ fn operations(alloc: Global, sheet: &mut Sheet, glyph: &Glyph<'_, '_>) -> Result
     Ok(())
 }
 
-/// Writes a glyph as an object.
+/// Writes a glyph as an object, and tells whether it is drawn.
 fn object(
     alloc: Global,
     sheet: &mut Sheet,
     face: &Face<'_>,
     mapped: &[Mapped],
     gid: u16,
-) -> Result<(), Failure> {
+) -> Result<bool, Failure> {
     sheet.json.begin_object()?;
     sheet.number("gid", u64::from(gid))?;
     name(alloc, sheet, face, gid)?;
     chars(alloc, sheet, of_glyph(mapped, gid))?;
     sheet.number("advance", u64::from(face.advances.of(gid)))?;
-    let Some(glyph) = face.font.glyph(usize::from(gid)) else {
-        return Err(Failure::Lacks("such glyph"));
-    };
-    match outline_of(alloc, &glyph) {
-        Ok(outline) => {
+    let is_drawn = match draw(alloc, face, gid) {
+        Ok((glyph, outline)) => {
             drawn(sheet, &glyph, &outline)?;
             operations(alloc, sheet, &glyph)?;
+            true
         }
         Err(refusal) => {
-            sheet.json.key("refused")?;
-            sheet.shown(&refusal)?;
+            refused(sheet, &refusal)?;
+            false
         }
-    }
-    sheet.json.end_object()?;
-    Ok(())
-}
-
-/// Writes a glyph as a line of words.
-fn line<W: Write>(alloc: Global, face: &Face<'_>, gid: u16, out: &mut W) -> Result<(), Failure> {
-    let Some(glyph) = face.font.glyph(usize::from(gid)) else {
-        return Err(Failure::Lacks("such glyph"));
     };
-    let advance = face.advances.of(gid);
-    match outline_of(alloc, &glyph) {
-        Ok(outline) => {
-            writeln!(out, "{gid} {advance} {outline}")?;
-        }
-        Err(refusal) => writeln!(out, "{gid} {advance} refused: {refusal}")?,
-    }
-    Ok(())
+    sheet.json.end_object()?;
+    Ok(is_drawn)
 }
 
-/// Writes glyphs from one to another, each on a line.
+/// Writes a glyph as a line: its number, its name or CID, its advance and its path; and tells whether it is drawn.
+fn line<W: Write>(alloc: Global, face: &Face<'_>, gid: u16, out: &mut W) -> Result<bool, Failure> {
+    write!(out, "{gid} ")?;
+    match face.cid(gid) {
+        Some(cid) => write!(out, "cid{cid:05}")?,
+        None => {
+            let name = String::from_utf8_lossy(alloc, face.name(gid).unwrap_or(b"-"))?;
+            write!(out, "{name}")?;
+        }
+    }
+    let advance = face.advances.of(gid);
+    match draw(alloc, face, gid) {
+        Ok((_, outline)) => {
+            writeln!(out, " {advance} {outline}")?;
+            Ok(true)
+        }
+        Err(refusal) => {
+            writeln!(out, " {advance} refused: {refusal}")?;
+            Ok(false)
+        }
+    }
+}
+
+/// Writes glyphs, each on a line, and tells how many are refused.
 fn lines<W: Write>(
     alloc: Global,
     face: &Face<'_>,
-    from: u16,
-    to: u16,
+    gids: Range<u16>,
+    progress: &mut Progress<'_>,
     out: &mut W,
-) -> Result<(), Failure> {
-    for gid in from..to {
-        line(alloc, face, gid, out)?;
+) -> Result<u64, Failure> {
+    let mut refused = 0u64;
+    for gid in gids {
+        progress.at(gid);
+        if !line(alloc, face, gid, out)? {
+            refused = refused.saturating_add(1);
+        }
     }
-    Ok(())
+    Ok(refused)
 }
 
-/// Writes glyphs from one to another, each as an object on a line.
+/// Writes glyphs, each as an object on a line, and tells how many are refused.
 fn objects<W: Write>(
     alloc: Global,
     face: &Face<'_>,
-    from: u16,
-    to: u16,
+    gids: Range<u16>,
+    progress: &mut Progress<'_>,
     out: &mut W,
-) -> Result<(), Failure> {
+) -> Result<u64, Failure> {
     let mapped = by_glyph(alloc, &face.map)?;
     let mut sheet = Sheet::new(alloc);
-    for gid in from..to {
-        object(alloc, &mut sheet, face, &mapped, gid)?;
+    let mut refused = 0u64;
+    for gid in gids {
+        progress.at(gid);
+        if !object(alloc, &mut sheet, face, &mapped, gid)? {
+            refused = refused.saturating_add(1);
+        }
         sheet = sheet.end(out)?;
     }
-    Ok(())
-}
-
-/// The first glyph of a name.
-fn named(face: &Face<'_>, name: &str) -> Option<u16> {
-    for gid in 0..count(face) {
-        if let Some(identifier) = face.identifier(gid) {
-            if face.string(identifier) == Some(name.as_bytes()) {
-                return Some(gid);
-            }
-        }
-    }
-    None
+    Ok(refused)
 }
 
 /// The glyph that words name.
@@ -172,43 +180,49 @@ fn asked(face: &Face<'_>, words: &ArgMatches<'_>) -> Result<u16, Failure> {
         return Ok(gid);
     }
     if let Some(name) = words.get_str("name") {
-        if face.is_cid() {
-            return Err(Failure::Lacks("names of glyphs"));
-        }
-        return match named(face, name) {
-            Some(gid) => Ok(gid),
+        return match face.glyph_of_name(name.as_bytes()) {
+            Some(gid) => Ok(u16::try_from(gid).unwrap_or(u16::MAX)),
             None => Err(Failure::Lacks("glyph of this name")),
         };
     }
     let mut chars = words.get_str("char").unwrap_or("").chars();
     let (Some(char), None) = (chars.next(), chars.next()) else {
-        return Err(Failure::Lacks("glyph of more than one character"));
+        return Err(Failure::Usage("--char takes one character"));
     };
-    match &face.map {
-        Some(map) => Ok(map.glyph_of(u32::from(char))),
-        None => Err(Failure::Lacks("character map")),
+    let Some(map) = &face.map else {
+        return Err(Failure::Lacks("character map"));
+    };
+    match map.glyph_of(u32::from(char)) {
+        0 => Err(Failure::Lacks("glyph of this character")),
+        gid => Ok(gid),
     }
 }
 
 /// Writes the glyphs that words name.
 pub fn write<W: Write>(
-    alloc: Global,
+    rt: &HostRuntime,
     face: &Face<'_>,
     words: &ArgMatches<'_>,
     out: &mut W,
 ) -> Result<(), Failure> {
-    let (from, to) = if words.get_flag("all") {
-        (0, count(face))
+    let gids = if words.get_flag("all") {
+        0..count(face)
     } else {
         let gid = asked(face, words)?;
         if gid >= count(face) {
-            return Err(Failure::Lacks("such glyph"));
+            return Err(Failure::NoGlyph(gid));
         }
-        (gid, gid.saturating_add(1))
+        gid..gid.saturating_add(1)
     };
-    if words.get_flag("json") {
-        objects(alloc, face, from, to, out)
+    let mut progress = Progress::of_answers(rt, gids.end);
+    let refused = if words.get_flag("json") {
+        objects(rt.alloc(), face, gids, &mut progress, out)
     } else {
-        lines(alloc, face, from, to, out)
+        lines(rt.alloc(), face, gids, &mut progress, out)
+    };
+    progress.end();
+    match refused? {
+        0 => Ok(()),
+        refused => Err(Failure::Refused(refused)),
     }
 }

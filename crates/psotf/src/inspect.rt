@@ -1,8 +1,9 @@
 //! What a face holds.
-use crate::characters::by_glyph;
+use crate::characters::count;
 use crate::dictionaries::{self, CID_TOP, PRIVATE, TOP};
 use crate::face::Face;
 use crate::failure::Failure;
+use crate::hints::hinted;
 use crate::sheet::Sheet;
 use postscript_base::Tape;
 use postscript_base::compact1::Operator;
@@ -17,6 +18,14 @@ fn names<'l>(face: &Face<'l>) -> (Option<Name<'l>>, Option<Name<'l>>) {
     match face.names {
         Some(names) => (names.family(), names.style()),
         None => (None, None),
+    }
+}
+
+/// The version as the font tells it (name 5).
+fn version<'l>(face: &Face<'l>) -> Option<Name<'l>> {
+    match face.names {
+        Some(names) => names.get(5),
+        None => None,
     }
 }
 
@@ -43,6 +52,15 @@ fn char_set(face: &Face<'_>) -> Option<&'static str> {
     }
 }
 
+/// The operators that the font's dictionary may have.
+fn top_codes(face: &Face<'_>) -> &'static [u16] {
+    if face.font.is_cid_keyed() {
+        CID_TOP.as_slice()
+    } else {
+        TOP.as_slice()
+    }
+}
+
 /// Writes the private dictionaries, and how many local subroutines each has.
 fn parts(sheet: &mut Sheet, face: &Face<'_>) -> Result<(), AllocError> {
     sheet.json.key("local_subroutines")?;
@@ -51,7 +69,7 @@ fn parts(sheet: &mut Sheet, face: &Face<'_>) -> Result<(), AllocError> {
         sheet.json.u64(part.subroutines.len() as u64)?;
     }
     sheet.json.end_array()?;
-    if face.is_cid() {
+    if face.font.is_cid_keyed() {
         sheet.json.key("privates")?;
         return privates(sheet, face);
     }
@@ -91,23 +109,24 @@ fn refusal(
 }
 
 /// Writes what the table `CFF ` holds.
-fn font(alloc: Global, sheet: &mut Sheet, face: &Face<'_>) -> Result<(), AllocError> {
+fn font(rt: &HostRuntime, sheet: &mut Sheet, face: &Face<'_>) -> Result<(), Failure> {
     sheet.json.key("cff")?;
     sheet.json.begin_object()?;
     sheet.json.key("name")?;
     match face.font.names.get(0) {
-        Some(name) => sheet.bytes(alloc, name)?,
+        Some(name) => sheet.bytes(rt.alloc(), name)?,
         None => sheet.json.null()?,
     }
     sheet.json.key("is_cid")?;
-    sheet.json.boolean(face.is_cid())?;
-    let fds = if face.is_cid() {
+    sheet.json.boolean(face.font.is_cid_keyed())?;
+    let fds = if face.font.is_cid_keyed() {
         face.font.parts.len()
     } else {
         0
     };
     sheet.number("fds", fds as u64)?;
     sheet.number("glyphs", face.font.char_strings.len() as u64)?;
+    sheet.number("hinted", hinted(rt, face)?)?;
     sheet.number("strings", face.font.strings.len() as u64)?;
     sheet.json.key("encoding")?;
     sheet.json.string(encoding(face))?;
@@ -119,33 +138,29 @@ fn font(alloc: Global, sheet: &mut Sheet, face: &Face<'_>) -> Result<(), AllocEr
     let globals = face.font.global_subroutines.len();
     sheet.number("global_subroutines", globals as u64)?;
     sheet.json.key("top")?;
-    let codes = if face.is_cid() {
-        CID_TOP.as_slice()
-    } else {
-        TOP.as_slice()
-    };
-    dictionaries::write(sheet, &face.font.dictionary, codes)?;
+    dictionaries::write(sheet, &face.font.dictionary, top_codes(face))?;
     parts(sheet, face)?;
-    let strict = Cursor::new(face.cff).take::<FontSet>(alloc);
+    let strict = Cursor::new(face.cff).take::<FontSet>(rt.alloc());
     refusal(sheet, "strict", strict)?;
-    let lenient = FontSet::read_lenient(alloc, &mut Cursor::new(face.cff));
+    let lenient = FontSet::read_lenient(rt.alloc(), &mut Cursor::new(face.cff));
     refusal(sheet, "lenient", lenient)?;
-    sheet.json.end_object()
+    sheet.json.end_object()?;
+    Ok(())
 }
 
 /// Writes an object of all that is told.
-fn object<W: Write>(alloc: Global, face: &Face<'_>, out: &mut W) -> Result<(), Failure> {
-    let mut sheet = Sheet::new(alloc);
+fn object<W: Write>(rt: &HostRuntime, face: &Face<'_>, out: &mut W) -> Result<(), Failure> {
+    let mut sheet = Sheet::new(rt.alloc());
     sheet.json.begin_object()?;
     let (family, style) = names(face);
     sheet.name("family", family)?;
     sheet.name("style", style)?;
+    sheet.name("version", version(face))?;
     sheet.number("faces", face.faces as u64)?;
     sheet.number("units_per_em", u64::from(face.units))?;
     sheet.number("glyphs", u64::from(face.glyphs))?;
-    let mapped = by_glyph(alloc, &face.map)?;
-    sheet.number("characters", mapped.len() as u64)?;
-    font(alloc, &mut sheet, face)?;
+    sheet.number("characters", count(&face.map))?;
+    font(rt, &mut sheet, face)?;
     sheet.json.end_object()?;
     let _ = sheet.end(out)?;
     Ok(())
@@ -162,46 +177,76 @@ fn text_of(alloc: Global, name: Option<Name<'_>>) -> Result<String, AllocError> 
     Ok(text)
 }
 
-/// Writes lines of all that is told.
-fn lines<W: Write>(alloc: Global, face: &Face<'_>, out: &mut W) -> Result<(), Failure> {
-    let name = String::from_utf8_lossy(alloc, face.font.names.get(0).unwrap_or(&[]))?;
+/// Writes lines of the names and the numbers.
+fn lines<W: Write>(rt: &HostRuntime, face: &Face<'_>, out: &mut W) -> Result<(), Failure> {
+    let name = String::from_utf8_lossy(rt.alloc(), face.font.names.get(0).unwrap_or(&[]))?;
     let (family, style) = names(face);
-    writeln!(out, "family: {}", text_of(alloc, family)?)?;
-    writeln!(out, "style: {}", text_of(alloc, style)?)?;
+    writeln!(out, "family: {}", text_of(rt.alloc(), family)?)?;
+    writeln!(out, "style: {}", text_of(rt.alloc(), style)?)?;
+    writeln!(out, "version: {}", text_of(rt.alloc(), version(face))?)?;
     writeln!(out, "name: {name}")?;
     writeln!(out, "faces: {}", face.faces)?;
     writeln!(out, "units per em: {}", face.units)?;
     writeln!(out, "glyphs: {}", face.glyphs)?;
-    if face.is_cid() {
-        writeln!(
-            out,
-            "CID-keyed, font dictionaries: {}",
-            face.font.parts.len()
-        )?;
+    writeln!(out, "glyphs with hints: {}", hinted(rt, face)?)?;
+    writeln!(out, "characters: {}", count(&face.map))?;
+    font_lines(rt.alloc(), face, out)?;
+    part_lines(rt.alloc(), face, out)?;
+    refusal_lines(rt.alloc(), face, out)
+}
+
+/// Writes lines of what the table `CFF ` holds once.
+fn font_lines<W: Write>(alloc: Global, face: &Face<'_>, out: &mut W) -> Result<(), Failure> {
+    if face.font.is_cid_keyed() {
+        let fds = face.font.parts.len();
+        writeln!(out, "CID-keyed, font dictionaries: {fds}")?;
     }
     writeln!(out, "encoding: {}", encoding(face))?;
     writeln!(out, "char set: {}", char_set(face).unwrap_or("refused"))?;
-    writeln!(
-        out,
-        "global subroutines: {}",
-        face.font.global_subroutines.len()
-    )?;
+    let globals = face.font.global_subroutines.len();
+    writeln!(out, "global subroutines: {globals}")?;
+    dictionaries::list(alloc, "top", &face.font.dictionary, top_codes(face), out)
+}
+
+/// Writes lines of each private dictionary and its subroutines.
+fn part_lines<W: Write>(alloc: Global, face: &Face<'_>, out: &mut W) -> Result<(), Failure> {
+    for part in &face.font.parts {
+        let locals = part.subroutines.len();
+        writeln!(out, "local subroutines: {locals}")?;
+        dictionaries::list(alloc, "private", &part.dictionary, &PRIVATE, out)?;
+    }
+    Ok(())
+}
+
+/// Writes a line for each reading that refuses the font.
+fn refusal_lines<W: Write>(alloc: Global, face: &Face<'_>, out: &mut W) -> Result<(), Failure> {
     if let Err(error) = Cursor::new(face.cff).take::<FontSet>(alloc) {
-        writeln!(out, "refused by the strict reading: {error}")?;
+        let code = error.code();
+        writeln!(
+            out,
+            "refused by the strict reading: {error} (refusal {code})"
+        )?;
+    }
+    if let Err(error) = FontSet::read_lenient(alloc, &mut Cursor::new(face.cff)) {
+        let code = error.code();
+        writeln!(
+            out,
+            "refused by the lenient reading: {error} (refusal {code})"
+        )?;
     }
     Ok(())
 }
 
 /// Writes what a face holds.
 pub fn write<W: Write>(
-    alloc: Global,
+    rt: &HostRuntime,
     face: &Face<'_>,
     as_json: bool,
     out: &mut W,
 ) -> Result<(), Failure> {
     if as_json {
-        object(alloc, face, out)
+        object(rt, face, out)
     } else {
-        lines(alloc, face, out)
+        lines(rt, face, out)
     }
 }

@@ -9,7 +9,9 @@ mod drawing;
 mod face;
 mod failure;
 mod glyph;
+mod hints;
 mod inspect;
+mod progress;
 mod saving;
 mod sheet;
 mod specimen;
@@ -34,17 +36,17 @@ fn answer<W: Write>(
     let number = words.get_one::<u16>("face").unwrap_or(0);
     let bytes = fs::read(rt, path)?;
     let face = Face::open(rt.alloc(), bytes.as_slice(), number)?;
-    match name {
-        "inspect" => inspect::write(rt.alloc(), &face, words.get_flag("json"), out)?,
-        "glyph" => glyph::write(rt.alloc(), &face, words, out)?,
-        "svg" => svg::write(rt, &face, words, out)?,
-        _ => specimen::write(rt, &face, words, out)?,
-    }
+    let told = match name {
+        "inspect" => inspect::write(rt, &face, words.get_flag("json"), out),
+        "glyph" => glyph::write(rt, &face, words, out),
+        "svg" => svg::write(rt, &face, words, out),
+        _ => specimen::write(rt, &face, words, out),
+    };
     out.flush()?;
-    Ok(())
+    told
 }
 
-/// Answers a command, and tells how it ended: 0, or 1 where it failed. A closed pipe is no failure.
+/// Answers a command, and tells how it ended: 0, 1 where it failed, or 2 for wrong words. A closed pipe is no failure.
 fn start(rt: &HostRuntime, name: &str, words: &ArgMatches<'_>) -> io::Result<ExitCode> {
     let mut out = BufWriter::new(rt.alloc(), io::writer(rt))?;
     match answer(rt, name, words, &mut out) {
@@ -55,7 +57,7 @@ fn start(rt: &HostRuntime, name: &str, words: &ArgMatches<'_>) -> io::Result<Exi
             }
             let path = words.get_str("FILE").unwrap_or("");
             eprintln!(rt; "psotf: {path}: {failure}")?;
-            Ok(ExitCode::from(1))
+            Ok(ExitCode::from(failure.status()))
         }
     }
 }

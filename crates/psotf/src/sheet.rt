@@ -3,7 +3,7 @@ use crate::decimal;
 use crate::failure::Failure;
 use json::Writer;
 use postscript_base::compact1;
-use postscript_outline::{Point, Segment};
+use postscript_outline::{Bounds, Point, Segment};
 use postscript_sfnt::Name;
 use postscript_type2::Operand;
 use std::alloc::{AllocError, Global};
@@ -36,6 +36,13 @@ impl Sheet {
     pub fn shown<T: Display>(&mut self, value: &T) -> Result<(), AllocError> {
         self.text.clear();
         write!(self.text, "{value}")?;
+        self.json.string(self.text.as_str())
+    }
+
+    /// 65536ths of a unit, as an exact decimal text.
+    pub fn bits(&mut self, bits: i64) -> Result<(), AllocError> {
+        self.text.clear();
+        decimal::put_bits(&mut self.text, bits)?;
         self.json.string(self.text.as_str())
     }
 
@@ -85,8 +92,11 @@ impl Sheet {
         self.shown(&Operand::from_bits(at.y))
     }
 
-    /// The points of corners, as a list of texts.
-    pub fn corners(&mut self, low: Point, high: Point) -> Result<(), AllocError> {
+    /// The corners of bounds, as a list of four texts, or null.
+    pub fn bounds(&mut self, bounds: Option<Bounds>) -> Result<(), AllocError> {
+        let Some(Bounds { low, high }) = bounds else {
+            return self.json.null();
+        };
         self.json.begin_array()?;
         self.point(low)?;
         self.point(high)?;

@@ -1,7 +1,8 @@
 //! Sheets of glyphs as pictures.
-use crate::drawing::{count, outline_of};
+use crate::drawing::{count, draw};
 use crate::face::Face;
 use crate::failure::Failure;
+use crate::progress::Progress;
 use crate::saving;
 use clap::ArgMatches;
 use std::alloc::{AllocError, Global};
@@ -12,11 +13,7 @@ const COLUMNS: u64 = 16;
 
 /// Adds the name of a glyph; what is neither a letter, a digit, a point nor a line is left out.
 fn put_name(picture: &mut String, face: &Face<'_>, gid: u16) -> Result<(), AllocError> {
-    let name = match face.identifier(gid) {
-        Some(identifier) => face.string(identifier).unwrap_or(&[]),
-        None => &[],
-    };
-    for byte in name {
+    for byte in face.name(gid).unwrap_or(&[]) {
         if byte.is_ascii_alphanumeric() || *byte == b'.' || *byte == b'_' {
             picture.push(*byte as char)?;
         }
@@ -38,18 +35,14 @@ fn put_cell(
     let (base, small) = (units.saturating_add(units / 4), units / 8);
     write!(picture, "<g transform=\"translate({x} {y})\">")?;
     write!(picture, "<text y=\"{small}\" font-size=\"{small}\">{gid} ")?;
-    if !face.is_cid() {
-        put_name(picture, face, gid)?;
-    }
+    put_name(picture, face, gid)?;
     write!(picture, "</text>")?;
-    if let Some(glyph) = face.font.glyph(usize::from(gid)) {
-        if let Ok(outline) = outline_of(alloc, &glyph) {
-            let left = units / 4;
-            write!(
-                picture,
-                "<path transform=\"translate({left} {base}) scale(1 -1)\" d=\"{outline}\"/>"
-            )?;
-        }
+    if let Ok((_, outline)) = draw(alloc, face, gid) {
+        let left = units / 4;
+        write!(
+            picture,
+            "<path transform=\"translate({left} {base}) scale(1 -1)\" d=\"{outline}\"/>"
+        )?;
     }
     writeln!(picture, "</g>")?;
     Ok(())
@@ -72,10 +65,13 @@ pub fn write<W: Write>(
     let mut picture = format!(in rt.alloc();
         "<svg xmlns=\"http://www.w3.org/2000/svg\" viewBox=\"0 0 {width} {height}\">\n"
     )?;
+    let mut progress = Progress::new(rt, to);
     for gid in from..to {
+        progress.at(gid);
         let cell = u64::from(gid.saturating_sub(from));
         put_cell(rt.alloc(), face, gid, cell, &mut picture)?;
     }
+    progress.end();
     writeln!(picture, "</svg>")?;
     saving::put(rt, words, picture.as_str(), out)
 }

@@ -1,5 +1,5 @@
 //! Lines of text as pictures.
-use crate::drawing::outline_of;
+use crate::drawing::{count, draw};
 use crate::face::Face;
 use crate::failure::Failure;
 use crate::saving;
@@ -15,10 +15,13 @@ fn put(
     x: u64,
     picture: &mut String,
 ) -> Result<(), Failure> {
-    let Some(glyph) = face.font.glyph(usize::from(gid)) else {
-        return Err(Failure::Lacks("such glyph"));
+    if gid >= count(face) {
+        return Err(Failure::NoGlyph(gid));
+    }
+    let outline = match draw(alloc, face, gid) {
+        Ok((_, outline)) => outline,
+        Err(refusal) => return Err(Failure::Glyph { gid, refusal }),
     };
-    let outline = outline_of(alloc, &glyph)?;
     writeln!(
         picture,
         "<path transform=\"translate({x} 0)\" d=\"{outline}\"/>"
