@@ -1,6 +1,6 @@
 -- What is lent from a file: a face, its tables and its advances.
 use Rattle.std.specs.Prelude.{◌≡◌, ℕ, ◌<◌, List}
-use Rattle.postscript_sfnt.specs.Directory.{IsFace, IsDirectory, IsTable, Names}
+use Rattle.postscript_sfnt.specs.Directory.{IsFace, IsDirectory, IsSpan, IsTable, Names, tag_at}
 use Rattle.postscript_sfnt.specs.Metrics.{HasAdvances, advance_of}
 use Rattle.postscript_sfnt.specs.declared.file.FontFile.{FontFile}
 use Rattle.postscript_sfnt.specs.declared.metrics.Advances.{Advances}
@@ -15,8 +15,16 @@ pub record IsFaceOf (bytes : List ℕ) (face : ℕ) (file : FontFile) : Type 0 w
 abbrev pub tables_of : FontFile → ℕ
 tables_of file = file.count
 
+-- the tag of a record of it
+abbrev pub tag_of : FontFile → (i : ℕ) → ℕ
+tag_of file i = tag_at file.bytes.now file.start i
+
 abbrev pub IsTableOf : FontFile → (tag : ℕ) → List ℕ → Type 0
 IsTableOf file tag table = IsTable file.bytes.now file.start file.count tag table
+
+-- the table of the tag stands there and has so many bytes
+abbrev pub IsSpanOf : FontFile → (tag offset size : ℕ) → Type 0
+IsSpanOf file tag offset size = IsSpan file.bytes.now file.start file.count tag offset size
 
 abbrev pub HasNoTable : FontFile → (tag : ℕ) → Type 0
 HasNoTable file tag = (i : ℕ) → i < file.count → Names file.bytes.now file.start tag i → ⊥

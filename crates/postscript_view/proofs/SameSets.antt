@@ -9,6 +9,7 @@ use Rattle.postscript_base.specs.Numbers.{big_endian, number, slice}
 use Rattle.postscript_base.specs.Tape.Outcome.{Reading, Got}
 use Rattle.postscript_base.specs.declared.error.Error.{Error}
 use Rattle.postscript_base.specs.Compact1.Dictionary.{Dictionary}
+use Rattle.postscript_base.specs.declared.compact1.operator.Operator.{Operator}
 use Rattle.postscript_base.specs.declared.compact1.operator.Operator.TheVariants as operators
 use Rattle.postscript_compact1.proofs.Steps.{Done, Step, accepted}
 use Rattle.postscript_compact1.specs.CharSetLaw.{StandAt, IsCharSet}
@@ -220,13 +221,13 @@ lends (sets.Format2 set) bytes place glyphs next h =
 from_start : (set : CharSet) (bytes : List ℕ) (offset glyphs next : ℕ) → IsCharSet bytes (0 + offset) glyphs set next → IsCharSet bytes offset glyphs set next
 from_start set bytes offset glyphs next h = let on : 0 + offset ≡ offset = omega arith in subst (λ p. IsCharSet bytes p glyphs set next) on h
 
-offset_is : (map : Dictionary) (offset : ℕ) → HasFirst map operators.CharSet (pos offset) → offset_of map operators.CharSet ≡ Some offset
+pub offset_is : (map : Dictionary) (operator : Operator) (offset : ℕ) → HasFirst map operator (pos offset) → offset_of map operator ≡ Some offset
 unfolding offset_of
-offset_is map offset h = rw (h.1, h.2) refl
+offset_is map operator offset h = rw (h.1, h.2) refl
 
 named : (view : CharSetView) (bytes : List ℕ) (map : Dictionary) (offset glyphs : ℕ) → HasFirst map operators.CharSet (pos offset) → IsCharSetOf view bytes map glyphs → IsNamedBy view bytes offset glyphs
 named view bytes map offset glyphs first h =
-    let is = offset_is map offset first in
+    let is = offset_is map operators.CharSet offset first in
     let other = h.1 in
     let same : h.0 ≡ offset = cc in
     subst (λ o. IsNamedBy view bytes o glyphs) same h.2
@@ -274,12 +275,12 @@ same_set view bytes map glyphs set h (Own offset next first far place stands) = 
 ]
 
 pub has_view : (bytes : Bor (List ℕ)) (map : Dictionary) (glyphs : ℕ) (set : CharSet) → HasCharSet bytes.now 0 glyphs map set → (view : CharSetView) × IsCharSetOf view bytes.now map glyphs
-has_view bytes map glyphs set (Is_0 first is) = (ISOAdobe, (0, offset_is map 0 first, inl (refl, refl)))
-has_view bytes map glyphs set (Is_1 first is) = (Expert, (1, offset_is map 1 first, inr (inl (refl, refl))))
-has_view bytes map glyphs set (Is_2 first is) = (ExpertSubset, (2, offset_is map 2 first, inr (inr (inl (refl, refl)))))
+has_view bytes map glyphs set (Is_0 first is) = (ISOAdobe, (0, offset_is map operators.CharSet 0 first, inl (refl, refl)))
+has_view bytes map glyphs set (Is_1 first is) = (Expert, (1, offset_is map operators.CharSet 1 first, inr (inl (refl, refl))))
+has_view bytes map glyphs set (Is_2 first is) = (ExpertSubset, (2, offset_is map operators.CharSet 2 first, inr (inr (inl (refl, refl)))))
 has_view bytes map glyphs set (Own offset next first far place stands) =
     let lent = lends set bytes offset glyphs next (from_start set bytes.now offset glyphs next stands) in
-    (lent.0, (offset, offset_is map offset first, inr (inr (inr (far, lent.1)))))
+    (lent.0, (offset, offset_is map operators.CharSet offset first, inr (inr (inr (far, lent.1)))))
 
 pub none_for : (r : Result CharSetView Error) (bytes : List ℕ) (map : Dictionary) (n glyphs : ℕ) → n ≡ glyphs → IfErr r (λ e. (view : CharSetView) → IsCharSetOf view bytes map n → ⊥)
     → IfErr r (λ e. (view : CharSetView) → IsCharSetOf view bytes map glyphs → ⊥)

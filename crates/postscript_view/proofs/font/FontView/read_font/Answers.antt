@@ -1,4 +1,4 @@
-use Rattle.postscript_view.proofs.Wider.{same_font, own_part_of, cid_font, wider_font, set_of}
+use Rattle.postscript_view.proofs.Wider.{same_font, own_part_of, cid_font, wider_font, set_of, encoding_of_font}
 use Rattle.postscript_view.proofs.font.FontView.read_font.Goals as goal
 
 pub returns-clause-same : goal.returns-clause-same
@@ -15,3 +15,6 @@ returns-clause-cid c = cid_font c.open.result c.args.bytes.now c.args.number (c.
 
 pub returns-clause-char_set : goal.returns-clause-char_set
 returns-clause-char_set c = set_of c.open.result c.args.bytes.now c.args.number (c.open.ensures.exact 0) c.open.ensures.bytes
+
+pub returns-clause-encoding : goal.returns-clause-encoding
+returns-clause-encoding c = encoding_of_font c.open.result c.args.bytes.now c.args.number (c.open.ensures.exact 0)
