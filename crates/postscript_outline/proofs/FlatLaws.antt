@@ -2,10 +2,11 @@
 use Rattle.std.proofs.Common.{◌≡◌, refl, sym, ap, ◌∙◌, List, None, Result, Ok, Err}
 use Rattle.postscript_base.specs.Refusal.{Refusal}
 use Rattle.postscript_outline.specs.Drawing.{Drawing, ◌>>=◌, blank, closed}
-use Rattle.postscript_outline.specs.Flat.{FlatTextDrawsTheSame}
+use Rattle.postscript_outline.specs.Flat.{FlatTextDrawsTheSame, InlinedTextDrawsTheSame}
 use Rattle.postscript_outline.specs.Outline.{drawing_of, finished, outline_of, outlined}
 use Rattle.postscript_type2.specs.Program.Evaluation.{run_of}
 use Rattle.postscript_type2.specs.Program.Flat.{flat_text}
+use Rattle.postscript_type2.specs.Program.Inlined.{inlined_text, InlinedTextKeepsMeaning}
 use Rattle.postscript_type2.specs.Program.Inlining.{FlatTextKeepsMeaning}
 use Rattle.postscript_type2.specs.Program.Runs.{Answer, End, Fault, Finished, Returned, Run, UsedUp, fault_of}
 
@@ -28,3 +29,8 @@ pub flat-draws-the-same : FlatTextKeepsMeaning → FlatTextDrawsTheSame
 flat-draws-the-same keeps lists other code faultless =
     let kept = keeps lists other code faultless in
     record { outline = same-outline (run_of other (flat_text (run_of lists code).trace)) (run_of lists code) kept.answers kept.faultless faultless; width = kept.width }
+
+pub inlined-draws-the-same : InlinedTextKeepsMeaning → InlinedTextDrawsTheSame
+inlined-draws-the-same keeps lists other code faultless =
+    let kept = keeps lists other code faultless in
+    record { outline = same-outline (run_of other (inlined_text (run_of lists code).trace)) (run_of lists code) kept.answers kept.faultless faultless; width = kept.width }

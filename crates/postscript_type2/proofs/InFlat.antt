@@ -22,7 +22,7 @@ use Rattle.postscript_type2.proofs.Locals.{stands_flat, IsLocal, Local, local}
 use Rattle.postscript_type2.proofs.Strides.{still_step-at}
 
 -- a phrase in the outermost code, whatever follows it, is told, and then a run
-abbrev Tells : (other : Lists) (left : ℕ) → State → Said → (List ℕ → Run) → Type 0
+abbrev pub Tells : (other : Lists) (left : ℕ) → State → Said → (List ℕ → Run) → Type 0
 Tells other left st said run = (x : List ℕ) → mean other left false (said.bytes ++ x) st ≡ with_phrase said (run x)
 
 -- What a stride's phrase means in flat code, whatever follows it: what it means in the run. A call and a return only take
@@ -44,13 +44,13 @@ MeansInFlat other left st said op st' Returns = ⊥
 MeansInFlat other left st said op st' (Ends width) = Tells other left st said (λ x. at_end (Finished width))
 MeansInFlat other left st said op st' (Refuses e) = Unit {0}
 
-abbrev IsOwn : Move → Type 0
+abbrev pub IsOwn : Move → Type 0
 IsOwn (Calls routine stack) = ⊥
 IsOwn Returns = ⊥
 IsOwn move = Unit {0}
 
 -- the bytes of a mask, and those of a phrase with them
-abbrev mask_of : Move → ℕ
+abbrev pub mask_of : Move → ℕ
 mask_of (Clears taken stems width mask) = mask
 mask_of move = 0
 
@@ -97,7 +97,7 @@ phrase-in other left bytes st ns op more move own reads does long = by_move move
     by_move (Refuses e) own l is = tt
 
 -- an operator that stands in flat code as it is
-flat-own : (op : Operator) (bytes : List ℕ) (k : Kind) → kind op ≡ k → stands_flat k ≡ true → flat_by op bytes ≡ record { operator = op; bytes = bytes }
+pub flat-own : (op : Operator) (bytes : List ℕ) (k : Kind) → kind op ≡ k → stands_flat k ≡ true → flat_by op bytes ≡ record { operator = op; bytes = bytes }
 flat-own op bytes k is own = ap (λ k. flat_of k op bytes) is ∙ by_kind k own
   where
     by_kind : (k : Kind) → stands_flat k ≡ true → flat_of k op bytes ≡ record { operator = op; bytes = bytes }
@@ -143,7 +143,7 @@ own-in other left b r st ns op more l move own flat room does =
     by_move (Refuses e) own m = tt
 
 -- a call and Drop take the same number off the stack
-dropped : (routines : List (List ℕ)) (stack : List ℤ) (done : List ℕ × List ℤ) → subroutine routines stack ≡ Ok done → removal stack ≡ Ok (tt, done.1)
+pub dropped : (routines : List (List ℕ)) (stack : List ℤ) (done : List ℕ × List ℤ) → subroutine routines stack ≡ Ok done → removal stack ≡ Ok (tt, done.1)
 dropped routines stack done h = by_top (slice_get stack (length stack - 1)) h
   where
     beneath : List ℤ
@@ -168,7 +168,7 @@ last-get [] top = refl
 last-get (x ∷ stack) top = last-get stack top
 
 -- and Drop takes a number that was pushed
-removal-top : (stack : List ℤ) (top : ℤ) → removal (stack ++ top ∷ []) ≡ Ok (tt, stack)
+pub removal-top : (stack : List ℤ) (top : ℤ) → removal (stack ++ top ∷ []) ≡ Ok (tt, stack)
 removal-top stack top =
     let n : length (stack ++ top ∷ []) - 1 ≡ length stack = let l = length-append stack (top ∷ []) in omega (arith, l) in
     ap (λ i. after (top_of (slice_get (stack ++ top ∷ []) i) expected_operand (take i (stack ++ top ∷ []))) (λ _. given (Ok tt))) n
@@ -176,7 +176,7 @@ removal-top stack top =
     ∙ ap (λ xs. Ok (tt, xs)) (take-append_seam stack (top ∷ []))
 
 -- the numbers of a phrase whose operator has one byte
-numbers-of : (more : ℕ) (bytes : List ℕ) → more < length bytes → without_operator (take (more + 1) bytes) ≡ take more bytes
+pub numbers-of : (more : ℕ) (bytes : List ℕ) → more < length bytes → without_operator (take (more + 1) bytes) ≡ take more bytes
 numbers-of more bytes h =
     let n : length (take (more + 1) bytes) - 1 ≡ more = let l = length-take-le (more + 1) bytes (omega arith) in omega (arith, l) in
     ap (λ i. take i (take (more + 1) bytes)) n ∙ take-take more (more + 1) bytes (omega arith)
@@ -223,25 +223,25 @@ return-in other left b r st ns op more l is =
     (drop-in other left b r st ns op more l (ap stands_flat is) (0x8b ∷ []) (pos 0 ∷ []) (λ x. refl) (st.stack ++ ns) removes)
 
 -- a move without a mask's bytes
-abbrev IsBare : Move → Type 0
+abbrev pub IsBare : Move → Type 0
 IsBare move = IsOwn move × (mask_of move ≡ 0)
 
-clearing-bare : (st : State) (stems : ℕ) (taken : Option ℕ) → IsBare (clearing st stems taken)
+pub clearing-bare : (st : State) (stems : ℕ) (taken : Option ℕ) → IsBare (clearing st stems taken)
 clearing-bare st stems (Some n) = (tt, refl)
 clearing-bare st stems None = (tt, refl)
 
-stems-bare : (stems : ℕ) (move : Move) → IsBare move → IsBare (with_stems stems move)
+pub stems-bare : (stems : ℕ) (move : Move) → IsBare move → IsBare (with_stems stems move)
 stems-bare stems move bare = by_room (nat_lt stems (2 ^ 32))
   where
     by_room : (room : Bool) → IsBare (if room then move else Refuses too_many_stems)
     by_room true = bare
     by_room false = (tt, refl)
 
-work-bare : (stored : List ℤ) (result : Result (Unit {0} × List ℤ) Refusal) → IsBare (work_move stored result)
+pub work-bare : (stored : List ℤ) (result : Result (Unit {0} × List ℤ) Refusal) → IsBare (work_move stored result)
 work-bare stored (Ok done) = (tt, refl)
 work-bare stored (Err e) = (tt, refl)
 
-store-bare : (result : Result (List ℤ × List ℤ) Refusal) → IsBare (store_move result)
+pub store-bare : (result : Result (List ℤ × List ℤ) Refusal) → IsBare (store_move result)
 store-bare (Ok done) = (tt, refl)
 store-bare (Err e) = (tt, refl)
 

@@ -138,17 +138,17 @@ all-flat [] = All-nil _
 all-flat (said ∷ trace) = All-cons (λ x. is_flat x.operator ≡ true) (flat_said said) (map flat_said trace) (is-flat said.operator said.bytes) (all-flat trace)
 
 -- the end of flat code
-abbrev flat_end : End → End
+abbrev pub flat_end : End → End
 flat_end (Returned st) = UsedUp
 flat_end end = end
 
-flat-fault : (end : End) → fault_of (flat_end end) ≡ fault_of end
+pub flat-fault : (end : End) → fault_of (flat_end end) ≡ fault_of end
 flat-fault UsedUp = refl
 flat-fault (Returned st) = refl
 flat-fault (Finished width) = refl
 flat-fault (Fault e) = refl
 
-flat-width : (a : List Answer) (end : End) → width_by None a (flat_end end) ≡ width_by None a end
+pub flat-width : (a : List Answer) (end : End) → width_by None a (flat_end end) ≡ width_by None a end
 flat-width a UsedUp = refl
 flat-width a (Returned st) = refl
 flat-width a (Finished width) = refl

@@ -20,7 +20,15 @@ pub mod EffectRows
 pub mod Locals
 pub mod InFlat
 pub mod Inlining
+pub mod LastNumbers
+pub mod Carried
+pub mod InInlined
+pub mod InlinedMeaning
+pub mod InlinedLaws
+pub mod StayLaws
+pub mod Written
 pub mod InliningRows
+pub mod InlinedRows
 pub mod PhraseLaws
 pub mod NumberLaws
 pub mod MeaningLaws

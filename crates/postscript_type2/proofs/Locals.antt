@@ -48,7 +48,7 @@ unfolding number
 number-prompt size = mapped-prompt (slice size) big_endian (slice-prompt size)
 
 -- what a first byte begins
-spelled-prompt : (first : ℕ) → IsPrompt (spelled first)
+pub spelled-prompt : (first : ℕ) → IsPrompt (spelled first)
 spelled-prompt first =
     if-prompt (first == 0x1c) _ _ (mapped-prompt (number 2) (λ n. whole (two_sided 0x8000 n)) (number-prompt 2))
     (if-prompt (nat_lt first 0x20) (fault malformed_number) _ (λ r y m x next is within. is)
@@ -92,11 +92,11 @@ long-in (entry ∷ entries) code op t h e =
         sym (ap (λ o. stands_flat (kind o)) same) ∙ long-entry (stands_flat (kind entry.1)) (nat_lt entry.0 0x0c00) (all_short entries) t long
     by_match later false is e = later e
 
-long-flat : (second : ℕ) (op : Operator) → operator_of (0x0c00 + second) ≡ Some op → stands_flat (kind op) ≡ true
+pub long-flat : (second : ℕ) (op : Operator) → operator_of (0x0c00 + second) ≡ Some op → stands_flat (kind op) ≡ true
 unfolding all_short
 long-flat second op e = long-in operators (0x0c00 + second) op refl (omega arith) e
 
-with-fronted : (x : ℤ) (numbers : List ℤ) (m : ℕ) (p : Phrase) → with_number x (fronted numbers m p) ≡ fronted (x ∷ numbers) (suc m) p
+pub with-fronted : (x : ℤ) (numbers : List ℤ) (m : ℕ) (p : Phrase) → with_number x (fronted numbers m p) ≡ fronted (x ∷ numbers) (suc m) p
 with-fronted x numbers m (Complete ns op n) = let e : suc (m + n) ≡ suc m + n = omega arith in ap (Complete (x ∷ (numbers ++ ns)) op) e
 with-fronted x numbers m (NoPhrase e) = refl
 

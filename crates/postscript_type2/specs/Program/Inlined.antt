@@ -1,0 +1,136 @@
+-- Inlined text: the phrases of a run in their order, without its calls, their numbers and its returns (Technical Note 5177,
+-- "Subroutine Operators").
+use Rattle.std.specs.List.{flat_map, filter}
+use Rattle.std.specs.Option.{option_map}
+use Rattle.std.specs.Prelude.{◌≡◌, ◌↔◌, ℕ, zero, suc, ◌-◌, ◌^◌, ◌≤◌, ℤ, true, false, nat_lt, ◌==◌, List, [], ◌∷◌, ◌++◌, length, map, min, Option, Some, None, All, if◌then◌else◌}
+use Rattle.postscript_type2.specs.declared.operation.Operator.{Operator}
+use Rattle.postscript_type2.specs.declared.operation.Operator.TheVariants.{Drop}
+use Rattle.postscript_type2.specs.Operation.Kinds.{Kind, Draws, DeclaresStems, Masks, Works, Stores, CallsFrom, GoesBack, EndsGlyph, IsRefused, kind}
+use Rattle.postscript_type2.specs.Program.Evaluation.{run_of}
+use Rattle.postscript_type2.specs.Program.Flat.{without_operator, dropping, flat_text}
+use Rattle.postscript_type2.specs.Program.Inlining.{is_flat, KeepsMeaning}
+use Rattle.postscript_type2.specs.Program.Phrases.{IsNumber, IsPhrase}
+use Rattle.postscript_type2.specs.Program.Routines.{Lists}
+use Rattle.postscript_type2.specs.Program.Runs.{Said, by, Run, fault_of}
+
+-- what stays of a phrase: a phrase that stands, or numbers for the phrase behind it
+pub data Piece : Type 0 where
+  Stands : Said → Piece
+  Leaves : (numbers : List ℕ) → Piece
+
+-- the bytes of numbers, one behind another ("Charstring Number Encoding")
+pub data IsNumbers : List ℕ → List ℤ → Type 0 where
+  none : IsNumbers [] []
+  one_more : (number more : List ℕ) (x : ℤ) (xs : List ℤ) → IsNumber number x → IsNumbers more xs → IsNumbers (number ++ more) (x ∷ xs)
+
+-- What stays of a phrase of this operator.
+pub data Stays : Operator → (bytes : List ℕ) → Piece → Type 0 where
+  -- a call goes with the number right before it, and leaves those before that
+  of_call : (front number : List ℕ) (code : ℕ) (before : List ℤ) (x : ℤ) (op : Operator) (routines : Lists → List (List ℕ)) →
+      kind op ≡ CallsFrom routines → IsNumbers front before → IsNumber number x → Stays op (front ++ (number ++ code ∷ [])) (Leaves front)
+  -- where no number stands before a call, its number is on the stack, and is dropped
+  of_lone_call : (code : ℕ) (op : Operator) (routines : Lists → List (List ℕ)) →
+      kind op ≡ CallsFrom routines → Stays op (code ∷ []) (Stands (by Drop (0x0c ∷ 0x12 ∷ [])))
+  -- a return leaves its numbers
+  of_return : (numbers : List ℕ) (code : ℕ) (op : Operator) → kind op ≡ GoesBack → Stays op (numbers ++ code ∷ []) (Leaves numbers)
+  -- any other phrase stands as it is
+  of_other : (op : Operator) (bytes : List ℕ) → is_flat op ≡ true → Stays op bytes (Stands (by op bytes))
+
+-- how many bytes of a number follow its first one ("Charstring Number Encoding")
+abbrev pub behind_first : ℕ → ℕ
+behind_first first = if first == 0x1c then 2 else if nat_lt first 0xf7 then 0 else if nat_lt first 0xff then 1 else 4
+
+-- a number's first byte, and then the numbers before the last one of those behind it; where none is behind it, it is the last
+abbrev pub unless_last : ℕ → Option (List ℕ) → List ℕ
+unless_last first None = []
+unless_last first (Some front) = first ∷ front
+
+-- The bytes before the last of the numbers that begin past the first k bytes. None where none begins there.
+abbrev pub before_last_past : (k : ℕ) → List ℕ → Option (List ℕ)
+before_last_past k [] = None
+before_last_past (suc k) (b ∷ r) = option_map (λ front. b ∷ front) (before_last_past k r)
+before_last_past zero (b ∷ r) = Some (unless_last b (before_last_past (behind_first b) r))
+
+-- numbers without the last one. None where there is none.
+abbrev pub before_last : List ℕ → Option (List ℕ)
+before_last numbers = before_last_past 0 numbers
+
+-- What stays of a phrase, computed: of a call, by the numbers without the last one.
+abbrev pub call_piece : Option (List ℕ) → Piece
+call_piece (Some front) = Leaves front
+call_piece None = Stands (dropping [])
+
+abbrev pub piece_of : Kind → Operator → List ℕ → Piece
+piece_of (CallsFrom routines) op bytes = call_piece (before_last (without_operator bytes))
+piece_of GoesBack op bytes = Leaves (without_operator bytes)
+piece_of (Draws takes) op bytes = Stands (by op bytes)
+piece_of (DeclaresStems takes) op bytes = Stands (by op bytes)
+piece_of (Masks takes) op bytes = Stands (by op bytes)
+piece_of (Works work) op bytes = Stands (by op bytes)
+piece_of (Stores work) op bytes = Stands (by op bytes)
+piece_of EndsGlyph op bytes = Stands (by op bytes)
+piece_of (IsRefused part) op bytes = Stands (by op bytes)
+
+abbrev pub piece : Said → Piece
+piece said = piece_of (kind said.operator) said.operator said.bytes
+
+-- numbers that are left go before those of the phrase behind; where none is behind, no operator takes them, and they go
+abbrev pub put_before : (numbers : List ℕ) → List Said → List Said
+put_before numbers [] = []
+put_before numbers (said ∷ more) = by said.operator (numbers ++ said.bytes) ∷ more
+
+abbrev pub pieced : Piece → List Said → List Said
+pieced (Stands said) more = said ∷ more
+pieced (Leaves numbers) more = put_before numbers more
+
+-- the pieces of a trace, and then other phrases
+abbrev pub inlined_onto : List Said → List Said → List Said
+inlined_onto [] more = more
+inlined_onto (said ∷ trace) more = pieced (piece said) (inlined_onto trace more)
+
+-- the phrases of inlined code
+abbrev pub inlined : List Said → List Said
+inlined trace = inlined_onto trace []
+
+-- the bytes of phrases
+abbrev pub text : List Said → List ℕ
+text phrases = flat_map (λ said. said.bytes) phrases
+
+-- the inlined text of a trace, and its length as a usize: usize::MAX where it is longer
+abbrev pub inlined_text : List Said → List ℕ
+inlined_text trace = text (inlined trace)
+
+abbrev pub inlined_len : List Said → ℕ
+inlined_len trace = min (length (inlined_text trace)) (2 ^ 64 - 1)
+
+-- A law of the definitions: what stays of a phrase is what is computed.
+abbrev pub StaysIsComputed : Type 0
+StaysIsComputed = (op : Operator) (bytes : List ℕ) → (is_flat op ≡ false → (numbers : List ℤ) × IsPhrase bytes numbers op) →
+    (p : Piece) → Stays op bytes p ↔ (piece (by op bytes) ≡ p)
+
+-- A law of the definitions: the inlined text of a run that no fault ends keeps its meaning over any lists.
+abbrev pub InlinedTextKeepsMeaning : Type 0
+InlinedTextKeepsMeaning = (lists other : Lists) (code : List ℕ) → fault_of (run_of lists code).end ≡ None →
+    KeepsMeaning other (inlined_text (run_of lists code).trace) (run_of lists code)
+
+-- and its run's phrases are the inlined ones
+abbrev pub InlinedRunIsInlined : Type 0
+InlinedRunIsInlined = (lists other : Lists) (code : List ℕ) → fault_of (run_of lists code).end ≡ None →
+    (run_of other (inlined_text (run_of lists code).trace)).trace ≡ inlined (run_of lists code).trace
+
+-- a law: it has no more bytes than the flat text
+abbrev pub InlinedIsNoLonger : Type 0
+InlinedIsNoLonger = (trace : List Said) → length (inlined_text trace) ≤ length (flat_text trace)
+
+-- the number of a call is spelled right before its operator
+abbrev pub SpellsItsNumber : Said → Type 0
+SpellsItsNumber said = (routines : Lists → List (List ℕ)) → kind said.operator ≡ CallsFrom routines →
+    (numbers : List ℤ) × (number : ℤ) × IsPhrase said.bytes (numbers ++ number ∷ []) said.operator
+
+abbrev pub operators : List Said → List Operator
+operators phrases = map (λ said. said.operator) phrases
+
+-- Where each call of a run spells its number, the operators of a code's run over these lists are those of the run without its
+-- calls and returns: none is added.
+abbrev pub AddsNoOperator : Lists → (code : List ℕ) → Run → Type 0
+AddsNoOperator lists code run = All SpellsItsNumber run.trace → operators (run_of lists code).trace ≡ filter is_flat (operators run.trace)

@@ -1,0 +1,172 @@
+//! Inlined code: the phrases of a run without its calls, their numbers and its returns.
+ghost use Rattle.std.specs.Prelude.{◌≡◌, ◌⊎◌, ◌∷◌, ◌≤◌, [], List, length, OnOk, IfOk, IfErr};
+ghost use Rattle.postscript_base.specs.declared.error.Error.TheVariants as errors;
+ghost use Rattle.postscript_base.specs.Refusal.{refusal_of};
+ghost use Rattle.postscript_type2.specs.declared.refused.Refused.TheVariants as cases;
+ghost use Rattle.postscript_type2.specs.Program.Inlined.{behind_first, piece as the_piece, inlined_text, inlined_len};
+ghost use Rattle.postscript_type2.specs.Program.Machines.{IsNested, said_of, still_of};
+ghost use Rattle.postscript_type2.specs.Program.Runs.{Said as Phrase, fault_of};
+ghost use Rattle.postscript_type2.specs.Program.Written.{IsPiece, IsLastOf, written, counted};
+
+use super::machine::{Event, Machine, Said};
+use crate::operation::Operator;
+use crate::refused;
+use postscript_base::Result;
+use std::alloc::Global;
+
+/// What stays of a phrase: a phrase that stands, or numbers for the phrase behind it.
+#[derive(Clone, Copy)]
+enum Piece<'l> {
+    Stands(&'l [u8]),
+    Leaves(&'l [u8]),
+}
+
+/// How many bytes of a number follow its first one.
+fn behind(first: u8) -> usize
+    ensures { result ≡ behind_first first }
+{
+    match first {
+        0x1c => 2,
+        0x00..=0xf6 => 0,
+        0xf7..=0xfe => 1,
+        0xff => 4,
+    }
+}
+
+/// The place of the last number, if there is one.
+fn last_number(numbers: &[u8]) -> Option<usize>
+    ensures { IsLastOf numbers.now result }
+{
+    let mut last = None;
+    let mut next = 0usize;
+    while next < numbers.len() {
+        last = Some(next);
+        next += behind(numbers[next]) + 1;
+    }
+    last
+}
+
+/// What stays of a phrase in inlined code.
+fn kept<'l>(said: Said<'l>) -> Piece<'l>
+    ensures { IsPiece result (the_piece (said_of said.entry)) }
+{
+    let numbers = &said.bytes[..said.bytes.len().saturating_sub(1)];
+    match said.operator {
+        Operator::CallSubr | Operator::CallGSubr => match last_number(numbers) {
+            Some(place) => Piece::Leaves(&numbers[..place]),
+            None => Piece::Stands(&[0x0c, 0x12]),
+        },
+        Operator::Return => Piece::Leaves(numbers),
+        _ => Piece::Stands(said.bytes),
+    }
+}
+
+/// Inlined code so far, and how many of its bytes end with an operator: numbers stand behind them.
+#[derive(Drop)]
+struct Inlined {
+    code: Vec<u8>,
+    whole: usize,
+}
+
+impl Inlined {
+    /// Appends what stays of a phrase.
+    fn append(&mut self, said: Said<'_>) -> refused::Result<()>
+        requires { self.old.whole ≤ length self.old.code.items }
+        ensures ok { OnOk result ((more : List Phrase) → written self.new more ≡ written self.old (said_of said.entry ∷ more)) }
+        ensures room { OnOk result (self.new.whole ≤ length self.new.code.items) }
+        ensures err { IfErr result (λ e. e ≡ cases.Memory) }
+    {
+        match kept(said) {
+            Piece::Stands(bytes) => {
+                self.code.extend_from_slice(bytes)?;
+                self.whole = self.code.len();
+            }
+            Piece::Leaves(numbers) => self.code.extend_from_slice(numbers)?,
+        }
+        Ok(())
+    }
+
+    /// The code, without numbers behind its last operator.
+    fn finish(mut self) -> Vec<u8>
+        ensures { result.items ≡ written self [] }
+    {
+        self.code.truncate(self.whole);
+        self.code
+    }
+}
+
+/// How many bytes inlined code has so far, and how many of them end with an operator.
+#[derive(Clone, Copy)]
+struct Lengths {
+    len: usize,
+    whole: usize,
+}
+
+impl Lengths {
+    /// Counts what stays of a phrase.
+    fn count(self, said: Said<'_>) -> Self
+        ensures fits { result.whole ≤ usize.MAX }
+        ensures counts { (more : List Phrase) → counted result more ≡ counted self (said_of said.entry ∷ more) }
+    {
+        match kept(said) {
+            Piece::Stands(bytes) => {
+                let len = self.len.saturating_add(bytes.len());
+                Lengths { len, whole: len }
+            }
+            Piece::Leaves(numbers) => {
+                let len = self.len.saturating_add(numbers.len());
+                Lengths {
+                    len,
+                    whole: self.whole,
+                }
+            }
+        }
+    }
+}
+
+/// The length of the inlined code of what a machine still answers.
+pub(crate) fn inlined_measured(machine: &mut Machine<'_>) -> Result<usize>
+    requires { IsNested machine.old }
+    ensures faultless { OnOk result (fault_of (still_of machine.old).end ≡ None) }
+    ensures len { IfOk result (λ len. len ≡ inlined_len (still_of machine.old).trace) }
+    ensures refused { IfErr result (λ e. (e ≡ errors.Memory) ⊎ (fault_of (still_of machine.old).end ≡ Some (refusal_of e))) }
+{
+    let mut lengths = Lengths { len: 0, whole: 0 };
+    loop {
+        match machine.advance()? {
+            Event::UsedUp => return Ok(lengths.whole),
+            Event::Went(said) => lengths = lengths.count(said),
+            Event::Answered(said, taken) => {
+                machine.clear(taken);
+                lengths = lengths.count(said);
+            }
+            Event::Over(said) => return Ok(lengths.count(said).whole),
+        }
+    }
+}
+
+/// The inlined code of what a machine still answers, in memory that is taken at once for so many bytes.
+pub(crate) fn inlined_code(alloc: Global, len: usize, machine: &mut Machine<'_>) -> Result<Vec<u8>>
+    requires { IsNested machine.old }
+    ensures faultless { OnOk result (fault_of (still_of machine.old).end ≡ None) }
+    ensures text { IfOk result (λ inlined. inlined.items ≡ inlined_text (still_of machine.old).trace) }
+    ensures refused { IfErr result (λ e. (e ≡ errors.Memory) ⊎ (fault_of (still_of machine.old).end ≡ Some (refusal_of e))) }
+{
+    let code = Vec::with_capacity(alloc, len)?;
+    let mut inlined = Inlined { code, whole: 0 };
+    loop {
+        let event = machine.advance()?;
+        match event {
+            Event::UsedUp => return Ok(inlined.finish()),
+            Event::Went(said) => inlined.append(said)?,
+            Event::Answered(said, taken) => {
+                machine.clear(taken);
+                inlined.append(said)?;
+            }
+            Event::Over(said) => {
+                inlined.append(said)?;
+                return Ok(inlined.finish());
+            }
+        }
+    }
+}
