@@ -2,8 +2,8 @@
 use crate::checks::holds;
 use crate::programs::DOUBLING;
 use crate::{
-    char_sets, decimals, dictionaries, errors, flat, fonts, indices, lenient, parts, programs,
-    readings,
+    char_sets, decimals, dictionaries, errors, flat, fonts, indices, inlined, lenient, parts,
+    programs, readings,
 };
 use postscript::Error;
 use postscript::compact1::char_set::Range1;
@@ -61,4 +61,5 @@ fn always_out_of_memory(rt: HostRuntime) {
     );
     flat::check_moves(&rt, alloc);
     flat::check_length(&rt, alloc, &("200a0e", DOUBLING, 7163));
+    inlined::check_moves(&rt, alloc);
 }

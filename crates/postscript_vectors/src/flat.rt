@@ -60,7 +60,13 @@ fn length_of<R: Abort>(rt: &R, alloc: Global, code: &[u8], local: &[Vec<u8>]) ->
 }
 
 /// Whether the runs of a code and of its flat code answer the same.
-fn are_same<R: Abort>(rt: &R, alloc: Global, code: &[u8], local: &[Vec<u8>], flat: &[u8]) -> bool {
+pub fn are_same<R: Abort>(
+    rt: &R,
+    alloc: Global,
+    code: &[u8],
+    local: &[Vec<u8>],
+    flat: &[u8],
+) -> bool {
     let before = told(rt, alloc, code, &[], local);
     let after = told(rt, alloc, flat, &[], &[]);
     after.as_str() == before.as_str()

@@ -24,6 +24,8 @@ mod hostile;
 #[cfg(test)]
 mod indices;
 #[cfg(test)]
+mod inlined;
+#[cfg(test)]
 mod lenient;
 #[cfg(test)]
 mod outlines;
@@ -44,3 +46,5 @@ pub mod synthetic;
 mod tapes;
 #[cfg(test)]
 mod views;
+#[cfg(test)]
+mod writing;

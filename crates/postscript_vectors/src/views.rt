@@ -1,5 +1,5 @@
 //! Fonts in place: a CID-keyed one, one with an encoding of its own, and what refuses only a part.
-mod rows;
+pub mod rows;
 
 use crate::checks::{bytes_of, changed, code_of, holds, holds_at, is_text, put_shown};
 use crate::fonts::TWO_DICTIONARIES;
@@ -9,7 +9,7 @@ use std::alloc::Global;
 use std::process::Abort;
 
 /// The bytes of a font, and behind them others.
-fn joined<R: Abort>(rt: &R, alloc: Global, font: &str, behind: &str) -> Vec<u8> {
+pub fn joined<R: Abort>(rt: &R, alloc: Global, font: &str, behind: &str) -> Vec<u8> {
     let mut bytes = bytes_of(rt, alloc, font);
     let more = bytes_of(rt, alloc, behind);
     bytes
@@ -33,7 +33,7 @@ fn put_advance<R: Abort>(rt: &R, text: &mut String, advance: &Advance) {
 }
 
 /// What is told of a glyph of a CID-keyed font.
-fn told<R: Abort>(rt: &R, alloc: Global, font: &FontView<'_>, glyph: usize) -> String {
+pub fn told<R: Abort>(rt: &R, alloc: Global, font: &FontView<'_>, glyph: usize) -> String {
     let mut text = String::new(alloc);
     let set = font.char_set().expect(rt, "a char set");
     if let Some(cid) = font.cid(&set, glyph) {
@@ -93,7 +93,7 @@ fn glyphs_of_cids(rt: HostRuntime) {
 }
 
 /// The codes that have a glyph, each with the glyph.
-fn codes_of<R: Abort>(rt: &R, alloc: Global, bytes: &[u8]) -> String {
+pub fn codes_of<R: Abort>(rt: &R, alloc: Global, bytes: &[u8]) -> String {
     let mut text = String::new(alloc);
     let font = FontView::read(alloc, bytes).expect(rt, "a font");
     let set = font.char_set().expect(rt, "a char set");

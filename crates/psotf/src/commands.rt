@@ -8,7 +8,10 @@ const EXAMPLES: &str = "Examples:
   psotf glyph Font.otf --char A
   psotf glyph Fonts.ttc --face 2 --all --json
   psotf svg Font.otf --text Hello -o hello.svg
-  psotf sheet Font.otf --count 256 -o sheet.svg";
+  psotf sheet Font.otf --count 256 -o sheet.svg
+  psotf flat Font.otf -o Flat.otf
+  psotf subset Font.otf --text Hello -o Hello.otf
+  psotf subset Font.otf --unicodes 20-7e,U+20AC --retain-gids -o Small.otf";
 
 /// A subcommand over a face of a file.
 fn over_face<'a>(alloc: Global, name: &'a str, about: &'a str) -> Result<Command<'a>, AllocError> {
@@ -121,6 +124,60 @@ fn specimen<'a>(alloc: Global) -> Result<Command<'a>, AllocError> {
     .arg(out(alloc))
 }
 
+fn flat<'a>(alloc: Global) -> Result<Command<'a>, AllocError> {
+    over_face(
+        alloc,
+        "flat",
+        "A file of the face whose char strings call no subroutines",
+    )?
+    .arg(out(alloc).required(true))
+}
+
+/// The words that name glyphs of a subset.
+fn chosen<'a>(
+    alloc: Global,
+    name: &'a str,
+    value: &'a str,
+    help: &'a str,
+) -> Result<Arg<'a>, AllocError> {
+    Arg::new(alloc, name)
+        .long(name)
+        .value_name(value)
+        .help(help)
+        .group("kept")
+}
+
+fn subset<'a>(alloc: Global) -> Result<Command<'a>, AllocError> {
+    let text = chosen(alloc, "text", "TEXT", "The glyphs of these characters")?;
+    let gids = chosen(
+        alloc,
+        "gids",
+        "LIST",
+        "The glyphs of these numbers, as 1,7-12, and their characters",
+    )?;
+    let unicodes = chosen(
+        alloc,
+        "unicodes",
+        "LIST",
+        "The glyphs of these characters, as 41,U+42,61-7a",
+    )?;
+    let retain = Arg::new(alloc, "retain-gids")
+        .long("retain-gids")
+        .action(ArgAction::SetTrue)
+        .help("Keep the numbers of glyphs; others are empty");
+    over_face(
+        alloc,
+        "subset",
+        "A file of some glyphs: tables of layout and signatures are left out",
+    )?
+    .arg(text)?
+    .arg(gids)?
+    .arg(unicodes)?
+    .group(clap::ArgGroup::new(alloc, "kept").required(true))?
+    .arg(retain)?
+    .arg(out(alloc).required(true))
+}
+
 /// The program's command.
 pub fn psotf<'a>(alloc: Global) -> Result<Command<'a>, AllocError> {
     Command::new(alloc, "psotf")
@@ -131,5 +188,7 @@ pub fn psotf<'a>(alloc: Global) -> Result<Command<'a>, AllocError> {
         .subcommand(inspect(alloc)?)?
         .subcommand(glyph(alloc)?)?
         .subcommand(svg(alloc)?)?
-        .subcommand(specimen(alloc)?)
+        .subcommand(specimen(alloc)?)?
+        .subcommand(flat(alloc)?)?
+        .subcommand(subset(alloc)?)
 }

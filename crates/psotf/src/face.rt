@@ -7,6 +7,7 @@ use std::alloc::Global;
 /// A face of a file with a table `CFF `.
 #[derive(Drop)]
 pub struct Face<'l> {
+    pub file: FontFile<'l>,
     pub faces: usize,
     pub units: u16,
     pub glyphs: u16,
@@ -20,7 +21,11 @@ pub struct Face<'l> {
 }
 
 /// A table that is needed.
-fn needed<'l>(file: &FontFile<'l>, tag: [u8; 4], name: &'static str) -> Result<&'l [u8], Failure> {
+pub fn needed<'l>(
+    file: &FontFile<'l>,
+    tag: [u8; 4],
+    name: &'static str,
+) -> Result<&'l [u8], Failure> {
     match file.table(tag) {
         Some(table) => Ok(table),
         None => Err(Failure::NoTable(name)),
@@ -62,6 +67,7 @@ impl<'l> Face<'l> {
         let font = FontView::read(alloc, cff)?;
         let set = font.char_set().ok();
         Ok(Face {
+            file,
             faces: faces(bytes)?,
             units,
             glyphs,

@@ -1,20 +1,26 @@
-//! Fonts in OpenType files: what they hold, glyphs and their outlines, and texts as pictures.
+//! Fonts in OpenType files: what they hold, glyphs and their outlines, texts as pictures, fonts without subroutines, and
+//! fonts of some glyphs.
 #![tactic(auto)]
 
 mod characters;
+mod choice;
 mod commands;
 mod decimal;
 mod dictionaries;
 mod drawing;
 mod face;
 mod failure;
+mod file;
+mod flat;
 mod glyph;
 mod hints;
 mod inspect;
+mod map;
 mod progress;
 mod saving;
 mod sheet;
 mod specimen;
+mod subset;
 mod svg;
 
 use clap::ArgMatches;
@@ -40,6 +46,8 @@ fn answer<W: Write>(
         "inspect" => inspect::write(rt, &face, words.get_flag("json"), out),
         "glyph" => glyph::write(rt, &face, words, out),
         "svg" => svg::write(rt, &face, words, out),
+        "flat" => flat::write(rt, &face, words, out),
+        "subset" => subset::write(rt, &face, words, out),
         _ => specimen::write(rt, &face, words, out),
     };
     out.flush()?;

@@ -29,17 +29,17 @@ fn save(rt: &HostRuntime, path: &str, bytes: &[u8]) -> Result<(), Failure> {
     }
 }
 
-/// Writes a picture where words say.
+/// Writes bytes where words say.
 pub fn put<W: Write>(
     rt: &HostRuntime,
     words: &ArgMatches<'_>,
-    picture: &str,
+    bytes: &[u8],
     out: &mut W,
 ) -> Result<(), Failure> {
     match words.get_str("out") {
-        Some(path) => save(rt, path, picture.as_bytes()),
+        Some(path) => save(rt, path, bytes),
         None => {
-            out.write_all(picture.as_bytes())?;
+            out.write_all(bytes)?;
             Ok(())
         }
     }

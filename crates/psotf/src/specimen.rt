@@ -73,5 +73,5 @@ pub fn write<W: Write>(
     }
     progress.end();
     writeln!(picture, "</svg>")?;
-    saving::put(rt, words, picture.as_str(), out)
+    saving::put(rt, words, picture.as_bytes(), out)
 }

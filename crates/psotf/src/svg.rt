@@ -67,5 +67,5 @@ pub fn write<W: Write>(
     let picture = format!(in rt.alloc();
         "<svg xmlns=\"http://www.w3.org/2000/svg\" viewBox=\"0 -{units} {width} {height}\">\n<g transform=\"scale(1 -1)\">\n{paths}</g>\n</svg>\n"
     )?;
-    saving::put(rt, words, picture.as_str(), out)
+    saving::put(rt, words, picture.as_bytes(), out)
 }

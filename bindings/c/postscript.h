@@ -1,0 +1,184 @@
+/* postscript.h: fonts of the Compact Font Format and their glyphs.
+ *
+ * The functions are those of a static library that is proved: over any bytes, and over any numbers in a psf_font, each
+ * call returns, reads nothing outside the bytes that it is given, writes nothing outside the room that it is given, and
+ * keeps no pointer. What a call answers is proved too: docs/LINKED.md tells what.
+ *
+ * What the caller owes, for each call:
+ *
+ *   - Each pointer is to as many bytes, or elements, as the length beside it says, and is aligned for its type.
+ *   - No pointer is null. Where a length is 0, any other address does, as that of a variable: it is not read. (The
+ *     bindings for Rust and Python never pass a null pointer.)
+ *   - What a call writes to overlaps nothing else that the call is given.
+ *   - While a call runs, no other thread writes to the bytes or the numbers that it reads.
+ *   - malloc, realloc and free are those of one allocator, and no call is made from a signal handler.
+ *
+ * Nothing has to be freed, and nothing is kept between calls: threads may share bytes and a psf_font.
+ *
+ * Units: coordinates, widths and bounds are in 65536ths of a unit of the font. Glyphs, faces and bytes are counted from 0.
+ */
+#ifndef POSTSCRIPT_H
+#define POSTSCRIPT_H
+
+#include <stddef.h>
+#include <stdint.h>
+
+#ifdef __cplusplus
+extern "C" {
+#endif
+
+/* The version of this header: its major, minor and patch number, a byte each. psf_version tells that of the library. */
+#define PSF_VERSION 0x000100u
+
+/* What a call answers: PSF_OK, or why it is refused. psf_status_text tells each in words. */
+enum {
+    PSF_OK = 0,
+    PSF_UNEXPECTED_EOF = 1,               /* bytes are wanting: something is cut, or its place is past the end */
+    PSF_IO = 2,                           /* not answered by a call of this header */
+    PSF_MEMORY = 3,                       /* memory was asked for and refused */
+    PSF_TAPE_STUCK = 4,                   /* not answered by a call of this header */
+    PSF_MALFORMED_OFFSET = 5,             /* offsets of an INDEX of no byte, or of more than four */
+    PSF_MALFORMED_INDEX = 6,              /* not answered by a call of this header */
+    PSF_MALFORMED_NUMBER = 7,             /* the bytes spell no number */
+    PSF_OUT_OF_RANGE_NUMBER = 8,          /* a real number with too many digits, or too large an exponent */
+    PSF_UNKNOWN_OPERATOR = 9,             /* a code names no operator */
+    PSF_MALFORMED_CHAR_SET = 10,          /* not answered by a call of this header */
+    PSF_UNKNOWN_CHAR_SET_FORMAT = 11,     /* no char set has this format */
+    PSF_UNKNOWN_CHAR_STRING_FORMAT = 12,  /* char strings of another type than 2 */
+    PSF_MALFORMED_OPERATION = 13,         /* an operand of a dictionary is no whole number of 32 bits */
+    PSF_MISSING_OPERATION = 14,           /* an operator of a dictionary is missing, or has too few operands */
+    PSF_OUT_OF_RANGE_OFFSET = 15,         /* an offset is negative */
+    PSF_UNSUPPORTED = 16,                 /* a part of the format that is not followed */
+    PSF_EXPECTED_OPERAND = 17,            /* an operator takes an operand off an empty stack */
+    PSF_EXPECTED_INTEGER = 18,            /* a number that has to be whole is not, or is missing */
+    PSF_EXPECTED_MORE_OPERANDS = 19,      /* the stack is not as deep as dup, index or roll reaches */
+    PSF_MALFORMED_OPERANDS = 20,          /* too few operands for an operator that draws or declares stems */
+    PSF_INVALID_OPERAND = 21,             /* the span of a roll, or the place of a stored number, is out of range */
+    PSF_MISSING_SUBROUTINE = 22,          /* no subroutine has the number */
+    PSF_RETURN_WITHOUT_CALLER = 23,       /* the outermost code returns */
+    PSF_TRAILING_DATA = 24,               /* bytes stand behind endchar in a subroutine */
+    PSF_TOO_DEEP = 25,                    /* an eleventh nested call */
+    PSF_OVERFLOW = 26,                    /* a number, or a coordinate, beyond 16.16 bits */
+    PSF_ZERO_DIVISOR = 27,                /* a division by zero */
+    PSF_NEGATIVE_ROOT = 28,               /* the root of a negative number */
+    PSF_TOO_MANY_STEMS = 29,              /* more stems than 32 bits count */
+    PSF_ALREADY_FAILED = 30,              /* not answered by a call of this header */
+    PSF_NO_GLYPH = 31,                    /* no glyph has the number, or the name */
+    PSF_NO_ROOM = 32,                     /* the room is too small: the count tells how much is needed */
+    PSF_CUT_FILE = 33,                    /* the file is cut */
+    PSF_UNKNOWN_FILE = 34,                /* no OpenType file */
+    PSF_NO_FACE = 35,                     /* the file has no such face */
+    PSF_NO_TABLE = 36,                    /* the face has no such table */
+    PSF_NO_MAP = 37,                      /* the table cmap has no map of a format that is read */
+    PSF_NO_NAME = 38,                     /* the glyph has no name */
+    PSF_NO_STATUS = 39                    /* no status has the number */
+};
+
+/* What a segment is. */
+enum {
+    PSF_MOVE = 0,  /* a contour begins at (x, y) */
+    PSF_LINE = 1,  /* a line to (x, y) */
+    PSF_CURVE = 2, /* a Bézier curve with the control points (x1, y1) and (x2, y2) to (x, y) */
+    PSF_CLOSE = 3  /* the contour goes back to where it began, and ends */
+};
+
+/* The tag of a table, as PSF_TAG('C', 'F', 'F', ' '). */
+#define PSF_TAG(a, b, c, d) \
+    ((uint32_t)(uint8_t)(a) << 24 | (uint32_t)(uint8_t)(b) << 16 | (uint32_t)(uint8_t)(c) << 8 | (uint32_t)(uint8_t)(d))
+
+/* What a private dictionary says of glyphs. Widths are exact where they are whole numbers of 32 bits; finer ones are cut to 65536ths. */
+typedef struct psf_part {
+    uint64_t local_subroutines; /* the place of their INDEX; 0: there is none */
+    int64_t default_width;      /* the width of glyphs whose programs tell none */
+    int64_t nominal_width;      /* what is added to the width that a program tells */
+} psf_part;
+
+/* A font: where its parts stand in the bytes. It may be copied, kept and sent, and any numbers in it are safe: a call over
+ * others answers something else, or refuses. A place of 0 stands for nothing. */
+typedef struct psf_font {
+    uint64_t char_strings;       /* the place of the INDEX of char strings */
+    uint64_t global_subroutines; /* the place of the INDEX of global subroutines */
+    uint64_t font_dictionaries;  /* of a CID-keyed font the place of the INDEX FDArray; else 0 */
+    uint64_t selection;          /* of a CID-keyed font the place of FDSelect; else 0 */
+    psf_part part;               /* of any other font */
+    uint64_t glyphs;             /* how many glyphs there are */
+    uint32_t is_cid;             /* 1 of a CID-keyed font, else 0 */
+} psf_font;
+
+/* A piece of an outline. Numbers that its kind does not have are 0. */
+typedef struct psf_segment {
+    uint32_t kind;
+    int32_t x1, y1, x2, y2;
+    int32_t x, y;
+} psf_segment;
+
+/* What is told of a glyph besides its segments. */
+typedef struct psf_glyph {
+    int64_t advance;                   /* the width: the default one, or the nominal one and what the program tells */
+    int32_t left, bottom, right, top;  /* the bounds of all points, control points too; 0 where there is none */
+    uint32_t has_bounds;               /* 1 where there is a point, else 0 */
+    uint32_t has_width;                /* 1 where the program tells a width, else 0 */
+} psf_glyph;
+
+/* The bounds of the lines and curves of a glyph, by its ends and the extrema of its curves, to a 65536th more. */
+typedef struct psf_bounds {
+    int32_t left, bottom, right, top; /* 0 where there is no point */
+    uint32_t has_bounds;              /* 1 where there is a point, else 0 */
+} psf_bounds;
+
+/* The version of the library, as PSF_VERSION. */
+uint32_t psf_version(void);
+
+/* The text of a status, in English, without a byte 0 at its end, to the front of text[0..room].
+ * On PSF_OK and PSF_NO_ROOM *count is how many bytes it has. Also answered: PSF_NO_STATUS. */
+int32_t psf_status_text(int32_t status, uint8_t *text, size_t room, size_t *count);
+
+/* How many faces an OpenType file has: one, or those of a collection.
+ * On PSF_OK *faces tells them. Also answered: PSF_CUT_FILE, PSF_UNKNOWN_FILE. */
+int32_t psf_file_faces(const uint8_t *file, size_t length, size_t *faces);
+
+/* Where a table of a face of an OpenType file stands.
+ * On PSF_OK *place is its offset in the file and *size how many bytes it has, and *place + *size is at most length. The
+ * table of the first record is told that has the tag and lies within the file.
+ * Also answered: PSF_NO_TABLE, PSF_CUT_FILE, PSF_UNKNOWN_FILE, PSF_NO_FACE. */
+int32_t psf_file_table(const uint8_t *file, size_t length, size_t face, uint32_t tag, size_t *place, size_t *size);
+
+/* The glyph of a character, by the bytes of a table cmap: by its best map of formats 4, 6 or 12.
+ * On PSF_OK *glyph is the glyph, or 0 where the character has none. Also answered: PSF_NO_MAP. */
+int32_t psf_map_glyph(const uint8_t *cmap, size_t length, uint32_t character, size_t *glyph);
+
+/* Opens the font that the bytes of a table CFF begin with.
+ * On PSF_OK *font tells where its parts stand. Else the status is an error from 1 to 15, and *font is as it was. */
+int32_t psf_font_open(const uint8_t *cff, size_t length, psf_font *font);
+
+/* The outline of a glyph, to the front of segments[0..room]; its number of segments, its width and its bounds.
+ * On PSF_OK and PSF_NO_ROOM *count and *info are told, and on PSF_OK segments[0..*count] is the outline: contours, each from
+ * a PSF_MOVE to a PSF_CLOSE. With a room of 0 the call tells how much room is needed.
+ * Also answered: PSF_NO_GLYPH, and errors from 1 to 30; then nothing is written. */
+int32_t psf_glyph_outline(const uint8_t *cff, size_t length, const psf_font *font, size_t glyph,
+                          psf_segment *segments, size_t room, size_t *count, psf_glyph *info);
+
+/* The bounds of the lines and curves of a glyph. (psf_glyph_outline tells those of all points, control points too.)
+ * On PSF_OK *bounds is told. Also answered: PSF_NO_GLYPH, and errors from 1 to 30; then *bounds is as it was. */
+int32_t psf_glyph_bounds(const uint8_t *cff, size_t length, const psf_font *font, size_t glyph, psf_bounds *bounds);
+
+/* The code of a glyph without calls of subroutines, to the front of code[0..room]: over any subroutines it has the operations
+ * and the width of the glyph.
+ * On PSF_OK and PSF_NO_ROOM *count is how many bytes it has. Also answered: PSF_NO_GLYPH, and errors from 1 to 30. */
+int32_t psf_glyph_flat(const uint8_t *cff, size_t length, const psf_font *font, size_t glyph,
+                       uint8_t *code, size_t room, size_t *count);
+
+/* The name of a glyph of the font that the bytes of a table CFF begin with, without a byte 0 at its end, to the front of
+ * name[0..room]. A CID-keyed font has CIDs in place of names.
+ * On PSF_OK and PSF_NO_ROOM *count is how many bytes it has. Also answered: PSF_NO_NAME, and errors from 1 to 15. */
+int32_t psf_glyph_name(const uint8_t *cff, size_t length, size_t glyph, uint8_t *name, size_t room, size_t *count);
+
+/* The first glyph that has a name, in the font that the bytes of a table CFF begin with.
+ * On PSF_OK *glyph is the glyph. Also answered: PSF_NO_GLYPH, and errors from 1 to 15. */
+int32_t psf_named_glyph(const uint8_t *cff, size_t length, const uint8_t *name, size_t name_length, size_t *glyph);
+
+#ifdef __cplusplus
+}
+#endif
+
+#endif

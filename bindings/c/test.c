@@ -1,0 +1,150 @@
+/* test FONT.hex: calls each function of postscript.h over the font whose bytes are spelled there, and compares. */
+#include <stdio.h>
+#include <stdlib.h>
+#include <string.h>
+
+#include "postscript.h"
+
+static int failures;
+
+static void holds(int fact, const char *what) {
+    if (!fact) {
+        fprintf(stderr, "not so: %s\n", what);
+        failures++;
+    }
+}
+
+/* The bytes that hexadecimal digits spell. */
+static size_t read_hex(const char *name, uint8_t *bytes, size_t room) {
+    FILE *file = fopen(name, "r");
+    unsigned byte;
+    size_t length = 0;
+    while (file && length < room && fscanf(file, "%2x", &byte) == 1) bytes[length++] = (uint8_t)byte;
+    if (file) fclose(file);
+    return length;
+}
+
+/* The outline of the glyph `flower`, in units: by the numbers of its char string. */
+static const int flower[][7] = {
+    {PSF_MOVE, 0, 0, 0, 0, 100, -10},  {PSF_CURVE, 300, -10, 400, 100, 400, 300},
+    {PSF_LINE, 0, 0, 0, 0, 100, 300},  {PSF_CLOSE, 0, 0, 0, 0, 0, 0},
+    {PSF_MOVE, 0, 0, 0, 0, 150, 50},   {PSF_LINE, 0, 0, 0, 0, 200, 50},
+    {PSF_LINE, 0, 0, 0, 0, 200, 100},  {PSF_CLOSE, 0, 0, 0, 0, 0, 0},
+};
+
+static int is_segment(const psf_segment *s, const int *row) {
+    const int32_t numbers[6] = {s->x1, s->y1, s->x2, s->y2, s->x, s->y};
+    for (int i = 0; i < 6; i++)
+        if (numbers[i] != row[i + 1] * 65536) return 0;
+    return s->kind == (uint32_t)row[0];
+}
+
+static void check_outline(const uint8_t *cff, size_t size, const psf_font *font) {
+    psf_segment segments[9];
+    psf_glyph info;
+    size_t count = 99;
+    memset(segments, 0xa5, sizeof segments);
+    holds(psf_glyph_outline(cff, size, font, 3, segments, 0, &count, &info) == PSF_NO_ROOM && count == 8, "how much room");
+    holds(psf_glyph_outline(cff, size, font, 3, segments, 7, &count, &info) == PSF_NO_ROOM && count == 8, "too small a room");
+    holds(segments[7].kind == 0xa5a5a5a5u, "nothing behind the room");
+    holds(psf_glyph_outline(cff, size, font, 3, segments, 8, &count, &info) == PSF_OK && count == 8, "the outline");
+    for (int i = 0; i < 8; i++) holds(is_segment(&segments[i], flower[i]), "a segment");
+    holds(segments[8].kind == 0xa5a5a5a5u, "nothing behind the outline");
+    holds(info.advance == 450 * 65536 && info.has_width == 1, "the nominal width and what is told");
+    holds(info.has_bounds == 1 && info.left == 100 * 65536 && info.bottom == -10 * 65536, "the low bounds");
+    holds(info.right == 400 * 65536 && info.top == 300 * 65536, "the high bounds");
+    holds(psf_glyph_outline(cff, size, font, 0, segments, 9, &count, &info) == PSF_OK && count == 0, "an empty outline");
+    holds(info.advance == 500 * 65536 && info.has_width == 0 && info.has_bounds == 0, "the default width");
+    psf_bounds bounds = {1, 2, 3, 4, 5};
+    holds(psf_glyph_bounds(cff, size, font, 4, &bounds) == PSF_NO_GLYPH && bounds.left == 1, "no glyph's bounds");
+    holds(psf_glyph_bounds(cff, size, font, 3, &bounds) == PSF_OK && bounds.has_bounds == 1, "the bounds of curves");
+    holds(bounds.left == 100 * 65536 && bounds.bottom == -10 * 65536, "their low ends");
+    holds(bounds.right == 400 * 65536 && bounds.top == 300 * 65536, "their high ends");
+    count = 77;
+    holds(psf_glyph_outline(cff, size, font, 4, segments, 9, &count, &info) == PSF_NO_GLYPH && count == 77, "past the end");
+}
+
+/* A font with numbers in it that stand for nothing: each call answers a status, and writes nothing behind the room. */
+static void check_spoiled(const uint8_t *cff, size_t size, const psf_font *font) {
+    psf_segment segments[2];
+    psf_glyph info;
+    size_t count;
+    for (size_t field = 0; field < sizeof *font / 8; field++) {
+        for (uint64_t number = 0; number < 200; number++) {
+            psf_font spoiled = *font;
+            uint64_t value = number < 150 ? number : UINT64_MAX >> (number - 150);
+            memcpy((uint8_t *)&spoiled + 8 * field, &value, 8);
+            segments[1].kind = 0xa5a5a5a5u;
+            int32_t status = psf_glyph_outline(cff, size, &spoiled, 3, segments, 1, &count, &info);
+            holds(status >= 0 && status <= PSF_NO_ROOM, "a status");
+            holds(segments[1].kind == 0xa5a5a5a5u, "nothing behind the room of a spoiled font");
+        }
+    }
+}
+
+static void check_names(const uint8_t *cff, size_t size) {
+    uint8_t name[16];
+    size_t count = 0, glyph = 99;
+    memset(name, 0xa5, sizeof name);
+    holds(psf_glyph_name(cff, size, 3, name, 5, &count) == PSF_NO_ROOM && count == 6 && name[5] == 0xa5, "no room for a name");
+    holds(psf_glyph_name(cff, size, 3, name, 6, &count) == PSF_OK && count == 6, "a name");
+    holds(memcmp(name, "flower", 6) == 0 && name[6] == 0xa5, "its bytes");
+    holds(psf_glyph_name(cff, size, 0, name, 16, &count) == PSF_OK && memcmp(name, ".notdef", 7) == 0, "a standard name");
+    holds(psf_glyph_name(cff, size, 4, name, 16, &count) == PSF_NO_NAME, "no name");
+    holds(psf_named_glyph(cff, size, (const uint8_t *)"flower", 6, &glyph) == PSF_OK && glyph == 3, "a named glyph");
+    holds(psf_named_glyph(cff, size, (const uint8_t *)"flowe", 5, &glyph) == PSF_NO_GLYPH, "no named glyph");
+}
+
+static void check_flat(const uint8_t *cff, size_t size, const psf_font *font) {
+    /* 0 hmoveto 250 700 250 -700 rlineto endchar */
+    static const uint8_t code[] = {0x8b, 0x16, 0xf7, 0x8e, 0xf9, 0x50, 0xf7, 0x8e, 0xfd, 0x50, 0x05, 0x0e};
+    uint8_t flat[16];
+    size_t count = 0;
+    memset(flat, 0xa5, sizeof flat);
+    holds(psf_glyph_flat(cff, size, font, 2, flat, 11, &count) == PSF_NO_ROOM && count == 12 && flat[11] == 0xa5, "no room for code");
+    holds(psf_glyph_flat(cff, size, font, 2, flat, 16, &count) == PSF_OK && count == 12, "flat code");
+    holds(memcmp(flat, code, 12) == 0 && flat[12] == 0xa5, "its bytes");
+    holds(psf_glyph_flat(cff, size, font, 4, flat, 16, &count) == PSF_NO_GLYPH, "no glyph's flat code");
+}
+
+static void check_texts(void) {
+    uint8_t text[80];
+    size_t count = 0;
+    holds(psf_version() == PSF_VERSION, "the version of the header");
+    for (int32_t status = 0; status <= PSF_NO_STATUS; status++)
+        holds(psf_status_text(status, text, sizeof text, &count) == PSF_OK && count > 0, "a text");
+    holds(psf_status_text(PSF_NO_GLYPH, text, sizeof text, &count) == PSF_OK && memcmp(text, "no such glyph", 13) == 0, "its words");
+    holds(psf_status_text(PSF_NO_GLYPH, text, 3, &count) == PSF_NO_ROOM && count == 13, "no room for a text");
+    holds(psf_status_text(40, text, sizeof text, &count) == PSF_NO_STATUS, "no text");
+    holds(psf_status_text(-1, text, sizeof text, &count) == PSF_NO_STATUS, "no text below 0");
+}
+
+int main(int argc, char **argv) {
+    uint8_t file[1024];
+    if (argc != 2) return 2;
+    size_t length = read_hex(argv[1], file, sizeof file), faces = 0, place = 0, size = 0, glyph = 99;
+    holds(length == 228, "the length of the font");
+    holds(psf_file_faces(file, length, &faces) == PSF_OK && faces == 1, "one face");
+    holds(psf_file_faces(file, 3, &faces) == PSF_CUT_FILE, "a cut file");
+    holds(psf_file_faces(file + 1, length - 1, &faces) == PSF_UNKNOWN_FILE, "no file");
+    holds(psf_file_table(file, length, 1, PSF_TAG('C', 'F', 'F', ' '), &place, &size) == PSF_NO_FACE, "no face");
+    holds(psf_file_table(file, length, 0, PSF_TAG('g', 'l', 'y', 'f'), &place, &size) == PSF_NO_TABLE, "no table");
+    holds(psf_file_table(file, length, 0, PSF_TAG('c', 'm', 'a', 'p'), &place, &size) == PSF_OK, "the character map");
+    holds(psf_map_glyph(file + place, size, 'A', &glyph) == PSF_OK && glyph == 2, "a character");
+    holds(psf_map_glyph(file + place, size, 0x2698, &glyph) == PSF_OK && glyph == 3, "another character");
+    holds(psf_map_glyph(file + place, size, 'B', &glyph) == PSF_OK && glyph == 0, "a character without a glyph");
+    holds(psf_map_glyph(file + place, 3, 'A', &glyph) == PSF_NO_MAP, "a cut map");
+    holds(psf_file_table(file, length, 0, PSF_TAG('C', 'F', 'F', ' '), &place, &size) == PSF_OK, "the font");
+
+    psf_font font;
+    holds(psf_font_open(file + place, size, &font) == PSF_OK && font.glyphs == 4 && font.is_cid == 0, "four glyphs");
+    holds(psf_font_open(file + place, 2, &font) == PSF_UNEXPECTED_EOF && font.glyphs == 4, "a cut font");
+    holds(psf_font_open(file, 0, &font) == PSF_UNEXPECTED_EOF, "no bytes");
+    check_outline(file + place, size, &font);
+    check_spoiled(file + place, size, &font);
+    check_names(file + place, size);
+    check_flat(file + place, size, &font);
+    check_texts();
+    printf("postscript.h: %s\n", failures ? "tests failed" : "all tests passed");
+    return failures != 0;
+}

@@ -1,0 +1,142 @@
+"""Tests over the font whose bytes `bindings/font.hex` spells, and over fonts that are installed: python3 -m unittest.
+
+The font has four glyphs, `.notdef`, `space`, `A` and `flower`. The expected values are the numbers of its char strings and of
+its dictionary, added up by hand.
+"""
+
+import pathlib
+import unittest
+
+import postscript
+from postscript import Error, Font, Status
+
+FONTS = pathlib.Path("/usr/share/fonts/opentype")
+FLOWER = [
+    ("moveTo", ((100, -10),)),
+    ("curveTo", ((300, -10), (400, 100), (400, 300))),
+    ("lineTo", ((100, 300),)),
+    ("closePath", ()),
+    ("moveTo", ((150, 50),)),
+    ("lineTo", ((200, 50),)),
+    ("lineTo", ((200, 100),)),
+    ("closePath", ()),
+]
+
+# A CID-keyed font of four glyphs and two font dictionaries, up to its FDSelect. Glyph 1 calls the local subroutine of the first font
+# dictionary, and glyph 2 the global subroutine 1.
+CID = bytes.fromhex(
+    "010004010001010102430001010121f81bf81c8b0c1e8177f7c0f824051c004a0f1c0053111c00650c241c00990c25000201"
+    "01060e41646f62654964656e74697479000201010103bd0b02000a0001006400000004010102060b0b0e879f200a92211d16"
+    "0e00020101161b1e0a0005ff8b8b1e0a0005ff8b8b0c07931c008512901c009412f88814f8ec1593130001010103160ef78e"
+    "146d15"
+)
+
+
+def small():
+    return bytes.fromhex((pathlib.Path(__file__).resolve().parent.parent / "font.hex").read_text())
+
+
+class Recorder:
+    """A pen that writes down its calls, as fontTools' RecordingPen."""
+
+    def __init__(self):
+        self.value = []
+
+    def __getattr__(self, method):
+        return lambda *points: self.value.append((method, points))
+
+
+class Small(unittest.TestCase):
+    def setUp(self):
+        self.font = Font.from_bytes(small())
+
+    def refused(self, status, call, *arguments):
+        with self.assertRaises(Error) as caught:
+            call(*arguments)
+        self.assertEqual(caught.exception.status, status)
+
+    def test_glyph_of_a_character(self):
+        glyph = self.font.glyph_of("\u2698")
+        self.assertEqual((glyph.number, glyph.advance, glyph.segments), (3, 450, FLOWER))
+        self.assertEqual(glyph.bounds, (100, -10, 400, 300))
+        self.assertEqual(glyph.tight_bounds, (100, -10, 400, 300))
+        self.assertEqual(self.font.glyph_of("A").svg_path(), "M0 0L250 700L500 0Z")
+        self.assertEqual(self.font.glyph_of("B").number, 0)
+
+    def test_pen(self):
+        pen = Recorder()
+        self.font[3].draw(pen)
+        self.assertEqual(pen.value, FLOWER)
+
+    def test_all(self):
+        self.assertEqual(len(self.font), 4)
+        self.assertFalse(self.font.is_cid_keyed)
+        self.assertEqual([glyph.advance for glyph in self.font], [500, 250, 500, 450])
+        self.assertIsNone(self.font[1].bounds)
+
+    def test_names(self):
+        self.assertEqual([glyph.name for glyph in self.font], [".notdef", "space", "A", "flower"])
+        self.assertEqual(self.font.glyph_named("flower").number, 3)
+        self.refused(Status.NO_GLYPH, self.font.glyph_named, b"flowers")
+
+    def test_code_without_calls(self):
+        # 0 hmoveto 250 700 250 -700 rlineto endchar
+        self.assertEqual(self.font[2].flat_code().hex(), "8b16f78ef950f78efd50050e")
+
+    def test_cid_keyed(self):
+        for selection in ("0300020000000002010004", "0000000101"):
+            font = Font(CID + bytes.fromhex(selection))
+            self.assertTrue(font.is_cid_keyed)
+            self.assertEqual([glyph.advance for glyph in font], [500, 596, -23, 250])
+            self.assertEqual([glyph.svg_path() for glyph in font], ["", "M20 0Z", "M50 0Z", ""])
+
+    def test_refusals(self):
+        file = small()
+        self.assertEqual(postscript.faces(file), 1)
+        self.assertEqual(postscript.version(), (0, 1, 0))
+        self.refused(Status.CUT_FILE, postscript.faces, b"")
+        self.refused(Status.UNKNOWN_FILE, Font.from_bytes, file[1:])
+        self.refused(Status.NO_FACE, Font.from_bytes, file, 1)
+        self.refused(Status.UNEXPECTED_EOF, Font, b"")
+        self.assertRaises(IndexError, lambda: self.font[4])
+        past = postscript.Glyph(self.font, 4)
+        self.refused(Status.NO_GLYPH, lambda: past.segments)
+        self.assertIsNone(past.name)
+        self.assertEqual(str(Error(Status.NO_GLYPH)), "no such glyph")
+        self.assertEqual(Error(1000).status, 1000)
+
+    def test_changed_bytes(self):
+        table = self.font._cff
+        for place in range(len(table)):
+            for byte in (0, 1, 255, table[place] ^ 1, table[place] ^ 128):
+                try:
+                    font = Font(table[:place] + bytes([byte]) + table[place + 1 :])
+                    self.assertTrue(all(glyph.segments is not None for glyph in (font[0], font[len(font) - 1])))
+                except (Error, IndexError):
+                    pass
+
+
+class Installed(unittest.TestCase):
+    """The same as fontTools, where it and the fonts are installed."""
+
+    def test_outlines(self):
+        try:
+            from fontTools.pens.recordingPen import RecordingPen
+            from fontTools.ttLib import TTFont
+        except ImportError:
+            self.skipTest("no fontTools")
+        files = [FONTS / "ebgaramond" / "EBGaramond12-Regular.otf", FONTS / "freefont" / "FreeSerif.otf"]
+        for file in (file for file in files if file.exists()):
+            theirs = TTFont(file)
+            glyphs, order = theirs.getGlyphSet(), theirs.getGlyphOrder()
+            for glyph in list(Font.open(file))[::7]:
+                self.assertEqual(glyph.name, order[glyph.number])
+                pen, other = RecordingPen(), RecordingPen()
+                glyph.draw(pen)
+                glyphs[order[glyph.number]].draw(other)
+                self.assertEqual(pen.value, other.value, (file.name, glyph))
+                self.assertEqual(glyph.advance, glyphs[order[glyph.number]].width)
+
+
+if __name__ == "__main__":
+    unittest.main()

@@ -1,0 +1,227 @@
+//! The functions of postscript.h, and safe calls of them. A slice is passed as its pointer, which is never null, and its
+//! length; what is written to is a `&mut`, which overlaps nothing else. So each caller meets what the header asks.
+use crate::error::{Error, Result};
+
+/// `psf_part`.
+#[repr(C)]
+#[derive(Clone, Copy, Debug, Default)]
+pub struct Part {
+    local_subroutines: u64,
+    default_width: i64,
+    nominal_width: i64,
+}
+
+/// `psf_font`: plain numbers, of which any are safe.
+#[repr(C)]
+#[derive(Clone, Copy, Debug, Default)]
+pub struct Font {
+    char_strings: u64,
+    global_subroutines: u64,
+    font_dictionaries: u64,
+    selection: u64,
+    part: Part,
+    pub glyphs: u64,
+    pub is_cid: u32,
+}
+
+/// `psf_segment`.
+#[repr(C)]
+#[derive(Clone, Copy, Debug, Default)]
+pub struct Segment {
+    pub kind: u32,
+    pub x1: i32,
+    pub y1: i32,
+    pub x2: i32,
+    pub y2: i32,
+    pub x: i32,
+    pub y: i32,
+}
+
+/// `psf_glyph`.
+#[repr(C)]
+#[derive(Clone, Copy, Debug, Default)]
+pub struct Glyph {
+    pub advance: i64,
+    pub left: i32,
+    pub bottom: i32,
+    pub right: i32,
+    pub top: i32,
+    pub has_bounds: u32,
+    pub has_width: u32,
+}
+
+/// `psf_bounds`.
+#[repr(C)]
+#[derive(Clone, Copy, Debug, Default)]
+pub struct Bounds {
+    pub left: i32,
+    pub bottom: i32,
+    pub right: i32,
+    pub top: i32,
+    pub has_bounds: u32,
+}
+
+const OK: i32 = 0;
+const NO_ROOM: i32 = 32;
+
+extern "C" {
+    fn psf_version() -> u32;
+    fn psf_status_text(status: i32, text: *mut u8, room: usize, count: *mut usize) -> i32;
+    fn psf_file_faces(file: *const u8, length: usize, faces: *mut usize) -> i32;
+    fn psf_file_table(
+        file: *const u8,
+        length: usize,
+        face: usize,
+        tag: u32,
+        place: *mut usize,
+        size: *mut usize,
+    ) -> i32;
+    fn psf_map_glyph(cmap: *const u8, length: usize, character: u32, glyph: *mut usize) -> i32;
+    fn psf_font_open(cff: *const u8, length: usize, font: *mut Font) -> i32;
+    fn psf_glyph_outline(
+        cff: *const u8,
+        length: usize,
+        font: *const Font,
+        glyph: usize,
+        segments: *mut Segment,
+        room: usize,
+        count: *mut usize,
+        info: *mut Glyph,
+    ) -> i32;
+    fn psf_glyph_bounds(
+        cff: *const u8,
+        length: usize,
+        font: *const Font,
+        glyph: usize,
+        bounds: *mut Bounds,
+    ) -> i32;
+    fn psf_glyph_flat(
+        cff: *const u8,
+        length: usize,
+        font: *const Font,
+        glyph: usize,
+        code: *mut u8,
+        room: usize,
+        count: *mut usize,
+    ) -> i32;
+    fn psf_glyph_name(
+        cff: *const u8,
+        length: usize,
+        glyph: usize,
+        name: *mut u8,
+        room: usize,
+        count: *mut usize,
+    ) -> i32;
+    fn psf_named_glyph(
+        cff: *const u8,
+        length: usize,
+        name: *const u8,
+        name_length: usize,
+        glyph: *mut usize,
+    ) -> i32;
+}
+
+pub fn version() -> u32 {
+    unsafe { psf_version() }
+}
+
+/// The value, where the status is that of no refusal.
+fn answered<T>(status: i32, value: T) -> Result<T> {
+    if status == OK {
+        Ok(value)
+    } else {
+        Err(Error::of(status))
+    }
+}
+
+/// Calls with more room until it is enough.
+fn with_room<T: Clone>(
+    room: &mut Vec<T>,
+    least: usize,
+    blank: T,
+    mut call: impl FnMut(&mut [T], &mut usize) -> i32,
+) -> Result<()> {
+    room.resize(least.max(room.capacity()), blank.clone());
+    let mut count = 0;
+    let mut status = call(room, &mut count);
+    if status == NO_ROOM {
+        room.resize(count, blank);
+        status = call(room, &mut count);
+    }
+    answered(status, ())?;
+    room.truncate(count);
+    Ok(())
+}
+
+pub fn status_text(status: i32) -> String {
+    let mut text = Vec::new();
+    match with_room(&mut text, 64, 0, |room, count| unsafe {
+        psf_status_text(status, room.as_mut_ptr(), room.len(), count)
+    }) {
+        Ok(()) => String::from_utf8_lossy(&text).into_owned(),
+        Err(_) => format!("status {status}"),
+    }
+}
+
+pub fn faces(file: &[u8]) -> Result<usize> {
+    let mut faces = 0;
+    let status = unsafe { psf_file_faces(file.as_ptr(), file.len(), &mut faces) };
+    answered(status, faces)
+}
+
+pub fn table(file: &[u8], face: usize, tag: [u8; 4]) -> Result<&[u8]> {
+    let (mut place, mut size) = (0, 0);
+    let tag = u32::from_be_bytes(tag);
+    let status = unsafe { psf_file_table(file.as_ptr(), file.len(), face, tag, &mut place, &mut size) };
+    answered(status, ())?;
+    Ok(&file[place..place + size])
+}
+
+pub fn map_glyph(cmap: &[u8], character: u32) -> Result<usize> {
+    let mut glyph = 0;
+    let status = unsafe { psf_map_glyph(cmap.as_ptr(), cmap.len(), character, &mut glyph) };
+    answered(status, glyph)
+}
+
+pub fn open(cff: &[u8]) -> Result<Font> {
+    let mut font = Font::default();
+    let status = unsafe { psf_font_open(cff.as_ptr(), cff.len(), &mut font) };
+    answered(status, font)
+}
+
+pub fn outline(cff: &[u8], font: &Font, glyph: usize, segments: &mut Vec<Segment>) -> Result<Glyph> {
+    let mut info = Glyph::default();
+    with_room(segments, 64, Segment::default(), |room, count| unsafe {
+        psf_glyph_outline(cff.as_ptr(), cff.len(), font, glyph, room.as_mut_ptr(), room.len(), count, &mut info)
+    })?;
+    Ok(info)
+}
+
+pub fn bounds(cff: &[u8], font: &Font, glyph: usize) -> Result<Bounds> {
+    let mut bounds = Bounds::default();
+    let status = unsafe { psf_glyph_bounds(cff.as_ptr(), cff.len(), font, glyph, &mut bounds) };
+    answered(status, bounds)
+}
+
+pub fn flat(cff: &[u8], font: &Font, glyph: usize) -> Result<Vec<u8>> {
+    let mut code = Vec::new();
+    with_room(&mut code, 256, 0, |room, count| unsafe {
+        psf_glyph_flat(cff.as_ptr(), cff.len(), font, glyph, room.as_mut_ptr(), room.len(), count)
+    })?;
+    Ok(code)
+}
+
+pub fn glyph_name(cff: &[u8], glyph: usize) -> Result<Vec<u8>> {
+    let mut name = Vec::new();
+    with_room(&mut name, 32, 0, |room, count| unsafe {
+        psf_glyph_name(cff.as_ptr(), cff.len(), glyph, room.as_mut_ptr(), room.len(), count)
+    })?;
+    Ok(name)
+}
+
+pub fn named_glyph(cff: &[u8], name: &[u8]) -> Result<usize> {
+    let mut glyph = 0;
+    let status =
+        unsafe { psf_named_glyph(cff.as_ptr(), cff.len(), name.as_ptr(), name.len(), &mut glyph) };
+    answered(status, glyph)
+}

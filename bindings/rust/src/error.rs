@@ -1,0 +1,141 @@
+//! What a call is refused with.
+use crate::c;
+use std::fmt;
+
+/// What a call answers, or the error that it is refused with.
+pub type Result<T> = std::result::Result<T, Error>;
+
+/// Why a call is refused: the statuses of postscript.h, with their numbers.
+#[derive(Clone, Copy, Debug, PartialEq, Eq, Hash)]
+#[non_exhaustive]
+#[repr(i32)]
+pub enum Error {
+    /// Bytes are wanting: something is cut, or its place is past the end.
+    UnexpectedEof = 1,
+    /// Memory was asked for and refused.
+    Memory = 3,
+    /// Offsets of an INDEX of no byte, or of more than four.
+    MalformedOffset = 5,
+    /// The bytes spell no number.
+    MalformedNumber = 7,
+    /// A real number with too many digits, or too large an exponent.
+    OutOfRangeNumber = 8,
+    /// A code names no operator.
+    UnknownOperator = 9,
+    /// No char set has this format.
+    UnknownCharSetFormat = 11,
+    /// Char strings of another type than 2.
+    UnknownCharStringFormat = 12,
+    /// An operand of a dictionary is no whole number of 32 bits.
+    MalformedOperation = 13,
+    /// An operator of a dictionary is missing, or has too few operands.
+    MissingOperation = 14,
+    /// An offset is negative.
+    OutOfRangeOffset = 15,
+    /// A part of the format that is not followed.
+    Unsupported = 16,
+    /// An operator takes an operand off an empty stack.
+    ExpectedOperand = 17,
+    /// A number that has to be whole is not, or is missing.
+    ExpectedInteger = 18,
+    /// The stack is not as deep as dup, index or roll reaches.
+    ExpectedMoreOperands = 19,
+    /// Too few operands for an operator that draws or declares stems.
+    MalformedOperands = 20,
+    /// The span of a roll, or the place of a stored number, is out of range.
+    InvalidOperand = 21,
+    /// No subroutine has the number.
+    MissingSubroutine = 22,
+    /// The outermost code returns.
+    ReturnWithoutCaller = 23,
+    /// Bytes stand behind endchar in a subroutine.
+    TrailingData = 24,
+    /// An eleventh nested call.
+    TooDeep = 25,
+    /// A number, or a coordinate, beyond 16.16 bits.
+    Overflow = 26,
+    /// A division by zero.
+    ZeroDivisor = 27,
+    /// The root of a negative number.
+    NegativeRoot = 28,
+    /// More stems than 32 bits count.
+    TooManyStems = 29,
+    /// No glyph has the number, or the name.
+    NoGlyph = 31,
+    /// The room is too small: the count tells how much is needed.
+    NoRoom = 32,
+    /// The file is cut.
+    CutFile = 33,
+    /// No OpenType file.
+    UnknownFile = 34,
+    /// The file has no such face.
+    NoFace = 35,
+    /// The face has no such table.
+    NoTable = 36,
+    /// The table cmap has no map of a format that is read.
+    NoMap = 37,
+    /// The glyph has no name.
+    NoName = 38,
+    /// No status has the number.
+    NoStatus = 39,
+    /// A status that this crate does not know.
+    Other = -1,
+}
+
+/// All that have a number.
+const ERRORS: [Error; 34] = [
+    Error::UnexpectedEof,
+    Error::Memory,
+    Error::MalformedOffset,
+    Error::MalformedNumber,
+    Error::OutOfRangeNumber,
+    Error::UnknownOperator,
+    Error::UnknownCharSetFormat,
+    Error::UnknownCharStringFormat,
+    Error::MalformedOperation,
+    Error::MissingOperation,
+    Error::OutOfRangeOffset,
+    Error::Unsupported,
+    Error::ExpectedOperand,
+    Error::ExpectedInteger,
+    Error::ExpectedMoreOperands,
+    Error::MalformedOperands,
+    Error::InvalidOperand,
+    Error::MissingSubroutine,
+    Error::ReturnWithoutCaller,
+    Error::TrailingData,
+    Error::TooDeep,
+    Error::Overflow,
+    Error::ZeroDivisor,
+    Error::NegativeRoot,
+    Error::TooManyStems,
+    Error::NoGlyph,
+    Error::NoRoom,
+    Error::CutFile,
+    Error::UnknownFile,
+    Error::NoFace,
+    Error::NoTable,
+    Error::NoMap,
+    Error::NoName,
+    Error::NoStatus,
+];
+
+impl Error {
+    /// The error of a status.
+    pub(crate) fn of(status: i32) -> Error {
+        ERRORS.into_iter().find(|e| e.status() == status).unwrap_or(Error::Other)
+    }
+
+    /// The number of the error, as in postscript.h.
+    pub fn status(self) -> i32 {
+        self as i32
+    }
+}
+
+impl fmt::Display for Error {
+    fn fmt(&self, f: &mut fmt::Formatter<'_>) -> fmt::Result {
+        f.write_str(&c::status_text(self.status()))
+    }
+}
+
+impl std::error::Error for Error {}

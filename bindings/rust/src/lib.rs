@@ -1,0 +1,189 @@
+//! Fonts of the Compact Font Format (`.otf` files with a table `CFF `) and the outlines of their glyphs.
+//!
+//! The work is done by a static library that is proved: over any bytes each call returns, reads nothing outside them, and
+//! answers what the specification says. This crate declares its functions and gives them the habits of Rust. What is left to
+//! trust here are the declarations in the module `c`.
+//!
+//! ```no_run
+//! let bytes = std::fs::read("font.otf")?;
+//! let font = postscript::Font::from_file(&bytes, 0)?;
+//! let glyph = font.glyph_index('A').expect("the font has an A");
+//! println!("{}", font.outline(glyph)?.svg_path());
+//! # Ok::<(), Box<dyn std::error::Error>>(())
+//! ```
+#![warn(missing_docs)]
+
+mod c;
+mod error;
+mod outline;
+
+use std::ops::Range;
+
+pub use error::{Error, Result};
+pub use outline::{Bounds, Glyph, Outline, OutlineSink, Point, Segment};
+
+/// The version of the linked library: its major, minor and patch number.
+pub fn version() -> (u8, u8, u8) {
+    let version = c::version();
+    ((version >> 16) as u8, (version >> 8) as u8, version as u8)
+}
+
+/// How many faces an OpenType file has: one, or those of a collection.
+///
+/// # Errors
+///
+/// [`Error::CutFile`] and [`Error::UnknownFile`].
+pub fn faces(file: &[u8]) -> Result<usize> {
+    c::faces(file)
+}
+
+/// A font in place: the bytes are borrowed, and nothing is copied.
+#[derive(Clone, Copy, Debug)]
+pub struct Font<'a> {
+    cff: &'a [u8],
+    cmap: Option<&'a [u8]>,
+    font: c::Font,
+}
+
+impl<'a> Font<'a> {
+    /// A face of an OpenType file, counted from 0.
+    ///
+    /// # Errors
+    ///
+    /// [`Error::CutFile`], [`Error::UnknownFile`] and [`Error::NoFace`] where the file has no such face; [`Error::NoTable`]
+    /// where it has no table `CFF `; and as [`Font::from_table`].
+    pub fn from_file(file: &'a [u8], face: usize) -> Result<Self> {
+        let cff = c::table(file, face, *b"CFF ")?;
+        let cmap = match c::table(file, face, *b"cmap") {
+            Ok(cmap) => Some(cmap),
+            Err(Error::NoTable) => None,
+            Err(e) => return Err(e),
+        };
+        Ok(Font { cmap, ..Font::from_table(cff)? })
+    }
+
+    /// The font that the bytes of a table `CFF ` begin with. It has no character map.
+    ///
+    /// # Errors
+    ///
+    /// Where the table is no font: see [`Error`].
+    pub fn from_table(cff: &'a [u8]) -> Result<Self> {
+        Ok(Font { cff, cmap: None, font: c::open(cff)? })
+    }
+
+    /// The bytes of the table `CFF `.
+    pub fn table(&self) -> &'a [u8] {
+        self.cff
+    }
+
+    /// How many glyphs the font has.
+    pub fn glyph_count(&self) -> usize {
+        self.font.glyphs as usize
+    }
+
+    /// Whether the font is CID-keyed: its glyphs have numbers in place of names.
+    pub fn is_cid_keyed(&self) -> bool {
+        self.font.is_cid != 0
+    }
+
+    /// The glyph of a character. `None` where the character map has none, or where there is no map.
+    pub fn glyph_index(&self, character: char) -> Option<usize> {
+        match c::map_glyph(self.cmap?, character.into()) {
+            Ok(0) | Err(_) => None,
+            Ok(glyph) => Some(glyph),
+        }
+    }
+
+    /// The outline of a glyph, with its width and its bounds.
+    ///
+    /// # Errors
+    ///
+    /// [`Error::NoGlyph`] where the font has no such glyph, and where its program is refused: see [`Error`].
+    pub fn outline(&self, glyph: usize) -> Result<Outline> {
+        let mut segments = Vec::new();
+        let told = c::outline(self.cff, &self.font, glyph, &mut segments)?;
+        Ok(Outline::of(&segments, told))
+    }
+
+    /// Draws a glyph into a sink, and answers its width and its bounds.
+    ///
+    /// # Errors
+    ///
+    /// As [`Font::outline`]. Then the sink has been given nothing.
+    pub fn draw<S: OutlineSink + ?Sized>(&self, glyph: usize, sink: &mut S) -> Result<Glyph> {
+        let outline = self.outline(glyph)?;
+        outline.draw(sink);
+        Ok(outline.glyph())
+    }
+
+    /// The bounds of the lines and curves of a glyph, to a 65536th of a unit more. `None` where it has no point.
+    ///
+    /// # Errors
+    ///
+    /// As [`Font::outline`].
+    pub fn tight_bounds(&self, glyph: usize) -> Result<Option<Bounds>> {
+        Ok(Bounds::of(c::bounds(self.cff, &self.font, glyph)?))
+    }
+
+    /// The code of a glyph without calls of subroutines: over any subroutines it has the operations and the width of the
+    /// glyph.
+    ///
+    /// # Errors
+    ///
+    /// As [`Font::outline`].
+    pub fn flat_code(&self, glyph: usize) -> Result<Vec<u8>> {
+        c::flat(self.cff, &self.font, glyph)
+    }
+
+    /// The name of a glyph. `None` where it has none, as in a CID-keyed font of which no string is named.
+    ///
+    /// # Errors
+    ///
+    /// Where the font has no char set: see [`Error`].
+    pub fn glyph_name(&self, glyph: usize) -> Result<Option<Vec<u8>>> {
+        match c::glyph_name(self.cff, glyph) {
+            Err(Error::NoName) => Ok(None),
+            answer => answer.map(Some),
+        }
+    }
+
+    /// The first glyph that has a name.
+    ///
+    /// # Errors
+    ///
+    /// As [`Font::glyph_name`].
+    pub fn glyph_named(&self, name: &[u8]) -> Result<Option<usize>> {
+        match c::named_glyph(self.cff, name) {
+            Err(Error::NoGlyph) => Ok(None),
+            answer => answer.map(Some),
+        }
+    }
+
+    /// The outlines of all glyphs, in their order.
+    pub fn outlines(&self) -> Outlines<'a> {
+        Outlines { font: *self, glyphs: 0..self.glyph_count() }
+    }
+}
+
+/// The outlines of the glyphs that are left of a font. From [`Font::outlines`].
+#[derive(Clone, Debug)]
+pub struct Outlines<'a> {
+    font: Font<'a>,
+    glyphs: Range<usize>,
+}
+
+impl Iterator for Outlines<'_> {
+    type Item = Result<Outline>;
+
+    fn next(&mut self) -> Option<Result<Outline>> {
+        self.glyphs.next().map(|glyph| self.font.outline(glyph))
+    }
+
+    fn size_hint(&self) -> (usize, Option<usize>) {
+        self.glyphs.size_hint()
+    }
+}
+
+impl ExactSizeIterator for Outlines<'_> {}
+
+impl std::iter::FusedIterator for Outlines<'_> {}

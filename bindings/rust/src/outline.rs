@@ -1,0 +1,141 @@
+//! Outlines.
+use crate::c;
+use std::fmt::Write;
+
+/// A point, in units of the font. Both coordinates are whole numbers of 65536ths, so they are exact.
+#[derive(Clone, Copy, Debug, Default, PartialEq)]
+pub struct Point {
+    /// To the right.
+    pub x: f64,
+    /// Upwards.
+    pub y: f64,
+}
+
+/// A piece of an outline.
+#[derive(Clone, Copy, Debug, PartialEq)]
+pub enum Segment {
+    /// A contour begins here.
+    MoveTo(Point),
+    /// A line to here.
+    LineTo(Point),
+    /// A Bézier curve: its two control points, and its end.
+    CurveTo(Point, Point, Point),
+    /// The contour goes back to where it began, and ends.
+    Close,
+}
+
+/// What is given the segments of an outline, one call each, in their order.
+pub trait OutlineSink {
+    /// A contour begins here.
+    fn move_to(&mut self, to: Point);
+    /// A line to here.
+    fn line_to(&mut self, to: Point);
+    /// A Bézier curve: its two control points, and its end.
+    fn curve_to(&mut self, first: Point, second: Point, to: Point);
+    /// The contour goes back to where it began, and ends.
+    fn close(&mut self);
+}
+
+/// A rectangle, in units of the font.
+#[derive(Clone, Copy, Debug, PartialEq)]
+pub struct Bounds {
+    /// The lower left corner.
+    pub low: Point,
+    /// The upper right corner.
+    pub high: Point,
+}
+
+/// What is told of a glyph besides its outline.
+#[derive(Clone, Copy, Debug, PartialEq)]
+pub struct Glyph {
+    /// The width, in units of the font.
+    pub advance: f64,
+    /// The bounds of all points, control points too. `None` where there is no point.
+    pub bounds: Option<Bounds>,
+}
+
+/// The outline of a glyph.
+#[derive(Clone, Debug, PartialEq)]
+pub struct Outline {
+    /// Contours, each from a [`Segment::MoveTo`] to a [`Segment::Close`].
+    pub segments: Vec<Segment>,
+    /// The width, in units of the font.
+    pub advance: f64,
+    /// The bounds of all points, control points too. `None` where there is no point.
+    pub bounds: Option<Bounds>,
+}
+
+fn point(x: i32, y: i32) -> Point {
+    Point { x: f64::from(x) / 65536.0, y: f64::from(y) / 65536.0 }
+}
+
+fn segment(s: &c::Segment) -> Segment {
+    let to = point(s.x, s.y);
+    match s.kind {
+        0 => Segment::MoveTo(to),
+        1 => Segment::LineTo(to),
+        2 => Segment::CurveTo(point(s.x1, s.y1), point(s.x2, s.y2), to),
+        _ => Segment::Close,
+    }
+}
+
+impl Bounds {
+    pub(crate) fn of(told: c::Bounds) -> Option<Bounds> {
+        let bounds = Bounds { low: point(told.left, told.bottom), high: point(told.right, told.top) };
+        if told.has_bounds == 0 { None } else { Some(bounds) }
+    }
+}
+
+impl Outline {
+    pub(crate) fn of(segments: &[c::Segment], told: c::Glyph) -> Outline {
+        let bounds = Bounds { low: point(told.left, told.bottom), high: point(told.right, told.top) };
+        Outline {
+            segments: segments.iter().map(segment).collect(),
+            advance: told.advance as f64 / 65536.0,
+            bounds: if told.has_bounds == 0 { None } else { Some(bounds) },
+        }
+    }
+
+    /// What is told of the glyph besides its outline.
+    pub fn glyph(&self) -> Glyph {
+        Glyph { advance: self.advance, bounds: self.bounds }
+    }
+
+    /// Gives the segments to a sink, in their order.
+    pub fn draw<S: OutlineSink + ?Sized>(&self, sink: &mut S) {
+        for segment in &self.segments {
+            match *segment {
+                Segment::MoveTo(to) => sink.move_to(to),
+                Segment::LineTo(to) => sink.line_to(to),
+                Segment::CurveTo(first, second, to) => sink.curve_to(first, second, to),
+                Segment::Close => sink.close(),
+            }
+        }
+    }
+
+    /// The path data of an SVG picture. Its y axis goes up, as that of the font, so show it under `scale(1 -1)`.
+    pub fn svg_path(&self) -> String {
+        let mut path = String::new();
+        for segment in &self.segments {
+            // writing to a string does not fail
+            let _ = match segment {
+                Segment::MoveTo(p) => write!(path, "M{} {}", p.x, p.y),
+                Segment::LineTo(p) => write!(path, "L{} {}", p.x, p.y),
+                Segment::CurveTo(a, b, p) => {
+                    write!(path, "C{} {} {} {} {} {}", a.x, a.y, b.x, b.y, p.x, p.y)
+                }
+                Segment::Close => write!(path, "Z"),
+            };
+        }
+        path
+    }
+}
+
+impl<'a> IntoIterator for &'a Outline {
+    type Item = &'a Segment;
+    type IntoIter = std::slice::Iter<'a, Segment>;
+
+    fn into_iter(self) -> Self::IntoIter {
+        self.segments.iter()
+    }
+}

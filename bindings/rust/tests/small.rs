@@ -1,0 +1,187 @@
+//! The font whose bytes `bindings/font.hex` spells: four glyphs, `.notdef`, `space`, `A` and `flower`. The expected values are
+//! the numbers of its char strings and of its dictionary, added up by hand.
+use postscript::{Bounds, Error, Font, Outline, OutlineSink, Point, Segment};
+
+fn bytes() -> Vec<u8> {
+    hex(include_str!("../../font.hex"))
+}
+
+fn hex(text: &str) -> Vec<u8> {
+    let text: String = text.split_whitespace().collect();
+    (0..text.len()).step_by(2).map(|i| u8::from_str_radix(&text[i..i + 2], 16).unwrap()).collect()
+}
+
+fn p(x: f64, y: f64) -> Point {
+    Point { x, y }
+}
+
+fn flower() -> Vec<Segment> {
+    vec![
+        Segment::MoveTo(p(100.0, -10.0)),
+        Segment::CurveTo(p(300.0, -10.0), p(400.0, 100.0), p(400.0, 300.0)),
+        Segment::LineTo(p(100.0, 300.0)),
+        Segment::Close,
+        Segment::MoveTo(p(150.0, 50.0)),
+        Segment::LineTo(p(200.0, 50.0)),
+        Segment::LineTo(p(200.0, 100.0)),
+        Segment::Close,
+    ]
+}
+
+#[test]
+fn a_glyph_of_a_character() {
+    let bytes = bytes();
+    let font = Font::from_file(&bytes, 0).unwrap();
+    assert_eq!(font.glyph_count(), 4);
+    assert!(!font.is_cid_keyed());
+    assert_eq!(font.glyph_index('A'), Some(2));
+    assert_eq!(font.glyph_index('B'), None);
+    let glyph = font.glyph_index('\u{2698}').unwrap();
+    let bounds = Some(Bounds { low: p(100.0, -10.0), high: p(400.0, 300.0) });
+    assert_eq!(font.outline(glyph), Ok(Outline { segments: flower(), advance: 450.0, bounds }));
+    assert_eq!(font.tight_bounds(glyph), Ok(bounds));
+    assert_eq!(font.tight_bounds(1), Ok(None));
+    assert_eq!(font.outline(2).unwrap().svg_path(), "M0 0L250 700L500 0Z");
+}
+
+#[test]
+fn glyphs_one_after_another() {
+    let bytes = bytes();
+    let font = Font::from_file(&bytes, 0).unwrap();
+    assert_eq!(font.outlines().len(), 4);
+    let advances: Vec<f64> = font.outlines().map(|outline| outline.unwrap().advance).collect();
+    assert_eq!(advances, [500.0, 250.0, 500.0, 450.0]);
+    assert_eq!(font.outline(1).unwrap().bounds, None);
+}
+
+#[derive(Default)]
+struct Kinds(String);
+
+impl OutlineSink for Kinds {
+    fn move_to(&mut self, _: Point) {
+        self.0.push('M');
+    }
+    fn line_to(&mut self, _: Point) {
+        self.0.push('L');
+    }
+    fn curve_to(&mut self, _: Point, _: Point, _: Point) {
+        self.0.push('C');
+    }
+    fn close(&mut self) {
+        self.0.push('Z');
+    }
+}
+
+#[test]
+fn a_sink_is_given_the_segments() {
+    let bytes = bytes();
+    let mut sink = Kinds::default();
+    let told = Font::from_file(&bytes, 0).unwrap().draw(3, &mut sink).unwrap();
+    assert_eq!(sink.0, "MCLZMLLZ");
+    assert_eq!(told.advance, 450.0);
+}
+
+#[test]
+fn code_without_calls() {
+    let bytes = bytes();
+    let font = Font::from_file(&bytes, 0).unwrap();
+    // 0 hmoveto 250 700 250 -700 rlineto endchar
+    let code = [0x8b, 0x16, 0xf7, 0x8e, 0xf9, 0x50, 0xf7, 0x8e, 0xfd, 0x50, 0x05, 0x0e];
+    assert_eq!(font.flat_code(2), Ok(code.to_vec()));
+    assert_eq!(font.flat_code(4), Err(Error::NoGlyph));
+}
+
+#[test]
+fn names() {
+    let bytes = bytes();
+    let font = Font::from_file(&bytes, 0).unwrap();
+    assert_eq!(font.glyph_name(3), Ok(Some(b"flower".to_vec())));
+    assert_eq!(font.glyph_name(0), Ok(Some(b".notdef".to_vec())));
+    assert_eq!(font.glyph_name(4), Ok(None));
+    assert_eq!(font.glyph_named(b"flower"), Ok(Some(3)));
+    assert_eq!(font.glyph_named(b"flowers"), Ok(None));
+}
+
+#[test]
+fn refusals() {
+    let bytes = bytes();
+    assert_eq!(postscript::faces(&bytes), Ok(1));
+    assert_eq!(postscript::faces(&[]), Err(Error::CutFile));
+    assert_eq!(Font::from_file(&bytes, 1).unwrap_err(), Error::NoFace);
+    assert_eq!(Font::from_file(&bytes[1..], 0).unwrap_err(), Error::UnknownFile);
+    assert_eq!(Font::from_table(&[]).unwrap_err(), Error::UnexpectedEof);
+    let font = Font::from_file(&bytes, 0).unwrap();
+    assert_eq!(font.outline(4).unwrap_err(), Error::NoGlyph);
+    assert_eq!(font.outline(usize::MAX).unwrap_err(), Error::NoGlyph);
+    let error: Box<dyn std::error::Error> = Box::new(Error::NoGlyph);
+    assert_eq!(error.to_string(), "no such glyph");
+    assert_eq!(Error::NoFace.status(), 35);
+    assert_eq!(postscript::version(), (0, 1, 0));
+}
+
+/// A CID-keyed font of four glyphs and two font dictionaries, up to its FDSelect. Glyph 1 calls the local subroutine of the first
+/// font dictionary, and glyph 2 the global subroutine 1.
+const CID: &str = "\
+    010004010001010102430001010121f81bf81c8b0c1e8177f7c0f824051c004a0f1c0053111c00650c241c00990c25000201\
+    01060e41646f62654964656e74697479000201010103bd0b02000a0001006400000004010102060b0b0e879f200a92211d16\
+    0e00020101161b1e0a0005ff8b8b1e0a0005ff8b8b0c07931c008512901c009412f88814f8ec1593130001010103160ef78e\
+    146d15";
+
+#[test]
+fn glyphs_of_a_cid_keyed_font() {
+    // the glyphs 0 and 1 have the first font dictionary, the others the second: by ranges, and by a byte each
+    for selection in ["0300020000000002010004", "0000000101"] {
+        let bytes = hex(&format!("{CID}{selection}"));
+        let font = Font::from_table(&bytes).unwrap();
+        assert!(font.is_cid_keyed());
+        let advances: Vec<f64> = font.outlines().map(|outline| outline.unwrap().advance).collect();
+        assert_eq!(advances, [500.0, 596.0, -23.0, 250.0]);
+        let paths: Vec<String> = font.outlines().map(|outline| outline.unwrap().svg_path()).collect();
+        assert_eq!(paths, ["", "M20 0Z", "M50 0Z", ""]);
+    }
+}
+
+/// Each beginning of the table, and each table with one byte changed, is opened and drawn, or refused.
+#[test]
+fn changed_bytes() {
+    let bytes = bytes();
+    let table = Font::from_file(&bytes, 0).unwrap().table().to_vec();
+    for length in 0..table.len() {
+        draw_all(&table[..length]);
+    }
+    for place in 0..table.len() {
+        for byte in 0..=255 {
+            let mut changed = table.clone();
+            changed[place] = byte;
+            draw_all(&changed);
+        }
+    }
+}
+
+fn draw_all(table: &[u8]) {
+    if let Ok(font) = Font::from_table(table) {
+        for outline in font.outlines().take(6).flatten() {
+            let ends = outline.segments.iter().filter(|segment| matches!(segment, Segment::Close)).count();
+            let starts = outline.segments.iter().filter(|segment| matches!(segment, Segment::MoveTo(_))).count();
+            assert_eq!(starts, ends);
+        }
+        let _ = font.glyph_name(3);
+    }
+}
+
+/// Fonts of Debian's packages, where they are installed: each glyph is drawn, and each has its name.
+#[test]
+fn installed_fonts() {
+    let folder = std::path::Path::new("/usr/share/fonts/opentype");
+    for name in ["ebgaramond/EBGaramond12-Regular.otf", "freefont/FreeSerif.otf"] {
+        let bytes = match std::fs::read(folder.join(name)) {
+            Ok(bytes) => bytes,
+            Err(_) => continue,
+        };
+        let font = Font::from_file(&bytes, 0).unwrap();
+        let glyph = font.glyph_index('A').unwrap();
+        assert_eq!(font.glyph_name(glyph), Ok(Some(b"A".to_vec())));
+        assert_eq!(font.glyph_named(b"A"), Ok(Some(glyph)));
+        assert_eq!(font.outlines().filter(Result::is_err).count(), 0, "{name}");
+    }
+}

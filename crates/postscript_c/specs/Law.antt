@@ -1,0 +1,20 @@
+-- Where a font is opened in place, its INDEXes stand at the places that C is told.
+use Rattle.std.specs.Prelude.{◌≡◌, ℕ, List, length, Result, IfOk}
+use Rattle.postscript_base.specs.Tape.Outcome.{Got, Answers}
+use Rattle.postscript_base.specs.declared.error.Error.{Error}
+use Rattle.postscript_c.specs.FontWidths.{TellsWidths}
+use Rattle.postscript_c.specs.declared.font.PsfFont.{PsfFont}
+use Rattle.postscript_c.specs.Places.{Places, placed, places}
+use Rattle.postscript_items.specs.Items.{opened}
+use Rattle.postscript_view.specs.Order.{View, view}
+
+pub record AreOf (bytes : List ℕ) (v : View) (p : Places) : Type 0 where
+  pub codes : (next : ℕ) × (opened bytes p.char_strings ≡ Got v.char_strings next)
+  pub globals : (next : ℕ) × (opened bytes p.global_subroutines ≡ Got v.tables.subroutines next)
+  pub glyphs : p.glyphs ≡ length v.char_strings
+
+-- The places and the widths that are read, or the refusal; and where the font is opened in place, they are of it.
+pub record IsFontOf (bytes : List ℕ) (answer : Result PsfFont Error) : Type 0 where
+  pub reads : Answers placed answer 0 (places bytes 0)
+  pub widths : IfOk answer (λ font. TellsWidths bytes font.part)
+  pub same : IfOk answer (λ font. (v : View) (next : ℕ) → view bytes 0 ≡ Got v next → AreOf bytes v (placed font))

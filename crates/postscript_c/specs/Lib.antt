@@ -1,0 +1,15 @@
+pub mod Answers
+pub mod CidAnswers
+pub mod CidParts
+pub mod Files
+pub mod Flatness
+pub mod Flats
+pub mod FontWidths
+pub mod Glyphs
+pub mod Law
+pub mod Naming
+pub mod Places
+pub mod Segments
+pub mod Selection
+pub mod Texts
+pub mod Widths

@@ -1,0 +1,47 @@
+-- What C is told of the names of glyphs (Technical Note 5176, sections 10 and 13).
+use Rattle.std.specs.Prelude.{◌≡◌, ◌≢◌, ◌⊎◌, ℕ, ◌<◌, ℤ, pos, List, length}
+use Rattle.postscript_base.specs.Error.{code}
+use Rattle.postscript_base.specs.Tape.Outcome.{Got, RefusedAs}
+use Rattle.postscript_base.specs.declared.error.Error.{Error}
+use Rattle.postscript_base.specs.declared.error.Error.TheVariants.{Memory}
+use Rattle.postscript_c.specs.Texts.{HandsBytes}
+use Rattle.postscript_view.specs.CharSets.{IsCharSetOf}
+use Rattle.postscript_view.specs.Order.{View, view}
+use Rattle.postscript_view.specs.Strings.{HasName, IsFirstWithName}
+use Rattle.postscript_view.specs.declared.char_set.CharSetView.{CharSetView}
+
+-- the char set of a font
+abbrev pub IsSetOf : List ℕ → View → CharSetView → Type 0
+IsSetOf bytes view set = IsCharSetOf set bytes view.tables.dictionary (length view.char_strings)
+
+-- the font has no char set: the status is an error's
+abbrev pub LacksSet : List ℕ → View → (status : ℤ) → Type 0
+LacksSet bytes view status = (e : Error) × (status ≡ pos (code e)) × ((set : CharSetView) → IsSetOf bytes view set → ⊥)
+
+-- no font is opened in the bytes: the status is the error's, and want of memory may be one
+abbrev pub LacksFont : List ℕ → (status : ℤ) → Type 0
+LacksFont bytes status = (e : Error) × (status ≡ pos (code e)) × (e ≢ Memory → RefusedAs e (view bytes 0))
+
+-- what is told of a font is told of the one that the bytes begin with
+abbrev pub OfFirst : List ℕ → (View → Type 0) → (status : ℤ) → Type 0
+OfFirst bytes tells status = ((v : View) × (next : ℕ) × (view bytes 0 ≡ Got v next) × tells v) ⊎ LacksFont bytes status
+
+-- the name of a glyph of a font is handed over, or it has none
+abbrev pub TellsNameIn : List ℕ → View → (glyph : ℕ) → (status : ℤ) → (room : List ℕ) → (count : ℕ) → Type 0
+TellsNameIn bytes view glyph status room count =
+    ((set : CharSetView) × (name : List ℕ) × IsSetOf bytes view set × HasName set view.tables.strings glyph name × HandsBytes name status room count)
+    ⊎ (((set : CharSetView) × IsSetOf bytes view set × (status ≡ pos 38) × ((name : List ℕ) → HasName set view.tables.strings glyph name → ⊥))
+    ⊎ LacksSet bytes view status)
+
+abbrev pub TellsName : List ℕ → (glyph : ℕ) → (status : ℤ) → (room : List ℕ) → (count : ℕ) → Type 0
+TellsName bytes glyph status room count = OfFirst bytes (λ view. TellsNameIn bytes view glyph status room count) status
+
+-- the first glyph of a font that has a name, or none has it
+abbrev pub TellsNamedIn : List ℕ → View → (name : List ℕ) → (status : ℤ) → (glyph : ℕ) → Type 0
+TellsNamedIn bytes view name status glyph =
+    ((set : CharSetView) × IsSetOf bytes view set × (status ≡ pos 0) × IsFirstWithName set view.tables.strings (length view.char_strings) name glyph)
+    ⊎ (((set : CharSetView) × IsSetOf bytes view set × (status ≡ pos 31) × ((other : ℕ) → other < length view.char_strings → HasName set view.tables.strings other name → ⊥))
+    ⊎ LacksSet bytes view status)
+
+abbrev pub TellsNamed : List ℕ → (name : List ℕ) → (status : ℤ) → (glyph : ℕ) → Type 0
+TellsNamed bytes name status glyph = OfFirst bytes (λ view. TellsNamedIn bytes view name status glyph) status

@@ -1,0 +1,224 @@
+//! What C calls.
+ghost use Rattle.std.specs.Prelude.{◌≡◌, ◌≢◌, Result as Answer, Option as Maybe, option_map};
+ghost use Rattle.postscript_base.specs.Tape.Outcome.{Answers};
+ghost use Rattle.postscript_base.specs.declared.error.Error.{Error as Refusal};
+ghost use Rattle.postscript_c.specs.Answers.{Hands, IsOf, Tells, TellsBounds, TellsFont, room};
+ghost use Rattle.postscript_c.specs.CidAnswers.{IsOfCid};
+ghost use Rattle.postscript_c.specs.Files.{TellsFaces, TellsGlyph, TellsTable};
+ghost use Rattle.postscript_c.specs.Flats.{flat_at};
+ghost use Rattle.postscript_c.specs.Flatness.{IsFlatOfCid, TellsFlat, flat_shown};
+ghost use Rattle.postscript_c.specs.Law.{IsFontOf};
+ghost use Rattle.postscript_c.specs.declared.flat.Flat.{Flat as TheFlat};
+ghost use Rattle.postscript_c.specs.Naming.{TellsName, TellsNamed};
+ghost use Rattle.postscript_c.specs.Texts.{TellsText};
+ghost use Rattle.postscript_c.specs.declared.font.PsfFont.{PsfFont as TheFont};
+ghost use Rattle.postscript_c.specs.declared.glyph.Found.{Found as TheFound};
+
+use crate::files::{tell_faces, tell_glyph, tell_table};
+use crate::fill::{PsfSegment, fill};
+use crate::flat::{flat_glyph, tell_flat};
+use crate::font::{PsfFont, opened};
+use crate::glyph::{Found, glyph_of};
+use crate::names::{tell_name, tell_named};
+use crate::status::{NO_GLYPH, NO_ROOM};
+use crate::texts::tell_text;
+use crate::told::{PsfBounds, PsfGlyph, status, tight, told};
+use postscript_base::Result;
+use std::alloc::Global;
+
+/// Puts a font: 0, or the number of the refusal.
+fn put(answer: &Result<PsfFont>, font: &mut PsfFont) -> i32
+    ensures { TellsFont answer.now result font.old font.new }
+{
+    match answer {
+        Ok(numbers) => {
+            *font = *numbers;
+            0
+        }
+        Err(e) => status(e),
+    }
+}
+
+/// Opens the font that bytes begin with: 0, or the number of the refusal.
+#[unsafe(no_mangle)]
+pub extern "C" fn psf_font_open(alloc: Global, bytes: &[u8], font: &mut PsfFont) -> i32
+    ensures exact { (answer : Answer TheFont Refusal) × IsFontOf bytes.now answer × TellsFont answer result font.old font.new }
+{
+    let answer = opened(alloc, bytes);
+    put(&answer, font)
+}
+
+/// Hands an outline over: 0, or `NO_ROOM`.
+fn hand(found: &Found, segments: &mut [PsfSegment], count: &mut usize, info: &mut PsfGlyph) -> i32
+    ensures { Hands found.now result segments.new count.new info.new }
+{
+    *count = found.outline.segments.len();
+    *info = told(&found.outline, &found.part);
+    if segments.len() < found.outline.segments.len() {
+        return NO_ROOM;
+    }
+    fill(&found.outline.segments, segments);
+    0
+}
+
+/// Hands an answer over.
+fn tell(
+    answer: &Result<Option<Found>>,
+    segments: &mut [PsfSegment],
+    count: &mut usize,
+    info: &mut PsfGlyph,
+) -> i32
+    ensures { Tells answer.now result (room segments.old count.old info.old) (room segments.new count.new info.new) }
+{
+    match answer {
+        Ok(Some(found)) => hand(found, segments, count, info),
+        Ok(None) => NO_GLYPH,
+        Err(e) => status(e),
+    }
+}
+
+/// The outline of a glyph: 0, or the number of the refusal, or `NO_GLYPH`, or `NO_ROOM`. On 0 and `NO_ROOM` the count
+/// and the glyph are told.
+#[unsafe(no_mangle)]
+pub extern "C" fn psf_glyph_outline(
+    alloc: Global,
+    bytes: &[u8],
+    font: &PsfFont,
+    glyph: usize,
+    segments: &mut [PsfSegment],
+    count: &mut usize,
+    info: &mut PsfGlyph,
+) -> i32
+    ensures cid { font.now.is_cid ≢ 0 → (answer : Answer (Maybe TheFound) Refusal) × IsOfCid bytes.now font.now glyph answer × Tells answer result (room segments.old count.old info.old) (room segments.new count.new info.new) }
+    ensures plain { font.now.is_cid ≡ 0 → (answer : Answer (Maybe TheFound) Refusal) × IsOf bytes.now font.now glyph answer × Tells answer result (room segments.old count.old info.old) (room segments.new count.new info.new) }
+{
+    let answer = glyph_of(alloc, bytes, font, glyph);
+    tell(&answer, segments, count, info)
+}
+
+/// The version of the library: its major, minor and patch number, each in a byte, from the third byte down.
+const VERSION: u32 = 0x000100;
+
+/// The version of the library. Never refused.
+#[unsafe(no_mangle)]
+pub extern "C" fn psf_version() -> u32
+    ensures { result ≡ 256 }
+{
+    VERSION
+}
+
+/// How many faces a file has: 0, or the number of the refusal, 33 or 34.
+#[unsafe(no_mangle)]
+pub extern "C" fn psf_file_faces(bytes: &[u8], count: &mut usize) -> i32
+    ensures { TellsFaces bytes.now result count.new }
+{
+    tell_faces(bytes, count)
+}
+
+/// Where a table of a face of a file stands, and how many bytes it has: 0, or 36 where the face has none of the tag, or the
+/// number of the refusal, 33 to 35. Faces are counted from 0. The tag is the number of its four bytes, the high byte first.
+#[unsafe(no_mangle)]
+pub extern "C" fn psf_file_table(
+    bytes: &[u8],
+    face: usize,
+    tag: u32,
+    place: &mut usize,
+    size: &mut usize,
+) -> i32
+    ensures { TellsTable bytes.now face tag result place.new size.new }
+{
+    tell_table(bytes, face, tag, place, size)
+}
+
+/// The glyph that a table `cmap` has for a character, 0 where it has none: 0, or 37 where the table has no map that is read.
+#[unsafe(no_mangle)]
+pub extern "C" fn psf_map_glyph(cmap: &[u8], character: u32, glyph: &mut usize) -> i32
+    ensures { TellsGlyph cmap.now character result glyph.new }
+{
+    tell_glyph(cmap, character, glyph)
+}
+
+/// The name of a glyph of the font that bytes begin with, by its char set: 0, or 38 where it has none, or the number of the
+/// refusal, or `NO_ROOM`. On 0 and `NO_ROOM` the number of its bytes is told.
+#[unsafe(no_mangle)]
+pub extern "C" fn psf_glyph_name(
+    alloc: Global,
+    bytes: &[u8],
+    glyph: usize,
+    room: &mut [u8],
+    count: &mut usize,
+) -> i32
+    ensures { TellsName bytes.now glyph result room.new count.new }
+{
+    tell_name(alloc, bytes, glyph, room, count)
+}
+
+/// The first glyph of the font that bytes begin with that has a name: 0, or `NO_GLYPH`, or the number of the refusal.
+#[unsafe(no_mangle)]
+pub extern "C" fn psf_named_glyph(
+    alloc: Global,
+    bytes: &[u8],
+    name: &[u8],
+    glyph: &mut usize,
+) -> i32
+    ensures { TellsNamed bytes.now name.now result glyph.new }
+{
+    tell_named(alloc, bytes, name, glyph)
+}
+
+/// The text of a status, in English: 0, or `NO_ROOM`, or 39 where there is no such status. On 0 and `NO_ROOM` the number of
+/// its bytes is told.
+#[unsafe(no_mangle)]
+pub extern "C" fn psf_status_text(status: i32, room: &mut [u8], count: &mut usize) -> i32
+    ensures { TellsText result room.new count.new }
+{
+    tell_text(status, room, count)
+}
+
+/// The code of a glyph without calls of subroutines: 0, or `NO_GLYPH`, or the number of the refusal, or `NO_ROOM`. On 0 and
+/// `NO_ROOM` the number of its bytes is told.
+#[unsafe(no_mangle)]
+pub extern "C" fn psf_glyph_flat(
+    alloc: Global,
+    bytes: &[u8],
+    font: &PsfFont,
+    glyph: usize,
+    room: &mut [u8],
+    count: &mut usize,
+) -> i32
+    ensures cid { font.now.is_cid ≢ 0 → (answer : Answer (Maybe TheFlat) Refusal) × IsFlatOfCid bytes.now font.now glyph answer × TellsFlat answer result room.new count.new }
+    ensures plain { font.now.is_cid ≡ 0 → (answer : Answer (Maybe TheFlat) Refusal) × Answers (option_map flat_shown) answer 0 (flat_at font.now font.now.part glyph bytes.now 0) × TellsFlat answer result room.new count.new }
+{
+    let answer = flat_glyph(alloc, bytes, font, glyph);
+    tell_flat(&answer, room, count)
+}
+
+/// Tells the bounds of an answer.
+fn bound(answer: &Result<Option<Found>>, bounds: &mut PsfBounds) -> i32
+    ensures { TellsBounds answer.now result bounds.old bounds.new }
+{
+    match answer {
+        Ok(Some(found)) => {
+            *bounds = tight(&found.outline);
+            0
+        }
+        Ok(None) => NO_GLYPH,
+        Err(e) => status(e),
+    }
+}
+
+/// The bounds of the lines and curves of a glyph: 0, or the number of the refusal, or `NO_GLYPH`.
+#[unsafe(no_mangle)]
+pub extern "C" fn psf_glyph_bounds(
+    alloc: Global,
+    bytes: &[u8],
+    font: &PsfFont,
+    glyph: usize,
+    bounds: &mut PsfBounds,
+) -> i32
+    ensures cid { font.now.is_cid ≢ 0 → (answer : Answer (Maybe TheFound) Refusal) × IsOfCid bytes.now font.now glyph answer × TellsBounds answer result bounds.old bounds.new }
+    ensures plain { font.now.is_cid ≡ 0 → (answer : Answer (Maybe TheFound) Refusal) × IsOf bytes.now font.now glyph answer × TellsBounds answer result bounds.old bounds.new }
+{
+    let answer = glyph_of(alloc, bytes, font, glyph);
+    bound(&answer, bounds)
+}

@@ -1,0 +1,135 @@
+//! Fonts as plain numbers.
+ghost use Rattle.std.specs.Prelude.{◌≡◌, ℕ, IfOk, slice_get};
+ghost use Rattle.postscript_base.specs.Tape.Outcome.{Answers, same};
+ghost use Rattle.postscript_c.specs.Places.{codes as the_codes, local as the_local, placed, places, places_of, tables as the_tables};
+ghost use Rattle.postscript_c.specs.FontWidths.{HaveWidths, TellsWidths};
+ghost use Rattle.postscript_items.specs.Lent.{items_of};
+ghost use Rattle.postscript_view.specs.Order.{aside, map_from};
+
+use crate::part::{PsfPart, part_of};
+use postscript_base::compact1::{Operations, Operator};
+use postscript_base::{Error, Result};
+use postscript_items::Items;
+use postscript_view::operands::{place_at, type_two};
+use postscript_view::tables::{header_size, operations_of};
+use std::alloc::Global;
+
+/// A font as plain numbers: where its parts stand in the bytes. They have no invariant: over any numbers, each call is
+/// safe and answers or refuses. A place of 0 is nothing: no items, no dictionaries.
+#[repr(C)]
+#[derive(Clone, Copy)]
+pub struct PsfFont {
+    /// The INDEX of char strings.
+    pub char_strings: u64,
+    /// The INDEX of global subroutines.
+    pub global_subroutines: u64,
+    /// The INDEX of font dictionaries, of a CID-keyed font; else 0.
+    pub font_dictionaries: u64,
+    /// Which font dictionary a glyph has, of a CID-keyed font; else 0.
+    pub selection: u64,
+    /// The part of a font that is not CID-keyed.
+    pub part: PsfPart,
+    /// How many glyphs there are.
+    pub glyphs: u64,
+    /// 1 of a CID-keyed font, else 0.
+    pub is_cid: u32,
+}
+
+/// The dictionary of the first item.
+fn first_dictionary(alloc: Global, bytes: &[u8], dictionaries: &Items<'_>) -> Result<Operations>
+    ensures exact { (place : ℕ) → Answers same result place (map_from (slice_get (items_of dictionaries.now) 0) bytes.now place) }
+{
+    match dictionaries.get(0) {
+        Some(item) => operations_of(alloc, item),
+        None => Err(Error::UnexpectedEof),
+    }
+}
+
+/// The dictionary of the first font, and the place of the global subroutines.
+#[tactic(auto, unfolding(crate::specs::Places::tables))]
+fn tables(alloc: Global, bytes: &[u8], start: usize) -> Result<(Operations, u64)>
+    ensures exact { (place : ℕ) → Answers (λ r. (r.0, r.1)) result place (aside start the_tables bytes.now place) }
+{
+    let (_names, next) = Items::open(bytes, start)?;
+    let (dictionaries, next) = Items::open(bytes, next)?;
+    let (_strings, there) = Items::open(bytes, next)?;
+    let (_subroutines, _next) = Items::open(bytes, there)?;
+    let dictionary = first_dictionary(alloc, bytes, &dictionaries)?;
+    Ok((dictionary, there as u64))
+}
+
+/// The place that an operator names; 0 where it is lacking, or names none.
+fn place_or_none(dictionary: &Operations, operator: Operator) -> u64 {
+    match place_at(0, 0, dictionary, operator) {
+        Ok(place) => place,
+        Err(_) => 0,
+    }
+}
+
+/// The place of the char strings, and how many they are.
+#[tactic(auto, unfolding(crate::specs::Places::codes))]
+fn codes(bytes: &[u8], dictionary: &Operations) -> Result<(u64, u64)>
+    ensures exact { (place : ℕ) → Answers (λ r. (r.0, r.1)) result place (the_codes dictionary.now bytes.now place) }
+{
+    let there = place_at(0, 0, dictionary, Operator::CharStrings)?;
+    type_two(dictionary)?;
+    let (items, _next) = Items::open(bytes, there as usize)?;
+    Ok((there, items.len() as u64))
+}
+
+/// The part of a font that is not CID-keyed.
+#[tactic(auto, unfolding(crate::specs::Places::local))]
+fn local(alloc: Global, bytes: &[u8], dictionary: &Operations) -> Result<PsfPart>
+    ensures exact { (place : ℕ) → Answers (λ part. part.local_subroutines) result place (the_local dictionary.now bytes.now place) }
+    ensures widths { IfOk result (λ part. HaveWidths bytes.now dictionary.now part) }
+{
+    if dictionary.get(Operator::ROS).is_some() {
+        return Ok(PsfPart::none());
+    }
+    part_of(alloc, bytes, dictionary)
+}
+
+/// The place that an operator names, of a CID-keyed font; else 0.
+fn cid_place(dictionary: &Operations, is_cid: bool, operator: Operator) -> u64 {
+    if is_cid {
+        place_or_none(dictionary, operator)
+    } else {
+        0
+    }
+}
+
+/// The font of a dictionary, and of the place of the global subroutines.
+#[tactic(auto, unfolding(crate::specs::Places::places_of))]
+fn font_of(
+    alloc: Global,
+    bytes: &[u8],
+    dictionary: &Operations,
+    global_subroutines: u64,
+) -> Result<PsfFont>
+    ensures exact { (place : ℕ) → Answers placed result place (places_of dictionary.now global_subroutines bytes.now place) }
+    ensures widths { IfOk result (λ font. HaveWidths bytes.now dictionary.now font.part) }
+{
+    let (char_strings, glyphs) = codes(bytes, dictionary)?;
+    let part = local(alloc, bytes, dictionary)?;
+    let is_cid = dictionary.get(Operator::ROS).is_some();
+    Ok(PsfFont {
+        char_strings,
+        global_subroutines,
+        font_dictionaries: cid_place(dictionary, is_cid, Operator::FDArray),
+        selection: cid_place(dictionary, is_cid, Operator::FDSelect),
+        part,
+        glyphs,
+        is_cid: u32::from(is_cid),
+    })
+}
+
+/// The font that bytes begin with.
+#[tactic(auto, unfolding(crate::specs::Places::places))]
+pub(crate) fn opened(alloc: Global, bytes: &[u8]) -> Result<PsfFont>
+    ensures exact { (place : ℕ) → Answers placed result place (places bytes.now place) }
+    ensures widths { IfOk result (λ font. TellsWidths bytes.now font.part) }
+{
+    let size = header_size(bytes)?;
+    let (dictionary, global_subroutines) = tables(alloc, bytes, size)?;
+    font_of(alloc, bytes, &dictionary, global_subroutines)
+}

@@ -1,0 +1,158 @@
+//! Glyphs by number.
+ghost use Rattle.std.specs.Prelude.{◌≡◌, ◌≢◌, ℕ, List, option_map, IfOk, Ok};
+ghost use Rattle.postscript_base.specs.Tape.Outcome.{Answers, same};
+ghost use Rattle.postscript_c.specs.Glyphs.{index_at as the_index, program_at, program_of as the_program, drawn_at, drawn_by, drawn_if, shown};
+ghost use Rattle.postscript_c.specs.Answers.{IsOf};
+ghost use Rattle.postscript_c.specs.CidAnswers.{IsOfCid};
+ghost use Rattle.postscript_c.specs.CidParts.{HasPart, IsPartOf};
+ghost use Rattle.postscript_items.specs.Lent.{items_of};
+
+use crate::font::PsfFont;
+use crate::part::{PsfPart, part_of};
+use crate::select::selected;
+use postscript_base::{Error, Result};
+use postscript_items::Items;
+use postscript_outline::Outline;
+use postscript_type2::Program;
+use postscript_view::tables::operations_of;
+use std::alloc::Global;
+
+/// The items of the INDEX at a place; none at 0.
+#[tactic(auto, unfolding(crate::specs::Glyphs::index_at))]
+pub(crate) fn index_at(bytes: &[u8], there: u64) -> Result<Items<'_>>
+    ensures exact { (place : ℕ) → Answers items_of result place (the_index there bytes.now place) }
+{
+    if there == 0 {
+        return Ok(Items::empty());
+    }
+    let (items, _next) = Items::open(bytes, there as usize)?;
+    Ok(items)
+}
+
+/// The part of the font dictionary that an item is.
+fn item_part(alloc: Global, bytes: &[u8], item: &[u8]) -> Result<PsfPart>
+    ensures { IfOk result (λ part. IsPartOf bytes.now item.now part) }
+{
+    let dictionary = operations_of(alloc, item)?;
+    part_of(alloc, bytes, &dictionary)
+}
+
+/// The part of a glyph of a CID-keyed font.
+fn cid_part(alloc: Global, bytes: &[u8], font: &PsfFont, glyph: usize) -> Result<PsfPart>
+    ensures { IfOk result (λ part. HasPart bytes.now font.now glyph part) }
+{
+    let dictionaries = index_at(bytes, font.font_dictionaries)?;
+    let fd = selected(bytes, font.selection as usize, glyph)?;
+    match dictionaries.get(fd) {
+        Some(item) => item_part(alloc, bytes, item),
+        None => Err(Error::UnexpectedEof),
+    }
+}
+
+/// The part of a glyph.
+pub(crate) fn part_at(alloc: Global, bytes: &[u8], font: &PsfFont, glyph: usize) -> Result<PsfPart>
+    ensures plain { font.now.is_cid ≡ 0 → result ≡ Ok font.now.part }
+    ensures cid { font.now.is_cid ≢ 0 → IfOk result (λ part. HasPart bytes.now font.now glyph part) }
+{
+    if font.is_cid == 0 {
+        return Ok(font.part);
+    }
+    cid_part(alloc, bytes, font, glyph)
+}
+
+/// The program of a code over the subroutines at two places.
+#[tactic(auto, unfolding(crate::specs::Glyphs::program_of))]
+fn program_of<'l>(
+    alloc: Global,
+    bytes: &'l [u8],
+    code: Option<&'l [u8]>,
+    global: u64,
+    local: u64,
+) -> Result<Option<Program<'l>>>
+    ensures exact { (place : ℕ) → Answers same result place (the_program (option_map (λ code. code.now) code.entry) global local bytes.now place) }
+{
+    let Some(code) = code else {
+        return Ok(None);
+    };
+    let globals = index_at(bytes, global)?;
+    let locals = index_at(bytes, local)?;
+    Ok(Some(Program::over(alloc, code, globals, locals)))
+}
+
+/// The program of a glyph. None where there is no such glyph.
+#[tactic(auto, unfolding(crate::specs::Glyphs::program_at))]
+fn program<'l>(
+    alloc: Global,
+    bytes: &'l [u8],
+    font: &PsfFont,
+    part: &PsfPart,
+    glyph: usize,
+) -> Result<Option<Program<'l>>>
+    ensures exact { (place : ℕ) → Answers same result place (program_at font.now part.now glyph bytes.now place) }
+{
+    let codes = index_at(bytes, font.char_strings)?;
+    program_of(
+        alloc,
+        bytes,
+        codes.get(glyph),
+        font.global_subroutines,
+        part.local_subroutines,
+    )
+}
+
+/// What a program draws.
+fn draw(alloc: Global, program: &mut Program<'_>) -> Result<Outline>
+    ensures exact { (bytes : List ℕ) (place : ℕ) → Answers shown result place (drawn_by program.old bytes place) }
+{
+    Outline::of_program(alloc, program)
+}
+
+/// What a program draws, if there is one.
+#[tactic(auto, unfolding(crate::specs::Glyphs::drawn_if))]
+fn draw_if(alloc: Global, program: Option<Program<'_>>) -> Result<Option<Outline>>
+    ensures exact { (bytes : List ℕ) (place : ℕ) → Answers (option_map shown) result place (drawn_if program.entry bytes place) }
+{
+    let Some(mut program) = program else {
+        return Ok(None);
+    };
+    Ok(Some(draw(alloc, &mut program)?))
+}
+
+/// The outline of a glyph. None where there is no such glyph.
+#[tactic(auto, unfolding(crate::specs::Glyphs::drawn_at))]
+fn outline(
+    alloc: Global,
+    bytes: &[u8],
+    font: &PsfFont,
+    part: &PsfPart,
+    glyph: usize,
+) -> Result<Option<Outline>>
+    ensures exact { (place : ℕ) → Answers (option_map shown) result place (drawn_at font.now part.now glyph bytes.now place) }
+{
+    let program = program(alloc, bytes, font, part, glyph)?;
+    draw_if(alloc, program)
+}
+
+/// The outline of a glyph, and its part.
+#[derive(Drop)]
+pub(crate) struct Found {
+    pub(crate) outline: Outline,
+    pub(crate) part: PsfPart,
+}
+
+/// The outline of a glyph, with its part. None where there is no such glyph.
+pub(crate) fn glyph_of(
+    alloc: Global,
+    bytes: &[u8],
+    font: &PsfFont,
+    glyph: usize,
+) -> Result<Option<Found>>
+    ensures plain { font.now.is_cid ≡ 0 → IsOf bytes.now font.now glyph result }
+    ensures cid { font.now.is_cid ≢ 0 → IsOfCid bytes.now font.now glyph result }
+{
+    let part = part_at(alloc, bytes, font, glyph)?;
+    match outline(alloc, bytes, font, &part, glyph)? {
+        Some(outline) => Ok(Some(Found { outline, part })),
+        None => Ok(None),
+    }
+}

@@ -1,0 +1,15 @@
+//! Fonts and glyphs as C calls them: thin exports over `postscript_view` and `postscript_outline`.
+#![tactic(auto, using(crate::proofs::Outcomes::refused_after))]
+
+mod exports;
+mod files;
+mod fill;
+mod flat;
+mod font;
+mod glyph;
+mod names;
+mod part;
+mod select;
+mod status;
+mod texts;
+mod told;

@@ -1,0 +1,103 @@
+//! Private dictionaries as plain numbers.
+ghost use Rattle.std.specs.Prelude.{◌≡◌, ℕ, pos, IfOk};
+ghost use Rattle.postscript_c.specs.Widths.{AreWidths, HasWidths, IsWidth};
+ghost use Rattle.postscript_base.specs.Tape.Outcome.{Answers, same};
+ghost use Rattle.postscript_c.specs.Places.{own_part as the_own_part, part as the_part, subroutines as the_subroutines};
+
+use postscript_base::Result;
+use postscript_base::compact1::{Operand, Operations, Operator};
+use postscript_view::operands::{bounds, place_at};
+use postscript_view::tables::{operations_of, slice_at};
+use std::alloc::Global;
+
+/// What a private dictionary says of glyphs.
+#[repr(C)]
+#[derive(Clone, Copy)]
+pub struct PsfPart {
+    /// The INDEX of local subroutines; 0 where there is none.
+    pub local_subroutines: u64,
+    /// The width of glyphs whose programs tell none, in 65536ths of a unit.
+    pub default_width: i64,
+    /// What is added to the width that a program tells, in 65536ths of a unit.
+    pub nominal_width: i64,
+}
+
+impl PsfPart {
+    /// No subroutines, and widths of 0.
+    pub(crate) fn none() -> PsfPart
+        ensures local { result.local_subroutines ≡ 0 }
+        ensures default { result.default_width ≡ pos 0 }
+        ensures nominal { result.nominal_width ≡ pos 0 }
+    {
+        PsfPart {
+            local_subroutines: 0,
+            default_width: 0,
+            nominal_width: 0,
+        }
+    }
+}
+
+/// A decimal with a fraction in 65536ths, cut where it is finer, and 0 where it is beyond 32 bits of these.
+fn finer(operand: Operand) -> i32 {
+    let exponent = operand.exponent();
+    if exponent >= 0 || exponent < -9 {
+        return 0;
+    }
+    let bits = (i128::from(operand.mantissa()) * 65536)
+        .checked_div(i128::from(10u32.pow((-exponent) as u32)))
+        .unwrap_or(0);
+    i32::try_from(bits).unwrap_or(0)
+}
+
+/// A width of a private dictionary in 65536ths of a unit: exact where it is a whole number of 32 bits, and 0 where there is none.
+fn width_in_bits(width: Option<Operand>) -> i64
+    ensures { IsWidth width result }
+{
+    let Some(width) = width else {
+        return 0;
+    };
+    match width.to_i32() {
+        Some(whole) => i64::from(whole) * 65536,
+        None => i64::from(finer(width)),
+    }
+}
+
+/// The place of the local subroutines of a private dictionary at an offset.
+#[tactic(auto, unfolding(crate::specs::Places::subroutines))]
+fn subroutines(bytes: &[u8], offset: u32, local: &Operations) -> Result<u64>
+    ensures exact { (place : ℕ) → Answers same result place (the_subroutines offset local.now bytes.now place) }
+{
+    if local.get_single(Operator::Subrs).is_none() {
+        return Ok(0);
+    }
+    place_at(0, offset, local, Operator::Subrs)
+}
+
+/// The part of the private dictionary that a dictionary names.
+#[tactic(auto, unfolding(crate::specs::Places::own_part))]
+fn own_part(alloc: Global, bytes: &[u8], dictionary: &Operations) -> Result<PsfPart>
+    ensures exact { (place : ℕ) → Answers (λ part. part.local_subroutines) result place (the_own_part dictionary.now bytes.now place) }
+    ensures widths { IfOk result (λ part. HasWidths bytes.now dictionary.now part.default_width part.nominal_width) }
+{
+    let (size, offset, place) = bounds(0, dictionary)?;
+    let text = slice_at(bytes, place, size)?;
+    let local = operations_of(alloc, text)?;
+    let local_subroutines = subroutines(bytes, offset, &local)?;
+    Ok(PsfPart {
+        local_subroutines,
+        default_width: width_in_bits(local.get_single(Operator::DefaultWidthX)),
+        nominal_width: width_in_bits(local.get_single(Operator::NominalWidthX)),
+    })
+}
+
+/// The part that a dictionary names.
+#[tactic(auto, unfolding(crate::specs::Places::part))]
+pub(crate) fn part_of(alloc: Global, bytes: &[u8], dictionary: &Operations) -> Result<PsfPart>
+    ensures exact { (place : ℕ) → Answers (λ part. part.local_subroutines) result place (the_part dictionary.now bytes.now place) }
+    ensures widths { IfOk result (λ part. AreWidths bytes.now dictionary.now part.default_width part.nominal_width) }
+{
+    if dictionary.get_double(Operator::Private).is_none() {
+        return Ok(PsfPart::none());
+    }
+    own_part(alloc, bytes, dictionary)
+}

@@ -1,0 +1,108 @@
+//! What is told of a glyph besides its segments.
+ghost use Rattle.std.specs.Prelude.{◌≡◌, pos};
+ghost use Rattle.postscript_base.specs.Error.{code};
+ghost use Rattle.postscript_c.specs.Answers.{advance as the_advance, IsToldOf, sides_of};
+ghost use Rattle.postscript_outline.specs.Drawing.{point};
+ghost use Rattle.postscript_outline.specs.Tight.{IsTightBoundsOf, arcs};
+
+use crate::part::PsfPart;
+use postscript_base::Error;
+use postscript_outline::Outline;
+use postscript_type2::Operand;
+
+/// What is told of a glyph besides its segments, in 16.16 bits.
+#[repr(C)]
+#[derive(Clone, Copy)]
+pub struct PsfGlyph {
+    /// The width: the default one, or the one that the program tells and the nominal one.
+    pub advance: i64,
+    /// The bounds of all points, 0 where there is none.
+    pub left: i32,
+    pub bottom: i32,
+    pub right: i32,
+    pub top: i32,
+    /// 1 where there is a point, else 0.
+    pub has_bounds: u32,
+    /// 1 where the program tells a width, else 0.
+    pub has_width: u32,
+}
+
+/// The number of a refusal.
+pub(crate) fn status(e: &Error) -> i32
+    ensures { result ≡ pos (code e.now) }
+{
+    i32::from(e.code())
+}
+
+/// The width of a glyph.
+fn advance(width: Option<Operand>, part: &PsfPart) -> i64
+    ensures { result ≡ the_advance width part.now }
+{
+    match width {
+        None => part.default_width,
+        Some(width) => part.nominal_width.saturating_add(i64::from(width.bits())),
+    }
+}
+
+/// What is told of an outline.
+pub(crate) fn told(outline: &Outline, part: &PsfPart) -> PsfGlyph
+    ensures { IsToldOf outline.now part.now result }
+{
+    let advance = advance(outline.width, part);
+    let has_width = u32::from(outline.width.is_some());
+    match outline.bounds() {
+        Some(bounds) => PsfGlyph {
+            advance,
+            left: bounds.low.x,
+            bottom: bounds.low.y,
+            right: bounds.high.x,
+            top: bounds.high.y,
+            has_bounds: 1,
+            has_width,
+        },
+        None => PsfGlyph {
+            advance,
+            left: 0,
+            bottom: 0,
+            right: 0,
+            top: 0,
+            has_bounds: 0,
+            has_width,
+        },
+    }
+}
+
+/// The bounds of the lines and curves of a glyph, in 65536ths of a unit.
+#[repr(C)]
+#[derive(Clone, Copy)]
+pub struct PsfBounds {
+    /// 0 where there is no point.
+    pub left: i32,
+    pub bottom: i32,
+    pub right: i32,
+    pub top: i32,
+    /// 1 where there is a point, else 0.
+    pub has_bounds: u32,
+}
+
+/// The bounds of the lines and curves of an outline.
+pub(crate) fn tight(outline: &Outline) -> PsfBounds
+    ensures { IsTightBoundsOf (sides_of result) (arcs (point (pos 0) (pos 0)) outline.now.segments.items) }
+{
+    match outline.tight_bounds() {
+        Some(bounds) => PsfBounds {
+            left: bounds.low.x,
+            bottom: bounds.low.y,
+            right: bounds.high.x,
+            top: bounds.high.y,
+            has_bounds: 1,
+        },
+        None => PsfBounds {
+            left: 0,
+            bottom: 0,
+            right: 0,
+            top: 0,
+            has_bounds: 0,
+        },
+    }
+}

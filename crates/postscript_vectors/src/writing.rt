@@ -1,0 +1,110 @@
+//! Fonts written: of all glyphs, and of some.
+use crate::checks::{bytes_of, holds, is_text};
+use crate::views::rows::{CID, PLAIN, SELECTIONS};
+use crate::views::{codes_of, joined, told};
+use postscript_view::FontView;
+use postscript_write::{Error, flat_font, index, subset, subset_keeping};
+use std::alloc::Global;
+use std::process::Abort;
+
+/// What is told of each glyph of the CID-keyed font without subroutines: what was told with them, but for the bytes of the codes
+/// `87 9f 16 0e` and `92 bd 16 0e`, and for the operator Subrs of the first private dictionary.
+const FLAT: &[&str] = &[
+    "cid 0 part 0 bytes 1 advance 5e2 bits 32768000 5e-4 0 0 5e-4 0 0 private 2",
+    "cid 10 part 0 bytes 4 advance 6e2 and -4 bits 39059456 5e-4 0 0 5e-4 0 0 private 2",
+    "cid 11 part 1 bytes 4 advance -3e1 and 7 bits -1507328 1e-3 0 0 1e-3 0 0 private 2",
+    "cid 100 part 1 bytes 0 advance 25e1 bits 16384000 1e-3 0 0 1e-3 0 0 private 2",
+    "",
+];
+
+/// The code of a glyph of a font.
+fn code_is<R: Abort>(rt: &R, alloc: Global, bytes: &[u8], glyph: usize, digits: &str) {
+    let font = FontView::read(alloc, bytes).expect(rt, "a font");
+    let wanted = bytes_of(rt, alloc, digits);
+    holds(
+        rt,
+        font.char_strings.get(glyph) == Some(wanted.as_slice()),
+        digits,
+    );
+}
+
+/// What is told of glyphs of a font is what these rows of the flat one tell.
+fn tells<R: Abort>(rt: &R, alloc: Global, bytes: &[u8], rows: &[usize]) {
+    let font = FontView::read(alloc, bytes).expect(rt, "a font");
+    for (glyph, row) in rows.iter().enumerate() {
+        let text = told(rt, alloc, &font, glyph);
+        is_text(rt, text.as_str(), FLAT[*row % FLAT.len()], "a glyph");
+    }
+}
+
+#[test]
+fn cid_keyed_fonts_written(rt: HostRuntime) {
+    let alloc = rt.alloc();
+    for selection in SELECTIONS {
+        let bytes = joined(&rt, alloc, CID, selection);
+        let flat = flat_font(alloc, bytes.as_slice()).expect(&rt, "a flat font");
+        tells(&rt, alloc, flat.as_slice(), &[0, 1, 2, 3, 4]);
+        code_is(&rt, alloc, flat.as_slice(), 1, "879f160e");
+        code_is(&rt, alloc, flat.as_slice(), 2, "92bd160e");
+    }
+}
+
+#[test]
+fn cid_keyed_fonts_cut(rt: HostRuntime) {
+    let alloc = rt.alloc();
+    let bytes = joined(&rt, alloc, CID, SELECTIONS[0]);
+    let cut = subset(alloc, bytes.as_slice(), &[2, 2]).expect(&rt, "a subset");
+    tells(&rt, alloc, cut.as_slice(), &[0, 2, 4]);
+    let kept = subset_keeping(alloc, bytes.as_slice(), &[2]).expect(&rt, "a subset");
+    code_is(&rt, alloc, kept.as_slice(), 1, "0e");
+    code_is(&rt, alloc, kept.as_slice(), 2, "92bd160e");
+    code_is(&rt, alloc, kept.as_slice(), 3, "0e");
+}
+
+#[test]
+fn codes_written(rt: HostRuntime) {
+    let alloc = rt.alloc();
+    let bytes = joined(&rt, alloc, PLAIN, "00 02 4142");
+    let flat = flat_font(alloc, bytes.as_slice()).expect(&rt, "a flat font");
+    let text = codes_of(&rt, alloc, flat.as_slice());
+    is_text(&rt, text.as_str(), " 65:1 66:2", "a flat font");
+    let kept = subset_keeping(alloc, bytes.as_slice(), &[3]).expect(&rt, "a subset");
+    let text = codes_of(&rt, alloc, kept.as_slice());
+    is_text(&rt, text.as_str(), " 65:1 66:2", "numbers kept");
+    // B alone, by the standard encoding
+    let cut = subset(alloc, bytes.as_slice(), &[3]).expect(&rt, "a subset");
+    let text = codes_of(&rt, alloc, cut.as_slice());
+    is_text(&rt, text.as_str(), " 66:1", "a subset");
+}
+
+#[test]
+fn fonts_that_are_not_written(rt: HostRuntime) {
+    let alloc = rt.alloc();
+    let mut bytes = joined(&rt, alloc, PLAIN, "00 02 4142");
+    let none = subset(alloc, bytes.as_slice(), &[]);
+    holds(&rt, matches!(none, Err(Error::NoGlyphs)), "no glyphs");
+    let past = subset_keeping(alloc, bytes.as_slice(), &[1, 5]);
+    holds(&rt, matches!(past, Err(Error::MissingGlyph(5))), "no sixth");
+    // the code of glyph 2 returns
+    if let Some(code) = bytes.get_mut(69) {
+        *code = 0x0b;
+    }
+    let refused = subset(alloc, bytes.as_slice(), &[3, 2]);
+    holds(&rt, matches!(refused, Err(Error::Glyph(2, _))), "glyph 2");
+    let written = subset(alloc, bytes.as_slice(), &[3]);
+    holds(&rt, written.is_ok(), "without glyph 2");
+}
+
+#[test]
+fn an_index_written(rt: HostRuntime) {
+    let alloc = rt.alloc();
+    let mut items = Vec::new(alloc);
+    items
+        .push(bytes_of(&rt, alloc, "0a0b"))
+        .expect(&rt, "memory");
+    items.push(Vec::new(alloc)).expect(&rt, "memory");
+    items.push(bytes_of(&rt, alloc, "0c")).expect(&rt, "memory");
+    let written = index(alloc, items.as_slice()).expect(&rt, "an INDEX");
+    let wanted = bytes_of(&rt, alloc, "0003 01 01030304 0a0b0c");
+    holds(&rt, written == wanted, "an INDEX");
+}

@@ -1,0 +1,55 @@
+-- Lists that agree at every place so far.
+use Rattle.std.proofs.Common.{◌≡◌, refl, sym, ap, subst, ◌∙◌, ℕ, zero, suc, ◌+◌, ◌≤◌, ◌<◌, List, [], ◌∷◌, ◌++◌, length, get_or, arith, below_more, Vec, Bool, true, false, not, eqb}
+use Rattle.std.proofs.lemmas.List.{ext_get_or, get_or_default, get_or_push, same_lists}
+use Rattle.std.proofs.lemmas.Slice.Eq.{bytes_eq-Decides}
+use Rattle.std.specs.Cmp.Lexicographic.{pointwise}
+use Rattle.std.specs.declared.alloc.Global.{Global}
+use Rattle.std.proofs.Math.ListN.{get_or-append}
+use Rattle.postscript_write.proofs.Rests.{texts_many}
+use Rattle.postscript_type2.specs.Program.Routines.{texts}
+
+texts_push : (flats : List (Vec ℕ Global)) (flat : Vec ℕ Global) → texts (flats ++ flat ∷ []) ≡ texts flats ++ flat.items ∷ []
+texts_push [] flat = refl
+texts_push (x ∷ flats) flat = ap (λ xs. x.items ∷ xs) (texts_push flats flat)
+
+pub agree_more : (xs ys : List (List ℕ)) (i : ℕ) (x y : List ℕ) → x ≡ get_or xs i x → y ≡ get_or ys i y → x ≡ y → i < length xs → i < length ys →
+    ((k : ℕ) → k < i → get_or ys k [] ≡ get_or xs k []) → (k : ℕ) → k < i + 1 → get_or ys k [] ≡ get_or xs k []
+agree_more xs ys i x y ex ey e lx ly before =
+    below_more (λ k. get_or ys k [] ≡ get_or xs k []) i before (get_or_default ys i [] y ly ∙ sym ey ∙ sym e ∙ ex ∙ get_or_default xs i x [] lx)
+
+pub agree_all : {A : Type 0} (d : A) (xs ys : List A) (i : ℕ) → length xs ≡ length ys → length xs ≤ i → ((k : ℕ) → k < i → get_or ys k d ≡ get_or xs k d) → ys ≡ xs
+agree_all d xs ys i many past before = ext_get_or d ys xs (sym many) (λ k h. before k (omega arith))
+
+pub agree_each : {A : Type 0} (xs ys : List A) (i : ℕ) → length xs ≡ length ys → length xs ≤ i → ((k : ℕ) (d : A) → k < i → get_or ys k d ≡ get_or xs k d) → ys ≡ xs
+agree_each xs ys i many past before = sym (same_lists xs ys many (λ k d h. sym (before k d (omega arith))))
+
+-- what is not unequal is equal
+pub alike : (xs ys : List ℕ) (b : Bool) → b ≡ not (pointwise eqb xs ys) → b ≡ false → xs ≡ ys
+alike xs ys b e f = by (pointwise eqb xs ys) refl
+  where
+    by : (p : Bool) → pointwise eqb xs ys ≡ p → xs ≡ ys
+    by true p = (bytes_eq-Decides xs ys).0 p
+    by false p = let g : true ≡ false = ap not (sym p) ∙ sym e ∙ f in absurd (cc)
+
+pub text_at : (codes : List (Vec ℕ Global)) (i : ℕ) (item : Vec ℕ Global) → item ≡ get_or codes i item → (text : List ℕ) → text ≡ item.items → i < length codes → text ≡ get_or (texts codes) i text
+text_at [] i item e text is h = absurd (omega arith)
+text_at (code ∷ codes) zero item e text is h = is ∙ ap (λ (v : Vec ℕ Global). v.items) e
+text_at (code ∷ codes) (suc i) item e text is h = text_at codes i item e text is (omega arith)
+
+pub nothing : {A : Type 0} (xs : List A) → length xs ≡ 0 → xs ≡ []
+nothing [] e = refl
+nothing (x ∷ xs) e = absurd (omega arith)
+
+-- one more, of which the same holds
+pub one_more : {A : Type 0} (d : A) (P : ℕ → A → Type 0) (xs more : List A) (x : A) (i : ℕ) → length xs ≡ i → more ≡ xs ++ x ∷ [] → P i x →
+    ((k : ℕ) → k < i → P k (get_or xs k d)) → (k : ℕ) → k < i + 1 → P k (get_or more k d)
+one_more d P xs more x i many e here before =
+    subst (λ ys. (k : ℕ) → k < i + 1 → P k (get_or ys k d)) (sym e)
+    (below_more (λ k. P k (get_or (xs ++ x ∷ []) k d)) i
+    (λ k h. subst (P k) (sym (get_or-append xs (x ∷ []) d k (omega arith))) (before k h))
+    (subst (P i) (sym (get_or_push xs x d i many)) here))
+
+pub text_more : (P : ℕ → List ℕ → Type 0) (flats more : List (Vec ℕ Global)) (flat : Vec ℕ Global) (i : ℕ) → length flats ≡ i → more ≡ flats ++ flat ∷ [] → P i flat.items →
+    ((k : ℕ) → k < i → P k (get_or (texts flats) k [])) → (k : ℕ) → k < i + 1 → P k (get_or (texts more) k [])
+text_more P flats more flat i many e here before =
+    one_more [] P (texts flats) (texts more) flat.items i (texts_many flats ∙ many) (ap texts e ∙ texts_push flats flat) here before

@@ -1,0 +1,12 @@
+pub mod Standing
+pub mod IndexStands
+pub mod Rests
+pub mod Agree
+pub mod Locality
+pub mod OperationsStand
+pub mod WholeEnd
+pub mod Shown
+pub mod Likeness
+pub mod Encoded
+pub mod Making
+pub mod Marks

@@ -1,0 +1,59 @@
+-- What is found alike.
+use Rattle.std.proofs.Common.{◌≡◌, refl, sym, ap, subst, ◌∙◌, ℕ, ◌+◌, ◌<◌, ◌≤◌, List, length, get_or, arith, below_more, slice_get}
+use Rattle.std.specs.Prelude.{Option, Some, None, ℤ, option_map}
+use Rattle.std.proofs.lemmas.List.{length-map}
+use Rattle.std.proofs.lemmas.Option.{slice_get-map, slice_get_read, slice_get_within}
+use Rattle.postscript_base.specs.Compact1.Defaults.{look, first_of}
+use Rattle.postscript_base.specs.Compact1.Dictionary.{Dictionary}
+use Rattle.postscript_base.specs.declared.compact1.operator.Operator.TheVariants.{DefaultWidthX, NominalWidthX}
+use Rattle.postscript_view.specs.Advances.{advance_of}
+use Rattle.postscript_view.specs.Naming.{Names}
+use Rattle.postscript_view.specs.Order as order
+use Rattle.postscript_view.specs.Shown.{part_shown, parts_shown}
+use Rattle.postscript_view.specs.declared.advance.Advance.TheVariants.{Default, Nominal}
+use Rattle.postscript_view.specs.declared.char_set.CharSetView.{CharSetView}
+use Rattle.postscript_view.specs.declared.part.Part.{Part}
+use Rattle.postscript_view.proofs.Naming.{named_once}
+use Rattle.postscript_write.specs.Naming.{SameName}
+use Rattle.postscript_write.specs.Parts.{SameAt, SameFont, SamePart, SameParts}
+use Rattle.postscript_write.specs.declared.kept.TheConstants.{KEPT_FONT}
+
+pub same_font_by : (old new : Option Dictionary) (a b : Dictionary) → old ≡ Some a → new ≡ Some b → SameAt KEPT_FONT a b → SameFont old new
+same_font_by old new a b e f h = subst (λ o. SameFont o new) (sym e) (subst (λ n. SameFont (Some a) n) (sym f) h)
+
+-- where the widths are the same, advances are
+pub same_advance : (old new : Dictionary) → look new DefaultWidthX ≡ look old DefaultWidthX → look new NominalWidthX ≡ look old NominalWidthX → (width : Option ℤ) → advance_of new width ≡ advance_of old width
+same_advance old new e f None = ap (λ o. option_map Default (first_of o)) e
+same_advance old new e f (Some difference) = ap (λ o. option_map (λ nominal. Nominal nominal difference) (first_of o)) f
+
+-- what is found at a place of the parts is what is shown of it
+found_at : (parts : List Part) (i : ℕ) (part : Part) (shown : order.Part) → i < length parts → part ≡ get_or parts i part → slice_get (parts_shown parts) i ≡ Some shown → part_shown part ≡ shown
+found_at parts i part shown less is at =
+    let here : slice_get (parts_shown parts) i ≡ Some (part_shown part) = slice_get-map part_shown parts i ∙ ap (option_map part_shown) (slice_get_read parts (length parts) i part refl less is) in
+    let e : Some (part_shown part) ≡ Some shown = sym here ∙ at in
+    cc
+
+pub same_more : (old new : List Part) (i : ℕ) (a b : Part) → i < length old → i < length new → a ≡ get_or old i a → b ≡ get_or new i b → SamePart (part_shown a) (part_shown b) →
+    ((k : ℕ) → k < i → (x y : order.Part) → slice_get (parts_shown old) k ≡ Some x → slice_get (parts_shown new) k ≡ Some y → SamePart x y) →
+    (k : ℕ) → k < i + 1 → (x y : order.Part) → slice_get (parts_shown old) k ≡ Some x → slice_get (parts_shown new) k ≡ Some y → SamePart x y
+same_more old new i a b lo ln ea eb same before =
+    below_more (λ k. (x y : order.Part) → slice_get (parts_shown old) k ≡ Some x → slice_get (parts_shown new) k ≡ Some y → SamePart x y) i before
+    (λ x y ex ey. subst (λ p. SamePart p y) (found_at old i a x lo ea ex) (subst (λ p. SamePart (part_shown a) p) (found_at new i b y ln eb ey) same))
+
+pub same_all : (old new : List Part) (i : ℕ) → length old ≡ length new → length old ≤ i →
+    ((k : ℕ) → k < i → (x y : order.Part) → slice_get (parts_shown old) k ≡ Some x → slice_get (parts_shown new) k ≡ Some y → SamePart x y) → SameParts (parts_shown old) (parts_shown new)
+same_all old new i many past before = record {
+  many = length-map new part_shown ∙ sym many ∙ sym (length-map old part_shown);
+  each = λ number x y ex ey.
+      let within : number < length (parts_shown old) = slice_get_within (parts_shown old) number x ex in
+      let long : length (parts_shown old) ≡ length old = length-map old part_shown in
+      before number (omega (arith, within, long, past)) x y ex ey;
+}
+
+-- glyphs with one identifier have the same one
+pub same_name_by : (old new : CharSetView) (source : Option ℕ) (glyph i a b : ℕ) → source ≡ Some glyph → Names old glyph a → Names new i b → a ≡ b → SameName old source new i
+same_name_by old new source glyph i a b e was is same =
+    subst (λ s. SameName old s new i) (sym e) (λ identifier. (
+      (λ h. subst (λ n. Names new i n) (sym (named_once old glyph identifier a h was ∙ same)) is),
+      (λ h. subst (λ n. Names old glyph n) (sym (named_once new i identifier b h is ∙ sym same)) was),
+    ))

@@ -1,0 +1,9 @@
+use Rattle.std.proofs.Common.{◌∙◌, ap, ◌++◌}
+use Rattle.postscript_write.specs.Texts.{number_text}
+use Rattle.postscript_write.proofs.OperationsStand.{appended_escaped}
+use Rattle.postscript_write.proofs.dictionaries.put_escaped.Goals as goal
+
+pub returns : goal.returns
+returns c =
+    appended_escaped c.args.out.now.items c.put_integers.new.out.items c.put_number.new.out.items c.put_number-2.new.out.items c.args.numbers.now c.args.second c.args.operator c.in_ok-put_integers.ensures.held c.requires
+    c.in_ok-put_integers.ensures.ok c.in_ok-put_number.ensures.ok (c.in_ok-put_number-2.ensures.ok ∙ ap (λ n. c.put_number.new.out.items ++ number_text 1 n) c.from.ensures)

@@ -1,0 +1,62 @@
+-- Operations of dictionaries as they are written: integers in five bytes, and an operator of one byte or of two (Technical Note
+-- 5176, "DICT Data").
+use Rattle.std.specs.Prelude.{◌≡◌, ◌≢◌, ℕ, pos, ◌+◌, ◌^◌, ◌<◌, List, [], ◌∷◌, ◌++◌, length, map, Option, Some, None}
+use Rattle.postscript_base.specs.Compact1.Decimal.{Decimal}
+use Rattle.postscript_base.specs.Compact1.Dictionary.{dictionary_of}
+use Rattle.postscript_base.specs.Compact1.DictionaryLaw.{IsDictionary, OperationsAt}
+use Rattle.postscript_base.specs.Compact1.Number.{whole}
+use Rattle.postscript_base.specs.Compact1.Operation.{Operation}
+use Rattle.postscript_base.specs.Compact1.Operators.{operator_of}
+use Rattle.postscript_base.specs.declared.compact1.operator.Operator.{Operator}
+use Rattle.postscript_write.specs.Texts.{number_text}
+use Rattle.postscript_write.specs.declared.dictionaries.Place.{Place}
+
+abbrev pub integer_text : ℕ → List ℕ
+integer_text n = number_text 1 0x1d ++ number_text 4 n
+
+abbrev pub integers_text : List ℕ → List ℕ
+integers_text [] = []
+integers_text (n ∷ ns) = integer_text n ++ integers_text ns
+
+abbrev pub operation_text : (numbers : List ℕ) (code : ℕ) → List ℕ
+operation_text numbers code = integers_text numbers ++ number_text 1 code
+
+abbrev pub escaped_text : (numbers : List ℕ) (second : ℕ) → List ℕ
+escaped_text numbers second = integers_text numbers ++ (number_text 1 0x0c ++ number_text 1 second)
+
+-- what these numbers are as operands
+abbrev pub operands_of : List ℕ → List Decimal
+operands_of numbers = map (λ n. whole (pos n)) numbers
+
+-- numbers that the five bytes hold
+abbrev pub AreHeld : List ℕ → Type 0
+AreHeld [] = Unit {0}
+AreHeld (n ∷ ns) = (n < 2 ^ 31) × AreHeld ns
+
+-- the code of an operator of one byte
+pub record IsCode (code : ℕ) (operator : Operator) : Type 0 where
+  pub low : code < 256
+  pub one : code ≢ 0x0c
+  pub names : operator_of code ≡ Some operator
+
+-- the code of an operator of two bytes, the first of which is 12
+pub record IsEscaped (second : ℕ) (operator : Operator) : Type 0 where
+  pub low : second < 256
+  pub names : operator_of (0x0c00 + second) ≡ Some operator
+
+-- the operation of a place: its offset, and before it a size, where there is one
+abbrev pub numbers_of : Option ℕ → (offset : ℕ) → List ℕ
+numbers_of None offset = offset ∷ []
+numbers_of (Some size) offset = size ∷ offset ∷ []
+
+abbrev pub operation_of : Place → Operation
+operation_of place = (place.operator, operands_of (numbers_of place.size place.offset))
+
+-- Laws: an operation that is written behind operations is one more of them; and whole operations are a dictionary, in
+-- which the last of each operator counts.
+pub record WritesOperations : Type 0 where
+  pub append : (kept : List ℕ) (operations : List Operation) (numbers : List ℕ) (code : ℕ) (operator : Operator) → OperationsAt kept 0 operations (length kept) → AreHeld numbers → IsCode code operator →
+      OperationsAt (kept ++ operation_text numbers code) 0 (operations ++ (operator, operands_of numbers) ∷ []) (length (kept ++ operation_text numbers code))
+  pub escaped : (kept : List ℕ) (operations : List Operation) (numbers : List ℕ) (second : ℕ) (operator : Operator) → OperationsAt kept 0 operations (length kept) → AreHeld numbers → IsEscaped second operator →
+      OperationsAt (kept ++ escaped_text numbers second) 0 (operations ++ (operator, operands_of numbers) ∷ []) (length (kept ++ escaped_text numbers second))
+  pub all : (bytes : List ℕ) (operations : List Operation) → OperationsAt bytes 0 operations (length bytes) → IsDictionary bytes 0 (dictionary_of operations)

@@ -1,0 +1,51 @@
+-- A font without subroutines that is made of glyphs of another one.
+use Rattle.std.specs.Prelude.{◌≡◌, ℕ, ◌<◌, List, [], ◌∷◌, Option, Some, None, Bool, IsTrue, length, slice_get, slice_index_or}
+use Rattle.postscript_type2.specs.Program.Routines.{Lists}
+use Rattle.postscript_type2.specs.Program.Runs.{fault_of}
+use Rattle.postscript_view.specs.Order.{View, Part}
+use Rattle.postscript_write.specs.Glyphs.{DrawsAs, HasPart, Sources, run_in}
+use Rattle.postscript_write.specs.Naming.{KeepsCodes, KeepsNames}
+use Rattle.postscript_write.specs.Parts.{SameAt, SamePart, SameParts}
+use Rattle.postscript_write.specs.declared.kept.TheConstants.{KEPT}
+
+-- a glyph of a font has this code and this part
+pub record HasGlyph (bytes : List ℕ) (font : View) (glyph : ℕ) (code : List ℕ) (number : ℕ) (part : Part) : Type 0 where
+  pub has_code : slice_get font.char_strings glyph ≡ Some code
+  pub has_part : slice_get font.parts number ≡ Some part
+  pub is_its : HasPart bytes font glyph number
+
+-- A glyph that is written draws, over any lists, what the glyph draws that it is made of, whose run no fault ends. Both have the
+-- part of one number, and the parts say the same.
+pub record IsMadeOf (bytes : List ℕ) (old : View) (glyph : ℕ) (flat : List ℕ) (new : View) (i : ℕ) : Type 0 where
+  pub number : ℕ
+  pub old_code : List ℕ
+  pub old_part : Part
+  pub was : HasGlyph bytes old glyph old_code number old_part
+  pub new_code : List ℕ
+  pub new_part : Part
+  pub is : HasGlyph flat new i new_code number new_part
+  pub faultless : fault_of (run_in old old_part old_code).end ≡ None
+  pub draws : (lists : Lists) → DrawsAs lists new_code (run_in old old_part old_code)
+  pub same : SamePart old_part new_part
+
+-- it is made of a glyph, or empty
+abbrev pub IsMade : List ℕ → View → Option ℕ → List ℕ → View → (i : ℕ) → Type 0
+IsMade bytes old None flat new i = slice_get new.char_strings i ≡ Some (0x0e ∷ [])
+IsMade bytes old (Some glyph) flat new i = IsMadeOf bytes old glyph flat new i
+
+-- The new font has no subroutines, and what the old one has besides its glyphs and what names places.
+pub record Repeats (old new : View) : Type 0 where
+  pub names : new.tables.names ≡ old.tables.names
+  pub strings : new.tables.strings ≡ old.tables.strings
+  pub no_global : new.tables.subroutines ≡ []
+  pub dictionary : SameAt KEPT old.tables.dictionary new.tables.dictionary
+  pub parts : SameParts old.parts new.parts
+
+-- The new font is made of these glyphs of the old one, in this order. It says what the old one says: also by its encoding, where
+-- glyphs keep their numbers.
+pub record IsFontOf (kept : Bool) (sources : Sources) (bytes : List ℕ) (old : View) (flat : List ℕ) (new : View) : Type 0 where
+  pub repeats : Repeats old new
+  pub many : length new.char_strings ≡ length sources
+  pub glyphs : (i : ℕ) → i < length sources → IsMade bytes old (slice_index_or sources i None) flat new i
+  pub naming : KeepsNames sources bytes old flat new
+  pub codes : IsTrue kept → KeepsCodes sources bytes old flat new naming.old_set naming.new_set

@@ -1,0 +1,58 @@
+-- Glyphs of a font, and what is written of them (Technical Note 5176, sections 14, 18 and 19; Technical Note 5177).
+use Rattle.std.specs.List.{AllPass}
+use Rattle.std.specs.Prelude.{◌≡◌, ◌≢◌, ◌⊎◌, ℕ, ◌<◌, List, [], ◌∷◌, Option, Some, None, length, slice_get, slice_index_or}
+use Rattle.postscript_type2.specs.Program.Evaluation.{run_of}
+use Rattle.postscript_type2.specs.Program.Inlining.{is_flat}
+use Rattle.postscript_type2.specs.Program.Routines.{Lists, lent}
+use Rattle.postscript_type2.specs.Program.Runs.{Run, fault_of, width_of}
+use Rattle.postscript_view.specs.Order.{View, Part}
+use Rattle.postscript_view.specs.Select.{IsSelected}
+
+-- A glyph has the part of a number: of several parts that of the font dictionary that FDSelect gives it; a single part is that
+-- of all glyphs.
+pub record HasPart (bytes : List ℕ) (font : View) (glyph number : ℕ) : Type 0 where
+  pub there : number < length font.parts
+  pub selected : ((length font.parts ≡ 1) × (number ≡ 0)) ⊎ ((length font.parts ≢ 1) × IsSelected bytes font.tables.dictionary (length font.char_strings) glyph number)
+
+-- the run of a code over the subroutines that all char strings share and those of a part
+abbrev pub run_in : View → Part → List ℕ → Run
+run_in font part code = run_of (lent font.tables.subroutines part.subroutines) code
+
+-- Over these lists a code draws what a run drew: it answers the same operations, with the same width; no fault ends it; and it
+-- neither calls a subroutine nor returns.
+pub record DrawsAs (lists : Lists) (code : List ℕ) (run : Run) : Type 0 where
+  pub answers : (run_of lists code).answers ≡ run.answers
+  pub width : width_of (run_of lists code) ≡ width_of run
+  pub faultless : fault_of (run_of lists code).end ≡ None
+  pub no_calls : AllPass (λ said. is_flat said.operator) (run_of lists code).trace
+
+-- No fault ends the run of a glyph with the part of a number, and a code draws, over any lists, what it draws.
+pub record IsCodeOf (font : View) (glyph number : ℕ) (flat : List ℕ) : Type 0 where
+  pub code : List ℕ
+  pub part : Part
+  pub has_code : slice_get font.char_strings glyph ≡ Some code
+  pub has_part : slice_get font.parts number ≡ Some part
+  pub faultless : fault_of (run_in font part code).end ≡ None
+  pub draws : (lists : Lists) → DrawsAs lists flat (run_in font part code)
+
+-- A glyph that is written is made of one of the font, or it is empty: `endchar` alone.
+abbrev pub Sources : Type 0
+Sources = List (Option ℕ)
+
+abbrev pub IsCodeFor : View → Option ℕ → (number : ℕ) → List ℕ → Type 0
+IsCodeFor font None number flat = flat ≡ 0x0e ∷ []
+IsCodeFor font (Some glyph) number flat = IsCodeOf font glyph number flat
+
+-- as many codes, each of the glyph in its place
+pub record AreCodesOf (font : View) (sources : Sources) (numbers : List ℕ) (flats : List (List ℕ)) : Type 0 where
+  pub many : length flats ≡ length sources
+  pub each : (i : ℕ) → i < length sources → IsCodeFor font (slice_index_or sources i None) (slice_index_or numbers i 0) (slice_index_or flats i [])
+
+abbrev pub HasPartFor : List ℕ → View → Option ℕ → (number : ℕ) → Type 0
+HasPartFor bytes font None number = Unit {0}
+HasPartFor bytes font (Some glyph) number = HasPart bytes font glyph number
+
+-- as many numbers of parts, each of the glyph in its place
+pub record AreNumbersOf (bytes : List ℕ) (font : View) (sources : Sources) (numbers : List ℕ) : Type 0 where
+  pub many : length numbers ≡ length sources
+  pub each : (i : ℕ) → i < length sources → HasPartFor bytes font (slice_index_or sources i None) (slice_index_or numbers i 0)

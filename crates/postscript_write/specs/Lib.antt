@@ -1,0 +1,10 @@
+pub mod Texts
+pub mod Index
+pub mod Local
+pub mod Dictionaries
+pub mod Glyphs
+pub mod Parts
+pub mod Naming
+pub mod Fonts
+pub mod Sources
+pub mod Refusals

@@ -1,0 +1,47 @@
+-- Names, CIDs and codes of the glyphs that are written (Technical Note 5176, sections 12 and 13).
+use Rattle.std.specs.Prelude.{◌≡◌, ◌↔◌, ℕ, ◌<◌, List, Option, Some, None, length, slice_index_or}
+use Rattle.postscript_view.specs.CharSets.{IsCharSetOf}
+use Rattle.postscript_view.specs.Encoding.{HasCode}
+use Rattle.postscript_view.specs.Encodings.{IsEncodingOf}
+use Rattle.postscript_view.specs.Naming.{Names}
+use Rattle.postscript_view.specs.Order.{View}
+use Rattle.postscript_view.specs.declared.char_set.CharSetView.{CharSetView}
+use Rattle.postscript_view.specs.declared.encoding.Codes.{Codes}
+use Rattle.postscript_view.specs.declared.encoding.Codes.TheVariants.{Predefined, Listed, Ranges}
+use Rattle.postscript_view.specs.declared.encoding.EncodingView.{EncodingView}
+use Rattle.postscript_write.specs.Glyphs.{Sources}
+
+-- The same identifiers name a glyph that is written and the one that it is made of: its name, or in a CID-keyed font its CID.
+abbrev pub SameName : CharSetView → Option ℕ → CharSetView → (i : ℕ) → Type 0
+SameName old None new i = Unit {0}
+SameName old (Some glyph) new i = (identifier : ℕ) → Names old glyph identifier ↔ Names new i identifier
+
+abbrev pub SameNames : CharSetView → Sources → CharSetView → Type 0
+SameNames old sources new = (i : ℕ) → i < length sources → SameName old (slice_index_or sources i None) new i
+
+-- encodings that say the same
+abbrev pub SameCodes : Codes → Codes → Type 0
+SameCodes (Predefined old) (Predefined new) = new ≡ old
+SameCodes (Listed old) (Listed new) = new.now ≡ old.now
+SameCodes (Ranges old) (Ranges new) = new.now ≡ old.now
+SameCodes _ _ = ⊥
+
+pub record SameEncoding (old new : EncodingView) : Type 0 where
+  pub codes : SameCodes old.codes new.codes
+  pub supplements : new.supplements.now ≡ old.supplements.now
+
+-- the char sets of both fonts give the same names
+pub record KeepsNames (sources : Sources) (bytes : List ℕ) (old : View) (flat : List ℕ) (new : View) : Type 0 where
+  pub old_set : CharSetView
+  pub new_set : CharSetView
+  pub was : IsCharSetOf old_set bytes old.tables.dictionary (length old.char_strings)
+  pub is : IsCharSetOf new_set flat new.tables.dictionary (length new.char_strings)
+  pub names : SameNames old_set sources new_set
+
+-- A glyph that keeps its number has the codes that it had.
+pub record KeepsCodes (sources : Sources) (bytes : List ℕ) (old : View) (flat : List ℕ) (new : View) (old_set new_set : CharSetView) : Type 0 where
+  pub old_encoding : EncodingView
+  pub new_encoding : EncodingView
+  pub was : IsEncodingOf old_encoding bytes old.tables.dictionary
+  pub is : IsEncodingOf new_encoding flat new.tables.dictionary
+  pub codes : (code glyph : ℕ) → glyph < length sources → slice_index_or sources glyph None ≡ Some glyph → HasCode old_encoding old_set code glyph ↔ HasCode new_encoding new_set code glyph

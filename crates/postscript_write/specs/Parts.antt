@@ -1,0 +1,31 @@
+-- Dictionaries that keep what they say (Technical Note 5176, sections 9, 15 and 18).
+use Rattle.std.specs.Prelude.{◌≡◌, ℕ, ℤ, List, [], Option, Some, None, length, slice_get, All}
+use Rattle.postscript_base.specs.Compact1.Defaults.{look}
+use Rattle.postscript_base.specs.Compact1.Dictionary.{Dictionary}
+use Rattle.postscript_base.specs.declared.compact1.operator.Operator.{Operator}
+use Rattle.postscript_view.specs.Advances.{advance_of}
+use Rattle.postscript_view.specs.Order.{Part}
+use Rattle.postscript_write.specs.declared.kept.TheConstants.{KEPT_FONT, KEPT_PRIVATE}
+
+-- these operators have the same operands
+abbrev pub SameAt : List Operator → Dictionary → Dictionary → Type 0
+SameAt operators old new = All (λ operator. look new operator ≡ look old operator) operators
+
+-- both have a font dictionary, or neither has; and it says the same, but where its private dictionary is
+abbrev pub SameFont : Option Dictionary → Option Dictionary → Type 0
+SameFont None None = Unit {0}
+SameFont (Some old) (Some new) = SameAt KEPT_FONT old new
+SameFont None (Some new) = ⊥
+SameFont (Some old) None = ⊥
+
+-- A part without subroutines that says what another one says: glyphs that tell the same width, or none, have the same advance.
+pub record SamePart (old new : Part) : Type 0 where
+  pub private : SameAt KEPT_PRIVATE old.dictionary new.dictionary
+  pub no_local : new.subroutines ≡ []
+  pub font : SameFont old.font new.font
+  pub advance : (width : Option ℤ) → advance_of new.dictionary width ≡ advance_of old.dictionary width
+
+-- as many parts, each of which says what the one in its place says
+pub record SameParts (old new : List Part) : Type 0 where
+  pub many : length new ≡ length old
+  pub each : (number : ℕ) (part new_part : Part) → slice_get old number ≡ Some part → slice_get new number ≡ Some new_part → SamePart part new_part

@@ -1,0 +1,49 @@
+-- The glyphs that a font is made of.
+use Rattle.std.specs.Prelude.{◌≡◌, ℕ, ◌<◌, ◌==◌, ◌||◌, List, [], ◌∷◌, Bool, false, Option, Some, None, map, length, slice_index_or, if◌then◌else◌}
+use Rattle.std.specs.List.{filter, range_with_len}
+use Rattle.postscript_base.specs.Tape.Outcome.{Got}
+use Rattle.postscript_view.specs.Order.{View, view}
+use Rattle.postscript_write.specs.Fonts.{IsFontOf}
+use Rattle.postscript_write.specs.Glyphs.{Sources}
+
+-- every one of so many glyphs, in its place
+abbrev pub every : (glyphs : ℕ) → Sources
+every glyphs = map Some (range_with_len 0 glyphs)
+
+-- a glyph is kept where it is named, and .notdef always
+abbrev pub is_kept : (named : List ℕ) → (glyph : ℕ) → Bool
+is_kept [] glyph = glyph == 0
+is_kept (one ∷ named) glyph = (one == glyph) || is_kept named glyph
+
+abbrev pub is_chosen : (named : List ℕ) → Option ℕ → Bool
+is_chosen named None = false
+is_chosen named (Some glyph) = is_kept named glyph
+
+-- the kept ones of so many glyphs, in ascending order
+abbrev pub chosen : (named : List ℕ) → (glyphs : ℕ) → Sources
+chosen named glyphs = filter (is_chosen named) (every glyphs)
+
+-- the kept ones of so many glyphs, each in its place, and empty ones between them
+abbrev pub kept_or_none : (named : List ℕ) → (glyph : ℕ) → Option ℕ
+kept_or_none named glyph = if is_kept named glyph then Some glyph else None
+
+abbrev pub keeping : (named : List ℕ) → (glyphs : ℕ) → Sources
+keeping named glyphs = map (kept_or_none named) (range_with_len 0 glyphs)
+
+-- each one that is named is one of so many glyphs
+abbrev pub AreThere : (named : List ℕ) → (glyphs : ℕ) → Type 0
+AreThere named glyphs = (k : ℕ) → k < length named → slice_index_or named k 0 < glyphs
+
+-- so many marks: at each glyph that is named
+pub record AreMarks (named : List ℕ) (glyphs : ℕ) (marks : List Bool) : Type 0 where
+  pub many : length marks ≡ glyphs
+  pub there : AreThere named glyphs
+  pub each : (glyph : ℕ) → glyph < glyphs → (slice_index_or marks glyph false || (glyph == 0)) ≡ is_kept named glyph
+
+-- Fonts begin both texts, and the new one is made of glyphs of the old one: those that this gives for so many.
+pub record IsWritten (kept : Bool) (sources : (glyphs : ℕ) → Sources) (bytes flat : List ℕ) : Type 0 where
+  pub old : View
+  pub new : View
+  pub was : view bytes 0 ≡ Got old 0
+  pub is : view flat 0 ≡ Got new 0
+  pub made : IsFontOf kept (sources (length old.char_strings)) bytes old flat new

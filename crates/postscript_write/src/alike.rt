@@ -1,0 +1,126 @@
+//! Parts, names and codes of a font that is read back, compared with those that it was made of.
+ghost use Rattle.std.specs.Prelude.{◌≡◌, ◌<◌, ℕ, IsTrue, None, length, option_map, slice_index_or};
+ghost use Rattle.postscript_items.specs.Lent.{items_of};
+ghost use Rattle.postscript_view.specs.Shown.{part_shown, parts_shown, view_shown};
+ghost use Rattle.postscript_write.specs.Glyphs.{HasPartFor};
+ghost use Rattle.postscript_write.specs.Naming.{SameCodes, SameEncoding, SameName, SameNames};
+ghost use Rattle.postscript_write.specs.Parts.{SameFont, SamePart, SameParts};
+
+use crate::kept::{KEPT_FONT, KEPT_PRIVATE};
+use crate::same::{are_none, same_at, same_look};
+use postscript_base::compact1::{Operations, Operator};
+use postscript_view::{CharSetView, Codes, EncodingView, FontView, Part};
+
+/// Whether both have a font dictionary that says the same, or neither has one.
+fn same_font(old: &Option<Operations>, new: &Option<Operations>) -> bool
+    ensures { IsTrue result → SameFont old.now new.now }
+{
+    match (old, new) {
+        (None, None) => true,
+        (Some(old), Some(new)) => same_at(&KEPT_FONT, old, new),
+        _ => false,
+    }
+}
+
+/// Whether a part has no subroutines, and says what another one says.
+fn same_part(old: &Part<'_>, new: &Part<'_>) -> bool
+    ensures { IsTrue result → SamePart (part_shown old.now) (part_shown new.now) }
+{
+    let (a, b) = (&old.dictionary, &new.dictionary);
+    if !same_look(Operator::DefaultWidthX, a, b) || !same_look(Operator::NominalWidthX, a, b) {
+        return false;
+    }
+    if !same_at(&KEPT_PRIVATE, a, b) || !are_none(&new.subroutines) {
+        return false;
+    }
+    same_font(&old.font_dictionary, &new.font_dictionary)
+}
+
+/// Whether there are as many parts, each of which says what the one in its place says.
+pub(crate) fn same_parts(old: &[Part<'_>], new: &[Part<'_>]) -> bool
+    ensures { IsTrue result → SameParts (parts_shown old.now) (parts_shown new.now) }
+{
+    if old.len() != new.len() {
+        return false;
+    }
+    for i in 0..old.len() {
+        if !same_part(&old[i], &new[i]) {
+            return false;
+        }
+    }
+    true
+}
+
+/// Whether a glyph has the part of a number, if it is made of one.
+fn same_number(source: Option<usize>, number: usize, new: &FontView<'_>, i: usize) -> bool
+    ensures { IsTrue result → HasPartFor new.now.bytes.now (view_shown new.now) (option_map (λ _. i) source) number }
+{
+    match (source, new.part_of(i)) {
+        (None, _) => true,
+        (Some(_), Some(found)) => found == number,
+        (Some(_), None) => false,
+    }
+}
+
+/// Whether each glyph has the part of its number.
+pub(crate) fn same_numbers(sources: &[Option<usize>], numbers: &[usize], new: &FontView<'_>) -> bool
+    requires { length numbers.now ≡ length sources.now }
+    ensures { IsTrue result → (i : ℕ) → i < length sources.now →
+        HasPartFor new.now.bytes.now (view_shown new.now) (option_map (λ _. i) (slice_index_or sources.now i None)) (slice_index_or numbers.now i 0) }
+{
+    for i in 0..sources.len() {
+        if !same_number(sources[i], numbers[i], new, i) {
+            return false;
+        }
+    }
+    true
+}
+
+/// Whether the same identifier names a glyph and the one that it is made of, if it is made of one.
+fn same_name(old: &CharSetView<'_>, source: Option<usize>, new: &CharSetView<'_>, i: usize) -> bool
+    ensures { IsTrue result → SameName old.now source new.now i }
+{
+    let Some(glyph) = source else {
+        return true;
+    };
+    match (old.identifier(glyph), new.identifier(i)) {
+        (Some(was), Some(is)) => was == is,
+        (None, None) => true,
+        _ => false,
+    }
+}
+
+/// Whether the same identifiers name the glyphs and those that they are made of.
+pub(crate) fn same_names(
+    old: &CharSetView<'_>,
+    sources: &[Option<usize>],
+    new: &CharSetView<'_>,
+) -> bool
+    ensures { IsTrue result → SameNames old.now sources.now new.now }
+{
+    for i in 0..sources.len() {
+        if !same_name(old, sources[i], new, i) {
+            return false;
+        }
+    }
+    true
+}
+
+/// Whether codes are told in the same way.
+fn same_codes(old: &Codes<'_>, new: &Codes<'_>) -> bool
+    ensures { IsTrue result → SameCodes old.now new.now }
+{
+    match (old, new) {
+        (Codes::Predefined(old), Codes::Predefined(new)) => *new == *old,
+        (Codes::Listed(old), Codes::Listed(new)) => *new == *old,
+        (Codes::Ranges(old), Codes::Ranges(new)) => *new == *old,
+        _ => false,
+    }
+}
+
+/// Whether encodings say the same.
+pub(crate) fn same_encoding(old: &EncodingView<'_>, new: &EncodingView<'_>) -> bool
+    ensures { IsTrue result → SameEncoding old.now new.now }
+{
+    same_codes(&old.codes, &new.codes) && new.supplements == old.supplements
+}

@@ -1,0 +1,187 @@
+//! Dictionaries, written (Technical Note 5176, "DICT Data").
+ghost use Rattle.std.specs.Prelude.{◌≡◌, ◌≤◌, ◌<◌, ◌^◌, ◌++◌, List, [], ◌∷◌, length, IfOk, IfSome, OnOk, fold, map};
+ghost use Rattle.postscript_base.specs.Compact1.Dictionary.{Dictionary, put};
+ghost use Rattle.postscript_base.specs.Compact1.DictionaryLaw.{IsDictionary, OperationsAt, UnfinishedAt};
+ghost use Rattle.postscript_base.specs.Compact1.Operation.{Operation};
+ghost use Rattle.postscript_write.specs.Dictionaries.{integer_text, integers_text, operands_of, AreHeld, IsCode, IsEscaped, operation_of};
+
+use crate::number::put_number;
+use postscript_base::compact1::{Operation, Operator};
+use postscript_base::{Error, Result, Value};
+use std::alloc::Global;
+use std::io::Cursor;
+
+/// The place behind the last whole operation.
+pub(crate) fn whole_end(alloc: Global, text: &[u8]) -> Result<usize>
+    ensures within { IfOk result (λ end. end ≤ length text.now) }
+    ensures whole { IfOk result (λ end. (operations : List Operation) × OperationsAt text.now 0 operations end × UnfinishedAt text.now end) }
+{
+    let mut cursor = Cursor::new(text);
+    let mut place = 0u64;
+    for _ in 0..=text.len() {
+        match Operation::read(alloc, &mut cursor) {
+            Ok(_) => place = cursor.position(),
+            Err(Error::UnexpectedEof) => return Ok(place as usize),
+            Err(error) => return Err(error),
+        }
+    }
+    Err(Error::TapeStuck)
+}
+
+/// Appends an integer of five bytes.
+fn put_integer(out: &mut Vec<u8>, number: usize) -> Result<()>
+    ensures ok { OnOk result (out.new.items ≡ out.old.items ++ integer_text number) }
+    ensures held { OnOk result (number < 2 ^ 31) }
+{
+    if number > 0x7fff_ffff {
+        return Err(Error::OutOfRangeOffset);
+    }
+    put_number(out, 1, 0x1d)?;
+    put_number(out, 4, number)?;
+    Ok(())
+}
+
+/// Appends integers.
+fn put_integers(out: &mut Vec<u8>, numbers: &[usize]) -> Result<()>
+    ensures ok { OnOk result (out.new.items ≡ out.old.items ++ integers_text numbers.now) }
+    ensures held { OnOk result (AreHeld numbers.now) }
+{
+    for number in numbers {
+        put_integer(out, *number)?;
+    }
+    Ok(())
+}
+
+/// The code of one byte of an operator that names places.
+#[tactic(auto, unfolding(postscript_base::specs::Compact1::Operators::operator_of))]
+fn code_of(operator: Operator) -> Option<u8>
+    ensures { IfSome result (λ code. IsCode code operator) }
+{
+    match operator {
+        Operator::CharSet => Some(0x0f),
+        Operator::Encoding => Some(0x10),
+        Operator::CharStrings => Some(0x11),
+        Operator::Private => Some(0x12),
+        Operator::Subrs => Some(0x13),
+        _ => None,
+    }
+}
+
+/// The second byte of the code of another operator that names places.
+#[tactic(auto, unfolding(postscript_base::specs::Compact1::Operators::operator_of))]
+fn second_of(operator: Operator) -> Option<u8>
+    ensures { IfSome result (λ second. IsEscaped second operator) }
+{
+    match operator {
+        Operator::FDArray => Some(0x24),
+        Operator::FDSelect => Some(0x25),
+        _ => None,
+    }
+}
+
+/// Appends an operation of an operator of one byte.
+fn put_short(out: &mut Vec<u8>, numbers: &[usize], operator: Operator, code: u8) -> Result<()>
+    requires { IsCode code operator }
+    ensures { OnOk result ((operations : List Operation) → OperationsAt out.old.items 0 operations (length out.old.items) →
+        OperationsAt out.new.items 0 (operations ++ (operator, operands_of numbers.now) ∷ []) (length out.new.items)) }
+{
+    put_integers(out, numbers)?;
+    put_number(out, 1, usize::from(code))?;
+    Ok(())
+}
+
+/// Appends an operation of an operator of two bytes.
+fn put_escaped(out: &mut Vec<u8>, numbers: &[usize], operator: Operator, second: u8) -> Result<()>
+    requires { IsEscaped second operator }
+    ensures { OnOk result ((operations : List Operation) → OperationsAt out.old.items 0 operations (length out.old.items) →
+        OperationsAt out.new.items 0 (operations ++ (operator, operands_of numbers.now) ∷ []) (length out.new.items)) }
+{
+    put_integers(out, numbers)?;
+    put_number(out, 1, 0x0c)?;
+    put_number(out, 1, usize::from(second))?;
+    Ok(())
+}
+
+/// Appends an operation, where the bytes so far are operations: integers, and an operator that names places.
+///
+/// Refused: `MissingOperation` for another operator; `OutOfRangeOffset` for a number of more than 31 bits; `Memory`.
+pub fn put_operation(out: &mut Vec<u8>, numbers: &[usize], operator: Operator) -> Result<()>
+    ensures { OnOk result ((operations : List Operation) → OperationsAt out.old.items 0 operations (length out.old.items) →
+        OperationsAt out.new.items 0 (operations ++ (operator, operands_of numbers.now) ∷ []) (length out.new.items)) }
+{
+    match (code_of(operator), second_of(operator)) {
+        (Some(code), _) => put_short(out, numbers, operator, code),
+        (None, Some(second)) => put_escaped(out, numbers, operator, second),
+        (None, None) => Err(Error::MissingOperation(operator)),
+    }
+}
+
+/// A place that an operator of a dictionary names.
+#[derive(Clone, Copy)]
+pub(crate) struct Place {
+    pub(crate) operator: Operator,
+    pub(crate) size: Option<usize>,
+    pub(crate) offset: usize,
+}
+
+/// Appends the operation of a place.
+fn put_place(out: &mut Vec<u8>, place: &Place) -> Result<()>
+    ensures { OnOk result ((operations : List Operation) → OperationsAt out.old.items 0 operations (length out.old.items) →
+        OperationsAt out.new.items 0 (operations ++ operation_of place.now ∷ []) (length out.new.items)) }
+{
+    match place.size {
+        Some(size) => put_operation(out, &[size, place.offset], place.operator),
+        None => put_operation(out, &[place.offset], place.operator),
+    }
+}
+
+/// Appends the operations of places to those that the bytes are.
+fn put_places(out: &mut Vec<u8>, places: &[Place]) -> Result<()>
+    ensures { OnOk result ((operations : List Operation) → OperationsAt out.old.items 0 operations (length out.old.items) →
+        OperationsAt out.new.items 0 (operations ++ map operation_of places.now) (length out.new.items)) }
+{
+    for place in places {
+        put_place(out, place)?;
+    }
+    Ok(())
+}
+
+/// The bytes, copied.
+fn copied(alloc: Global, bytes: &[u8]) -> Result<Vec<u8>>
+    ensures { IfOk result (λ out. out.items ≡ bytes.now) }
+{
+    let mut out = Vec::new(alloc);
+    out.extend_from_slice(bytes)?;
+    Ok(out)
+}
+
+/// The whole operations that bytes are, as they are spelled, without those of some operators.
+pub(crate) fn without(alloc: Global, text: &[u8], left_out: &[Operator]) -> Result<Vec<u8>> {
+    let mut out = Vec::new(alloc);
+    let mut cursor = Cursor::new(text);
+    let mut place = 0usize;
+    for _ in 0..=text.len() {
+        match Operation::read(alloc, &mut cursor) {
+            Ok((operator, _operands)) => {
+                let next = cursor.position() as usize;
+                if !left_out.contains(&operator) {
+                    out.extend_from_slice(text.get(place..next).unwrap_or(&[]))?;
+                }
+                place = next;
+            }
+            Err(Error::UnexpectedEof) => return Ok(out),
+            Err(error) => return Err(error),
+        }
+    }
+    Err(Error::TapeStuck)
+}
+
+/// The dictionary that bytes are, with the operations of places in the place of earlier ones of their operators.
+pub(crate) fn replaced(alloc: Global, text: &[u8], places: &[Place]) -> Result<Vec<u8>>
+    ensures { IfOk result (λ out. (dictionary : Dictionary) → IsDictionary text.now 0 dictionary → IsDictionary out.items 0 (fold put dictionary (map operation_of places.now))) }
+{
+    let end = whole_end(alloc, text)?;
+    let mut out = copied(alloc, &text[..end])?;
+    put_places(&mut out, places)?;
+    Ok(out)
+}

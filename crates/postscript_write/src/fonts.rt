@@ -1,0 +1,82 @@
+//! Fonts that are made of glyphs of other fonts.
+ghost use Rattle.std.specs.Prelude.{◌≡◌, [], true, false, Err, length, IfOk, IfErr, OnOk};
+ghost use Rattle.postscript_base.specs.Tape.Outcome.{Got};
+ghost use Rattle.postscript_view.specs.Order.{View, view as the_view};
+ghost use Rattle.postscript_view.specs.Shown.{view_shown};
+ghost use Rattle.postscript_write.specs.Refusals.{IsOther, IsRefusedBy};
+ghost use Rattle.postscript_write.specs.Sources.{AreThere, IsWritten, chosen as the_chosen, every as the_every, keeping as the_keeping};
+ghost use Rattle.postscript_write.specs.declared.error.Error.TheVariants as errors;
+
+use crate::error::{Error, Result};
+use crate::sources::{chosen, every, keeping};
+use crate::whole::font_of;
+use postscript_view::FontView;
+use std::alloc::Global;
+
+/// The only font of a font set.
+fn only_font<'l>(alloc: Global, bytes: &'l [u8]) -> Result<FontView<'l>>
+    ensures is { IfOk result (λ font. the_view bytes.now 0 ≡ Got (view_shown font) 0) }
+    ensures bytes { IfOk result (λ font. font.bytes.now ≡ bytes.now) }
+    ensures other { IfErr result (λ e. IsOther e) }
+{
+    if FontView::fonts(bytes)? != 1 {
+        return Err(Error::SeveralFonts);
+    }
+    let font = FontView::read_font(alloc, bytes, 0)?;
+    Ok(font)
+}
+
+/// The font that the bytes begin with, written anew without subroutines. Each glyph, over any subroutines, draws what it drew,
+/// with the same advance, name or CID, and codes. Names, strings and dictionaries say the same, except of places.
+///
+/// Refused: `Glyph` with the first glyph whose run is refused, and why; `Refused` where the font, its char set or its encoding is
+/// refused, or where memory is; `MissingPart` where FDSelect gives a glyph no font dictionary; `SeveralFonts` where there is
+/// not one font; `NotReadBack` where what is written is not read back as this font.
+pub fn flat_font(alloc: Global, bytes: &[u8]) -> Result<Vec<u8>>
+    ensures written { IfOk result (λ flat. IsWritten true the_every bytes.now flat.items) }
+    ensures refused { IfErr result (λ e. IsRefusedBy the_every bytes.now e) }
+{
+    let font = only_font(alloc, bytes)?;
+    let sources = every(alloc, font.char_strings.len())?;
+    font_of(alloc, &font, &sources, true)
+}
+
+/// The font that the bytes begin with, with these glyphs alone: `.notdef` and those that are named, in ascending order, without
+/// subroutines. The order in which they are named, and whether one is named twice, does not matter. Each glyph draws what it
+/// drew, with the same advance and name or CID. Names, strings and dictionaries say the same, except of places; an encoding of
+/// the font's own gives way to the standard one.
+///
+/// Refused: `NoGlyphs` where none is named; `MissingGlyph` with a number that no glyph has; `MissingName` where the char set
+/// has no identifier for a glyph; and as `flat_font` is, but only for these glyphs.
+pub fn subset(alloc: Global, bytes: &[u8], named: &[usize]) -> Result<Vec<u8>>
+    ensures written { IfOk result (λ flat. IsWritten false (the_chosen named.now) bytes.now flat.items) }
+    ensures refused { IfErr result (λ e. IsRefusedBy (the_chosen named.now) bytes.now e) }
+    ensures there { OnOk result ((font : View) → the_view bytes.now 0 ≡ Got font 0 → AreThere named.now (length font.char_strings)) }
+    ensures none { named.now ≡ [] → result ≡ Err errors.NoGlyphs }
+{
+    if named.len() == 0 {
+        return Err(Error::NoGlyphs);
+    }
+    let font = only_font(alloc, bytes)?;
+    let sources = chosen(alloc, named, font.char_strings.len())?;
+    font_of(alloc, &font, &sources, false)
+}
+
+/// As `subset`, but each glyph keeps its number: the glyphs between those that are kept are empty (`endchar`), and keep their
+/// names or CIDs. The encoding stays as it is.
+///
+/// Refused: `NoGlyphs` where none is named; `MissingGlyph` with a number that no glyph has; and as `flat_font` is, but only for
+/// these glyphs.
+pub fn subset_keeping(alloc: Global, bytes: &[u8], named: &[usize]) -> Result<Vec<u8>>
+    ensures written { IfOk result (λ flat. IsWritten true (the_keeping named.now) bytes.now flat.items) }
+    ensures refused { IfErr result (λ e. IsRefusedBy (the_keeping named.now) bytes.now e) }
+    ensures there { OnOk result ((font : View) → the_view bytes.now 0 ≡ Got font 0 → AreThere named.now (length font.char_strings)) }
+    ensures none { named.now ≡ [] → result ≡ Err errors.NoGlyphs }
+{
+    if named.len() == 0 {
+        return Err(Error::NoGlyphs);
+    }
+    let font = only_font(alloc, bytes)?;
+    let sources = keeping(alloc, named, font.char_strings.len())?;
+    font_of(alloc, &font, &sources, true)
+}

@@ -1,0 +1,117 @@
+//! The codes of glyphs, without calls.
+ghost use Rattle.std.specs.Prelude.{◌≡◌, ◌≢◌, ◌⊎◌, [], ◌∷◌, Some, length, IfOk, IfErr};
+ghost use Rattle.postscript_base.specs.declared.error.Error.TheVariants as causes;
+ghost use Rattle.postscript_type2.specs.Program.Routines.{texts};
+ghost use Rattle.postscript_write.specs.declared.error.Error.TheVariants as errors;
+ghost use Rattle.postscript_view.specs.Shown.{view_shown};
+ghost use Rattle.postscript_write.specs.Glyphs.{AreCodesOf, AreNumbersOf, HasPartFor, IsCodeFor, IsCodeOf};
+ghost use Rattle.postscript_write.specs.Refusals.{IsOther, RefusedBy, RefusedFor};
+
+use crate::error::{Error, Result};
+use postscript_base::Error as Cause;
+use postscript_type2::Program;
+use postscript_view::FontView;
+use std::alloc::Global;
+
+/// The number of the part of the glyph that a glyph is made of.
+fn number_of(font: &FontView<'_>, source: Option<usize>) -> Result<usize>
+    ensures number { IfOk result (λ number. HasPartFor font.now.bytes.now (view_shown font.now) source number) }
+    ensures other { IfErr result (λ e. IsOther e) }
+{
+    let Some(glyph) = source else {
+        return Ok(0);
+    };
+    match font.part_of(glyph) {
+        Some(number) => Ok(number),
+        None => Err(Error::MissingPart(glyph)),
+    }
+}
+
+/// The numbers of the parts of glyphs.
+pub(crate) fn numbers_of(
+    alloc: Global,
+    font: &FontView<'_>,
+    sources: &[Option<usize>],
+) -> Result<Vec<usize>>
+    ensures numbers { IfOk result (λ numbers. AreNumbersOf font.now.bytes.now (view_shown font.now) sources.now numbers.items) }
+    ensures other { IfErr result (λ e. IsOther e) }
+{
+    let mut numbers = Vec::with_capacity(alloc, sources.len())?;
+    for i in 0..sources.len() {
+        let number = number_of(font, sources[i])?;
+        numbers.push(number)?;
+    }
+    Ok(numbers)
+}
+
+/// The refusal of a glyph, want of memory aside.
+fn refusal(glyph: usize, cause: Cause) -> Error
+    ensures { (result ≡ errors.Refused causes.Memory) ⊎ ((cause ≢ causes.Memory) × (result ≡ errors.Glyph glyph cause)) }
+{
+    match cause {
+        Cause::Memory => Error::Refused(Cause::Memory),
+        cause => Error::Glyph(glyph, cause),
+    }
+}
+
+/// The code of a glyph without calls.
+fn flat_code(alloc: Global, font: &FontView<'_>, glyph: usize, number: usize) -> Result<Vec<u8>>
+    ensures code { IfOk result (λ flat. IsCodeOf (view_shown font.now) glyph number flat.items) }
+    ensures refused { IfErr result (λ e. RefusedFor (view_shown font.now) (Some glyph) number e) }
+{
+    let (Some(code), Some(part)) = (font.char_strings.get(glyph), font.parts.get(number)) else {
+        return Err(Error::MissingGlyph(glyph));
+    };
+    match Program::inlined_over(alloc, code, font.global_subroutines, part.subroutines) {
+        Ok(flat) => Ok(flat),
+        Err(cause) => Err(refusal(glyph, cause)),
+    }
+}
+
+/// The code of an empty glyph.
+fn empty_code(alloc: Global) -> Result<Vec<u8>>
+    ensures code { IfOk result (λ flat. flat.items ≡ 0x0e ∷ []) }
+    ensures other { IfErr result (λ e. IsOther e) }
+{
+    let mut flat = Vec::new(alloc);
+    flat.push(0x0e)?;
+    Ok(flat)
+}
+
+/// The code of what a glyph is made of.
+fn code_of(
+    alloc: Global,
+    font: &FontView<'_>,
+    source: Option<usize>,
+    number: usize,
+) -> Result<Vec<u8>>
+    ensures code { IfOk result (λ flat. IsCodeFor (view_shown font.now) source number flat.items) }
+    ensures refused { IfErr result (λ e. RefusedFor (view_shown font.now) source number e) }
+{
+    match source {
+        Some(glyph) => flat_code(alloc, font, glyph, number),
+        None => empty_code(alloc),
+    }
+}
+
+/// The codes of what glyphs are made of.
+pub(crate) fn codes_of(
+    alloc: Global,
+    font: &FontView<'_>,
+    sources: &[Option<usize>],
+    numbers: &[usize],
+) -> Result<Vec<Vec<u8>>>
+    requires { length numbers.now ≡ length sources.now }
+    ensures codes { IfOk result (λ flats. AreCodesOf (view_shown font.now) sources.now numbers.now (texts flats.items)) }
+    ensures refused { IfErr result (λ e. RefusedBy (view_shown font.now) sources.now numbers.now e) }
+{
+    let mut flats = Vec::with_capacity(alloc, sources.len())?;
+    for i in 0..sources.len() {
+        let flat = match code_of(alloc, font, sources[i], numbers[i]) {
+            Ok(flat) => flat,
+            Err(e) => return Err(e),
+        };
+        flats.push(flat)?;
+    }
+    Ok(flats)
+}

@@ -1,0 +1,351 @@
+//! The parts of a font, and where they stand (Technical Note 5176, "CFF Data Layout").
+use crate::dictionaries::{Place, replaced, without};
+use crate::indices::put_index;
+use crate::spans::{bytes_at, char_set_at, encoding_at};
+use postscript_base::compact1::{Operations, Operator};
+use postscript_base::{Error, Result};
+use postscript_items::Items;
+use postscript_items::number::number_within;
+use postscript_view::FontView;
+use std::alloc::Global;
+
+/// The items, copied.
+fn copied(alloc: Global, items: &Items<'_>) -> Result<Vec<Vec<u8>>> {
+    let mut all = Vec::new(alloc);
+    for i in 0..items.len() {
+        let mut copy = Vec::new(alloc);
+        copy.extend_from_slice(items.item(i))?;
+        all.push(copy)?;
+    }
+    Ok(all)
+}
+
+/// The first operand of an operator, as a place.
+fn place_of(dictionary: &Operations, operator: Operator) -> Result<usize> {
+    let operand = dictionary
+        .get_single(operator)
+        .ok_or(Error::MissingOperation(operator))?;
+    let number = operand.to_i32().ok_or(Error::MalformedOperation(operator))?;
+    usize::try_from(number).map_err(|_| Error::OutOfRangeOffset)
+}
+
+/// The bytes of the first dictionary.
+fn first_dictionary(bytes: &[u8]) -> Result<&[u8]> {
+    let start = number_within(bytes, 2, 1)?;
+    let (_names, next) = Items::open(bytes, start)?;
+    let (dictionaries, _next) = Items::open(bytes, next)?;
+    dictionaries.get(0).ok_or(Error::UnexpectedEof)
+}
+
+/// The char set of a font, where it is its own.
+pub(crate) fn own_char_set<'l>(
+    bytes: &'l [u8],
+    dictionary: &Operations,
+    glyphs: usize,
+) -> Result<Option<&'l [u8]>> {
+    let place = place_of(dictionary, Operator::CharSet)?;
+    if place < 3 {
+        return Ok(None);
+    }
+    Ok(Some(char_set_at(bytes, place, glyphs)?))
+}
+
+/// The encoding of a font, where it is its own.
+pub(crate) fn own_encoding<'l>(
+    bytes: &'l [u8],
+    dictionary: &Operations,
+) -> Result<Option<&'l [u8]>> {
+    let place = place_of(dictionary, Operator::Encoding)?;
+    if place < 2 {
+        return Ok(None);
+    }
+    Ok(Some(encoding_at(bytes, place)?))
+}
+
+/// A private dictionary as it is written: it names no subroutines.
+#[derive(Drop)]
+struct Private {
+    text: Vec<u8>,
+}
+
+/// The private dictionary that a dictionary names, where it names one.
+fn own_private(alloc: Global, bytes: &[u8], dictionary: &Operations) -> Result<Option<Private>> {
+    let Some((size, place)) = dictionary.get_double(Operator::Private) else {
+        return Ok(None);
+    };
+    let (Some(size), Some(place)) = (size.to_i32(), place.to_i32()) else {
+        return Err(Error::MalformedOperation(Operator::Private));
+    };
+    if size < 0 || place < 0 {
+        return Err(Error::OutOfRangeOffset);
+    }
+    let source = bytes_at(bytes, place as usize, size as usize)?;
+    let text = without(alloc, source, &[Operator::Subrs])?;
+    Ok(Some(Private { text }))
+}
+
+/// The private dictionaries of the parts of a font.
+fn own_privates(alloc: Global, font: &FontView<'_>) -> Result<Vec<Option<Private>>> {
+    let mut privates = Vec::new(alloc);
+    for part in &font.parts {
+        let dictionary = match &part.font_dictionary {
+            Some(own) => own,
+            None => &font.dictionary,
+        };
+        let private = own_private(alloc, font.bytes, dictionary)?;
+        privates.push(private)?;
+    }
+    Ok(privates)
+}
+
+/// What is written of the glyphs of a font, besides their codes.
+#[derive(Drop)]
+pub(crate) struct Glyphs {
+    /// The char set, if it is not a predefined one.
+    pub(crate) char_set: Option<Vec<u8>>,
+    /// The encoding, if it is not a predefined one.
+    pub(crate) encoding: Option<Vec<u8>>,
+    /// Whether the standard encoding is named in the place of the font's own.
+    pub(crate) standard: bool,
+    /// FDSelect, in a CID-keyed font.
+    pub(crate) select: Option<Vec<u8>>,
+}
+
+/// The parts that are written behind the tables, in this order, and behind them the font dictionaries of a CID-keyed font.
+#[derive(Drop)]
+struct Parts<'g> {
+    glyphs: &'g Glyphs,
+    char_strings: Vec<u8>,
+    privates: Vec<Option<Private>>,
+}
+
+/// How many bytes there are, if any.
+fn len_of(bytes: &Option<Vec<u8>>) -> usize {
+    match bytes {
+        Some(bytes) => bytes.len(),
+        None => 0,
+    }
+}
+
+/// How many bytes the private dictionaries have.
+fn privates_len(privates: &[Option<Private>]) -> usize {
+    let mut len = 0usize;
+    for private in privates {
+        if let Some(private) = private {
+            len = len.saturating_add(private.text.len());
+        }
+    }
+    len
+}
+
+/// Adds a place to places, where something is written there, and answers the place behind it.
+fn placed(
+    places: &mut Vec<Place>,
+    offset: usize,
+    operator: Operator,
+    text: &Option<Vec<u8>>,
+) -> Result<usize> {
+    if text.is_some() {
+        places.push(Place {
+            operator,
+            size: None,
+            offset,
+        })?;
+    }
+    Ok(offset.saturating_add(len_of(text)))
+}
+
+/// The place of the only private dictionary, if there is one.
+fn only_private(privates: &[Option<Private>], offset: usize) -> Option<Place> {
+    match privates {
+        [Some(private)] => Some(Place {
+            operator: Operator::Private,
+            size: Some(private.text.len()),
+            offset,
+        }),
+        _ => None,
+    }
+}
+
+/// The places of the parts from a place on, which the dictionary of the font names.
+fn places_from(alloc: Global, start: usize, parts: &Parts<'_>) -> Result<Vec<Place>> {
+    let mut places = Vec::new(alloc);
+    let encoding = placed(
+        &mut places,
+        start,
+        Operator::CharSet,
+        &parts.glyphs.char_set,
+    )?;
+    let select = placed(
+        &mut places,
+        encoding,
+        Operator::Encoding,
+        &parts.glyphs.encoding,
+    )?;
+    if parts.glyphs.standard {
+        places.push(Place {
+            operator: Operator::Encoding,
+            size: None,
+            offset: 0,
+        })?;
+    }
+    let offset = placed(
+        &mut places,
+        select,
+        Operator::FDSelect,
+        &parts.glyphs.select,
+    )?;
+    places.push(Place {
+        operator: Operator::CharStrings,
+        size: None,
+        offset,
+    })?;
+    let private = offset.saturating_add(parts.char_strings.len());
+    if parts.glyphs.select.is_some() {
+        places.push(Place {
+            operator: Operator::FDArray,
+            size: None,
+            offset: private.saturating_add(privates_len(&parts.privates)),
+        })?;
+    } else if let Some(place) = only_private(&parts.privates, private) {
+        places.push(place)?;
+    }
+    Ok(places)
+}
+
+/// A dictionary with places in the place of those that it names by the same operators.
+fn with_places(alloc: Global, text: &[u8], places: &[Place]) -> Result<Vec<u8>> {
+    let mut operators = Vec::new(alloc);
+    for place in places {
+        operators.push(place.operator)?;
+    }
+    let rest = without(alloc, text, operators.as_slice())?;
+    replaced(alloc, rest.as_slice(), places)
+}
+
+/// A font dictionary with its private dictionary at a place.
+fn font_dictionary(
+    alloc: Global,
+    text: &[u8],
+    private: &Option<Private>,
+    offset: usize,
+) -> Result<Vec<u8>> {
+    match private {
+        Some(private) => with_places(
+            alloc,
+            text,
+            &[Place {
+                operator: Operator::Private,
+                size: Some(private.text.len()),
+                offset,
+            }],
+        ),
+        None => with_places(alloc, text, &[]),
+    }
+}
+
+/// The font dictionaries of a CID-keyed font, whose private dictionaries stand from a place on.
+fn font_dictionaries(
+    alloc: Global,
+    font: &FontView<'_>,
+    privates: &[Option<Private>],
+    start: usize,
+) -> Result<Vec<Vec<u8>>> {
+    let place = place_of(&font.dictionary, Operator::FDArray)?;
+    let (sources, _next) = Items::open(font.bytes, place)?;
+    let mut offset = start;
+    let mut all = Vec::new(alloc);
+    for i in 0..sources.len() {
+        let private = privates.get(i).ok_or(Error::UnexpectedEof)?;
+        all.push(font_dictionary(alloc, sources.item(i), private, offset)?)?;
+        if let Some(private) = private {
+            offset = offset.saturating_add(private.text.len());
+        }
+    }
+    Ok(all)
+}
+
+/// Appends the tables: header, names, the dictionary, strings, and an INDEX without subroutines.
+fn put_tables(
+    alloc: Global,
+    out: &mut Vec<u8>,
+    font: &FontView<'_>,
+    places: &[Place],
+) -> Result<()> {
+    let source = first_dictionary(font.bytes)?;
+    let names = copied(alloc, &font.names)?;
+    let strings = copied(alloc, &font.strings)?;
+    out.extend_from_slice(&[1, 0, 4, 4])?;
+    put_index(out, &names)?;
+    let dictionary = with_places(alloc, source, places)?;
+    let mut dictionaries = Vec::new(alloc);
+    dictionaries.push(dictionary)?;
+    put_index(out, &dictionaries)?;
+    put_index(out, &strings)?;
+    put_index(out, &[])
+}
+
+/// Appends bytes, if there are any.
+fn put_if(out: &mut Vec<u8>, bytes: &Option<Vec<u8>>) -> Result<()> {
+    if let Some(bytes) = bytes {
+        out.extend_from_slice(bytes)?;
+    }
+    Ok(())
+}
+
+/// Appends private dictionaries.
+fn put_privates(out: &mut Vec<u8>, privates: &[Option<Private>]) -> Result<()> {
+    for private in privates {
+        if let Some(private) = private {
+            out.extend_from_slice(&private.text)?;
+        }
+    }
+    Ok(())
+}
+
+/// Appends the parts behind the tables.
+fn put_parts(
+    alloc: Global,
+    out: &mut Vec<u8>,
+    font: &FontView<'_>,
+    parts: &Parts<'_>,
+) -> Result<()> {
+    put_if(out, &parts.glyphs.char_set)?;
+    put_if(out, &parts.glyphs.encoding)?;
+    put_if(out, &parts.glyphs.select)?;
+    out.extend_from_slice(&parts.char_strings)?;
+    let start = out.len();
+    put_privates(out, &parts.privates)?;
+    if parts.glyphs.select.is_some() {
+        let dictionaries = font_dictionaries(alloc, font, &parts.privates, start)?;
+        put_index(out, &dictionaries)?;
+    }
+    Ok(())
+}
+
+/// A font with these codes in the place of its char strings, and without subroutines.
+pub(crate) fn written(
+    alloc: Global,
+    font: &FontView<'_>,
+    glyphs: &Glyphs,
+    codes: &[Vec<u8>],
+) -> Result<Vec<u8>> {
+    let mut char_strings = Vec::new(alloc);
+    put_index(&mut char_strings, codes)?;
+    let parts = Parts {
+        glyphs,
+        char_strings,
+        privates: own_privates(alloc, font)?,
+    };
+    let mut draft = Vec::new(alloc);
+    put_tables(alloc, &mut draft, font, &places_from(alloc, 0, &parts)?)?;
+    let mut out = Vec::new(alloc);
+    put_tables(
+        alloc,
+        &mut out,
+        font,
+        &places_from(alloc, draft.len(), &parts)?,
+    )?;
+    put_parts(alloc, &mut out, font, &parts)?;
+    Ok(out)
+}

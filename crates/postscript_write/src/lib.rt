@@ -1,0 +1,23 @@
+//! Fonts of the Compact Font Format, written (Adobe Technical Note 5176).
+#![tactic(auto)]
+
+mod alike;
+mod dictionaries;
+mod error;
+mod fonts;
+mod glyphs;
+mod indices;
+mod kept;
+pub mod laws;
+mod layout;
+mod number;
+mod numbering;
+mod same;
+mod sources;
+mod spans;
+mod whole;
+
+pub use error::{Error, Result};
+pub use fonts::{flat_font, subset, subset_keeping};
+pub use indices::{index, put_index};
+pub use kept::{KEPT, KEPT_FONT, KEPT_PRIVATE};

@@ -1,0 +1,86 @@
+//! What was written, compared with what was to be written.
+ghost use Rattle.std.specs.Prelude.{◌≡◌, [], IsTrue, All};
+ghost use Rattle.postscript_base.specs.Compact1.Defaults.{look};
+ghost use Rattle.postscript_items.specs.Lent.{items_of};
+ghost use Rattle.postscript_type2.specs.Program.Routines.{texts};
+ghost use Rattle.postscript_write.specs.Parts.{SameAt};
+
+use postscript_base::compact1::laws::are_equal;
+use postscript_base::compact1::{Operand, Operations, Operator};
+use postscript_items::Items;
+
+/// Whether the items are the same.
+pub(crate) fn same_items(old: &Items<'_>, new: &Items<'_>) -> bool
+    ensures { IsTrue result → items_of new.now ≡ items_of old.now }
+{
+    if old.len() != new.len() {
+        return false;
+    }
+    for i in 0..old.len() {
+        if old.item(i) != new.item(i) {
+            return false;
+        }
+    }
+    true
+}
+
+/// Whether there are no items.
+#[tactic(auto, using(crate::proofs::Agree::nothing))]
+pub(crate) fn are_none(items: &Items<'_>) -> bool
+    ensures { IsTrue result → items_of items.now ≡ [] }
+{
+    items.len() == 0
+}
+
+/// Whether the items are these codes.
+pub(crate) fn are_codes(codes: &[Vec<u8>], new: &Items<'_>) -> bool
+    ensures { IsTrue result → items_of new.now ≡ texts codes.now }
+{
+    if codes.len() != new.len() {
+        return false;
+    }
+    for i in 0..codes.len() {
+        if codes[i].as_slice() != new.item(i) {
+            return false;
+        }
+    }
+    true
+}
+
+/// Whether the operands are the same.
+fn same_operands(old: &[Operand], new: &[Operand]) -> bool
+    ensures { IsTrue result → new.now ≡ old.now }
+{
+    if old.len() != new.len() {
+        return false;
+    }
+    for i in 0..old.len() {
+        if !are_equal(&old[i], &new[i]) {
+            return false;
+        }
+    }
+    true
+}
+
+/// Whether an operator has the same operands.
+pub(crate) fn same_look(operator: Operator, old: &Operations, new: &Operations) -> bool
+    ensures { IsTrue result → look new.now operator ≡ look old.now operator }
+{
+    match (old.get(operator), new.get(operator)) {
+        (None, None) => true,
+        (Some(a), Some(b)) => same_operands(a.as_slice(), b.as_slice()),
+        _ => false,
+    }
+}
+
+/// Whether these operators have the same operands.
+pub(crate) fn same_at(operators: &[Operator], old: &Operations, new: &Operations) -> bool
+    ensures { IsTrue result → SameAt operators.now old.now new.now }
+{
+    for operator in operators {
+        if !same_look(*operator, old, new) {
+            return false;
+        }
+    }
+    true
+}

@@ -1,0 +1,100 @@
+//! The glyphs that a font is made of.
+ghost use Rattle.std.specs.Prelude.{◌≡◌, ◌<◌, ◌==◌, ◌||◌, ◌++◌, ℕ, [], ◌∷◌, Some, None, false, length, slice_index_or, if◌then◌else◌, IfOk, IfErr, OnOk};
+ghost use Rattle.postscript_write.specs.Refusals.{IsOther};
+ghost use Rattle.postscript_write.specs.Sources.{AreMarks, AreThere, chosen as the_chosen, every as the_every, keeping as the_keeping};
+
+use crate::error::{Error, Result};
+use std::alloc::Global;
+
+/// Every one of so many glyphs.
+pub(crate) fn every(alloc: Global, glyphs: usize) -> Result<Vec<Option<usize>>>
+    ensures sources { IfOk result (λ sources. sources.items ≡ the_every glyphs) }
+    ensures other { IfErr result (λ e. IsOther e) }
+{
+    let mut sources = Vec::with_capacity(alloc, glyphs)?;
+    for glyph in 0..glyphs {
+        sources.push(Some(glyph))?;
+    }
+    Ok(sources)
+}
+
+/// So many marks, none of which is set.
+fn unmarked(alloc: Global, glyphs: usize) -> Result<Vec<bool>>
+    ensures many { IfOk result (λ marks. length marks.items ≡ glyphs) }
+    ensures none { IfOk result (λ marks. (glyph : ℕ) → glyph < glyphs → slice_index_or marks.items glyph false ≡ false) }
+    ensures other { IfErr result (λ e. IsOther e) }
+{
+    Ok(vec![in alloc; false; glyphs]?)
+}
+
+/// Marks those of so many glyphs that are named.
+fn marked(alloc: Global, named: &[usize], glyphs: usize) -> Result<Vec<bool>>
+    ensures marks { IfOk result (λ marks. AreMarks named.now glyphs marks.items) }
+    ensures other { IfErr result (λ e. IsOther e) }
+{
+    let mut marks = unmarked(alloc, glyphs)?;
+    for i in 0..named.len() {
+        let glyph = named[i];
+        if glyph >= glyphs {
+            return Err(Error::MissingGlyph(glyph));
+        }
+        marks[glyph] = true;
+    }
+    Ok(marks)
+}
+
+/// Whether a glyph is kept.
+fn is_kept(marks: &[bool], glyph: usize) -> bool
+    requires { glyph < length marks.now }
+    ensures { result ≡ (slice_index_or marks.now glyph false || (glyph == 0)) }
+{
+    marks[glyph] || glyph == 0
+}
+
+/// Appends a glyph, where it is kept.
+fn push_if(sources: &mut Vec<Option<usize>>, kept: bool, glyph: usize) -> Result<()>
+    ensures sources { OnOk result (sources.new.items ≡ sources.old.items ++ (if kept then Some glyph ∷ [] else [])) }
+    ensures other { IfErr result (λ e. IsOther e) }
+{
+    if kept {
+        sources.push(Some(glyph))?;
+    }
+    Ok(())
+}
+
+/// The kept ones of so many glyphs, in ascending order.
+pub(crate) fn chosen(alloc: Global, named: &[usize], glyphs: usize) -> Result<Vec<Option<usize>>>
+    ensures sources { IfOk result (λ sources. sources.items ≡ the_chosen named.now glyphs) }
+    ensures there { OnOk result (AreThere named.now glyphs) }
+    ensures other { IfErr result (λ e. IsOther e) }
+{
+    let marks = marked(alloc, named, glyphs)?;
+    let mut sources = Vec::new(alloc);
+    for glyph in 0..glyphs {
+        let kept = is_kept(&marks, glyph);
+        push_if(&mut sources, kept, glyph)?;
+    }
+    Ok(sources)
+}
+
+/// A glyph, where it is kept.
+fn kept_or_none(kept: bool, glyph: usize) -> Option<usize>
+    ensures { result ≡ (if kept then Some glyph else None) }
+{
+    if kept { Some(glyph) } else { None }
+}
+
+/// The kept ones of so many glyphs, each in its place, and empty ones between them.
+pub(crate) fn keeping(alloc: Global, named: &[usize], glyphs: usize) -> Result<Vec<Option<usize>>>
+    ensures sources { IfOk result (λ sources. sources.items ≡ the_keeping named.now glyphs) }
+    ensures there { OnOk result (AreThere named.now glyphs) }
+    ensures other { IfErr result (λ e. IsOther e) }
+{
+    let marks = marked(alloc, named, glyphs)?;
+    let mut sources = Vec::with_capacity(alloc, glyphs)?;
+    for glyph in 0..glyphs {
+        let kept = is_kept(&marks, glyph);
+        sources.push(kept_or_none(kept, glyph))?;
+    }
+    Ok(sources)
+}

@@ -1,0 +1,154 @@
+//! A font, written and read back.
+ghost use Rattle.std.specs.Prelude.{◌≡◌, IfOk, IfErr, OnOk, IsTrue, length};
+ghost use Rattle.postscript_base.specs.Tape.Outcome.{Got};
+ghost use Rattle.postscript_type2.specs.Program.Routines.{texts};
+ghost use Rattle.postscript_view.specs.CharSets.{IsCharSetOf};
+ghost use Rattle.postscript_view.specs.Encodings.{IsEncodingOf};
+ghost use Rattle.postscript_view.specs.Order.{View, view as the_view};
+ghost use Rattle.postscript_items.specs.Lent.{items_of};
+ghost use Rattle.postscript_view.specs.Shown.{view_shown};
+ghost use Rattle.postscript_write.specs.Fonts.{IsFontOf, Repeats};
+ghost use Rattle.postscript_write.specs.Glyphs.{AreCodesOf, AreNumbersOf};
+ghost use Rattle.postscript_write.specs.Refusals.{FontRefusedBy, IsOther};
+ghost use Rattle.postscript_write.specs.Naming.{KeepsCodes, SameEncoding, SameNames};
+
+use crate::alike::{same_encoding, same_names, same_numbers, same_parts};
+use crate::error::{Error, Result};
+use crate::glyphs::{codes_of, numbers_of};
+use crate::kept::KEPT;
+use crate::layout::written;
+use crate::numbering::numbered;
+use crate::same::{are_codes, are_none, same_at, same_items};
+use postscript_base::Error as Cause;
+use postscript_view::{CharSetView, EncodingView, FontView};
+use std::alloc::Global;
+
+/// Whether a font has what another one has, besides its glyphs and what names places.
+fn says_same(old: &FontView<'_>, new: &FontView<'_>) -> bool
+    ensures { IsTrue result → Repeats (view_shown old.now) (view_shown new.now) }
+{
+    if !same_items(&old.names, &new.names) || !same_items(&old.strings, &new.strings) {
+        return false;
+    }
+    if !are_none(&new.global_subroutines) || !same_at(&KEPT, &old.dictionary, &new.dictionary) {
+        return false;
+    }
+    same_parts(&old.parts, &new.parts)
+}
+
+/// The refusal where a font that was written is refused: `NotReadBack`, want of memory aside.
+fn not_back(fault: Cause) -> Error
+    ensures { IsOther result }
+{
+    match fault {
+        Cause::Memory => Error::Refused(Cause::Memory),
+        _ => Error::NotReadBack,
+    }
+}
+
+/// The char set of a font that is read back, where it gives the same names.
+fn back_names<'l>(
+    old: &CharSetView<'_>,
+    sources: &[Option<usize>],
+    new: &FontView<'l>,
+) -> Result<CharSetView<'l>>
+    ensures is { IfOk result (λ set. IsCharSetOf set new.now.bytes.now new.now.dictionary (length (items_of new.now.char_strings))) }
+    ensures same { IfOk result (λ set. SameNames old.now sources.now set) }
+    ensures other { IfErr result (λ e. IsOther e) }
+{
+    match new.char_set() {
+        Ok(set) => if same_names(old, sources, &set) {
+            Ok(set)
+        } else {
+            Err(Error::NotReadBack)
+        },
+        Err(fault) => Err(not_back(fault)),
+    }
+}
+
+/// The encoding of a font that is read back, where it says the same.
+fn back_codes<'l>(old: &EncodingView<'_>, new: &FontView<'l>) -> Result<EncodingView<'l>>
+    ensures is { IfOk result (λ encoding. IsEncodingOf encoding new.now.bytes.now new.now.dictionary) }
+    ensures same { IfOk result (λ encoding. SameEncoding old.now encoding) }
+    ensures other { IfErr result (λ e. IsOther e) }
+{
+    match new.encoding() {
+        Ok(encoding) => if same_encoding(old, &encoding) {
+            Ok(encoding)
+        } else {
+            Err(Error::NotReadBack)
+        },
+        Err(fault) => Err(not_back(fault)),
+    }
+}
+
+/// Compares the encodings, where glyphs keep their numbers.
+fn keeps_codes(
+    font: &FontView<'_>,
+    sources: &[Option<usize>],
+    old: &CharSetView<'_>,
+    again: &FontView<'_>,
+    new: &CharSetView<'_>,
+    kept: bool,
+) -> Result<()>
+    requires { SameNames old.now sources.now new.now }
+    ensures codes { OnOk result (IsTrue kept → KeepsCodes sources.now font.now.bytes.now (view_shown font.now) again.now.bytes.now (view_shown again.now) old.now new.now) }
+    ensures other { IfErr result (λ e. IsOther e) }
+{
+    if kept {
+        let encoding = font.encoding()?;
+        back_codes(&encoding, again)?;
+    }
+    Ok(())
+}
+
+/// Reads back what was written. Refused where it is not the font that was to be written.
+fn read_back(
+    alloc: Global,
+    font: &FontView<'_>,
+    set: &CharSetView<'_>,
+    sources: &[Option<usize>],
+    numbers: &[usize],
+    codes: &[Vec<u8>],
+    kept: bool,
+    flat: &[u8],
+) -> Result<()>
+    requires set { IsCharSetOf set.now font.now.bytes.now font.now.dictionary (length (items_of font.now.char_strings)) }
+    requires numbers { AreNumbersOf font.now.bytes.now (view_shown font.now) sources.now numbers.now }
+    requires codes { AreCodesOf (view_shown font.now) sources.now numbers.now (texts codes.now) }
+    ensures font { OnOk result ((new : View) × (the_view flat.now 0 ≡ Got new 0) × IsFontOf kept sources.now font.now.bytes.now (view_shown font.now) flat.now new) }
+    ensures other { IfErr result (λ e. IsOther e) }
+{
+    let again = match FontView::read_font(alloc, flat, 0) {
+        Ok(again) => again,
+        Err(fault) => return Err(not_back(fault)),
+    };
+    if !says_same(font, &again) || !are_codes(codes, &again.char_strings) {
+        return Err(Error::NotReadBack);
+    }
+    if !same_numbers(sources, numbers, &again) {
+        return Err(Error::NotReadBack);
+    }
+    let new = back_names(set, sources, &again)?;
+    keeps_codes(font, sources, set, &again, &new, kept)?;
+    Ok(())
+}
+
+/// The font that is made of glyphs of another one. Where glyphs keep their numbers, char set and encoding stay as they are.
+pub(crate) fn font_of(
+    alloc: Global,
+    font: &FontView<'_>,
+    sources: &[Option<usize>],
+    kept: bool,
+) -> Result<Vec<u8>>
+    ensures font { IfOk result (λ flat. (new : View) × (the_view flat.items 0 ≡ Got new 0) × IsFontOf kept sources.now font.now.bytes.now (view_shown font.now) flat.items new) }
+    ensures refused { IfErr result (λ e. FontRefusedBy font.now.bytes.now (view_shown font.now) sources.now e) }
+{
+    let set = font.char_set()?;
+    let numbers = numbers_of(alloc, font, sources)?;
+    let codes = codes_of(alloc, font, sources, &numbers)?;
+    let glyphs = numbered(alloc, font, &set, sources, &numbers, kept)?;
+    let flat = written(alloc, font, &glyphs, &codes)?;
+    read_back(alloc, font, &set, sources, &numbers, &codes, kept, &flat)?;
+    Ok(flat)
+}

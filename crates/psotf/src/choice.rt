@@ -1,0 +1,138 @@
+//! Which glyphs of a face are kept, and which of its characters.
+use crate::characters::{by_glyph, of_glyph};
+use crate::face::Face;
+use crate::failure::Failure;
+use crate::map::Pair;
+use clap::ArgMatches;
+use std::alloc::Global;
+
+/// Glyphs, and characters with their glyphs.
+#[derive(Drop)]
+pub struct Choice {
+    pub glyphs: Vec<usize>,
+    pub pairs: Vec<Pair>,
+}
+
+impl Choice {
+    /// Adds a character. One without a glyph is refused.
+    fn put_char(&mut self, face: &Face<'_>, char: u32) -> Result<(), Failure> {
+        let glyph = match &face.map {
+            Some(map) => map.glyph_of(char),
+            None => 0,
+        };
+        if glyph == 0 {
+            return Err(Failure::NoChar(char));
+        }
+        self.glyphs.push(usize::from(glyph))?;
+        self.pairs.push(Pair {
+            char,
+            glyph: u32::from(glyph),
+        })?;
+        Ok(())
+    }
+
+    /// Adds the characters of a text.
+    fn put_text(&mut self, face: &Face<'_>, text: &str) -> Result<(), Failure> {
+        for char in text.chars() {
+            self.put_char(face, u32::from(char))?;
+        }
+        Ok(())
+    }
+
+    /// Adds the characters of a range that have a glyph.
+    fn put_range(&mut self, face: &Face<'_>, first: u32, last: u32) -> Result<(), Failure> {
+        let Some(map) = &face.map else {
+            return Ok(());
+        };
+        for char in first..last.saturating_add(1).min(0x110000) {
+            if map.glyph_of(char) != 0 {
+                self.put_char(face, char)?;
+            }
+        }
+        Ok(())
+    }
+
+    /// Adds the characters of a list: numbers in hex, with `U+` or without, or ranges of two of these.
+    fn put_unicodes(&mut self, face: &Face<'_>, list: &str) -> Result<(), Failure> {
+        for word in list.split(',') {
+            match word.split_once('-') {
+                Some((first, last)) => self.put_range(face, char_of(first)?, char_of(last)?)?,
+                None => self.put_char(face, char_of(word)?)?,
+            }
+        }
+        Ok(())
+    }
+
+    /// Adds glyphs of these numbers.
+    fn put_numbers(&mut self, first: u16, last: u16) -> Result<(), Failure> {
+        for gid in u32::from(first)..u32::from(last).saturating_add(1) {
+            self.glyphs.push(gid as usize)?;
+        }
+        Ok(())
+    }
+
+    /// Adds the glyphs of a list: numbers, or ranges of two of these.
+    fn put_gids(&mut self, list: &str) -> Result<(), Failure> {
+        for word in list.split(',') {
+            match word.split_once('-') {
+                Some((first, last)) => self.put_numbers(gid_of(first)?, gid_of(last)?)?,
+                None => self.put_numbers(gid_of(word)?, gid_of(word)?)?,
+            }
+        }
+        Ok(())
+    }
+
+    /// Adds the characters that the glyphs have.
+    fn put_chars(&mut self, alloc: Global, face: &Face<'_>) -> Result<(), Failure> {
+        let all = by_glyph(alloc, &face.map)?;
+        for glyph in &self.glyphs {
+            let gid = u16::try_from(*glyph).unwrap_or(u16::MAX);
+            for mapped in of_glyph(all.as_slice(), gid) {
+                self.pairs.push(Pair {
+                    char: mapped.char,
+                    glyph: u32::from(gid),
+                })?;
+            }
+        }
+        Ok(())
+    }
+
+    /// What words name, with `.notdef`: glyphs and characters that rise.
+    pub fn read(alloc: Global, face: &Face<'_>, words: &ArgMatches<'_>) -> Result<Choice, Failure> {
+        let mut choice = Choice {
+            glyphs: Vec::new(alloc),
+            pairs: Vec::new(alloc),
+        };
+        if let Some(text) = words.get_str("text") {
+            choice.put_text(face, text)?;
+        } else if let Some(list) = words.get_str("unicodes") {
+            choice.put_unicodes(face, list)?;
+        } else {
+            choice.put_gids(words.get_str("gids").unwrap_or(""))?;
+            choice.put_chars(alloc, face)?;
+        }
+        choice.glyphs.push(0)?;
+        choice.glyphs.sort()?;
+        choice.glyphs.dedup();
+        choice.pairs.sort_by_key(|pair: &Pair| pair.char)?;
+        choice.pairs.dedup_by_key(|pair: &mut Pair| pair.char);
+        Ok(choice)
+    }
+}
+
+/// A character by its number in hex.
+fn char_of(word: &str) -> Result<u32, Failure> {
+    let digits = word.strip_prefix("U+").unwrap_or(word);
+    match u32::from_str_radix(digits, 16) {
+        Ok(char) => Ok(char),
+        Err(_) => Err(Failure::Usage("--unicodes: a list of numbers in hex, as 41,U+42,61-7a")),
+    }
+}
+
+/// A glyph by its number.
+fn gid_of(word: &str) -> Result<u16, Failure> {
+    match word.parse::<u16>() {
+        Ok(gid) => Ok(gid),
+        Err(_) => Err(Failure::Usage("--gids: a list of numbers, as 1,7-12")),
+    }
+}

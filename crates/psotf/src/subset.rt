@@ -1,0 +1,180 @@
+//! Files of some glyphs of a face.
+use crate::choice::Choice;
+use crate::face::{Face, needed};
+use crate::failure::Failure;
+use crate::file::{Table, file_of, put_halves, put_words};
+use crate::map::{Pair, table_of};
+use crate::saving;
+use clap::ArgMatches;
+use postscript_items::number::number_within;
+use postscript_write::{subset, subset_keeping};
+use std::alloc::{AllocError, Global};
+use std::io::Write;
+
+/// The new number of a glyph: how many of those that are kept stand before it.
+fn number_of(glyphs: &[usize], glyph: u32) -> u32 {
+    let before = glyphs.partition_point(|kept| *kept < glyph as usize);
+    u32::try_from(before).unwrap_or(0)
+}
+
+/// The characters, with the new numbers of their glyphs.
+fn numbered(alloc: Global, choice: &Choice) -> Result<Vec<Pair>, AllocError> {
+    let mut pairs = Vec::new(alloc);
+    for pair in &choice.pairs {
+        pairs.push(Pair {
+            char: pair.char,
+            glyph: number_of(&choice.glyphs, pair.glyph),
+        })?;
+    }
+    Ok(pairs)
+}
+
+/// The left side bearing of a glyph, of a table `hmtx` with so many advances.
+fn bearing(hmtx: &[u8], advances: usize, glyph: usize) -> u32 {
+    let place = if glyph < advances {
+        glyph.saturating_mul(4).saturating_add(2)
+    } else {
+        glyph.saturating_add(advances).saturating_mul(2)
+    };
+    u32::try_from(number_within(hmtx, place, 2).unwrap_or(0)).unwrap_or(0)
+}
+
+/// The table `hmtx` of some glyphs, with an advance for each.
+fn metrics(alloc: Global, face: &Face<'_>, glyphs: &[usize]) -> Result<Vec<u8>, Failure> {
+    let hhea = needed(&face.file, *b"hhea", "hhea")?;
+    let hmtx = needed(&face.file, *b"hmtx", "hmtx")?;
+    let advances = number_within(hhea, 34, 2).unwrap_or(0);
+    let mut table = Vec::new(alloc);
+    for glyph in glyphs {
+        let gid = u16::try_from(*glyph).unwrap_or(u16::MAX);
+        let advance = u32::from(face.advances.of(gid));
+        put_halves(&mut table, &[advance, bearing(hmtx, advances, *glyph)])?;
+    }
+    Ok(table)
+}
+
+/// A table with another number of two bytes at a place.
+fn patched(
+    alloc: Global,
+    table: &[u8],
+    place: usize,
+    number: usize,
+) -> Result<Vec<u8>, AllocError> {
+    let mut patched = Vec::new(alloc);
+    patched.extend_from_slice(table.get(..place).unwrap_or(&[]))?;
+    put_halves(&mut patched, &[u32::try_from(number).unwrap_or(0)])?;
+    let behind = place.saturating_add(2);
+    patched.extend_from_slice(table.get(behind..).unwrap_or(&[]))?;
+    Ok(patched)
+}
+
+/// The table `post` of version 3, without names of glyphs.
+fn nameless(alloc: Global, post: &[u8]) -> Result<Vec<u8>, AllocError> {
+    let mut table = Vec::new(alloc);
+    put_words(&mut table, &[0x00030000])?;
+    table.extend_from_slice(post.get(4..32).unwrap_or(&[0; 28]))?;
+    Ok(table)
+}
+
+/// The tables that are made of those of the face.
+#[derive(Drop)]
+struct Written {
+    font: Vec<u8>,
+    map: Vec<u8>,
+    hhea: Vec<u8>,
+    hmtx: Vec<u8>,
+    maxp: Vec<u8>,
+    post: Vec<u8>,
+}
+
+/// The tables of a face, by their number of glyphs.
+fn with_counts(
+    alloc: Global,
+    face: &Face<'_>,
+    font: Vec<u8>,
+    map: Vec<u8>,
+    hmtx: Vec<u8>,
+    glyphs: usize,
+) -> Result<Written, Failure> {
+    let hhea = needed(&face.file, *b"hhea", "hhea")?;
+    let maxp = needed(&face.file, *b"maxp", "maxp")?;
+    let post = face.file.table(*b"post").unwrap_or(&[]);
+    Ok(Written {
+        font,
+        map,
+        hhea: patched(alloc, hhea, 34, glyphs)?,
+        hmtx,
+        maxp: patched(alloc, maxp, 4, glyphs)?,
+        post: nameless(alloc, post)?,
+    })
+}
+
+/// The tables of these glyphs with new numbers, in their order.
+fn renumbered(alloc: Global, face: &Face<'_>, choice: &Choice) -> Result<Written, Failure> {
+    let font = subset(alloc, face.cff, &choice.glyphs)?;
+    let map = table_of(alloc, &numbered(alloc, choice)?)?;
+    let hmtx = metrics(alloc, face, &choice.glyphs)?;
+    with_counts(alloc, face, font, map, hmtx, choice.glyphs.len())
+}
+
+/// The tables of these glyphs with their numbers.
+fn keeping(alloc: Global, face: &Face<'_>, choice: &Choice) -> Result<Written, Failure> {
+    let font = subset_keeping(alloc, face.cff, &choice.glyphs)?;
+    let map = table_of(alloc, &choice.pairs)?;
+    let glyphs = face.font.char_strings.len();
+    let mut all = Vec::new(alloc);
+    for gid in 0..glyphs {
+        all.push(gid)?;
+    }
+    let hmtx = metrics(alloc, face, &all)?;
+    with_counts(alloc, face, font, map, hmtx, glyphs)
+}
+
+/// A table of the face as it is, if there is one.
+fn own<'t>(face: &Face<'t>, tag: u32) -> Option<Table<'t>> {
+    let bytes = face.file.table(tag.to_be_bytes())?;
+    Some(Table { tag, bytes })
+}
+
+/// The file of tables that were made, and of those that stay as they are: `OS/2`, `head` and `name`.
+fn file_with(alloc: Global, face: &Face<'_>, made: &Written) -> Result<Vec<u8>, AllocError> {
+    let mut tables: Vec<Table<'_>> = Vec::new(alloc);
+    for (tag, bytes) in [
+        (0x43464620, &made.font),
+        (0x636d6170, &made.map),
+        (0x68686561, &made.hhea),
+        (0x686d7478, &made.hmtx),
+        (0x6d617870, &made.maxp),
+        (0x706f7374, &made.post),
+    ] {
+        tables.push(Table {
+            tag,
+            bytes: bytes.as_slice(),
+        })?;
+    }
+    for tag in [0x4f532f32, 0x68656164, 0x6e616d65] {
+        if let Some(table) = own(face, tag) {
+            tables.push(table)?;
+        }
+    }
+    tables.sort_by_key(|table: &Table<'_>| table.tag)?;
+    file_of(alloc, tables.as_slice())
+}
+
+/// Writes a file of the glyphs that words name.
+pub fn write<W: Write>(
+    rt: &HostRuntime,
+    face: &Face<'_>,
+    words: &ArgMatches<'_>,
+    out: &mut W,
+) -> Result<(), Failure> {
+    let alloc = rt.alloc();
+    let choice = Choice::read(alloc, face, words)?;
+    let made = if words.get_flag("retain-gids") {
+        keeping(alloc, face, &choice)?
+    } else {
+        renumbered(alloc, face, &choice)?
+    };
+    let file = file_with(alloc, face, &made)?;
+    saving::put(rt, words, &file, out)
+}
