@@ -4,26 +4,19 @@
     tools/charstrings.py fonts FOLDER WORD..   writes a file for each font, and one of calls alone
     tools/charstrings.py table OURS RUST       prints a table of what the two programs printed
 
-Each WORD is an installed Debian package, of which each file .otf is taken, or a font file. Fonts without a table `CFF `
+Each WORD is a folder or an installed Debian package, of which each file .otf is taken, or a font file. Fonts without a table `CFF `
 and those of several Private dictionaries are left out. A line of a file is `global`, `local` or `code`, a space, and
 bytes in hex. The file of calls has one subroutine, which returns, and 10,000 calls of it.
 """
 
 import pathlib
-import subprocess
 import sys
 
 from fontTools.ttLib import TTFont
 
+from font_files import files_of
+
 CALLS = "local 0b\ncode " + "200a" * 10_000 + "0e\n"
-
-
-def files_of(word):
-    """The font files that a word names."""
-    if pathlib.Path(word).is_file():
-        return [word]
-    listed = subprocess.run(["dpkg", "-L", word], stdout=subprocess.PIPE, check=True).stdout.decode().split("\n")
-    return sorted(name for name in listed if name.endswith(".otf"))
 
 
 def lines_of(path):

@@ -3,7 +3,7 @@
 #
 #     tools/charstrings.sh CRATE WORD..
 #
-# CRATE is the folder of the Rust crate's source, with its folder src/. Each WORD is an installed Debian package or a font
+# CRATE is the folder of the Rust crate's source, with its folder src/. Each WORD is a folder, an installed Debian package or a font
 # file. Needs `rt` and `cargo` on the path, and Debian's python3-fonttools. Neither folder is written to. The program over
 # this repository is tools/charstrings_main.txt, proved in a copy with what the crates keep in out/; the other one is
 # tools/charstrings_rust.txt. Both run by turns, and the least time of each counts.

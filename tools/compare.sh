@@ -4,7 +4,7 @@
 #
 #     tools/compare.sh REV WORD..
 #
-# REV is a commit. Each WORD is an installed Debian package or a font file. Needs `rt` and `git` on the path, and Debian's
+# REV is a commit. Each WORD is a folder, an installed Debian package or a font file. Needs `rt` and `git` on the path, and Debian's
 # python3-fonttools. The program is tools/flat_main.txt, proved in copies: over REV from nothing, which takes some ten minutes, and
 # over the present state with what the crates keep in out/. tools/compare.py runs both by turns, and the least time of each counts.
 set -e

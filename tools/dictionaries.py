@@ -4,23 +4,16 @@
     tools/dictionaries.py fonts WORD..            prints a line for the top and one for the Private dictionary of each font
     tools/dictionaries.py table OURS RUST MAPS   prints a table of what the three programs printed
 
-Each WORD is an installed Debian package, of which each file .otf is taken, or a font file. Fonts without a table `CFF `
+Each WORD is a folder or an installed Debian package, of which each file .otf is taken, or a font file. Fonts without a table `CFF `
 are left out. The bytes are those of the first item of the Top DICT INDEX, and those that its operator Private points to.
 """
 
 import pathlib
-import subprocess
 import sys
 
 from fontTools.ttLib import TTFont
 
-
-def files_of(word):
-    """The font files that a word names."""
-    if pathlib.Path(word).is_file():
-        return [word]
-    listed = subprocess.run(["dpkg", "-L", word], stdout=subprocess.PIPE, check=True).stdout.decode().split("\n")
-    return sorted(name for name in listed if name.endswith(".otf"))
+from font_files import files_of
 
 
 def dictionaries_of(path):

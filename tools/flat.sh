@@ -4,7 +4,7 @@
 #
 #     tools/flat.sh CRATE WORD..
 #
-# CRATE is the folder of the Rust crate's source, with its folder src/. Each WORD is an installed Debian package or a font
+# CRATE is the folder of the Rust crate's source, with its folder src/. Each WORD is a folder, an installed Debian package or a font
 # file. Needs `rt`, `cargo` and `cc` on the path, and Debian's python3-fonttools. Neither folder is written to. The program
 # over this repository is tools/flat_main.txt, proved in a copy with what the crates keep in out/; the other one is
 # tools/charstrings_rust.txt; tools/flat_count.txt and tools/asked.c count. Both run by turns, and the least time of each counts.

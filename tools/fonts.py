@@ -6,7 +6,7 @@
     tools/fonts.py table OURS RUST FLOOR   prints a table of what the three programs printed
     tools/fonts.py memory ITEMS OURS RUST  prints a table of the bytes that the two programs asked for, a number a line
 
-Each WORD is an installed Debian package, of which each file .otf is taken, or a font file. Fonts without a table `CFF ` are
+Each WORD is a folder or an installed Debian package, of which each file .otf is taken, or a font file. Fonts without a table `CFF ` are
 left out, and so is the line of a font whose private dictionary has no Subrs, which is refused by both programs.
 """
 
@@ -16,8 +16,9 @@ import sys
 
 sys.dont_write_bytecode = True
 
-from dictionaries import files_of
 from fontTools.ttLib import TTFont
+
+from font_files import files_of
 
 
 def tables(words):

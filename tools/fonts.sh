@@ -4,7 +4,7 @@
 #
 #     tools/fonts.sh CRATE WORD..
 #
-# CRATE is the folder of the Rust crate's source, with its folder src/. Each WORD is an installed Debian package or a font
+# CRATE is the folder of the Rust crate's source, with its folder src/. Each WORD is a folder, an installed Debian package or a font
 # file. Needs `rt`, `cargo` and `gcc` on the path, and Debian's python3-fonttools. Neither folder is written to. The program
 # over this repository is tools/fonts_main.txt, proved in a copy with what the crates keep in out/; the one over the Rust crate
 # is tools/fonts_rust.txt; and tools/fonts_floor.txt makes a list for each item and nothing else. They run by turns, and the

@@ -5,7 +5,7 @@
     (cd crates/psfont && rt run < stdin)
     /usr/bin/python3 tools/glyphs.py fonts-cantarell
 
-Each word is an installed Debian package, of which each file .otf is taken, or a font file. Of each font with a table
+Each word is a folder or an installed Debian package, of which each file .otf is taken, or a font file. Of each font with a table
 `CFF ` every glyph is handed to crates/psfont/out/psfont as `code`, `global`, `local`, `run` and `flat`. For each glyph:
 
 - the run ends without a fault, with the operators and operands that fontTools' decompiler meets, in its order;
@@ -26,6 +26,8 @@ import tempfile
 from fontTools.misc.psCharStrings import T2CharString, T2OutlineExtractor, T2WidthExtractor
 from fontTools.pens.recordingPen import RecordingPen
 from fontTools.ttLib import TTFont
+
+from font_files import files_of
 
 PSFONT = pathlib.Path(__file__).resolve().parent.parent / "crates" / "psfont" / "out" / "psfont"
 DRAWING = """rlineto hlineto vlineto rrcurveto rcurveline rlinecurve vvcurveto hhcurveto vhcurveto hvcurveto
@@ -234,14 +236,6 @@ def compare(path, counts):
     counts["glyphs"] += len(glyphs)
     counts["left out"] += len(left_out)
     counts["differ"] += len(differing)
-
-
-def files_of(word):
-    """The font files that a word names."""
-    if pathlib.Path(word).is_file():
-        return [word]
-    listed = subprocess.run(["dpkg", "-L", word], stdout=subprocess.PIPE, check=True).stdout.decode().split("\n")
-    return sorted(name for name in listed if name.endswith(".otf"))
 
 
 def main(words):

@@ -4,7 +4,7 @@
     tools/outlines.py PROGRAM WORD..
     tools/outlines.py PROGRAM --sheet FONT
 
-PROGRAM is that of outlines_main.txt, built. Each WORD is an installed Debian package, of which each file .otf is taken, or a
+PROGRAM is that of outlines_main.txt, built. Each WORD is a folder or an installed Debian package, of which each file .otf is taken, or a
 font file. Fonts without a table `CFF ` and those of several Private dictionaries are left out, and so are glyphs whose
 `endchar` names two others, which are not followed. Each segment and each coordinate is compared as an exact fraction, and the
 width with the nominal or the default one; the bounds with those of ControlBoundsPen, and the tight bounds with those of
@@ -25,7 +25,8 @@ from fontTools.pens.boundsPen import BoundsPen, ControlBoundsPen
 from fontTools.pens.recordingPen import RecordingPen
 from fontTools.ttLib import TTFont
 
-from charstrings import files_of, lines_of
+from charstrings import lines_of
+from font_files import files_of
 
 LETTERS = "ABCDEFGHIJKLMNOPQRSTUVWXYZabcdefghijklmn"
 NAMES = {"M": "moveTo", "L": "lineTo", "C": "curveTo", "Z": "closePath"}

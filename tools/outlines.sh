@@ -4,7 +4,7 @@
 #     tools/outlines.sh WORD..
 #     tools/outlines.sh --sheet FONT
 #
-# The second line draws forty glyphs of a font file as SVG. Each WORD is an installed Debian package, of which each file .otf is
+# The second line draws forty glyphs of a font file as SVG. Each WORD is a folder or an installed Debian package, of which each file .otf is
 # taken, or a font file. Needs `rt` on the path, and Debian's python3-fonttools. The program is tools/outlines_main.txt, proved in
 # a copy with what the crates keep in out/; tools/outlines.py compares, and says what is left out.
 set -e

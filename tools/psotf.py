@@ -4,7 +4,8 @@
     (cd crates/psotf && rt run -- --help)
     /usr/bin/python3 tools/psotf.py WORD..
 
-Each WORD is an installed Debian package, of which each file .otf is taken, or a font file or a collection, of which each face is.
+Each WORD is a folder or an installed Debian package, of which each file .otf is taken, or a font file or a collection, of which each face is that
+has a table `CFF `.
 Needs Debian's python3-fonttools. For each glyph it compares the number, the name or the CID, the characters, the advance, the width
 of the charstring with the nominal or the default one, each segment, coordinates as exact fractions, the bounds of all points, and
 the bounds of the curves, rounded outwards to 65536ths, which a side may leave by one more; glyphs that are made of two others are
@@ -24,7 +25,7 @@ from fontTools.misc.psCharStrings import SimpleT2Decompiler
 from fontTools.pens.recordingPen import RecordingPen
 from fontTools.ttLib import TTFont
 
-from charstrings import files_of
+from font_files import files_of
 from outlines import is_accented, is_bounds, tightness
 from sfnt import faces_of, name_of
 
@@ -180,7 +181,8 @@ def compare(path, number):
 def main(words):
     if not words:
         sys.exit(__doc__)
-    faces = [(path, number) for word in words for path in files_of(word) for number in range(faces_of(path))]
+    faces = [(path, number) for path in files_of(*words) for number in range(faces_of(path))]
+    faces = [(path, number) for path, number in faces if "CFF " in TTFont(path, lazy=True, fontNumber=number).reader]
     counts = [compare(path, number) for path, number in faces]
     glyphs, left_out, different = (sum(column) for column in zip(*counts, strict=True))
     print(f"{len(faces)} faces, {glyphs} glyphs, {left_out} left out, {different} different")

@@ -4,7 +4,7 @@
     tools/sfnt.py compare PROGRAM WORD..                      prints what differs, and the sums
     tools/sfnt.py changed PROGRAM FOLDER SEED COUNT WORD..    runs the program over changed fonts
 
-Each WORD is an installed Debian package, of which each file .otf, .ttf and .ttc is taken, or a font file. PROGRAM is
+Each WORD is a folder or an installed Debian package, of which each file .otf, .ttf and .ttc is taken, or a font file. PROGRAM is
 tools/sfnt_main.txt, built. The status is 1 where something differs or where the program ended otherwise than with 0.
 """
 
@@ -18,21 +18,13 @@ import zlib
 
 from fontTools.ttLib import TTFont
 
+from font_files import files_of
+
 TAGS = ["CFF ", "GDEF", "GPOS", "GSUB", "OS/2", "cmap", "head", "hhea", "hmtx", "maxp", "name", "post"]
 KEPT = ["cmap", "head", "hhea", "hmtx", "maxp", "name"]
 RANKS = {(3, 10): 4, (0, 4): 3, (0, 6): 3, (3, 1): 2, (0, 0): 1, (0, 1): 1, (0, 2): 1, (0, 3): 1}
 FORMATS = [4, 6, 12]
 BATCH = 200
-
-
-def files_of(words):
-    """The font files that the words name."""
-    for word in words:
-        if pathlib.Path(word).is_file():
-            yield word
-        else:
-            listed = subprocess.run(["dpkg", "-L", word], stdout=subprocess.PIPE, check=True).stdout.decode().split("\n")
-            yield from sorted(name for name in listed if name.endswith((".otf", ".ttf", ".ttc")))
 
 
 def faces_of(path):
@@ -146,7 +138,7 @@ def compare_file(program, path, counts):
 def compare(program, words):
     counts = collections.Counter()
     differ = 0
-    for path in files_of(words):
+    for path in files_of(*words, ends=(".otf", ".ttf", ".ttc")):
         counts["files"] += 1
         differ += compare_file(program, path, counts)
     told = ", ".join(f"{count} {word}" for word, count in counts.items())
@@ -190,7 +182,7 @@ def change(chance, font):
 
 def changed(program, folder, seed, count, words):
     chance = random.Random(seed)
-    fonts = [small(path) for path in files_of(words)]
+    fonts = [small(path) for path in files_of(*words, ends=(".otf", ".ttf", ".ttc"))]
     counts = collections.Counter()
     bad = 0
     for start in range(0, count, BATCH):

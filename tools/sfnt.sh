@@ -3,7 +3,7 @@
 #
 #     tools/sfnt.sh SEED COUNT WORD..
 #
-# Each WORD is an installed Debian package, of which each file .otf, .ttf and .ttc is taken, or a font file. Of each face these
+# Each WORD is a folder or an installed Debian package, of which each file .otf, .ttf and .ttc is taken, or a font file. Of each face these
 # must be the same: the tables, the units, the box, the number of glyphs, the family, the style, each advance, and the glyph of
 # each character. Then COUNT fonts are made from these with bytes that are changed at random from SEED, and each is read: the
 # program must answer to each and end with status 0. Needs `rt` on the path and Debian's python3-fonttools. The program is

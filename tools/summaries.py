@@ -5,7 +5,7 @@
     (cd crates/psfont && rt run < stdin)
     /usr/bin/python3 tools/summaries.py fonts-cantarell
 
-Each word is an installed Debian package, of which each file .otf is taken, or a font file. Each table `CFF ` is written to
+Each word is a folder or an installed Debian package, of which each file .otf is taken, or a font file. Each table `CFF ` is written to
 a file of its own, and `psfont font FILE` and `psfont lenient FILE` are asked what it holds. Where it answers, every line has to be
 what fontTools reads: the header's four bytes, the names, how many strings, global subroutines and dictionaries there are, and of each
 dictionary the encoding, the format of the char set, and how many glyphs and local subroutines it has. Where it refuses,
@@ -24,7 +24,7 @@ import tempfile
 
 sys.dont_write_bytecode = True
 
-from dictionaries import files_of
+from font_files import files_of
 from fontTools.ttLib import TTFont
 
 PSFONT = pathlib.Path(__file__).resolve().parent.parent / "crates" / "psfont" / "out" / "psfont"

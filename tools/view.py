@@ -4,7 +4,7 @@
     tools/view.py compare PROGRAM WORD..                      prints what differs, and the sums
     tools/view.py changed PROGRAM FOLDER SEED COUNT WORD..    runs the program over changed fonts
 
-Each WORD is an installed Debian package, of which each file .otf and .ttc with a table `CFF ` is taken, or a font file; of a
+Each WORD is a folder or an installed Debian package, of which each file .otf and .ttc with a table `CFF ` is taken, or a font file; of a
 collection the first face. PROGRAM is tools/view_main.txt, built. The status is 1 where something differs or where the program
 ended otherwise than with 0.
 """
@@ -19,18 +19,10 @@ from fractions import Fraction
 from fontTools.misc.psCharStrings import T2WidthExtractor
 from fontTools.ttLib import TTFont
 
+from font_files import files_of
+
 DEFAULT_MATRIX = [Fraction(1, 1000), 0, 0, Fraction(1, 1000), 0, 0]
 BATCH = 100
-
-
-def files_of(words):
-    """The font files that the words name."""
-    for word in words:
-        if pathlib.Path(word).is_file():
-            yield word
-        else:
-            listed = subprocess.run(["dpkg", "-L", word], stdout=subprocess.PIPE, check=True).stdout.decode().split("\n")
-            yield from sorted(name for name in listed if name.endswith((".otf", ".ttc")))
 
 
 def open_font(path):
@@ -150,7 +142,7 @@ def compare_file(program, path, font, counts):
 def compare(program, words):
     counts = collections.Counter()
     differ = 0
-    for path in files_of(words):
+    for path in files_of(*words, ends=(".otf", ".ttc")):
         font = open_font(path)
         if font is not None:
             counts["fonts"] += 1
@@ -183,7 +175,7 @@ def places_of(top):
 
 def changed(program, folder, seed, count, words):
     chance = random.Random(seed)
-    fonts = [font for font in map(open_font, files_of(words)) if font is not None]
+    fonts = [font for font in map(open_font, files_of(*words, ends=(".otf", ".ttc"))) if font is not None]
     tables = [(font.reader["CFF "], places_of(font["CFF "].cff.topDictIndex[0])) for font in fonts]
     tables = [(table, places) for table, places in tables if len(table) < 600_000] or tables
     counts = collections.Counter()

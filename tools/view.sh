@@ -3,7 +3,7 @@
 #
 #     tools/view.sh SEED COUNT WORD..
 #
-# Each WORD is an installed Debian package, of which each file .otf and .ttc with a table `CFF ` is taken, or a font file; of a
+# Each WORD is a folder or an installed Debian package, of which each file .otf and .ttc with a table `CFF ` is taken, or a font file; of a
 # collection the first face. Of each font these must be the same: whether it is CID-keyed, the box, and of each glyph the name or
 # the CID, the font dictionary, the matrix and the advance; and the glyph of each code. The first glyph of each name and CID is
 # asked back. Then COUNT fonts are made from these with bytes that are changed at random from SEED, and each is asked the same:

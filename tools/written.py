@@ -1,0 +1,126 @@
+#!/usr/bin/python3
+"""Writes fonts by psotf, and compares their glyphs with those of the fonts that they are made of, by fontTools.
+
+    (cd crates/psotf && rt run -- --help)
+    /usr/bin/python3 tools/written.py SEED WORD..
+
+Each WORD is a folder or an installed Debian package, of which each file .otf is taken, or a font file. Needs Debian's python3-fonttools,
+opentype-sanitizer and libharfbuzz-bin. Each font is written by `psotf flat`, and, of glyphs that are drawn at random from SEED, once by
+`psotf subset` and once by `psotf subset --retain-gids`. Of each file that is written fontTools, as it comes, has to draw each glyph with the same segments,
+and to tell the same advance and the same name or CID; where it kept its numbers, the same characters; the sums in the file have to be right; and
+`ots-sanitize` has to accept it where it accepts the source. The bytes of the table `CFF ` of the flat file and the time are added up beside
+`hb-subset --desubroutinize` of all glyphs. It prints each file that differs, and then how many fonts, files and glyphs were compared.
+"""
+
+import pathlib
+import random
+import subprocess
+import sys
+import tempfile
+import time
+
+sys.dont_write_bytecode = True
+
+from fontTools.pens.recordingPen import RecordingPen
+from fontTools.ttLib import TTFont
+
+from font_files import files_of
+
+PSOTF = pathlib.Path(__file__).resolve().parent.parent / "crates" / "psotf" / "out" / "psotf"
+MOST = 400
+
+
+def drawn(glyphs, name):
+    pen = RecordingPen()
+    glyphs[name].draw(pen)
+    return pen.value, glyphs[name].width
+
+
+def is_sound(path):
+    return subprocess.run(["ots-sanitize", path], capture_output=True, check=False).returncode == 0
+
+
+def timed(words):
+    """Whether a command succeeds, and the least time of three runs."""
+    least = None
+    for _ in range(3):
+        begun = time.monotonic()
+        done = subprocess.run(words, capture_output=True, check=False)
+        taken = time.monotonic() - begun
+        least = taken if least is None else min(least, taken)
+        if done.returncode:
+            return False, least, done.stderr.decode(errors="replace").strip()
+    return True, least, ""
+
+
+def differences(source, path, gids):
+    """How many glyphs of a file differ from those of the source that they are made of."""
+    written = TTFont(path, checkChecksums=2)
+    for tag in written.reader.keys():
+        written.reader[tag]
+    old, new = source.getGlyphSet(), written.getGlyphSet()
+    names = source.getGlyphOrder()
+    order = written.getGlyphOrder()
+    if len(order) != len(gids):
+        return len(gids)
+    wanted = [names[gid] if gid is not None else None for gid in gids]
+    return sum(
+        name is not None and (own.partition("#")[0] != name.partition("#")[0] or drawn(old, name) != drawn(new, own) or source["hmtx"][name] != written["hmtx"][own])
+        for name, own in zip(wanted, order, strict=True)
+    )
+
+
+def tallied(path, folder, draw, sums):
+    source = TTFont(path, lazy=True)
+    if "CFF " not in source:
+        return
+    count = source["maxp"].numGlyphs
+    sums["fonts"] += 1
+    sound = is_sound(path)
+    flat, other = folder / "flat.otf", folder / "other.otf"
+    done, seconds, told = timed([PSOTF, "flat", path, "-o", flat])
+    if not done:
+        sums["refused"] += 1
+        print(f"{path}: {told}")
+        return
+    chosen = sorted({0, *draw.sample(range(count), min(count, MOST))})
+    listed = ",".join(map(str, chosen))
+    kept = [gid if gid in set(chosen) else None for gid in range(count)]
+    files = [("flat", flat, list(range(count)))]
+    for name, more, gids in (("subset", [], chosen), ("retained", ["--retain-gids"], kept)):
+        place = folder / f"{name}.otf"
+        subprocess.run([PSOTF, "subset", path, "--gids", listed, *more, "-o", place], check=True)
+        files.append((name, place, gids))
+    for name, place, gids in files:
+        different = differences(source, place, gids)
+        refused = sound and not is_sound(place)
+        sums["files"] += 1
+        sums["glyphs"] += sum(gid is not None for gid in gids)
+        sums["differ"] += different
+        sums["unsound"] += refused
+        if different or refused:
+            print(f"{path}: {name}: {different} glyphs differ, {'not ' if refused else ''}accepted")
+    done, theirs, _ = timed(["hb-subset", "--desubroutinize", "--gids=*", "--notdef-outline", "--glyph-names", "--layout-features=*", f"--output-file={other}", path])
+    if done:
+        sums["own_bytes"] += len(TTFont(flat, lazy=True).reader["CFF "])
+        sums["their_bytes"] += len(TTFont(other, lazy=True).reader["CFF "])
+        sums["own_seconds"] += seconds
+        sums["their_seconds"] += theirs
+
+
+def main(words):
+    if len(words) < 2:
+        sys.exit(__doc__)
+    draw = random.Random(int(words[0]))
+    sums = dict.fromkeys(("fonts", "refused", "files", "glyphs", "differ", "unsound", "own_bytes", "their_bytes", "own_seconds", "their_seconds"), 0)
+    with tempfile.TemporaryDirectory() as folder:
+        for path in files_of(*words[1:]):
+            tallied(path, pathlib.Path(folder), draw, sums)
+    print(f"seed {words[0]}: {sums['fonts']} fonts, {sums['refused']} refused, {sums['files']} files, {sums['glyphs']} glyphs, {sums['differ']} differ, {sums['unsound']} not accepted")
+    if sums["their_bytes"]:
+        print(f"beside hb-subset: {sums['own_bytes'] / sums['their_bytes']:.4f} of its bytes, {sums['own_seconds'] / sums['their_seconds']:.2f} of its time")
+    return sums["differ"] or sums["unsound"]
+
+
+if __name__ == "__main__":
+    sys.exit(1 if main(sys.argv[1:]) else 0)
