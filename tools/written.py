@@ -6,10 +6,10 @@
 
 Each WORD is a folder or an installed Debian package, of which each file .otf is taken, or a font file. Needs Debian's python3-fonttools,
 opentype-sanitizer and libharfbuzz-bin. Each font is written by `psotf flat`, and, of glyphs that are drawn at random from SEED, once by
-`psotf subset` and once by `psotf subset --retain-gids`. Of each file that is written fontTools, as it comes, has to draw each glyph with the same segments,
-and to tell the same advance and the same name or CID; where it kept its numbers, the same characters; the sums in the file have to be right; and
-`ots-sanitize` has to accept it where it accepts the source. The bytes of the table `CFF ` of the flat file and the time are added up beside
-`hb-subset --desubroutinize` of all glyphs. It prints each file that differs, and then how many fonts, files and glyphs were compared.
+`psotf subset` and once by `psotf subset --retain-gids`. Of each file that is written fontTools, as it comes, has to draw each glyph with
+the same segments, and to tell the same metrics and the same name or CID; the sums in the file have to be right; and `ots-sanitize` has to
+accept it where it accepts the source. The bytes of the table `CFF ` of the flat file and the time are added up beside `hb-subset
+--desubroutinize` of all glyphs. It prints each file that differs, and then how many fonts, files and glyphs were compared.
 """
 
 import pathlib
