@@ -2,7 +2,7 @@
 """Fonts of the Compact Font Format as fontTools reads them, beside the answers of a program, and fonts with changed bytes.
 
     tools/view.py compare PROGRAM WORD..                      prints what differs, and the sums
-    tools/view.py changed PROGRAM FOLDER SEED COUNT WORD..    runs the program over changed fonts
+    tools/view.py changed PROGRAM FOLDER SEED COUNT WORD..    compares changed fonts with tools/second_view.py
 
 Each WORD is a folder or an installed Debian package, of which each file .otf and .ttc with a table `CFF ` is taken, or a font file; of a
 collection the first face. PROGRAM is tools/view_main.txt, built. The status is 1 where something differs or where the program
@@ -20,6 +20,7 @@ from fontTools.misc.psCharStrings import T2WidthExtractor
 from fontTools.ttLib import TTFont
 
 from font_files import files_of
+from second_view import lines_of
 
 DEFAULT_MATRIX = [Fraction(1, 1000), 0, 0, Fraction(1, 1000), 0, 0]
 BATCH = 100
@@ -173,26 +174,75 @@ def places_of(top):
     return [0, 64, private, *(place for place in named if isinstance(place, int))]
 
 
-def changed(program, folder, seed, count, words):
-    chance = random.Random(seed)
+def made_up(chance):
+    """A small CID-keyed font of two font dictionaries, with FDSelect of format 0 or 3 and a char set of any format."""
+    calls = [b"", b"\x20\x0a", b"\x20\x1d"]
+    codes = [chance.choice(calls) + bytes([139 + chance.randrange(3), 139, 139, 0x15, 0x0E])[chance.randrange(2) :] for _ in range(5)]
+    index = lambda items: len(items).to_bytes(2, "big") + (
+        b"\1" + bytes(1 + sum(map(len, items[:i])) for i in range(len(items) + 1)) + b"".join(items) if items else b"")
+    number = lambda value: b"\x1d" + value.to_bytes(4, "big")
+    select = chance.choice([bytes([0, 0, 1, 1, 0, 1]), bytes([3, 0, 2, 0, 0, 0, 0, 2, 1, 0, 5])])
+    char_set = chance.choice([bytes([0, 0, 5, 0, 6, 0, 7, 0, 8]), bytes([1, 0, 5, 3]), bytes([2, 0, 5, 0, 1, 0, 9, 0, 1])])
+    private = bytes([139 + chance.randrange(90), 0x14, 139 + chance.randrange(90), 0x15, 0x8F + 4, 0x13, 0x8B, 0x8B])
+    subroutines = index([bytes([0x0B])])
+
+    def text(places):
+        fonts = index([bytes([139 + len(private)]) + number(places[3]) + b"\x12" for _ in range(2)])
+        top = bytes([139] * 3) + b"\x0c\x1e" + b"".join(
+            number(place) + operator for place, operator in zip(places, (b"\x0f", b"\x11", b"\x0c\x25", b"", b"\x0c\x24")) if operator)
+        parts = [bytes([1, 0, 4, 1]) + index([b"F"]) + index([top]) + index([]) + subroutines, char_set, index(codes), select, private + subroutines, fonts]
+        ends = [sum(map(len, parts[: i + 1])) for i in range(len(parts))]
+        return b"".join(parts), ends
+
+    _, ends = text([0] * 5)
+    table, ends = text(ends[:5])
+    return table, [0, 4, *ends[:5]]
+
+
+def same_lines(found, wanted):
+    """Whether the lines of a font are the same, where those that are not computed are left out."""
+    if len(found) != len(wanted):
+        return False
+    for one, other in zip(found, wanted):
+        if other == "expert" or " long " in other:
+            continue
+        if one != other:
+            return False
+    return True
+
+
+def sources_of(words):
+    """Tables of fonts that are small, each with the places of its parts."""
     fonts = [font for font in map(open_font, files_of(*words, ends=(".otf", ".ttc"))) if font is not None]
     tables = [(font.reader["CFF "], places_of(font["CFF "].cff.topDictIndex[0])) for font in fonts]
-    tables = [(table, places) for table, places in tables if len(table) < 600_000] or tables
+    return [(table, places) for table, places in tables if len(table) < 60_000]
+
+
+def changed(program, folder, seed, count, words):
+    chance = random.Random(seed)
+    tables = sources_of(words)
     counts = collections.Counter()
     bad = 0
     for start in range(0, count, BATCH):
-        paths = []
+        paths, wanted = [], []
         for i in range(min(BATCH, count - start)):
             path = pathlib.Path(folder) / str(i)
-            path.write_bytes(change(chance, *chance.choice(tables)))
+            source = made_up(chance) if not tables or chance.random() < 0.3 else chance.choice(tables)
+            table = change(chance, *source)
+            path.write_bytes(table)
             paths.append(path)
+            wanted.append(lines_of(table))
         done = run(program, paths, "few")
-        lines = done.stdout.decode().splitlines()
-        answers = [line for line in lines if line.startswith("font ")]
+        answers = done.stdout.decode().split("font " + str(folder))[1:]
         bad += int(done.returncode != 0 or len(answers) != len(paths))
-        counts.update("refused" if line in ("bytes 10", "bytes 11") else "answered" for line in lines if line.startswith("bytes "))
+        for path, answer, lines in zip(paths, answers, wanted):
+            found = answer.splitlines()[1:]
+            counts["refused" if lines[0].startswith("refused") else "answered"] += 1
+            if not same_lines(found, lines):
+                bad += 1
+                print(f"{path.read_bytes().hex()[:2000]}: {found}, and the second reader {lines}", file=sys.stderr)
     told = ", ".join(f"{word} {counts[word]}" for word in ("answered", "refused"))
-    print(f"changed: {count} fonts from seed {seed}: {told}; {bad} batches halted")
+    print(f"changed: {count} fonts from seed {seed}, of {len(tables)} tables and made-up ones: {told}; {bad} differ from the second reader")
     return bad
 
 
