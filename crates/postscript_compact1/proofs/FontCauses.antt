@@ -44,7 +44,7 @@ refused_at e there reading bytes place h = by (nat_lt (length bytes) there) refl
     by true t h = inl (grind (arith, nat_tests), h)
     by false t h = inr (grind (arith, nat_tests), h)
 
-no_first : (e : Error) (m : Dictionary) (op : Operator) (bytes : List ℕ) (place : ℕ) → RefusedAs e (first m op bytes place) → NoFirst e m op
+pub no_first : (e : Error) (m : Dictionary) (op : Operator) (bytes : List ℕ) (place : ℕ) → RefusedAs e (first m op bytes place) → NoFirst e m op
 unfolding first
 no_first e m op bytes place h = by (first_of (look m op)) refl h
   where
@@ -67,7 +67,7 @@ no_place : (e : Error) (start : ℕ) (z : ℤ) (bytes : List ℕ) (place : ℕ) 
 no_place e start (negsuc n) bytes place h = (h, λ m is fits. let no : negsuc n ≡ pos m = is in absurd (cc))
 no_place e start (pos n) bytes place h = let r = no_range e (start + n) bytes place h in (r.0, λ m is fits. let same : n ≡ m = cc in r.1 (subst (λ k. IsPlace (start + k)) (sym same) fits))
 
-no_offset : (e : Error) (start base : ℕ) (m : Dictionary) (op : Operator) (bytes : List ℕ) (place : ℕ) → RefusedAs e (place_at start base m op bytes place) → NoOffset e start base m op
+pub no_offset : (e : Error) (start base : ℕ) (m : Dictionary) (op : Operator) (bytes : List ℕ) (place : ℕ) → RefusedAs e (place_at start base m op bytes place) → NoOffset e start base m op
 unfolding place_at
 no_offset e start base m op bytes place h = by (stopped e (Step (first m op) (λ z. Last (place_of start (pos base +ℤ z)))) bytes place h)
   where
@@ -103,7 +103,7 @@ not_two e (pos n) bytes place h = by (n == 2) refl h
     by true t h = absurd h
     by false t h = (λ is. let same : n ≡ 2 = cc in absurd (grind (arith, nat_tests)), h)
 
-no_type : (e : Error) (m : Dictionary) (bytes : List ℕ) (place : ℕ) → RefusedAs e (type_two m bytes place) → NoFirst e m operators.CharStringType ⊎ ((z : ℤ) × HasFirst m operators.CharStringType z × (z ≡ pos 2 → ⊥) × (refusal_of e ≡ unknown_char_string_format))
+pub no_type : (e : Error) (m : Dictionary) (bytes : List ℕ) (place : ℕ) → RefusedAs e (type_two m bytes place) → NoFirst e m operators.CharStringType ⊎ ((z : ℤ) × HasFirst m operators.CharStringType z × (z ≡ pos 2 → ⊥) × (refusal_of e ≡ unknown_char_string_format))
 unfolding type_two
 no_type e m bytes place h = by (stopped e (Step (first m operators.CharStringType) (λ z. Last (only_two z))) bytes place h)
   where
@@ -217,7 +217,7 @@ no_bounded e start (pos k) (pos l) bytes place h = by (stopped {X = ℕ × ℕ �
     by (inl h) = let r = no_range e (start + l) bytes place h in (r.0, λ size offset is other fits. let same : l ≡ offset = cc in r.1 (subst (λ o. IsPlace (start + o)) (sym same) fits))
     by (inr h) = absurd h.3
 
-no_bounds : (e : Error) (start : ℕ) (m : Dictionary) (bytes : List ℕ) (place : ℕ) → RefusedAs e (bounds start m bytes place) → NoBounds e start m
+pub no_bounds : (e : Error) (start : ℕ) (m : Dictionary) (bytes : List ℕ) (place : ℕ) → RefusedAs e (bounds start m bytes place) → NoBounds e start m
 unfolding bounds
 no_bounds e start m bytes place h = by (stopped {X = ℕ × ℕ × ℕ} e (Step (two m operators.Private) (λ p. Last (bounded start p))) bytes place h)
   where
@@ -244,7 +244,7 @@ no_glyphs e bytes start m place h = by (stopped {X = Index × CharSet} e (Step (
     by (inr (i, next, is, inr h)) = absurd h.3
 
 module _ (d : ReadsDictionaries) where
-  no_map : (e : Error) (held bytes : List ℕ) (place : ℕ) → RefusedAs e (map_of held bytes place) → IsRefused held 0 (refusal_of e)
+  pub no_map : (e : Error) (held bytes : List ℕ) (place : ℕ) → RefusedAs e (map_of held bytes place) → IsRefused held 0 (refusal_of e)
   unfolding map_of
   no_map e held bytes place h = by (dictionary held 0) refl h
     where
