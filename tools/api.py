@@ -4,8 +4,9 @@
     tools/api.py > docs/API.md
     tools/api.py --check
 
-The first line writes the page. The second compares docs/API.md with what the first would print: the status is 1 where a line
-differs, and the differences are printed.
+The first line writes the page. The second compares docs/API.md with what the first would print, and looks for each block of Rust in
+README.md and docs/RECIPES.md in a source, line for line: the status is 1 where a line differs, or where no source has a block, and
+that is printed.
 
 A public item is one that a user can name: from the root of a crate through `pub mod` and `pub use`. Its comment, its signature
 and the clauses of its contract are taken as they stand. The sources are in the formatter's layout, so an item is read by
@@ -28,7 +29,9 @@ CRATES = (
     "postscript_view",
     "postscript_outline",
     "postscript_sfnt",
+    "postscript_write",
 )
+QUOTING = ("README.md", "docs/RECIPES.md")
 HEAD = """# The public items
 
 This page is printed by `tools/api.py` from the sources. Do not edit it: change the comments in the sources, and print it again.
@@ -538,6 +541,16 @@ class Page:
         return "\n".join(self.lines) + "\n"
 
 
+def blocks_of_no_source():
+    """The first lines of the blocks of Rust in the documents that no source has."""
+    sources = [path.read_text(encoding="utf-8") for path in (TOP / "crates").glob("*/src/**/*.rt")]
+    for name in QUOTING:
+        text = (TOP / name).read_text(encoding="utf-8")
+        for block in re.findall(r"^```rust\n(.*?)^```$", text, re.MULTILINE | re.DOTALL):
+            if not any(block in source for source in sources):
+                yield f"{name}: no source has the block that begins with: {block.split(chr(10))[0]}\n"
+
+
 def main():
     page = Page({crate: read_crate(crate) for crate in CRATES}).whole()
     if sys.argv[1:] != ["--check"]:
@@ -545,7 +558,9 @@ def main():
         return 0
     stands = PAGE.read_text(encoding="utf-8") if PAGE.exists() else ""
     sys.stdout.writelines(difflib.unified_diff(stands.splitlines(True), page.splitlines(True), "docs/API.md", "the sources"))
-    return int(stands != page)
+    unknown = list(blocks_of_no_source())
+    sys.stdout.writelines(unknown)
+    return int(stands != page or bool(unknown))
 
 
 if __name__ == "__main__":

@@ -3,6 +3,7 @@
 
 pub mod advances;
 pub mod dictionaries;
+pub mod files;
 pub mod flat;
 pub mod fonts;
 pub mod glyphs;

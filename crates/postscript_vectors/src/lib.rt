@@ -36,6 +36,8 @@ mod programs;
 #[cfg(test)]
 mod readings;
 #[cfg(test)]
+mod recipes;
+#[cfg(test)]
 mod sessions;
 #[cfg(test)]
 mod sfnt;

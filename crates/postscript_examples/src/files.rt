@@ -1,0 +1,94 @@
+//! Whole OpenType files, and fonts in place.
+ghost use Rattle.std.specs.Prelude.{◌≡◌, ◌⊎◌, ℕ, ◌<◌, IfOk, IfErr, length};
+ghost use Rattle.postscript_items.specs.Lent.{items_of};
+
+use anyhow::{Context, Result};
+use postscript_outline::Outline;
+use postscript_sfnt::{Advances, CharacterMap, FontFile};
+use postscript_view::{Advance, FontView};
+use std::alloc::Global;
+
+/// The names of a font's glyphs, in their order; None where a glyph has none.
+pub fn glyph_names(alloc: Global, cff: &[u8]) -> Result<Vec<Option<&[u8]>>> {
+    let font = FontView::read(alloc, cff)?;
+    let set = font.char_set()?;
+    let mut names = Vec::new(alloc);
+    for glyph in 0..font.char_strings.len() {
+        names.push(font.name(&set, glyph))?;
+    }
+    Ok(names)
+}
+
+/// The advance of a glyph, as the table `CFF ` tells it: in glyph units, and exact.
+pub fn advance_of(alloc: Global, cff: &[u8], glyph: usize) -> Result<Advance> {
+    let font = FontView::read(alloc, cff)?;
+    font.advance(alloc, glyph)?
+        .context("the font has no such glyph")
+}
+
+/// The glyph of a character, by the character map that the file prefers.
+pub fn glyph_of(file: &FontFile<'_>, character: char) -> Option<u16> {
+    let map = CharacterMap::read(file.table(*b"cmap")?)?;
+    match map.glyph_of(u32::from(character)) {
+        0 => None,
+        glyph => Some(glyph),
+    }
+}
+
+/// The outline of a character's glyph. Its text is the path data of SVG, with y upwards.
+pub fn outline_of(alloc: Global, file: &FontFile<'_>, character: char) -> Result<Outline> {
+    let cff = file.table(*b"CFF ").context("no table CFF")?;
+    let glyph = glyph_of(file, character).context("no glyph for the character")?;
+    let font = FontView::read(alloc, cff)?;
+    let mut program = font
+        .program(alloc, usize::from(glyph))
+        .context("the font has no such glyph")?;
+    Ok(Outline::of_program(alloc, &mut program)?)
+}
+
+/// A glyph, and where it stands on its line, in font units from the beginning of the line.
+#[derive(Clone, Copy, Debug, PartialEq, Eq)]
+pub struct Placed {
+    pub glyph: u16,
+    pub x: u32,
+}
+
+/// A line of text: the glyph of each character, one behind the other by their advances.
+pub fn line_of(alloc: Global, file: &FontFile<'_>, text: &str) -> Result<Vec<Placed>> {
+    let (hhea, hmtx) = (file.table(*b"hhea"), file.table(*b"hmtx"));
+    let advances = Advances::read(hhea.context("no hhea")?, hmtx.context("no hmtx")?).context(
+        "no advances",
+    )?;
+    let mut line = Vec::new(alloc);
+    let mut x = 0u32;
+    for character in text.chars() {
+        let glyph = glyph_of(file, character).context("no glyph for a character")?;
+        line.push(Placed { glyph, x })?;
+        x = x.saturating_add(u32::from(advances.of(glyph)));
+    }
+    Ok(line)
+}
+
+/// The same font, whose glyphs call no subroutines.
+pub fn flat(alloc: Global, cff: &[u8]) -> Result<Vec<u8>> {
+    Ok(postscript_write::flat_font(alloc, cff)?)
+}
+
+/// A font of the glyphs of these characters alone.
+pub fn cut_to(alloc: Global, file: &FontFile<'_>, text: &str) -> Result<Vec<u8>> {
+    let cff = file.table(*b"CFF ").context("no table CFF")?;
+    let mut glyphs = Vec::new(alloc);
+    for character in text.chars() {
+        let glyph = glyph_of(file, character).context("no glyph for a character")?;
+        glyphs.push(usize::from(glyph))?;
+    }
+    Ok(postscript_write::subset(alloc, cff, &glyphs)?)
+}
+
+/// Why a font is refused, in words; None where it is read. Any bytes are safe here.
+pub fn refusal_of(alloc: Global, cff: &[u8]) -> Result<Option<String>> {
+    match FontView::read(alloc, cff) {
+        Ok(_font) => Ok(None),
+        Err(error) => Ok(Some(error.to_string(alloc)?)),
+    }
+}
