@@ -1,5 +1,6 @@
 //! Faces of files.
 use crate::failure::Failure;
+use crate::refused::{rule_of, spot_of};
 use postscript_sfnt::{Advances, CharacterMap, FontFile, Names, faces, glyphs, units_per_em};
 use postscript_view::{CharSetView, FontView};
 use std::alloc::Global;
@@ -42,6 +43,18 @@ fn advances_of<'l>(file: &FontFile<'l>) -> Result<Advances<'l>, Failure> {
     }
 }
 
+/// The font of a table `CFF `; where it is refused, in which part and by which rule.
+fn opened<'l>(alloc: Global, cff: &'l [u8]) -> Result<FontView<'l>, Failure> {
+    match FontView::read(alloc, cff) {
+        Ok(font) => Ok(font),
+        Err(error) => Err(Failure::Table {
+            spot: spot_of(alloc, cff),
+            rule: rule_of(error.code()),
+            error,
+        }),
+    }
+}
+
 impl<'l> Face<'l> {
     /// The face of this number.
     pub fn open(alloc: Global, bytes: &'l [u8], number: u16) -> Result<Face<'l>, Failure> {
@@ -64,7 +77,7 @@ impl<'l> Face<'l> {
             Some(names) => Names::read(names),
             None => None,
         };
-        let font = FontView::read(alloc, cff)?;
+        let font = opened(alloc, cff)?;
         let set = font.char_set().ok();
         Ok(Face {
             file,

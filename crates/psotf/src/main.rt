@@ -17,6 +17,7 @@ mod hints;
 mod inspect;
 mod map;
 mod progress;
+mod refused;
 mod saving;
 mod sheet;
 mod specimen;

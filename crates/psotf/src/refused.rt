@@ -1,0 +1,137 @@
+//! Where and by which rule a table `CFF ` is refused.
+use postscript_base::compact1::{Operations, Operator};
+use postscript_items::Items;
+use postscript_view::operands::{bounds, place_at};
+use postscript_view::tables::{header_size, operations_of, slice_at};
+use std::alloc::Global;
+use std::fmt;
+
+/// A part of a table `CFF `, and where it stands: so many bytes behind the beginning of the table. It has no place where only
+/// its dictionary names one.
+#[derive(Clone, Copy, Debug)]
+pub struct Spot {
+    part: &'static str,
+    place: Option<u64>,
+}
+
+impl fmt::Display for Spot {
+    fn fmt<W: fmt::Write>(&self, f: &mut fmt::Formatter<W>) -> fmt::Result {
+        match self.place {
+            Some(place) => write!(f, "{} at byte {place}", self.part),
+            None => f.write_str(self.part),
+        }
+    }
+}
+
+/// A part at a place.
+fn at(part: &'static str, place: u64) -> Spot {
+    Spot {
+        part,
+        place: Some(place),
+    }
+}
+
+/// A part that a dictionary should name.
+fn named(part: &'static str) -> Spot {
+    Spot { part, place: None }
+}
+
+/// The INDEXes that stand behind the header, in their order.
+const BEHIND_THE_HEADER: [&str; 4] = [
+    "the names",
+    "the dictionaries",
+    "the strings",
+    "the global subroutines",
+];
+
+/// Where the first font of a table is refused, which is.
+pub fn spot_of(alloc: Global, cff: &[u8]) -> Spot {
+    let Ok(size) = header_size(cff) else {
+        return at("the header", 0);
+    };
+    let mut place = size;
+    for part in BEHIND_THE_HEADER {
+        match Items::open(cff, place) {
+            Ok((_items, next)) => place = next,
+            Err(_) => return at(part, place as u64),
+        }
+    }
+    in_dictionary(alloc, cff, size)
+}
+
+/// The same, where the INDEXes behind the header stand.
+fn in_dictionary(alloc: Global, cff: &[u8], start: usize) -> Spot {
+    let Ok((_names, place)) = Items::open(cff, start) else {
+        return at("the names", start as u64);
+    };
+    let Ok((dictionaries, _next)) = Items::open(cff, place) else {
+        return at("the dictionaries", place as u64);
+    };
+    let Some(item) = dictionaries.get(0) else {
+        return at("the dictionary of the font", place as u64);
+    };
+    match operations_of(alloc, item) {
+        Ok(dictionary) => in_parts(alloc, cff, &dictionary),
+        Err(_) => at("the dictionary of the font", place as u64),
+    }
+}
+
+/// The same, where the dictionary is read.
+fn in_parts(alloc: Global, cff: &[u8], dictionary: &Operations) -> Spot {
+    let Ok(place) = place_at(0, 0, dictionary, Operator::CharStrings) else {
+        return named("the operator CharStrings of the font's dictionary");
+    };
+    if place > cff.len() as u64 || Items::open(cff, place as usize).is_err() {
+        return at("the char strings", place);
+    }
+    if dictionary.get(Operator::ROS).is_some() {
+        return match place_at(0, 0, dictionary, Operator::FDArray) {
+            Ok(place) => at("the font dictionaries", place),
+            Err(_) => named("the operator FDArray of the font's dictionary"),
+        };
+    }
+    let Ok((size, _offset, place)) = bounds(0, dictionary) else {
+        return named("the operator Private of the font's dictionary");
+    };
+    match slice_at(cff, place, size) {
+        Ok(text) => in_private(alloc, place, text),
+        Err(_) => at("the private dictionary", place),
+    }
+}
+
+/// The same, where the bytes of the private dictionary are there.
+fn in_private(alloc: Global, place: u64, text: &[u8]) -> Spot {
+    match operations_of(alloc, text) {
+        Ok(_dictionary) => at("the local subroutines of the private dictionary", place),
+        Err(_) => at("the private dictionary", place),
+    }
+}
+
+/// The rule that a refusal is by, in words, with its section of Adobe's Technical Notes.
+pub fn rule_of(code: u8) -> &'static str {
+    match code {
+        1 =>
+            "what is named here has to end within the table (Technical Note 5176, section 3); the file may be cut off",
+        5 => "offsets of an INDEX have 1 to 4 bytes (Technical Note 5176, section 5)",
+        7 =>
+            "a number begins with one of the bytes 28 to 30 and 32 to 254, and a real ends (Technical Note 5176, section 4)",
+        8 =>
+            "a real has up to 18 digits that count, and exponents from -1000 to 1000 (a limit of this library)",
+        9 => "an operator is one of those in Technical Note 5176, appendix H, or 5177, appendix A",
+        12 => "CharstringType is 2 (Technical Note 5176, Table 9)",
+        13 => "an offset and a size are whole numbers (Technical Note 5176, Table 9)",
+        14 => "the operator has to be there, with its operands (Technical Note 5176, Table 9)",
+        15 => "an offset and a size are not negative (Technical Note 5176, section 3)",
+        17 | 18 | 19 | 20 | 21 =>
+            "each operator takes its operands off the stack (Technical Note 5177, sections 4.1 to 4.6)",
+        22 =>
+            "the number of a subroutine, with its bias, is one of the list (Technical Note 5177, section 4.7)",
+        23 => "return stands in a subroutine alone (Technical Note 5177, section 4.7)",
+        24 => "nothing follows endchar (Technical Note 5177, section 4.3)",
+        25 => "ten calls may nest (Technical Note 5177, appendix B)",
+        26 => "numbers and coordinates are 16.16 bits (Technical Note 5177, section 3.2)",
+        27 => "div takes a divisor other than zero (Technical Note 5177, section 4.4)",
+        28 => "sqrt takes no negative number (Technical Note 5177, section 4.4)",
+        _ => "docs/FAULTS.md says what the number means",
+    }
+}
