@@ -63,6 +63,12 @@ def codes_of(top, names):
     return {code: places[name] for code, name in enumerate(encoding) if name != ".notdef" and name in places}
 
 
+def plain_name(name, names):
+    """A name as the font has it: to one that stands twice fontTools adds `#` and a number."""
+    plain, mark, number = name.rpartition("#")
+    return plain if mark and number.isdigit() and plain in names else name
+
+
 def facts_of(font):
     """What fontTools reads of a font."""
     top = font["CFF "].cff.topDictIndex[0]
@@ -75,12 +81,12 @@ def facts_of(font):
     }
     if not keyed:
         facts["codes"] = codes_of(top, names)
-    seen = {}
+    seen, standing = {}, set(names)
     for glyph, name in enumerate(names):
         index = strings.charStrings[name] if strings.charStringsAreIndexed else glyph
         char_string, part = strings.charStringsIndex.getItemAndSelector(index)
         dictionary = top.FDArray[part] if keyed else top
-        called = (int(name[3:]) if name != ".notdef" else 0) if keyed else name.encode("latin-1")
+        called = (int(name[3:]) if name != ".notdef" else 0) if keyed else plain_name(name, standing).encode("latin-1")
         seen.setdefault(called, glyph)
         facts["glyph", glyph] = (called, seen[called], part if keyed else 0, width_of(char_string, dictionary.Private), matrix_of(dictionary))
     return facts
