@@ -129,6 +129,11 @@ front-through of to xs (Err e) next h grows = tt
 pub drawing-front : (xs : List Segment) (s : Stroke) (ss : List Stroke) (d : Drawing) → IfOk (drawn s d) (λ e. IsFront xs e.segments) → IfOk (drawing (s ∷ ss) d) (λ e. IsFront xs e.segments)
 drawing-front xs s ss d h = front-through (λ e. e.segments) (λ e. e.segments) xs (drawn s d) (drawing ss) h (drawing-grows ss)
 
+pub front-of-first : (xs : List Segment) (s : Stroke) (ss all : List Stroke) (d : Drawing) (whole : Result Drawing Refusal) → all ≡ s ∷ ss → drawing all d ≡ whole
+    → IfOk (drawn s d) (λ e. IsFront xs e.segments) → IfOk whole (λ e. IsFront xs e.segments)
+front-of-first xs s ss all d whole is same h =
+    subst (λ r. IfOk r (λ e. IsFront xs e.segments)) (ap (λ v. drawing v d) (sym is) ∙ same) (drawing-front xs s ss d h)
+
 closed-grows : (place : Point) (is_open : Bool) (segments : List Segment) → IsFront segments (closed (record { place = place; is_open = is_open; segments = segments })).segments
 closed-grows place true segments = front-of segments (Close ∷ [])
 closed-grows place false segments = take-length segments

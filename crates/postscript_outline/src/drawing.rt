@@ -13,10 +13,9 @@ ghost use Rattle.postscript_type2.specs.Program.Programs.{ended};
 ghost use Rattle.postscript_type2.specs.Program.Routines.{subroutines};
 ghost use Rattle.postscript_type2.specs.Program.Runs.{Run, UsedUp};
 
-use crate::operators::Strokes;
 use crate::pen::Pen;
 use crate::sink::Sink;
-use postscript_base::Result;
+use postscript_base::{Error, Result};
 use postscript_type2::{Operand, Program};
 use std::alloc::Global;
 
@@ -73,8 +72,12 @@ fn draw_from<S: Sink>(
     ensures ended { IfOk result (λ width. program.new ≡ ended width) }
 {
     let mut pen = start;
+    let mut fault = Error::Overflow;
     while let Some((operator, operands)) = program.step()? {
-        pen.draw_all(Strokes::of(operator, operands), sink)?;
+        match pen.draw_path(operator, operands, sink, &mut fault) {
+            Some(()) => {}
+            None => return Err(fault),
+        }
     }
     pen.end(sink)?;
     Ok(program.width())

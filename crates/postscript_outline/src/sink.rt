@@ -81,21 +81,25 @@ impl Sink for Vec<Segment> {
 
     ghost refuses = { λ _ e. e ≡ errors.Memory };
 
+    #[inline(always)]
     fn move_to(&mut self, to: Point) -> Result<()> {
         self.push(Segment::MoveTo(to))?;
         Ok(())
     }
 
+    #[inline(always)]
     fn line_to(&mut self, to: Point) -> Result<()> {
         self.push(Segment::LineTo(to))?;
         Ok(())
     }
 
+    #[inline(always)]
     fn curve_to(&mut self, first: Point, second: Point, to: Point) -> Result<()> {
         self.push(Segment::CurveTo(first, second, to))?;
         Ok(())
     }
 
+    #[inline(always)]
     fn close(&mut self) -> Result<()> {
         self.push(Segment::Close)?;
         Ok(())
@@ -110,21 +114,25 @@ impl Sink for Outline {
 
     ghost refuses = { λ _ e. e ≡ errors.Memory };
 
+    #[inline(always)]
     fn move_to(&mut self, to: Point) -> Result<()> {
         self.segments.push(Segment::MoveTo(to))?;
         Ok(())
     }
 
+    #[inline(always)]
     fn line_to(&mut self, to: Point) -> Result<()> {
         self.segments.push(Segment::LineTo(to))?;
         Ok(())
     }
 
+    #[inline(always)]
     fn curve_to(&mut self, first: Point, second: Point, to: Point) -> Result<()> {
         self.segments.push(Segment::CurveTo(first, second, to))?;
         Ok(())
     }
 
+    #[inline(always)]
     fn close(&mut self) -> Result<()> {
         self.segments.push(Segment::Close)?;
         Ok(())

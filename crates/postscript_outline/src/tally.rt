@@ -8,7 +8,6 @@ ghost use Rattle.postscript_type2.specs.Program.Evaluation.{run_of};
 ghost use Rattle.postscript_type2.specs.Program.Programs.{ended};
 ghost use Rattle.postscript_type2.specs.Program.Routines.{subroutines};
 
-use crate::operators::Strokes;
 use crate::outline::Outline;
 use crate::pen::{Pen, Segment};
 use postscript_base::Result;
@@ -63,7 +62,7 @@ pub fn tally_program<T: Tally>(
     let mut pen = Pen::new();
     while let Some((operator, operands)) = program.step()? {
         segments.truncate(0);
-        pen.draw_all(Strokes::of(operator, operands), &mut segments)?;
+        pen.draw_operator(operator, operands, &mut segments)?;
         add_all(&segments, tally);
     }
     segments.truncate(0);

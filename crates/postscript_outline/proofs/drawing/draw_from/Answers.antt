@@ -16,9 +16,9 @@ returns-in_err-operator-clause-front g c =
     let whole = subst Fronts c.loop-operator.invariant.same (front-of-all c.loop-operator.program.answers UsedUp here) in
     search rules
 
-pub returns-in_err-draw_all-clause-front : goal.returns-in_err-draw_all-clause-front
-returns-in_err-draw_all-clause-front g c =
-    let now = g.S.Sink.given c.draw_all.new.sink in
+pub returns-in-None-clause-front : goal.returns-in-None-clause-front
+returns-in-None-clause-front g c =
+    let now = g.S.Sink.given c.draw_path.new.sink in
     let here : Drawing = held c.loop-operator.pen (g.S.Sink.given c.loop-operator.sink) in
     let Fronts : Result Drawing Refusal → Type 0 = λ r. IfOk (r >>= finished UsedUp) (λ segments. IsFront now segments) in
     let first : IfOk (drawing (strokes c.in-Some.operator c.in-Some.operands.now) here) (λ d. IsFront now d.segments) = search rules in

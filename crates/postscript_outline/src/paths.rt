@@ -1,0 +1,165 @@
+//! Paths: what the operands of the commonest operators spell is drawn as it is read, by one method for each pattern (Technical
+//! Note 5177, "Path Construction Operators"). The others are drawn by their strokes.
+ghost use Rattle.std.specs.Option.{ok_or};
+ghost use Rattle.std.specs.Prelude.{◌≡◌, ◌⊎◌, OnErr, IfOk, IfErr};
+ghost use Rattle.postscript_base.specs.declared.error.Error.TheVariants as errors;
+ghost use Rattle.postscript_outline.specs.Drawing.{DrawsInto, IsFront, drawing, held};
+ghost use Rattle.postscript_outline.specs.Operators.{strokes as the_strokes};
+ghost use Rattle.postscript_outline.specs.Strokes.{move as the_move, move_along as the_move_along, lines as the_lines, lines_in_turn as the_lines_in_turn, curves as the_curves, curves_in_turn as the_curves_in_turn};
+
+use crate::operands::{by, vector, wide};
+use crate::operators::{Strokes, curve, curve_in_turn, line_in_turn};
+use crate::pen::Pen;
+use crate::sink::Sink;
+use crate::stroke::Axis;
+use postscript_base::Error;
+use postscript_type2::{Operand, Operator};
+
+impl Pen {
+    /// What an operator with these operands draws: those that are too few for one more stroke draw nothing. None where a
+    /// coordinate leaves the range, or the sink refuses; `fault` is with what then. An error is large, so it is not handed on.
+    #[inline(always)]
+    pub(crate) fn draw_path<S: Sink>(
+        &mut self,
+        operator: Operator,
+        operands: &[Operand],
+        sink: &mut S,
+        fault: &mut Error,
+    ) -> Option<()>
+        ensures exact { DrawsInto (S.refuses sink.new) (drawing (the_strokes operator operands.now) (held self.old (S.given sink.old))) (ok_or result fault.new) (held self.new (S.given sink.new)) }
+        ensures refused { IfErr (ok_or result fault.new) (λ e. S.refuses sink.new e ⊎ (e ≡ errors.Overflow)) }
+        ensures kept { IsFront (S.given sink.old) (S.given sink.new) }
+        ensures front { OnErr (ok_or result fault.new) (IfOk (drawing (the_strokes operator operands.now) (held self.old (S.given sink.old))) (λ drawing. IsFront (S.given sink.new) drawing.segments)) }
+    {
+        match operator {
+            Operator::RMoveTo => self.go(operands, sink, fault),
+            Operator::HMoveTo => self.go_along(Axis::Horizontal, operands, sink, fault),
+            Operator::VMoveTo => self.go_along(Axis::Vertical, operands, sink, fault),
+            Operator::RLineTo => self.lines(operands, sink, fault),
+            Operator::HLineTo => self.lines_in_turn(Axis::Horizontal, operands, sink, fault),
+            Operator::VLineTo => self.lines_in_turn(Axis::Vertical, operands, sink, fault),
+            Operator::RRCurveTo => self.curves(operands, sink, fault),
+            Operator::HVCurveTo => self.curves_in_turn(Axis::Horizontal, operands, sink, fault),
+            Operator::VHCurveTo => self.curves_in_turn(Axis::Vertical, operands, sink, fault),
+            _ => self.draw_all(Strokes::of(operator, operands), sink, fault),
+        }
+    }
+
+    /// dx1 dy1
+    fn go<S: Sink>(&mut self, operands: &[Operand], sink: &mut S, fault: &mut Error) -> Option<()>
+        ensures exact { DrawsInto (S.refuses sink.new) (drawing (the_move operands.now) (held self.old (S.given sink.old))) (ok_or result fault.new) (held self.new (S.given sink.new)) }
+        ensures refused { IfErr (ok_or result fault.new) (λ e. S.refuses sink.new e ⊎ (e ≡ errors.Overflow)) }
+        ensures kept { IsFront (S.given sink.old) (S.given sink.new) }
+        ensures front { OnErr (ok_or result fault.new) (IfOk (drawing (the_move operands.now) (held self.old (S.given sink.old))) (λ drawing. IsFront (S.given sink.new) drawing.segments)) }
+    {
+        match operands {
+            [dx1, dy1] => self.move_by(by(*dx1, *dy1), sink, fault),
+            _ => Some(()),
+        }
+    }
+
+    /// d1
+    fn go_along<S: Sink>(
+        &mut self,
+        axis: Axis,
+        operands: &[Operand],
+        sink: &mut S,
+        fault: &mut Error,
+    ) -> Option<()>
+        ensures exact { DrawsInto (S.refuses sink.new) (drawing (the_move_along axis operands.now) (held self.old (S.given sink.old))) (ok_or result fault.new) (held self.new (S.given sink.new)) }
+        ensures refused { IfErr (ok_or result fault.new) (λ e. S.refuses sink.new e ⊎ (e ≡ errors.Overflow)) }
+        ensures kept { IsFront (S.given sink.old) (S.given sink.new) }
+        ensures front { OnErr (ok_or result fault.new) (IfOk (drawing (the_move_along axis operands.now) (held self.old (S.given sink.old))) (λ drawing. IsFront (S.given sink.new) drawing.segments)) }
+    {
+        match operands {
+            [d1] => self.move_by(axis.along(wide(*d1)), sink, fault),
+            _ => Some(()),
+        }
+    }
+
+    /// {dxa dya}+
+    fn lines<S: Sink>(
+        &mut self,
+        operands: &[Operand],
+        sink: &mut S,
+        fault: &mut Error,
+    ) -> Option<()>
+        ensures exact { DrawsInto (S.refuses sink.new) (drawing (the_lines operands.now) (held self.old (S.given sink.old))) (ok_or result fault.new) (held self.new (S.given sink.new)) }
+        ensures refused { IfErr (ok_or result fault.new) (λ e. S.refuses sink.new e ⊎ (e ≡ errors.Overflow)) }
+        ensures kept { IsFront (S.given sink.old) (S.given sink.new) }
+        ensures front { OnErr (ok_or result fault.new) (IfOk (drawing (the_lines operands.now) (held self.old (S.given sink.old))) (λ drawing. IsFront (S.given sink.new) drawing.segments)) }
+    {
+        let mut ahead = operands;
+        while let Some((a, rest)) = vector(ahead) {
+            self.line_by(a, sink, fault)?;
+            ahead = rest;
+        }
+        Some(())
+    }
+
+    /// {da}+
+    fn lines_in_turn<S: Sink>(
+        &mut self,
+        first: Axis,
+        operands: &[Operand],
+        sink: &mut S,
+        fault: &mut Error,
+    ) -> Option<()>
+        ensures exact { DrawsInto (S.refuses sink.new) (drawing (the_lines_in_turn first operands.now) (held self.old (S.given sink.old))) (ok_or result fault.new) (held self.new (S.given sink.new)) }
+        ensures refused { IfErr (ok_or result fault.new) (λ e. S.refuses sink.new e ⊎ (e ≡ errors.Overflow)) }
+        ensures kept { IsFront (S.given sink.old) (S.given sink.new) }
+        ensures front { OnErr (ok_or result fault.new) (IfOk (drawing (the_lines_in_turn first operands.now) (held self.old (S.given sink.old))) (λ drawing. IsFront (S.given sink.new) drawing.segments)) }
+    {
+        let mut axis = first;
+        let mut ahead = operands;
+        while let Some((a, rest)) = line_in_turn(axis, ahead) {
+            self.line_by(a, sink, fault)?;
+            axis = axis.other();
+            ahead = rest;
+        }
+        Some(())
+    }
+
+    /// {dxa dya dxb dyb dxc dyc}+
+    fn curves<S: Sink>(
+        &mut self,
+        operands: &[Operand],
+        sink: &mut S,
+        fault: &mut Error,
+    ) -> Option<()>
+        ensures exact { DrawsInto (S.refuses sink.new) (drawing (the_curves operands.now) (held self.old (S.given sink.old))) (ok_or result fault.new) (held self.new (S.given sink.new)) }
+        ensures refused { IfErr (ok_or result fault.new) (λ e. S.refuses sink.new e ⊎ (e ≡ errors.Overflow)) }
+        ensures kept { IsFront (S.given sink.old) (S.given sink.new) }
+        ensures front { OnErr (ok_or result fault.new) (IfOk (drawing (the_curves operands.now) (held self.old (S.given sink.old))) (λ drawing. IsFront (S.given sink.new) drawing.segments)) }
+    {
+        let mut ahead = operands;
+        while let Some(bend) = curve(ahead) {
+            self.curve_by(bend.a, bend.b, bend.c, sink, fault)?;
+            ahead = bend.rest;
+        }
+        Some(())
+    }
+
+    /// {da dxb dyb dc}+ de?
+    fn curves_in_turn<S: Sink>(
+        &mut self,
+        first: Axis,
+        operands: &[Operand],
+        sink: &mut S,
+        fault: &mut Error,
+    ) -> Option<()>
+        ensures exact { DrawsInto (S.refuses sink.new) (drawing (the_curves_in_turn first operands.now) (held self.old (S.given sink.old))) (ok_or result fault.new) (held self.new (S.given sink.new)) }
+        ensures refused { IfErr (ok_or result fault.new) (λ e. S.refuses sink.new e ⊎ (e ≡ errors.Overflow)) }
+        ensures kept { IsFront (S.given sink.old) (S.given sink.new) }
+        ensures front { OnErr (ok_or result fault.new) (IfOk (drawing (the_curves_in_turn first operands.now) (held self.old (S.given sink.old))) (λ drawing. IsFront (S.given sink.new) drawing.segments)) }
+    {
+        let mut axis = first;
+        let mut ahead = operands;
+        while let Some(bend) = curve_in_turn(axis, ahead) {
+            self.curve_by(bend.a, bend.b, bend.c, sink, fault)?;
+            axis = axis.other();
+            ahead = bend.rest;
+        }
+        Some(())
+    }
+}
