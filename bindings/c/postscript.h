@@ -126,6 +126,13 @@ typedef struct psf_bounds {
     uint32_t has_bounds;              /* 1 where there is a point, else 0 */
 } psf_bounds;
 
+/* An operation of a glyph: its operator, and which of the operands of all operations are its own. */
+typedef struct psf_operation {
+    uint64_t first;          /* where its operands begin */
+    uint64_t count;          /* how many they are */
+    uint32_t operator_code;  /* its code; that of two bytes is 0x0c00 and the second, as 0x0c23 for flex */
+} psf_operation;
+
 /* The version of the library, as PSF_VERSION. */
 uint32_t psf_version(void);
 
@@ -167,6 +174,14 @@ int32_t psf_glyph_bounds(const uint8_t *cff, size_t length, const psf_font *font
  * On PSF_OK and PSF_NO_ROOM *count is how many bytes it has. Also answered: PSF_NO_GLYPH, and errors from 1 to 30. */
 int32_t psf_glyph_flat(const uint8_t *cff, size_t length, const psf_font *font, size_t glyph,
                        uint8_t *code, size_t room, size_t *count);
+
+/* The operations of a glyph, in the order of its run, to the front of operations[0..room], and the operands of all of them to
+ * the front of operands[0..operand_room]. Those of operations[i] are operands[first..first + count].
+ * On PSF_OK and PSF_NO_ROOM *count and *operand_count tell how many there are of each; on PSF_NO_ROOM one of them is more than
+ * its room, and nothing else is written. Also answered: PSF_NO_GLYPH, and errors from 1 to 30; then nothing is written. */
+int32_t psf_glyph_operations(const uint8_t *cff, size_t length, const psf_font *font, size_t glyph,
+                             psf_operation *operations, size_t room, size_t *count,
+                             int32_t *operands, size_t operand_room, size_t *operand_count);
 
 /* The name of a glyph of the font that the bytes of a table CFF begin with, without a byte 0 at its end, to the front of
  * name[0..room]. A CID-keyed font has CIDs in place of names.

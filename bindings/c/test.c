@@ -107,6 +107,28 @@ static void check_flat(const uint8_t *cff, size_t size, const psf_font *font) {
     holds(psf_glyph_flat(cff, size, font, 4, flat, 16, &count) == PSF_NO_GLYPH, "no glyph's flat code");
 }
 
+static void check_operations(const uint8_t *cff, size_t size, const psf_font *font) {
+    /* 0 hmoveto 250 700 250 -700 rlineto endchar, of which endchar tells nothing */
+    static const int32_t numbers[] = {0, 250, 700, 250, -700};
+    psf_operation operations[4];
+    int32_t operands[8];
+    size_t count = 77, operand_count = 77;
+    memset(operations, 0xa5, sizeof operations);
+    memset(operands, 0xa5, sizeof operands);
+    holds(psf_glyph_operations(cff, size, font, 2, operations, 4, &count, operands, 8, &operand_count) == PSF_OK, "operations");
+    holds(count == 2 && operand_count == 5, "how many");
+    holds(operations[0].operator_code == 0x16 && operations[0].first == 0 && operations[0].count == 1, "hmoveto");
+    holds(operations[1].operator_code == 0x05 && operations[1].first == 1 && operations[1].count == 4, "rlineto");
+    for (size_t i = 0; i < 5; i++) holds(operands[i] == numbers[i] * 65536, "an operand");
+    holds(operands[5] == (int32_t)0xa5a5a5a5u, "nothing behind the operands");
+    memset(operands, 0xa5, sizeof operands);
+    holds(psf_glyph_operations(cff, size, font, 2, operations, 4, &count, operands, 4, &operand_count) == PSF_NO_ROOM, "no room for operands");
+    holds(count == 2 && operand_count == 5 && operands[0] == (int32_t)0xa5a5a5a5u, "how many, and nothing written");
+    holds(psf_glyph_operations(cff, size, font, 2, operations, 1, &count, operands, 8, &operand_count) == PSF_NO_ROOM, "no room for operations");
+    count = 77;
+    holds(psf_glyph_operations(cff, size, font, 4, operations, 4, &count, operands, 8, &operand_count) == PSF_NO_GLYPH && count == 77, "past the end");
+}
+
 static void check_texts(void) {
     uint8_t text[80];
     size_t count = 0;
@@ -144,6 +166,7 @@ int main(int argc, char **argv) {
     check_spoiled(file + place, size, &font);
     check_names(file + place, size);
     check_flat(file + place, size, &font);
+    check_operations(file + place, size, &font);
     check_texts();
     printf("postscript.h: %s\n", failures ? "tests failed" : "all tests passed");
     return failures != 0;

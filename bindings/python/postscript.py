@@ -23,7 +23,7 @@ from ctypes import POINTER, Structure, byref, c_char_p, c_int32, c_int64, c_size
 from pathlib import Path
 from typing import Callable, Iterator, List, NamedTuple, Optional, Protocol, Tuple, Type, Union
 
-__all__ = ["Bounds", "Error", "Font", "Glyph", "Pen", "Segment", "Status", "faces", "version"]
+__all__ = ["Bounds", "Error", "Font", "Glyph", "Operation", "Pen", "Segment", "Status", "faces", "version"]
 
 #: A point in units of the font; both coordinates are whole numbers of 65536ths, so they are exact.
 Point = Tuple[float, float]
@@ -39,6 +39,13 @@ class Bounds(NamedTuple):
     bottom: float
     right: float
     top: float
+
+
+class Operation(NamedTuple):
+    """An operation of a glyph: the operator's name and its operands, which are whole numbers of 65536ths, so they are exact."""
+
+    operator: str
+    operands: Tuple[float, ...]
 
 
 class Pen(Protocol):
@@ -97,13 +104,27 @@ class Status(enum.IntEnum):
     NO_NAME = 38
     NO_STATUS = 39
 
+
+def _status(number: int) -> Union[Status, int]:
+    return Status(number) if number in set(Status) else number
+
+
 class Error(Exception):
     """A call was refused. Its text says why, and so does `status`."""
 
-    def __init__(self, status: int) -> None:
-        super().__init__(_text_of(status))
+    def __init__(self, status: int, text: Optional[str] = None) -> None:
+        super().__init__(_text_of(status) if text is None else text)
         #: a `Status`, or a number where this module knows none
-        self.status: Union[Status, int] = Status(status) if status in set(Status) else status
+        self.status: Union[Status, int] = _status(status)
+
+
+#: the operators that runs tell, by their codes
+_OPERATORS = {
+    0x01: "hstem", 0x03: "vstem", 0x04: "vmoveto", 0x05: "rlineto", 0x06: "hlineto", 0x07: "vlineto", 0x08: "rrcurveto",
+    0x12: "hstemhm", 0x13: "hintmask", 0x14: "cntrmask", 0x15: "rmoveto", 0x16: "hmoveto", 0x17: "vstemhm", 0x18: "rcurveline",
+    0x19: "rlinecurve", 0x1A: "vvcurveto", 0x1B: "hhcurveto", 0x1E: "vhcurveto", 0x1F: "hvcurveto", 0x0C22: "hflex",
+    0x0C23: "flex", 0x0C24: "hflex1", 0x0C25: "flex1",
+}  # fmt: skip
 
 
 class _Part(Structure):
@@ -142,6 +163,10 @@ class _Bounds(Structure):
     _fields_ = [(name, c_int32) for name in ("left", "bottom", "right", "top")] + [("has_bounds", c_uint32)]
 
 
+class _Operation(Structure):
+    _fields_ = [("first", c_uint64), ("count", c_uint64), ("operator_code", c_uint32)]
+
+
 def _load() -> ctypes.CDLL:
     own = Path(__file__).resolve().parent
     named = os.environ.get("POSTSCRIPT_LIBRARY")
@@ -164,6 +189,7 @@ for _name, _arguments in {
     "psf_glyph_outline": [_bytes, _size, POINTER(_Font), _size, POINTER(_Segment), _size, _sizes, POINTER(_Glyph)],
     "psf_glyph_bounds": [_bytes, _size, POINTER(_Font), _size, POINTER(_Bounds)],
     "psf_glyph_flat": [_bytes, _size, POINTER(_Font), _size, _room, _size, _sizes],
+    "psf_glyph_operations": [_bytes, _size, POINTER(_Font), _size, POINTER(_Operation), _size, _sizes, POINTER(c_int32), _size, _sizes],
     "psf_glyph_name": [_bytes, _size, _size, _room, _size, _sizes],
     "psf_named_glyph": [_bytes, _size, _bytes, _size, _sizes],
 }.items():
@@ -338,6 +364,22 @@ class Glyph:
         cff, font = self.font._cff, byref(self.font._font)
         return _bytes_of(lambda room, size, count: _library.psf_glyph_flat(cff, len(cff), font, self.number, room, size, count))
 
+    def operations(self) -> List[Operation]:
+        """The operations, in the order of the run: with subroutines called, the width taken off, and numbers worked out. `endchar` is not
+        one of them."""
+        cff, font = self.font._cff, byref(self.font._font)
+        room, operand_room, count, operand_count = 64, 256, c_size_t(), c_size_t()
+        while True:
+            rows, operands = (_Operation * room)(), (c_int32 * operand_room)()
+            status = _library.psf_glyph_operations(
+                cff, len(cff), font, self.number, rows, room, byref(count), operands, operand_room, byref(operand_count)
+            )
+            if status == Status.OK:
+                return [_operation(row, operands[row.first : row.first + row.count]) for row in rows[: count.value]]
+            if status != Status.NO_ROOM:
+                raise Error(status)
+            room, operand_room = count.value, operand_count.value
+
     def draw(self, pen: Pen) -> None:
         """Draws the outline with a pen of fontTools."""
         for method, points in self.segments:
@@ -353,6 +395,10 @@ def _bounds(told: Union[_Glyph, _Bounds]) -> Optional[Bounds]:
     if not told.has_bounds:
         return None
     return Bounds(told.left / 65536, told.bottom / 65536, told.right / 65536, told.top / 65536)
+
+
+def _operation(row: _Operation, operands: List[int]) -> Operation:
+    return Operation(_OPERATORS.get(row.operator_code, hex(row.operator_code)), tuple(bits / 65536 for bits in operands))
 
 
 def _segment(s: _Segment) -> Segment:

@@ -83,6 +83,12 @@ class Small(unittest.TestCase):
         # 0 hmoveto 250 700 250 -700 rlineto endchar
         self.assertEqual(self.font[2].flat_code().hex(), "8b16f78ef950f78efd50050e")
 
+    def test_operations(self):
+        # 0 hmoveto 250 700 250 -700 rlineto endchar
+        self.assertEqual(self.font[2].operations(), [("hmoveto", (0,)), ("rlineto", (250, 700, 250, -700))])
+        self.assertEqual(self.font[1].operations(), [])
+        self.refused(Status.NO_GLYPH, postscript.Glyph(self.font, 4).operations)
+
     def test_cid_keyed(self):
         for selection in ("0300020000000002010004", "0000000101"):
             font = Font(CID + bytes.fromhex(selection))
@@ -136,6 +142,38 @@ class Installed(unittest.TestCase):
                 glyphs[order[glyph.number]].draw(other)
                 self.assertEqual(pen.value, other.value, (file.name, glyph))
                 self.assertEqual(glyph.advance, glyphs[order[glyph.number]].width)
+
+    def test_operations(self):
+        try:
+            from fontTools.ttLib import TTFont
+        except ImportError:
+            self.skipTest("no fontTools")
+        file = FONTS / "ebgaramond" / "EBGaramond12-Regular.otf"
+        if not file.exists():
+            self.skipTest("no font")
+        cff = TTFont(file)["CFF "].cff
+        cff.desubroutinize()
+        codes = cff.topDictIndex[0].CharStrings
+        for glyph in list(Font.open(file))[::7]:
+            self.assertEqual(glyph.operations(), operations_of(codes[glyph.name].program), glyph)
+
+
+def operations_of(program):
+    """The operations of a program without calls and without arithmetic, as fontTools lists it: with its width, and a text behind each mask."""
+    operations, numbers, tokens = [], [], iter(program)
+    takes = {"rmoveto": 2, "hmoveto": 1, "vmoveto": 1, "hintmask": 0, "cntrmask": 0}
+    for token in tokens:
+        if not isinstance(token, str):
+            numbers.append(token)
+            continue
+        if token == "endchar":
+            break
+        if token.endswith("mask"):
+            next(tokens)
+        taken = takes.get(token, len(numbers) // 2 * 2 if "stem" in token else len(numbers))
+        operations.append((token, tuple(numbers[len(numbers) - taken :])))
+        numbers = []
+    return operations
 
 
 if __name__ == "__main__":

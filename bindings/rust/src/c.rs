@@ -61,6 +61,22 @@ pub struct Bounds {
     pub has_bounds: u32,
 }
 
+/// `psf_operation`.
+#[repr(C)]
+#[derive(Clone, Copy, Debug, Default)]
+pub struct Operation {
+    first: u64,
+    count: u64,
+    pub operator: u32,
+}
+
+impl Operation {
+    /// Its own operands among those of all operations.
+    pub fn own(self, operands: &[i32]) -> &[i32] {
+        &operands[self.first as usize..][..self.count as usize]
+    }
+}
+
 const OK: i32 = 0;
 const NO_ROOM: i32 = 32;
 
@@ -103,6 +119,18 @@ extern "C" {
         code: *mut u8,
         room: usize,
         count: *mut usize,
+    ) -> i32;
+    fn psf_glyph_operations(
+        cff: *const u8,
+        length: usize,
+        font: *const Font,
+        glyph: usize,
+        operations: *mut Operation,
+        room: usize,
+        count: *mut usize,
+        operands: *mut i32,
+        operand_room: usize,
+        operand_count: *mut usize,
     ) -> i32;
     fn psf_glyph_name(
         cff: *const u8,
@@ -224,4 +252,34 @@ pub fn named_glyph(cff: &[u8], name: &[u8]) -> Result<usize> {
     let status =
         unsafe { psf_named_glyph(cff.as_ptr(), cff.len(), name.as_ptr(), name.len(), &mut glyph) };
     answered(status, glyph)
+}
+
+/// The operations of a glyph, and the operands of all of them.
+pub fn operations(cff: &[u8], font: &Font, glyph: usize) -> Result<(Vec<Operation>, Vec<i32>)> {
+    let (mut operations, mut operands) = (vec![Operation::default(); 64], vec![0; 256]);
+    loop {
+        let (mut count, mut operand_count) = (0, 0);
+        let status = unsafe {
+            psf_glyph_operations(
+                cff.as_ptr(),
+                cff.len(),
+                font,
+                glyph,
+                operations.as_mut_ptr(),
+                operations.len(),
+                &mut count,
+                operands.as_mut_ptr(),
+                operands.len(),
+                &mut operand_count,
+            )
+        };
+        if status != NO_ROOM {
+            answered(status, ())?;
+            operations.truncate(count);
+            operands.truncate(operand_count);
+            return Ok((operations, operands));
+        }
+        operations.resize(count, Operation::default());
+        operands.resize(operand_count, 0);
+    }
 }

@@ -15,11 +15,13 @@
 
 mod c;
 mod error;
+mod operation;
 mod outline;
 
 use std::ops::Range;
 
 pub use error::{Error, Result};
+pub use operation::Operation;
 pub use outline::{Bounds, Glyph, Outline, OutlineSink, Point, Segment};
 
 /// The version of the linked library: its major, minor and patch number.
@@ -133,6 +135,26 @@ impl<'a> Font<'a> {
     /// As [`Font::outline`].
     pub fn flat_code(&self, glyph: usize) -> Result<Vec<u8>> {
         c::flat(self.cff, &self.font, glyph)
+    }
+
+    /// The operations of a glyph, in the order of its run: with subroutines called, widths taken off, and numbers worked out.
+    /// `endchar` is not one of them.
+    ///
+    /// ```no_run
+    /// # let bytes = Vec::new();
+    /// # let font = postscript::Font::from_file(&bytes, 0)?;
+    /// for operation in font.operations(36)? {
+    ///     println!("{:?} {}", operation.operands, operation.name().unwrap_or("?"));
+    /// }
+    /// # Ok::<(), postscript::Error>(())
+    /// ```
+    ///
+    /// # Errors
+    ///
+    /// As [`Font::outline`].
+    pub fn operations(&self, glyph: usize) -> Result<Vec<Operation>> {
+        let (told, operands) = c::operations(self.cff, &self.font, glyph)?;
+        Ok(told.into_iter().map(|told| Operation::of(told, &operands)).collect())
     }
 
     /// The name of a glyph. `None` where it has none, as in a CID-keyed font of which no string is named.

@@ -1,6 +1,6 @@
 //! The font whose bytes `bindings/font.hex` spells: four glyphs, `.notdef`, `space`, `A` and `flower`. The expected values are
 //! the numbers of its char strings and of its dictionary, added up by hand.
-use postscript::{Bounds, Error, Font, Outline, OutlineSink, Point, Segment};
+use postscript::{Bounds, Error, Font, Operation, Outline, OutlineSink, Point, Segment};
 
 fn bytes() -> Vec<u8> {
     hex(include_str!("../../font.hex"))
@@ -92,6 +92,23 @@ fn code_without_calls() {
 }
 
 #[test]
+fn operations() {
+    let bytes = bytes();
+    let font = Font::from_file(&bytes, 0).unwrap();
+    // 0 hmoveto 250 700 250 -700 rlineto endchar
+    let expected = vec![
+        Operation { operator: 0x16, operands: vec![0.0] },
+        Operation { operator: 0x05, operands: vec![250.0, 700.0, 250.0, -700.0] },
+    ];
+    let operations = font.operations(2).unwrap();
+    assert_eq!(operations, expected);
+    let names: Vec<_> = operations.iter().filter_map(Operation::name).collect();
+    assert_eq!(names, ["hmoveto", "rlineto"]);
+    assert_eq!(font.operations(1), Ok(Vec::new()));
+    assert_eq!(font.operations(4), Err(Error::NoGlyph));
+}
+
+#[test]
 fn names() {
     let bytes = bytes();
     let font = Font::from_file(&bytes, 0).unwrap();
@@ -138,6 +155,8 @@ fn glyphs_of_a_cid_keyed_font() {
         assert_eq!(advances, [500.0, 596.0, -23.0, 250.0]);
         let paths: Vec<String> = font.outlines().map(|outline| outline.unwrap().svg_path()).collect();
         assert_eq!(paths, ["", "M20 0Z", "M50 0Z", ""]);
+        let called = Operation { operator: 0x16, operands: vec![20.0] };
+        assert_eq!(font.operations(1).unwrap(), [called]);
     }
 }
 

@@ -1,7 +1,9 @@
 pub mod Agreeing
 pub mod FlatParts
 pub mod Flattening
+pub mod Operands
 pub mod Outcomes
+pub mod Reading
 pub mod Selecting
 pub mod Telling
 pub mod TellingWidths

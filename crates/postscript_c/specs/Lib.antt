@@ -7,7 +7,9 @@ pub mod Flats
 pub mod FontWidths
 pub mod Glyphs
 pub mod Law
+pub mod Listing
 pub mod Naming
+pub mod Operations
 pub mod Places
 pub mod Segments
 pub mod Selection

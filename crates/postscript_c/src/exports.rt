@@ -9,10 +9,13 @@ ghost use Rattle.postscript_c.specs.Flats.{flat_at};
 ghost use Rattle.postscript_c.specs.Flatness.{IsFlatOfCid, TellsFlat, flat_shown};
 ghost use Rattle.postscript_c.specs.Law.{IsFontOf};
 ghost use Rattle.postscript_c.specs.declared.flat.Flat.{Flat as TheFlat};
+ghost use Rattle.postscript_c.specs.Listing.{AreOfCid, TellsOperations, rooms};
 ghost use Rattle.postscript_c.specs.Naming.{TellsName, TellsNamed};
+ghost use Rattle.postscript_c.specs.Operations.{listed_at, shown as the_shown};
 ghost use Rattle.postscript_c.specs.Texts.{TellsText};
 ghost use Rattle.postscript_c.specs.declared.font.PsfFont.{PsfFont as TheFont};
 ghost use Rattle.postscript_c.specs.declared.glyph.Found.{Found as TheFound};
+ghost use Rattle.postscript_c.specs.declared.operations.Listed.{Listed as TheListed};
 
 use crate::files::{tell_faces, tell_glyph, tell_table};
 use crate::fill::{PsfSegment, fill};
@@ -20,6 +23,7 @@ use crate::flat::{flat_glyph, tell_flat};
 use crate::font::{PsfFont, opened};
 use crate::glyph::{Found, glyph_of};
 use crate::names::{tell_name, tell_named};
+use crate::operations::{PsfOperation, operations_of, tell_operations};
 use crate::status::{NO_GLYPH, NO_ROOM};
 use crate::texts::tell_text;
 use crate::told::{PsfBounds, PsfGlyph, status, tight, told};
@@ -221,4 +225,25 @@ pub extern "C" fn psf_glyph_bounds(
 {
     let answer = glyph_of(alloc, bytes, font, glyph);
     bound(&answer, bounds)
+}
+
+/// The operations of a glyph, in the order of its run, and the operands of all of them, in 16.16 bits: 0, or `NO_GLYPH`, or
+/// the number of the refusal, or `NO_ROOM` where there are more of either than its room. On 0 and `NO_ROOM` it is told how many
+/// there are of each; else, and in the rooms on `NO_ROOM`, nothing is written.
+#[unsafe(no_mangle)]
+pub extern "C" fn psf_glyph_operations(
+    alloc: Global,
+    bytes: &[u8],
+    font: &PsfFont,
+    glyph: usize,
+    operations: &mut [PsfOperation],
+    count: &mut usize,
+    operands: &mut [i32],
+    operand_count: &mut usize,
+) -> i32
+    ensures cid { font.now.is_cid ≢ 0 → (answer : Answer (Maybe TheListed) Refusal) × AreOfCid bytes.now font.now glyph answer × TellsOperations answer result (rooms operations.old count.old operands.old operand_count.old) (rooms operations.new count.new operands.new operand_count.new) }
+    ensures plain { font.now.is_cid ≡ 0 → (answer : Answer (Maybe TheListed) Refusal) × Answers (option_map the_shown) answer 0 (listed_at font.now font.now.part glyph bytes.now 0) × TellsOperations answer result (rooms operations.old count.old operands.old operand_count.old) (rooms operations.new count.new operands.new operand_count.new) }
+{
+    let answer = operations_of(alloc, bytes, font, glyph);
+    tell_operations(&answer, operations, count, operands, operand_count)
 }

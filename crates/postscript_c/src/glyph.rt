@@ -81,7 +81,7 @@ fn program_of<'l>(
 
 /// The program of a glyph. None where there is no such glyph.
 #[tactic(auto, unfolding(crate::specs::Glyphs::program_at))]
-fn program<'l>(
+pub(crate) fn program<'l>(
     alloc: Global,
     bytes: &'l [u8],
     font: &PsfFont,

@@ -1,6 +1,7 @@
 //! Fonts and glyphs as C calls them: thin exports over `postscript_view` and `postscript_outline`.
 #![tactic(auto, using(crate::proofs::Outcomes::refused_after))]
 
+mod codes;
 mod exports;
 mod files;
 mod fill;
@@ -8,6 +9,7 @@ mod flat;
 mod font;
 mod glyph;
 mod names;
+mod operations;
 mod part;
 mod select;
 mod status;

@@ -4,8 +4,8 @@ ghost use Rattle.postscript_c.specs.Texts.{HandsBytes, TellsText};
 
 use crate::status::{NO_ROOM, NO_STATUS};
 
-/// Copies bytes to the front of others.
-fn copy(from: &[u8], room: &mut [u8])
+/// Copies a list to the front of another.
+pub(crate) fn copy<T: Copy>(from: &[T], room: &mut [T])
     requires { length from.now ≤ length room.old }
     ensures { take (length from.now) room.new ≡ from.now }
 {

@@ -1,0 +1,53 @@
+//! Operations of glyphs.
+use crate::c;
+
+/// An operation of a glyph: an operator, and the operands that it takes.
+#[derive(Clone, Debug, PartialEq)]
+pub struct Operation {
+    /// The code of the operator (Adobe Technical Note 5177, Appendix A); that of two bytes is 0x0c00 and the second.
+    pub operator: u16,
+    /// The operands, the lowest first. They are whole numbers of 65536ths, so they are exact.
+    pub operands: Vec<f64>,
+}
+
+impl Operation {
+    /// An operation as C tells it, with the operands of all operations.
+    pub(crate) fn of(told: c::Operation, operands: &[i32]) -> Operation {
+        Operation {
+            operator: told.operator as u16,
+            operands: told.own(operands).iter().map(|bits| f64::from(*bits) / 65536.0).collect(),
+        }
+    }
+
+    /// What the Technical Note calls the operator; `None` where it has no operator of this code.
+    pub fn name(&self) -> Option<&'static str> {
+        NAMES.iter().find(|(code, _)| *code == self.operator).map(|(_, name)| *name)
+    }
+}
+
+/// The operators that runs tell, by their codes.
+const NAMES: [(u16, &str); 23] = [
+    (0x01, "hstem"),
+    (0x03, "vstem"),
+    (0x04, "vmoveto"),
+    (0x05, "rlineto"),
+    (0x06, "hlineto"),
+    (0x07, "vlineto"),
+    (0x08, "rrcurveto"),
+    (0x12, "hstemhm"),
+    (0x13, "hintmask"),
+    (0x14, "cntrmask"),
+    (0x15, "rmoveto"),
+    (0x16, "hmoveto"),
+    (0x17, "vstemhm"),
+    (0x18, "rcurveline"),
+    (0x19, "rlinecurve"),
+    (0x1a, "vvcurveto"),
+    (0x1b, "hhcurveto"),
+    (0x1e, "vhcurveto"),
+    (0x1f, "hvcurveto"),
+    (0x0c22, "hflex"),
+    (0x0c23, "flex"),
+    (0x0c24, "hflex1"),
+    (0x0c25, "flex1"),
+];

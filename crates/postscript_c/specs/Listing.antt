@@ -1,0 +1,51 @@
+-- What C is told of the operations of a glyph.
+use Rattle.std.specs.Prelude.{◌≡◌, ◌⊎◌, ℕ, ◌<◌, ℤ, pos, List, length, take, Option, Some, None, option_map, Result, Ok, Err}
+use Rattle.postscript_base.specs.Error.{code}
+use Rattle.postscript_base.specs.declared.error.Error.{Error}
+use Rattle.postscript_base.specs.Tape.Outcome.{Got}
+use Rattle.postscript_c.specs.CidParts.{HasPart}
+use Rattle.postscript_c.specs.Operations.{listed_at, shown}
+use Rattle.postscript_c.specs.declared.font.PsfFont.{PsfFont}
+use Rattle.postscript_c.specs.declared.operations.Listed.{Listed}
+use Rattle.postscript_c.specs.declared.operations.PsfOperation.{PsfOperation}
+use Rattle.postscript_c.specs.declared.part.PsfPart.{PsfPart}
+
+-- what C lends to a call, as it stands at one time
+pub record Rooms : Type 0 where
+  pub operations : List PsfOperation
+  pub count : ℕ
+  pub operands : List ℤ
+  pub operand_count : ℕ
+
+abbrev pub rooms : List PsfOperation → ℕ → List ℤ → ℕ → Rooms
+rooms operations count operands operand_count = record { operations = operations; count = count; operands = operands; operand_count = operand_count }
+
+-- both lists stand at the front of their rooms
+pub record Handed (listed : Listed) (status : ℤ) (new : Rooms) : Type 0 where
+  pub done : status ≡ pos 0
+  pub rows : take new.count new.operations ≡ listed.rows.items
+  pub row_operands : take new.operand_count new.operands ≡ listed.operands.items
+
+-- one of them is more than its room, and nothing is written to either
+pub record Lacking (status : ℤ) (old new : Rooms) : Type 0 where
+  pub refused : status ≡ pos 32
+  pub small : (length old.operations < new.count) ⊎ (length old.operands < new.operand_count)
+  pub same_rows : new.operations ≡ old.operations
+  pub same_operands : new.operands ≡ old.operands
+
+-- how many of each there are is told
+pub record HandsOperations (listed : Listed) (status : ℤ) (old new : Rooms) : Type 0 where
+  pub counted : new.count ≡ length listed.rows.items
+  pub operands_counted : new.operand_count ≡ length listed.operands.items
+  pub handed : Handed listed status new ⊎ Lacking status old new
+
+-- the operations are handed over, or there is no such glyph, or a refusal is told by its number; then all is left as it was
+abbrev pub TellsOperations : Result (Option Listed) Error → (status : ℤ) → (old new : Rooms) → Type 0
+TellsOperations (Ok (Some listed)) status old new = HandsOperations listed status old new
+TellsOperations (Ok None) status old new = (status ≡ pos 31) × (new ≡ old)
+TellsOperations (Err e) status old new = (status ≡ pos (code e)) × (new ≡ old)
+
+-- Where it is answered, it is what the glyph's run answers over these numbers with the part of its font dictionary.
+abbrev pub AreOfCid : List ℕ → PsfFont → (glyph : ℕ) → Result (Option Listed) Error → Type 0
+AreOfCid bytes font glyph (Ok listed) = (part : PsfPart) × HasPart bytes font glyph part × (listed_at font part glyph bytes 0 ≡ Got (option_map shown listed) 0)
+AreOfCid bytes font glyph (Err e) = Unit {0}
