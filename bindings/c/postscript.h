@@ -71,7 +71,12 @@ enum {
     PSF_NO_TABLE = 36,                    /* the face has no such table */
     PSF_NO_MAP = 37,                      /* the table cmap has no map of a format that is read */
     PSF_NO_NAME = 38,                     /* the glyph has no name */
-    PSF_NO_STATUS = 39                    /* no status has the number */
+    PSF_NO_STATUS = 39,                   /* no status has the number */
+    PSF_REFUSED_GLYPH = 40,               /* the run of a glyph is refused, and so no font is written */
+    PSF_SEVERAL_FONTS = 41,               /* the font set has several fonts, or none */
+    PSF_NO_PART = 42,                     /* a glyph of a CID-keyed font has no font dictionary */
+    PSF_NO_GLYPHS = 43,                   /* no glyphs are named */
+    PSF_NOT_READ_BACK = 44                /* what was written is not read back as the font; no font is known for which this comes */
 };
 
 /* What a segment is. */
@@ -133,6 +138,12 @@ typedef struct psf_operation {
     uint32_t operator_code;  /* its code; that of two bytes is 0x0c00 and the second, as 0x0c23 for flex */
 } psf_operation;
 
+/* What is told of a font that is not written, besides the status. */
+typedef struct psf_refusal {
+    uint64_t glyph; /* the glyph that is meant; 0 where none is */
+    int32_t cause;  /* on PSF_REFUSED_GLYPH what its run is refused with; else 0 */
+} psf_refusal;
+
 /* The version of the library, as PSF_VERSION. */
 uint32_t psf_version(void);
 
@@ -182,6 +193,19 @@ int32_t psf_glyph_flat(const uint8_t *cff, size_t length, const psf_font *font, 
 int32_t psf_glyph_operations(const uint8_t *cff, size_t length, const psf_font *font, size_t glyph,
                              psf_operation *operations, size_t room, size_t *count,
                              int32_t *operands, size_t operand_room, size_t *operand_count);
+
+/* The font without subroutines, to the front of flat[0..room]: a table CFF of the same glyphs, each of which draws what it drew,
+ * with the same advance, name or CID, and codes.
+ * On PSF_OK and PSF_NO_ROOM *count is how many bytes it has, and *refusal is as it was. Else *refusal is told.
+ * Also answered: PSF_REFUSED_GLYPH, PSF_SEVERAL_FONTS, PSF_NO_PART, PSF_NOT_READ_BACK, and errors from 1 to 16. */
+int32_t psf_font_flat(const uint8_t *cff, size_t length, uint8_t *flat, size_t room, size_t *count, psf_refusal *refusal);
+
+/* The font of .notdef and the glyphs that glyphs[0..named] names alone, without subroutines, to the front of subset[0..room].
+ * Where keeps is 0 they are numbered anew, in ascending order, and an encoding of the font's own gives way to the standard
+ * one. Else each keeps its number, and those between them are empty.
+ * What is told is told as by psf_font_flat. Also answered: as there, and PSF_NO_GLYPHS, PSF_NO_GLYPH, PSF_NO_NAME. */
+int32_t psf_font_subset(const uint8_t *cff, size_t length, const size_t *glyphs, size_t named, uint32_t keeps,
+                        uint8_t *subset, size_t room, size_t *count, psf_refusal *refusal);
 
 /* The name of a glyph of the font that the bytes of a table CFF begin with, without a byte 0 at its end, to the front of
  * name[0..room]. A CID-keyed font has CIDs in place of names.

@@ -129,15 +129,65 @@ static void check_operations(const uint8_t *cff, size_t size, const psf_font *fo
     holds(psf_glyph_operations(cff, size, font, 4, operations, 4, &count, operands, 8, &operand_count) == PSF_NO_GLYPH && count == 77, "past the end");
 }
 
+/* A font that is written is opened, and each of its glyphs draws what a glyph of the old one draws. */
+static void check_alike(const uint8_t *cff, size_t size, size_t glyph, const uint8_t *written, size_t length, size_t number) {
+    psf_font font, other;
+    psf_segment segments[16], others[16];
+    psf_glyph info, other_info;
+    size_t count = 0, other_count = 0;
+    holds(psf_font_open(cff, size, &font) == PSF_OK && psf_font_open(written, length, &other) == PSF_OK, "both fonts");
+    holds(other.part.local_subroutines == 0, "no local subroutines");
+    holds(psf_glyph_outline(cff, size, &font, glyph, segments, 16, &count, &info) == PSF_OK, "the old glyph");
+    holds(psf_glyph_outline(written, length, &other, number, others, 16, &other_count, &other_info) == PSF_OK, "the new glyph");
+    holds(count == other_count && memcmp(segments, others, count * sizeof *segments) == 0, "the same outline");
+    holds(memcmp(&info, &other_info, sizeof info) == 0, "the same width and bounds");
+}
+
+static void check_written(const uint8_t *cff, size_t size) {
+    static const size_t flower[] = {3}, past[] = {2, 4};
+    uint8_t written[512], name[16];
+    size_t count = 0, named = 0;
+    psf_refusal refusal = {77, 77};
+    psf_font font;
+    holds(psf_font_flat(cff, size, written, 0, &count, &refusal) == PSF_NO_ROOM && count > 0 && count < 512, "no room for a font");
+    holds(psf_font_flat(cff, size, written, 512, &count, &refusal) == PSF_OK && refusal.glyph == 77, "a flat font");
+    for (size_t glyph = 0; glyph < 4; glyph++) check_alike(cff, size, glyph, written, count, glyph);
+    holds(psf_font_subset(cff, size, flower, 1, 0, written, 512, &count, &refusal) == PSF_OK, "a font of one glyph");
+    holds(psf_font_open(written, count, &font) == PSF_OK && font.glyphs == 2, "and of .notdef");
+    check_alike(cff, size, 0, written, count, 0);
+    check_alike(cff, size, 3, written, count, 1);
+    holds(psf_glyph_name(written, count, 1, name, 16, &named) == PSF_OK && named == 6 && memcmp(name, "flower", 6) == 0, "its name");
+    holds(psf_font_subset(cff, size, flower, 1, 1, written, 512, &count, &refusal) == PSF_OK, "a font of one glyph with its number");
+    holds(psf_font_open(written, count, &font) == PSF_OK && font.glyphs == 4, "of four glyphs");
+    check_alike(cff, size, 3, written, count, 3);
+    holds(psf_font_subset(cff, size, flower, 0, 0, written, 512, &count, &refusal) == PSF_NO_GLYPHS, "no glyphs");
+    holds(refusal.glyph == 0 && refusal.cause == 0, "which mean none");
+    holds(psf_font_subset(cff, size, past, 2, 1, written, 512, &count, &refusal) == PSF_NO_GLYPH && refusal.glyph == 4, "no glyph 4");
+    holds(psf_font_flat(cff, 2, written, 512, &count, &refusal) == PSF_UNEXPECTED_EOF && refusal.glyph == 0, "a cut font");
+}
+
+/* A font is not written of which a glyph returns from its own code. */
+static void check_refused(const uint8_t *cff, size_t size) {
+    uint8_t spoiled[512], written[512];
+    size_t count = 0, place = 0;
+    psf_refusal refusal = {0, 0};
+    memcpy(spoiled, cff, size);
+    /* the code of the glyph A: 8b 16 f7 .. */
+    while (place + 3 < size && memcmp(spoiled + place, "\x8b\x16\xf7", 3) != 0) place++;
+    spoiled[place] = 0x0b;
+    holds(psf_font_flat(spoiled, size, written, 512, &count, &refusal) == PSF_REFUSED_GLYPH, "a refused glyph");
+    holds(refusal.glyph == 2 && refusal.cause == PSF_RETURN_WITHOUT_CALLER, "which, and why");
+}
+
 static void check_texts(void) {
     uint8_t text[80];
     size_t count = 0;
     holds(psf_version() == PSF_VERSION, "the version of the header");
-    for (int32_t status = 0; status <= PSF_NO_STATUS; status++)
+    for (int32_t status = 0; status <= PSF_NOT_READ_BACK; status++)
         holds(psf_status_text(status, text, sizeof text, &count) == PSF_OK && count > 0, "a text");
     holds(psf_status_text(PSF_NO_GLYPH, text, sizeof text, &count) == PSF_OK && memcmp(text, "no such glyph", 13) == 0, "its words");
     holds(psf_status_text(PSF_NO_GLYPH, text, 3, &count) == PSF_NO_ROOM && count == 13, "no room for a text");
-    holds(psf_status_text(40, text, sizeof text, &count) == PSF_NO_STATUS, "no text");
+    holds(psf_status_text(45, text, sizeof text, &count) == PSF_NO_STATUS, "no text");
     holds(psf_status_text(-1, text, sizeof text, &count) == PSF_NO_STATUS, "no text below 0");
 }
 
@@ -167,6 +217,8 @@ int main(int argc, char **argv) {
     check_names(file + place, size);
     check_flat(file + place, size, &font);
     check_operations(file + place, size, &font);
+    check_written(file + place, size);
+    check_refused(file + place, size);
     check_texts();
     printf("postscript.h: %s\n", failures ? "tests failed" : "all tests passed");
     return failures != 0;

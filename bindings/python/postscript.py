@@ -21,9 +21,9 @@ import enum
 import os
 from ctypes import POINTER, Structure, byref, c_char_p, c_int32, c_int64, c_size_t, c_uint8, c_uint32, c_uint64
 from pathlib import Path
-from typing import Callable, Iterator, List, NamedTuple, Optional, Protocol, Tuple, Type, Union
+from typing import Callable, Iterable, Iterator, List, NamedTuple, Optional, Protocol, Tuple, Type, Union
 
-__all__ = ["Bounds", "Error", "Font", "Glyph", "Operation", "Pen", "Segment", "Status", "faces", "version"]
+__all__ = ["Bounds", "Error", "Font", "Glyph", "Operation", "Pen", "Segment", "Status", "WriteError", "faces", "version"]
 
 #: A point in units of the font; both coordinates are whole numbers of 65536ths, so they are exact.
 Point = Tuple[float, float]
@@ -103,6 +103,11 @@ class Status(enum.IntEnum):
     NO_MAP = 37
     NO_NAME = 38
     NO_STATUS = 39
+    REFUSED_GLYPH = 40
+    SEVERAL_FONTS = 41
+    NO_PART = 42
+    NO_GLYPHS = 43
+    NOT_READ_BACK = 44
 
 
 def _status(number: int) -> Union[Status, int]:
@@ -116,6 +121,18 @@ class Error(Exception):
         super().__init__(_text_of(status) if text is None else text)
         #: a `Status`, or a number where this module knows none
         self.status: Union[Status, int] = _status(status)
+
+
+class WriteError(Error):
+    """A font was not written. `glyph` is the glyph that is meant, of the statuses that mean one, and `cause` why its run is refused,
+    of `Status.REFUSED_GLYPH`."""
+
+    def __init__(self, status: int, glyph: int, cause: int) -> None:
+        means_glyph = status in (Status.REFUSED_GLYPH, Status.NO_GLYPH, Status.NO_PART, Status.NO_NAME)
+        text = _text_of(cause if status == Status.REFUSED_GLYPH else status)
+        super().__init__(status, f"glyph {glyph}: {text}" if means_glyph else text)
+        self.glyph: Optional[int] = glyph if means_glyph else None
+        self.cause: Optional[Union[Status, int]] = _status(cause) if status == Status.REFUSED_GLYPH else None
 
 
 #: the operators that runs tell, by their codes
@@ -167,6 +184,10 @@ class _Operation(Structure):
     _fields_ = [("first", c_uint64), ("count", c_uint64), ("operator_code", c_uint32)]
 
 
+class _Refusal(Structure):
+    _fields_ = [("glyph", c_uint64), ("cause", c_int32)]
+
+
 def _load() -> ctypes.CDLL:
     own = Path(__file__).resolve().parent
     named = os.environ.get("POSTSCRIPT_LIBRARY")
@@ -190,6 +211,8 @@ for _name, _arguments in {
     "psf_glyph_bounds": [_bytes, _size, POINTER(_Font), _size, POINTER(_Bounds)],
     "psf_glyph_flat": [_bytes, _size, POINTER(_Font), _size, _room, _size, _sizes],
     "psf_glyph_operations": [_bytes, _size, POINTER(_Font), _size, POINTER(_Operation), _size, _sizes, POINTER(c_int32), _size, _sizes],
+    "psf_font_flat": [_bytes, _size, _room, _size, _sizes, POINTER(_Refusal)],
+    "psf_font_subset": [_bytes, _size, _sizes, _size, c_uint32, _room, _size, _sizes, POINTER(_Refusal)],
     "psf_glyph_name": [_bytes, _size, _size, _room, _size, _sizes],
     "psf_named_glyph": [_bytes, _size, _bytes, _size, _sizes],
 }.items():
@@ -209,6 +232,19 @@ def _bytes_of(call: Callable[..., int]) -> bytes:
             return bytes(text[: count.value])
         if status != Status.NO_ROOM:
             raise Error(status)
+        room = count.value
+
+
+def _font_of(least: int, call: Callable[..., int]) -> bytes:
+    """The font that a call writes into the room that it is lent: more is lent where it is too small."""
+    room, count, refusal = least, c_size_t(), _Refusal()
+    while True:
+        font = (c_uint8 * room)()
+        status = call(font, room, byref(count), byref(refusal))
+        if status == Status.OK:
+            return bytes(memoryview(font)[: count.value])
+        if status != Status.NO_ROOM:
+            raise WriteError(status, int(refusal.glyph), int(refusal.cause))
         room = count.value
 
 
@@ -281,6 +317,26 @@ class Font:
     def is_cid_keyed(self) -> bool:
         """Whether the glyphs have numbers in place of names."""
         return bool(self._font.is_cid)
+
+    def flat(self) -> bytes:
+        """The table `CFF ` of the same glyphs without subroutines: each draws what it drew, with the same advance, name or CID, and
+        codes. Refused with a `WriteError`."""
+        cff = self._cff
+        return _font_of(
+            2 * len(cff) + 1024, lambda room, size, count, refusal: _library.psf_font_flat(cff, len(cff), room, size, count, refusal)
+        )
+
+    def subset(self, glyphs: Iterable[int], keep_numbers: bool = False) -> bytes:
+        """The table `CFF ` of `.notdef` and these glyphs alone, without subroutines: numbered anew in ascending order, or with
+        their numbers and empty glyphs between them. Refused with a `WriteError`."""
+        cff, numbers = self._cff, list(glyphs)
+        named = (c_size_t * len(numbers))(*numbers)
+        return _font_of(
+            len(cff) + 1024,
+            lambda room, size, count, refusal: _library.psf_font_subset(
+                cff, len(cff), named, len(numbers), int(keep_numbers), room, size, count, refusal
+            ),
+        )
 
     def glyph_of(self, character: str) -> Glyph:
         """The glyph of a character: the glyph 0 where it has none."""

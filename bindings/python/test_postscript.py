@@ -8,7 +8,7 @@ import pathlib
 import unittest
 
 import postscript
-from postscript import Error, Font, Status
+from postscript import Error, Font, Status, WriteError
 
 FONTS = pathlib.Path("/usr/share/fonts/opentype")
 FLOWER = [
@@ -89,6 +89,35 @@ class Small(unittest.TestCase):
         self.assertEqual(self.font[1].operations(), [])
         self.refused(Status.NO_GLYPH, postscript.Glyph(self.font, 4).operations)
 
+    def drawn(self, table, glyphs):
+        font = Font(table)
+        return [(font[glyph].segments, font[glyph].advance) for glyph in glyphs]
+
+    def test_written_fonts(self):
+        table = self.font._cff
+        self.assertEqual(self.drawn(self.font.flat(), range(4)), self.drawn(table, range(4)))
+        subset = self.font.subset([3, 3])
+        self.assertEqual([glyph.name for glyph in Font(subset)], [".notdef", "flower"])
+        self.assertEqual(self.drawn(subset, (0, 1)), self.drawn(table, (0, 3)))
+        kept = self.font.subset(iter([3]), keep_numbers=True)
+        self.assertEqual(len(Font(kept)), 4)
+        self.assertEqual(self.drawn(kept, (0, 3)), self.drawn(table, (0, 3)))
+        self.assertEqual(Font(kept)[2].segments, [])
+
+    def test_fonts_that_are_not_written(self):
+        def refusal(call):
+            with self.assertRaises(WriteError) as caught:
+                call()
+            e = caught.exception
+            return e.status, e.glyph, e.cause, str(e)
+
+        self.assertEqual(refusal(lambda: self.font.subset([])), (Status.NO_GLYPHS, None, None, "no glyphs are named"))
+        self.assertEqual(refusal(lambda: self.font.subset([1, 4], True)), (Status.NO_GLYPH, 4, None, "glyph 4: no such glyph"))
+        # the code of the glyph A is spoiled: it returns
+        spoiled = Font(self.font._cff.replace(b"\x8b\x16\xf7", b"\x0b\x16\xf7"))
+        text = "glyph 2: found a return operator without a caller"
+        self.assertEqual(refusal(spoiled.flat), (Status.REFUSED_GLYPH, 2, Status.RETURN_WITHOUT_CALLER, text))
+
     def test_cid_keyed(self):
         for selection in ("0300020000000002010004", "0000000101"):
             font = Font(CID + bytes.fromhex(selection))
@@ -135,13 +164,18 @@ class Installed(unittest.TestCase):
         for file in (file for file in files if file.exists()):
             theirs = TTFont(file)
             glyphs, order = theirs.getGlyphSet(), theirs.getGlyphOrder()
-            for glyph in list(Font.open(file))[::7]:
+            font = Font.open(file)
+            written = {False: Font(font.flat()), True: Font(font.subset(range(0, len(font), 7), keep_numbers=True))}
+            for glyph in list(font)[::7]:
                 self.assertEqual(glyph.name, order[glyph.number])
                 pen, other = RecordingPen(), RecordingPen()
                 glyph.draw(pen)
                 glyphs[order[glyph.number]].draw(other)
                 self.assertEqual(pen.value, other.value, (file.name, glyph))
                 self.assertEqual(glyph.advance, glyphs[order[glyph.number]].width)
+                for other_font in written.values():
+                    again = other_font[glyph.number]
+                    self.assertEqual((again.segments, again.advance), (glyph.segments, glyph.advance), (file.name, glyph))
 
     def test_operations(self):
         try:

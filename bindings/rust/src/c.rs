@@ -77,6 +77,14 @@ impl Operation {
     }
 }
 
+/// `psf_refusal`.
+#[repr(C)]
+#[derive(Clone, Copy, Debug, Default)]
+pub struct Refusal {
+    pub glyph: u64,
+    pub cause: i32,
+}
+
 const OK: i32 = 0;
 const NO_ROOM: i32 = 32;
 
@@ -131,6 +139,25 @@ extern "C" {
         operands: *mut i32,
         operand_room: usize,
         operand_count: *mut usize,
+    ) -> i32;
+    fn psf_font_flat(
+        cff: *const u8,
+        length: usize,
+        flat: *mut u8,
+        room: usize,
+        count: *mut usize,
+        refusal: *mut Refusal,
+    ) -> i32;
+    fn psf_font_subset(
+        cff: *const u8,
+        length: usize,
+        glyphs: *const usize,
+        named: usize,
+        keeps: u32,
+        subset: *mut u8,
+        room: usize,
+        count: *mut usize,
+        refusal: *mut Refusal,
     ) -> i32;
     fn psf_glyph_name(
         cff: *const u8,
@@ -282,4 +309,42 @@ pub fn operations(cff: &[u8], font: &Font, glyph: usize) -> Result<(Vec<Operatio
         operations.resize(count, Operation::default());
         operands.resize(operand_count, 0);
     }
+}
+
+/// The font that a call writes, or what it is refused with.
+fn written(
+    least: usize,
+    mut call: impl FnMut(&mut [u8], &mut usize, &mut Refusal) -> i32,
+) -> std::result::Result<Vec<u8>, (Error, Refusal)> {
+    let (mut font, mut refusal) = (Vec::new(), Refusal::default());
+    match with_room(&mut font, least, 0, |room, count| call(room, count, &mut refusal)) {
+        Ok(()) => Ok(font),
+        Err(e) => Err((e, refusal)),
+    }
+}
+
+pub fn font_flat(cff: &[u8]) -> std::result::Result<Vec<u8>, (Error, Refusal)> {
+    written(2 * cff.len() + 1024, |room, count, refusal| unsafe {
+        psf_font_flat(cff.as_ptr(), cff.len(), room.as_mut_ptr(), room.len(), count, refusal)
+    })
+}
+
+pub fn font_subset(
+    cff: &[u8],
+    glyphs: &[usize],
+    keeps: bool,
+) -> std::result::Result<Vec<u8>, (Error, Refusal)> {
+    written(cff.len() + 1024, |room, count, refusal| unsafe {
+        psf_font_subset(
+            cff.as_ptr(),
+            cff.len(),
+            glyphs.as_ptr(),
+            glyphs.len(),
+            keeps.into(),
+            room.as_mut_ptr(),
+            room.len(),
+            count,
+            refusal,
+        )
+    })
 }

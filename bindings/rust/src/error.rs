@@ -78,12 +78,22 @@ pub enum Error {
     NoName = 38,
     /// No status has the number.
     NoStatus = 39,
+    /// The run of a glyph is refused, and so no font is written.
+    RefusedGlyph = 40,
+    /// The font set has several fonts, or none.
+    SeveralFonts = 41,
+    /// A glyph of a CID-keyed font has no font dictionary.
+    NoPart = 42,
+    /// No glyphs are named.
+    NoGlyphs = 43,
+    /// What was written is not read back as the font. No font is known for which this comes.
+    NotReadBack = 44,
     /// A status that this crate does not know.
     Other = -1,
 }
 
 /// All that have a number.
-const ERRORS: [Error; 34] = [
+const ERRORS: [Error; 39] = [
     Error::UnexpectedEof,
     Error::Memory,
     Error::MalformedOffset,
@@ -118,6 +128,11 @@ const ERRORS: [Error; 34] = [
     Error::NoMap,
     Error::NoName,
     Error::NoStatus,
+    Error::RefusedGlyph,
+    Error::SeveralFonts,
+    Error::NoPart,
+    Error::NoGlyphs,
+    Error::NotReadBack,
 ];
 
 impl Error {

@@ -17,12 +17,14 @@ mod c;
 mod error;
 mod operation;
 mod outline;
+mod write;
 
 use std::ops::Range;
 
 pub use error::{Error, Result};
 pub use operation::Operation;
 pub use outline::{Bounds, Glyph, Outline, OutlineSink, Point, Segment};
+pub use write::WriteError;
 
 /// The version of the linked library: its major, minor and patch number.
 pub fn version() -> (u8, u8, u8) {
@@ -155,6 +157,37 @@ impl<'a> Font<'a> {
     pub fn operations(&self, glyph: usize) -> Result<Vec<Operation>> {
         let (told, operands) = c::operations(self.cff, &self.font, glyph)?;
         Ok(told.into_iter().map(|told| Operation::of(told, &operands)).collect())
+    }
+
+    /// The table `CFF ` of the same glyphs without subroutines: each glyph draws what it drew, with the same advance, name or
+    /// CID, and codes.
+    ///
+    /// # Errors
+    ///
+    /// [`Error::RefusedGlyph`] with the first glyph whose run is refused, and why; [`Error::SeveralFonts`] where the table has
+    /// not one font; [`Error::NoPart`]; and where the table is no font: see [`WriteError`].
+    pub fn flat(&self) -> std::result::Result<Vec<u8>, WriteError> {
+        c::font_flat(self.cff).map_err(WriteError::of)
+    }
+
+    /// The table `CFF ` of `.notdef` and these glyphs alone, numbered anew in ascending order, without subroutines. An encoding
+    /// of the font's own gives way to the standard one.
+    ///
+    /// # Errors
+    ///
+    /// [`Error::NoGlyphs`] where none is named, [`Error::NoGlyph`] with one that the font does not have, [`Error::NoName`], and
+    /// as [`Font::flat`].
+    pub fn subset(&self, glyphs: &[usize]) -> std::result::Result<Vec<u8>, WriteError> {
+        c::font_subset(self.cff, glyphs, false).map_err(WriteError::of)
+    }
+
+    /// As [`Font::subset`], but each glyph keeps its number, and those between them are empty. The encoding stays as it is.
+    ///
+    /// # Errors
+    ///
+    /// As [`Font::subset`].
+    pub fn subset_keeping(&self, glyphs: &[usize]) -> std::result::Result<Vec<u8>, WriteError> {
+        c::font_subset(self.cff, glyphs, true).map_err(WriteError::of)
     }
 
     /// The name of a glyph. `None` where it has none, as in a CID-keyed font of which no string is named.

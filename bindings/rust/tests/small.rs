@@ -1,6 +1,6 @@
 //! The font whose bytes `bindings/font.hex` spells: four glyphs, `.notdef`, `space`, `A` and `flower`. The expected values are
 //! the numbers of its char strings and of its dictionary, added up by hand.
-use postscript::{Bounds, Error, Font, Operation, Outline, OutlineSink, Point, Segment};
+use postscript::{Bounds, Error, Font, Operation, Outline, OutlineSink, Point, Segment, WriteError};
 
 fn bytes() -> Vec<u8> {
     hex(include_str!("../../font.hex"))
@@ -106,6 +106,48 @@ fn operations() {
     assert_eq!(names, ["hmoveto", "rlineto"]);
     assert_eq!(font.operations(1), Ok(Vec::new()));
     assert_eq!(font.operations(4), Err(Error::NoGlyph));
+}
+
+/// Outlines with their advances, of these glyphs of a table.
+fn drawn(table: &[u8], glyphs: &[usize]) -> Vec<Outline> {
+    let font = Font::from_table(table).unwrap();
+    glyphs.iter().map(|glyph| font.outline(*glyph).unwrap()).collect()
+}
+
+#[test]
+fn written_fonts() {
+    let bytes = bytes();
+    let font = Font::from_file(&bytes, 0).unwrap();
+    let flat = font.flat().unwrap();
+    assert_eq!(drawn(&flat, &[0, 1, 2, 3]), drawn(font.table(), &[0, 1, 2, 3]));
+    let subset = font.subset(&[3, 3]).unwrap();
+    let written = Font::from_table(&subset).unwrap();
+    assert_eq!(written.glyph_count(), 2);
+    assert_eq!(written.glyph_named(b"flower"), Ok(Some(1)));
+    assert_eq!(drawn(&subset, &[0, 1]), drawn(font.table(), &[0, 3]));
+    let kept = font.subset_keeping(&[3]).unwrap();
+    assert_eq!(Font::from_table(&kept).unwrap().glyph_count(), 4);
+    assert_eq!(drawn(&kept, &[0, 3]), drawn(font.table(), &[0, 3]));
+    assert_eq!(drawn(&kept, &[2])[0].segments, []);
+}
+
+#[test]
+fn fonts_that_are_not_written() {
+    let bytes = bytes();
+    let font = Font::from_file(&bytes, 0).unwrap();
+    let none = WriteError { error: Error::NoGlyphs, glyph: None, cause: None };
+    assert_eq!(font.subset(&[]), Err(none));
+    let past = WriteError { error: Error::NoGlyph, glyph: Some(4), cause: None };
+    assert_eq!(font.subset_keeping(&[1, 4]), Err(past));
+    assert_eq!(past.to_string(), "glyph 4: no such glyph");
+    // the code of the glyph A is spoiled: it returns
+    let mut table = font.table().to_vec();
+    let place = table.windows(3).position(|bytes| bytes == [0x8b, 0x16, 0xf7]).unwrap();
+    table[place] = 0x0b;
+    let cause = Some(Error::ReturnWithoutCaller);
+    let refused = WriteError { error: Error::RefusedGlyph, glyph: Some(2), cause };
+    assert_eq!(Font::from_table(&table).unwrap().flat(), Err(refused));
+    assert_eq!(refused.to_string(), "glyph 2: found a return operator without a caller");
 }
 
 #[test]

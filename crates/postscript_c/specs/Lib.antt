@@ -15,3 +15,4 @@ pub mod Segments
 pub mod Selection
 pub mod Texts
 pub mod Widths
+pub mod Written

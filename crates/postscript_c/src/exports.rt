@@ -1,5 +1,6 @@
 //! What C calls.
-ghost use Rattle.std.specs.Prelude.{◌≡◌, ◌≢◌, Result as Answer, Option as Maybe, option_map};
+ghost use Rattle.std.specs.Prelude.{◌≡◌, ◌≢◌, ℕ, true, false, Result as Answer, Option as Maybe, Vec, option_map};
+ghost use Rattle.std.specs.declared.alloc.Global.{Global as TheGlobal};
 ghost use Rattle.postscript_base.specs.Tape.Outcome.{Answers};
 ghost use Rattle.postscript_base.specs.declared.error.Error.{Error as Refusal};
 ghost use Rattle.postscript_c.specs.Answers.{Hands, IsOf, Tells, TellsBounds, TellsFont, room};
@@ -13,9 +14,12 @@ ghost use Rattle.postscript_c.specs.Listing.{AreOfCid, TellsOperations, rooms};
 ghost use Rattle.postscript_c.specs.Naming.{TellsName, TellsNamed};
 ghost use Rattle.postscript_c.specs.Operations.{listed_at, shown as the_shown};
 ghost use Rattle.postscript_c.specs.Texts.{TellsText};
+ghost use Rattle.postscript_c.specs.Written.{IsFlat, IsSubset, TellsWritten};
 ghost use Rattle.postscript_c.specs.declared.font.PsfFont.{PsfFont as TheFont};
 ghost use Rattle.postscript_c.specs.declared.glyph.Found.{Found as TheFound};
 ghost use Rattle.postscript_c.specs.declared.operations.Listed.{Listed as TheListed};
+ghost use Rattle.postscript_write.specs.Sources.{chosen, keeping};
+ghost use Rattle.postscript_write.specs.declared.error.Error.{Error as WriteRefusal};
 
 use crate::files::{tell_faces, tell_glyph, tell_table};
 use crate::fill::{PsfSegment, fill};
@@ -27,6 +31,7 @@ use crate::operations::{PsfOperation, operations_of, tell_operations};
 use crate::status::{NO_GLYPH, NO_ROOM};
 use crate::texts::tell_text;
 use crate::told::{PsfBounds, PsfGlyph, status, tight, told};
+use crate::written::{PsfRefusal, flat, subset_of, tell_written};
 use postscript_base::Result;
 use std::alloc::Global;
 
@@ -246,4 +251,40 @@ pub extern "C" fn psf_glyph_operations(
 {
     let answer = operations_of(alloc, bytes, font, glyph);
     tell_operations(&answer, operations, count, operands, operand_count)
+}
+
+/// The font that bytes begin with, without subroutines: 0, or `NO_ROOM`, or the number of the refusal. On 0 and `NO_ROOM` the
+/// number of its bytes is told, and else which glyph is meant, and why its run is refused.
+#[unsafe(no_mangle)]
+pub extern "C" fn psf_font_flat(
+    alloc: Global,
+    bytes: &[u8],
+    room: &mut [u8],
+    count: &mut usize,
+    refusal: &mut PsfRefusal,
+) -> i32
+    ensures { (answer : Answer (Vec ℕ TheGlobal) WriteRefusal) × IsFlat bytes.now answer × TellsWritten answer result room.new count.new refusal.new }
+{
+    let answer = flat(alloc, bytes);
+    tell_written(&answer, room, count, refusal)
+}
+
+/// The font that bytes begin with, of `.notdef` and these glyphs alone, without subroutines: 0, or `NO_ROOM`, or the number of
+/// the refusal. Where `keeps` is 0 they are numbered anew, in ascending order; else each keeps its number, and the glyphs between
+/// them are empty. What is told is told as by `psf_font_flat`.
+#[unsafe(no_mangle)]
+pub extern "C" fn psf_font_subset(
+    alloc: Global,
+    bytes: &[u8],
+    glyphs: &[usize],
+    keeps: u32,
+    room: &mut [u8],
+    count: &mut usize,
+    refusal: &mut PsfRefusal,
+) -> i32
+    ensures anew { keeps ≡ 0 → (answer : Answer (Vec ℕ TheGlobal) WriteRefusal) × IsSubset false chosen bytes.now glyphs.now answer × TellsWritten answer result room.new count.new refusal.new }
+    ensures kept { keeps ≢ 0 → (answer : Answer (Vec ℕ TheGlobal) WriteRefusal) × IsSubset true keeping bytes.now glyphs.now answer × TellsWritten answer result room.new count.new refusal.new }
+{
+    let answer = subset_of(alloc, bytes, glyphs, keeps);
+    tell_written(&answer, room, count, refusal)
 }

@@ -15,3 +15,4 @@ mod select;
 mod status;
 mod texts;
 mod told;
+mod written;

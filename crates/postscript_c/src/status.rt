@@ -17,3 +17,18 @@ pub(crate) const NO_NAME: i32 = 38;
 
 /// No refusal has the number.
 pub(crate) const NO_STATUS: i32 = 39;
+
+/// The run of a glyph is refused.
+pub(crate) const REFUSED_GLYPH: i32 = 40;
+
+/// The font set has several fonts, or none.
+pub(crate) const SEVERAL_FONTS: i32 = 41;
+
+/// The glyph has no font dictionary.
+pub(crate) const NO_PART: i32 = 42;
+
+/// No glyphs are named.
+pub(crate) const NO_GLYPHS: i32 = 43;
+
+/// What was written is not read back as the font that was to be written.
+pub(crate) const NOT_READ_BACK: i32 = 44;

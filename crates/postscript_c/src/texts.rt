@@ -76,6 +76,11 @@ fn text_of(status: i32) -> Option<&'static str> {
         37 => Some("no character map is read"),
         38 => Some("the glyph has no name"),
         39 => Some("no such status"),
+        40 => Some("the run of a glyph is refused"),
+        41 => Some("the font set has not one font"),
+        42 => Some("a glyph has no font dictionary"),
+        43 => Some("no glyphs are named"),
+        44 => Some("the font is not read back as it was written"),
         _ => refusal_text(status),
     }
 }

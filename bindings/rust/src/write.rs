@@ -1,0 +1,40 @@
+//! Fonts that are written.
+use crate::c;
+use crate::error::Error;
+use std::fmt;
+
+/// Why no font is written.
+#[derive(Clone, Copy, Debug, PartialEq, Eq, Hash)]
+pub struct WriteError {
+    /// Why the call is refused.
+    pub error: Error,
+    /// The glyph that is meant: of [`Error::RefusedGlyph`], [`Error::NoGlyph`], [`Error::NoPart`] and [`Error::NoName`].
+    pub glyph: Option<usize>,
+    /// Why the run of that glyph is refused: of [`Error::RefusedGlyph`].
+    pub cause: Option<Error>,
+}
+
+impl WriteError {
+    /// The error of what is told of a refusal.
+    pub(crate) fn of((error, told): (Error, c::Refusal)) -> WriteError {
+        let means_glyph =
+            matches!(error, Error::RefusedGlyph | Error::NoGlyph | Error::NoPart | Error::NoName);
+        WriteError {
+            error,
+            glyph: means_glyph.then_some(told.glyph as usize),
+            cause: (error == Error::RefusedGlyph).then(|| Error::of(told.cause)),
+        }
+    }
+}
+
+impl fmt::Display for WriteError {
+    fn fmt(&self, f: &mut fmt::Formatter<'_>) -> fmt::Result {
+        match (self.glyph, self.cause) {
+            (Some(glyph), Some(cause)) => write!(f, "glyph {glyph}: {cause}"),
+            (Some(glyph), None) => write!(f, "glyph {glyph}: {}", self.error),
+            _ => self.error.fmt(f),
+        }
+    }
+}
+
+impl std::error::Error for WriteError {}

@@ -1,0 +1,103 @@
+//! Whole fonts, written.
+ghost use Rattle.std.specs.Prelude.{◌≡◌, ◌≢◌, true, false, pos};
+ghost use Rattle.postscript_c.specs.Written.{IsFlat, IsSubset, TellsWritten, refusal_of as the_refusal, written_code};
+ghost use Rattle.postscript_write.specs.Sources.{chosen, keeping};
+
+use crate::status::{
+    NO_GLYPH, NO_GLYPHS, NO_NAME, NO_PART, NOT_READ_BACK, REFUSED_GLYPH, SEVERAL_FONTS,
+};
+use crate::texts::hand_bytes;
+use crate::told::status;
+use postscript_write::{Error, Result, flat_font, subset, subset_keeping};
+use std::alloc::Global;
+
+/// What is told of a refusal of a font that is to be written, besides the status.
+#[repr(C)]
+#[derive(Clone, Copy)]
+pub struct PsfRefusal {
+    /// The glyph that is meant; 0 where none is.
+    pub glyph: u64,
+    /// What the run of that glyph is refused with, where it is; else 0.
+    pub cause: i32,
+}
+
+/// The number of a refusal.
+fn written_status(e: &Error) -> i32
+    ensures { result ≡ pos (written_code e.now) }
+{
+    match e {
+        Error::Refused(cause) => status(cause),
+        Error::Glyph(_, _) => REFUSED_GLYPH,
+        Error::SeveralFonts => SEVERAL_FONTS,
+        Error::MissingGlyph(_) => NO_GLYPH,
+        Error::MissingPart(_) => NO_PART,
+        Error::MissingName(_) => NO_NAME,
+        Error::NoGlyphs => NO_GLYPHS,
+        Error::NotReadBack => NOT_READ_BACK,
+    }
+}
+
+/// A refusal of so many glyphs.
+fn of(glyph: usize, cause: i32) -> PsfRefusal
+    ensures { result ≡ record { glyph = glyph; cause = cause } }
+{
+    PsfRefusal {
+        glyph: glyph as u64,
+        cause,
+    }
+}
+
+/// The glyph that a refusal names, and the number of its cause.
+fn refusal_of(e: &Error) -> PsfRefusal
+    ensures { result ≡ the_refusal e.now }
+{
+    match e {
+        Error::Glyph(glyph, cause) => of(*glyph, status(cause)),
+        Error::MissingGlyph(glyph) | Error::MissingPart(glyph) | Error::MissingName(glyph) => of(
+            *glyph, 0,
+        ),
+        _ => of(0, 0),
+    }
+}
+
+/// Hands a font over: 0, or `NO_ROOM`, or the number of the refusal.
+pub(crate) fn tell_written(
+    answer: &Result<Vec<u8>>,
+    room: &mut [u8],
+    count: &mut usize,
+    refusal: &mut PsfRefusal,
+) -> i32
+    ensures { TellsWritten answer.now result room.new count.new refusal.new }
+{
+    match answer {
+        Ok(flat) => hand_bytes(flat, room, count),
+        Err(e) => {
+            *refusal = refusal_of(e);
+            written_status(e)
+        }
+    }
+}
+
+/// The font without subroutines.
+pub(crate) fn flat(alloc: Global, bytes: &[u8]) -> Result<Vec<u8>>
+    ensures { IsFlat bytes.now result }
+{
+    flat_font(alloc, bytes)
+}
+
+/// The font of these glyphs alone: with their numbers, or numbered anew.
+pub(crate) fn subset_of(
+    alloc: Global,
+    bytes: &[u8],
+    glyphs: &[usize],
+    keeps: u32,
+) -> Result<Vec<u8>>
+    ensures anew { keeps ≡ 0 → IsSubset false chosen bytes.now glyphs.now result }
+    ensures kept { keeps ≢ 0 → IsSubset true keeping bytes.now glyphs.now result }
+{
+    if keeps == 0 {
+        subset(alloc, bytes, glyphs)
+    } else {
+        subset_keeping(alloc, bytes, glyphs)
+    }
+}
