@@ -5,8 +5,8 @@ use crate::face::Face;
 use crate::failure::Failure;
 use crate::hints::hinted;
 use crate::sheet::Sheet;
-use postscript_base::Tape;
 use postscript_base::compact1::Operator;
+use postscript_base::{Error, Tape};
 use postscript_compact1::font_set::FontSet;
 use postscript_sfnt::Name;
 use postscript_view::CharSetView;
@@ -89,20 +89,52 @@ fn privates(sheet: &mut Sheet, face: &Face<'_>) -> Result<(), AllocError> {
     sheet.json.end_array()
 }
 
+/// Why the two readings of a whole font refuse the font, where they do.
+#[derive(Drop)]
+struct Refusals {
+    strict: Option<Error>,
+    lenient: Option<Error>,
+}
+
+/// What a font that is read leniently lacks of what the strict reading needs: the first dictionary that lacks one decides.
+fn lacking(font: &FontSet) -> Option<Error> {
+    for (i, dictionary) in font.global_dictionaries.iter().enumerate() {
+        if dictionary.get_double(Operator::Private).is_none() {
+            return Some(Error::MissingOperation(Operator::Private));
+        }
+        let local = font.local_dictionaries.get(i)?;
+        if local.get_single(Operator::Subrs).is_none() {
+            return Some(Error::MissingOperation(Operator::Subrs));
+        }
+    }
+    None
+}
+
+/// Reads the whole font: once, where the lenient reading answers it, since the strict one refuses it then for what it lacks
+/// alone.
+fn refusals_of(alloc: Global, cff: &[u8]) -> Refusals {
+    match FontSet::read_lenient(alloc, &mut Cursor::new(cff)) {
+        Ok(font) => Refusals {
+            strict: lacking(&font),
+            lenient: None,
+        },
+        Err(lenient) => Refusals {
+            strict: Cursor::new(cff).take::<FontSet>(alloc).err(),
+            lenient: Some(lenient),
+        },
+    }
+}
+
 /// Writes why a reading refuses the font, or null.
-fn refusal(
-    sheet: &mut Sheet,
-    key: &str,
-    outcome: postscript_base::Result<FontSet>,
-) -> Result<(), AllocError> {
+fn refusal(sheet: &mut Sheet, key: &str, refusal: &Option<Error>) -> Result<(), AllocError> {
     sheet.json.key(key)?;
-    match outcome {
-        Ok(_) => sheet.json.null(),
-        Err(error) => {
+    match refusal {
+        None => sheet.json.null(),
+        Some(error) => {
             sheet.json.begin_object()?;
             sheet.number("code", u64::from(error.code()))?;
             sheet.json.key("message")?;
-            sheet.shown(&error)?;
+            sheet.shown(error)?;
             sheet.json.end_object()
         }
     }
@@ -140,10 +172,9 @@ fn font(rt: &HostRuntime, sheet: &mut Sheet, face: &Face<'_>) -> Result<(), Fail
     sheet.json.key("top")?;
     dictionaries::write(sheet, &face.font.dictionary, top_codes(face))?;
     parts(sheet, face)?;
-    let strict = Cursor::new(face.cff).take::<FontSet>(rt.alloc());
-    refusal(sheet, "strict", strict)?;
-    let lenient = FontSet::read_lenient(rt.alloc(), &mut Cursor::new(face.cff));
-    refusal(sheet, "lenient", lenient)?;
+    let refusals = refusals_of(rt.alloc(), face.cff);
+    refusal(sheet, "strict", &refusals.strict)?;
+    refusal(sheet, "lenient", &refusals.lenient)?;
     sheet.json.end_object()?;
     Ok(())
 }
@@ -220,18 +251,22 @@ fn part_lines<W: Write>(alloc: Global, face: &Face<'_>, out: &mut W) -> Result<(
 
 /// Writes a line for each reading that refuses the font.
 fn refusal_lines<W: Write>(alloc: Global, face: &Face<'_>, out: &mut W) -> Result<(), Failure> {
-    if let Err(error) = Cursor::new(face.cff).take::<FontSet>(alloc) {
+    let refusals = refusals_of(alloc, face.cff);
+    refusal_line("strict", &refusals.strict, out)?;
+    refusal_line("lenient", &refusals.lenient, out)
+}
+
+/// Writes a line for a reading that refuses the font.
+fn refusal_line<W: Write>(
+    reading: &str,
+    refusal: &Option<Error>,
+    out: &mut W,
+) -> Result<(), Failure> {
+    if let Some(error) = refusal {
         let code = error.code();
         writeln!(
             out,
-            "refused by the strict reading: {error} (refusal {code})"
-        )?;
-    }
-    if let Err(error) = FontSet::read_lenient(alloc, &mut Cursor::new(face.cff)) {
-        let code = error.code();
-        writeln!(
-            out,
-            "refused by the lenient reading: {error} (refusal {code})"
+            "refused by the {reading} reading: {error} (refusal {code})"
         )?;
     }
     Ok(())
