@@ -6,7 +6,7 @@ use postscript_sfnt::{
     Advances, Bounds, CharacterMap, FontFile, Name, Names, bounding_box, faces, glyphs,
     has_magic_number, units_per_em,
 };
-use rows::{COLLECTION, FILE, MAPS, NAMES, NO_MAPS, REFUSALS};
+use rows::{COLLECTION, FILE, MAPS, NAMES, NEXT, NO_MAPS, REFUSALS};
 use std::alloc::Global;
 use std::process::Abort;
 
@@ -126,6 +126,31 @@ fn check_char<R: Abort>(rt: &R, map: &CharacterMap<'_>, word: &str, row: usize) 
     let char = u32::from_str_radix(char, 16).expect(rt, "a character");
     let glyph = glyph.parse::<u16>().expect(rt, "a glyph");
     holds_at(rt, map.glyph_of(char) == glyph, word, row);
+}
+
+/// The characters that have a glyph, each found from the one before it, as `check_char` has them.
+fn all_chars<R: Abort>(rt: &R, alloc: Global, map: &CharacterMap<'_>) -> String {
+    let mut text = String::new(alloc);
+    let mut from = 0u32;
+    for _ in 0..100u32 {
+        let Some((char, glyph)) = map.next_char(from) else {
+            break;
+        };
+        write!(text, "{char:x}:{glyph} ").expect(rt, "memory");
+        from = char.saturating_add(1);
+    }
+    text
+}
+
+#[test]
+fn characters_one_after_another(rt: HostRuntime) {
+    for (row, wanted) in NEXT {
+        let (digits, _words) = MAPS[*row % MAPS.len()];
+        let bytes = bytes_of(&rt, rt.alloc(), digits);
+        let map = CharacterMap::read(bytes.as_slice()).expect(&rt, "a map");
+        let found = all_chars(&rt, rt.alloc(), &map);
+        is_text(&rt, found.as_str(), wanted, "the characters");
+    }
 }
 
 #[test]

@@ -97,6 +97,13 @@ pub const MAPS: &[(&str, &str)] = &[
     ),
 ];
 
+/// The row of a map, and all of its characters that have a glyph, as its segments, groups or row tell them.
+pub const NEXT: &[(usize, &str)] = &[
+    (0, "41:1 42:2 43:3 61:7 "),
+    (2, "1f600:9 1f601:10 1f602:11 20000:65535 "),
+    (4, "41:7 42:9 "),
+];
+
 /// Tables `cmap` of which none is read.
 pub const NO_MAPS: &[&str] = &[
     // An empty table.
