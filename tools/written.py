@@ -2,14 +2,16 @@
 """Writes fonts by psotf, and compares their glyphs with those of the fonts that they are made of, by fontTools.
 
     (cd crates/psotf && rt run -- --help)
-    /usr/bin/python3 tools/written.py SEED WORD..
+    /usr/bin/python3 tools/written.py SEED [--some N] WORD..
 
-Each WORD is a folder or an installed Debian package, of which each file .otf is taken, or a font file. Needs Debian's python3-fonttools,
-opentype-sanitizer and libharfbuzz-bin. Each font is written by `psotf flat`, and, of glyphs that are drawn at random from SEED, once by
-`psotf subset` and once by `psotf subset --retain-gids`. Of each file that is written fontTools, as it comes, has to draw each glyph with
-the same segments, and to tell the same metrics and the same name or CID; the sums in the file have to be right; and `ots-sanitize` has to
-accept it where it accepts the source. The bytes of the table `CFF ` of the flat file and the time are added up beside `hb-subset
---desubroutinize` of all glyphs. It prints each file that differs, and then how many fonts, files and glyphs were compared.
+Each WORD is a folder or an installed Debian package, of which each file .otf is taken, or a font file; `--some N` before them takes N
+of all these fonts, which are drawn from SEED and printed. Needs gcc and Debian's python3-fonttools, libfreetype-dev, opentype-sanitizer
+and libharfbuzz-bin. Each font is written by `psotf flat`, and, of glyphs that are drawn at random from SEED, three times by `psotf
+subset` and once by `psotf subset --retain-gids`. Of each file that is written fontTools, as it comes, has to draw each glyph with the
+same segments, and to tell the same metrics and the same name or CID; FreeType has to tell the same points, unscaled and unhinted, and
+the same advance; the sums in the file have to be right; and `ots-sanitize` has to accept it where it accepts the source. The bytes of
+the table `CFF ` of the flat file and the time are added up beside `hb-subset --desubroutinize` of all glyphs. It prints each file that
+differs, and then how many fonts, files and glyphs were compared.
 """
 
 import pathlib
@@ -27,7 +29,9 @@ from fontTools.ttLib import TTFont
 from font_files import files_of
 
 PSOTF = pathlib.Path(__file__).resolve().parent.parent / "crates" / "psotf" / "out" / "psotf"
+TOOLS = pathlib.Path(__file__).resolve().parent
 MOST = 400
+SUBSETS = 3
 
 
 def drawn(glyphs, name):
@@ -70,40 +74,67 @@ def differences(source, path, gids):
     )
 
 
-def tallied(path, folder, draw, sums):
+def built(folder):
+    """The program of tools/written_ft.c over FreeType."""
+    program = folder / "written_ft"
+    flags = subprocess.run(["pkg-config", "--cflags", "--libs", "freetype2"], stdout=subprocess.PIPE, check=True).stdout.decode().split()
+    subprocess.run(["gcc", "-O2", TOOLS / "written_ft.c", "-o", program, *flags], check=True)
+    return program
+
+
+def unlike(program, source, path, gids):
+    """How many pairs of glyphs FreeType compared, and how many differ."""
+    pairs = "".join(f"{gid} {new}\n" for new, gid in enumerate(gids) if gid is not None)
+    done = subprocess.run([program, source, path], input=pairs.encode(), stdout=subprocess.PIPE, check=False)
+    if done.returncode:
+        return 0, len(gids)
+    compared, differ, refused = map(int, done.stdout.split())
+    return compared - refused, differ
+
+
+def chosen_of(draw, count):
+    """Some glyphs, drawn at random, and .notdef."""
+    return sorted({0, *draw.sample(range(count), draw.randint(1, min(count, MOST)))})
+
+
+def tallied(path, folder, program, draw, sums):
     source = TTFont(path, lazy=True)
     if "CFF " not in source:
         return
     count = source["maxp"].numGlyphs
     sums["fonts"] += 1
     sound = is_sound(path)
-    flat, other = folder / "flat.otf", folder / "other.otf"
+    flat, theirs_at = folder / "flat.otf", folder / "other.otf"
     done, seconds, told = timed([PSOTF, "flat", path, "-o", flat])
     if not done:
         sums["refused"] += 1
         print(f"{path}: {told}")
         return
-    chosen = sorted({0, *draw.sample(range(count), min(count, MOST))})
-    listed = ",".join(map(str, chosen))
-    kept = [gid if gid in set(chosen) else None for gid in range(count)]
     files = [("flat", flat, list(range(count)))]
-    for name, more, gids in (("subset", [], chosen), ("retained", ["--retain-gids"], kept)):
-        place = folder / f"{name}.otf"
-        subprocess.run([PSOTF, "subset", path, "--gids", listed, *more, "-o", place], check=True)
-        files.append((name, place, gids))
+    for number in range(SUBSETS + 1):
+        chosen = chosen_of(draw, count)
+        retained = number == SUBSETS
+        own = set(chosen)
+        kept = [gid if gid in own else None for gid in range(count)] if retained else chosen
+        place = folder / f"{number}.otf"
+        words = ["--gids", ",".join(map(str, chosen)), *(["--retain-gids"] if retained else [])]
+        subprocess.run([PSOTF, "subset", path, *words, "-o", place], check=True)
+        files.append((f"subset {' '.join(words)}", place, kept))
     for name, place, gids in files:
         different = differences(source, place, gids)
+        compared, other = unlike(program, path, place, gids)
         refused = sound and not is_sound(place)
         sums["files"] += 1
         sums["glyphs"] += sum(gid is not None for gid in gids)
-        sums["differ"] += different
+        sums["points"] += compared
+        sums["differ"] += different + other
         sums["unsound"] += refused
-        if different or refused:
-            print(f"{path}: {name}: {different} glyphs differ, {'not ' if refused else ''}accepted")
-    done, theirs, _ = timed(["hb-subset", "--desubroutinize", "--gids=*", "--notdef-outline", "--glyph-names", "--layout-features=*", f"--output-file={other}", path])
+        if different or other or refused:
+            print(f"{path}: {name}: {different} glyphs differ, {other} for FreeType, {'not ' if refused else ''}accepted")
+    done, theirs, _ = timed(["hb-subset", "--desubroutinize", "--gids=*", "--notdef-outline", "--glyph-names", "--layout-features=*", f"--output-file={theirs_at}", path])
     if done:
         sums["own_bytes"] += len(TTFont(flat, lazy=True).reader["CFF "])
-        sums["their_bytes"] += len(TTFont(other, lazy=True).reader["CFF "])
+        sums["their_bytes"] += len(TTFont(theirs_at, lazy=True).reader["CFF "])
         sums["own_seconds"] += seconds
         sums["their_seconds"] += theirs
 
@@ -112,11 +143,19 @@ def main(words):
     if len(words) < 2:
         sys.exit(__doc__)
     draw = random.Random(int(words[0]))
-    sums = dict.fromkeys(("fonts", "refused", "files", "glyphs", "differ", "unsound", "own_bytes", "their_bytes", "own_seconds", "their_seconds"), 0)
-    with tempfile.TemporaryDirectory() as folder:
-        for path in files_of(*words[1:]):
-            tallied(path, pathlib.Path(folder), draw, sums)
-    print(f"seed {words[0]}: {sums['fonts']} fonts, {sums['refused']} refused, {sums['files']} files, {sums['glyphs']} glyphs, {sums['differ']} differ, {sums['unsound']} not accepted")
+    sums = dict.fromkeys(("fonts", "refused", "files", "glyphs", "points", "differ", "unsound", "own_bytes", "their_bytes", "own_seconds", "their_seconds"), 0)
+    if words[1] == "--some":
+        all_fonts = list(files_of(*words[3:]))
+        fonts = sorted(draw.sample(all_fonts, min(int(words[2]), len(all_fonts))))
+        print(*fonts, sep="\n")
+    else:
+        fonts = files_of(*words[1:])
+    with tempfile.TemporaryDirectory() as name:
+        folder = pathlib.Path(name)
+        program = built(folder)
+        for path in fonts:
+            tallied(path, folder, program, draw, sums)
+    print(f"seed {words[0]}: {sums['fonts']} fonts, {sums['refused']} refused, {sums['files']} files, {sums['glyphs']} glyphs, {sums['points']} also by FreeType, {sums['differ']} differ, {sums['unsound']} not accepted")
     if sums["their_bytes"]:
         print(f"beside hb-subset: {sums['own_bytes'] / sums['their_bytes']:.4f} of its bytes, {sums['own_seconds'] / sums['their_seconds']:.2f} of its time")
     return sums["differ"] or sums["unsound"]
