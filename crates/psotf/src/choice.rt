@@ -54,6 +54,9 @@ impl Choice {
 
     /// Adds the characters of a list: numbers in hex, with `U+` or without, or ranges of two of these.
     fn put_unicodes(&mut self, face: &Face<'_>, list: &str) -> Result<(), Failure> {
+        if list.is_empty() {
+            return Ok(());
+        }
         for word in list.split(',') {
             match word.split_once('-') {
                 Some((first, last)) => self.put_range(face, char_of(first)?, char_of(last)?)?,
@@ -64,19 +67,25 @@ impl Choice {
     }
 
     /// Adds glyphs of these numbers.
-    fn put_numbers(&mut self, first: u16, last: u16) -> Result<(), Failure> {
-        for gid in u32::from(first)..u32::from(last).saturating_add(1) {
+    fn put_numbers(&mut self, first: u32, last: u32) -> Result<(), Failure> {
+        for gid in first..last.saturating_add(1) {
             self.glyphs.push(gid as usize)?;
         }
         Ok(())
     }
 
     /// Adds the glyphs of a list: numbers, or ranges of two of these.
-    fn put_gids(&mut self, list: &str) -> Result<(), Failure> {
+    fn put_gids(&mut self, list: &str, glyphs: usize) -> Result<(), Failure> {
+        if list.is_empty() {
+            return Ok(());
+        }
         for word in list.split(',') {
             match word.split_once('-') {
-                Some((first, last)) => self.put_numbers(gid_of(first)?, gid_of(last)?)?,
-                None => self.put_numbers(gid_of(word)?, gid_of(word)?)?,
+                Some((first, last)) => self.put_numbers(
+                    gid_of(first, glyphs)?,
+                    gid_of(last, glyphs)?,
+                )?,
+                None => self.put_numbers(gid_of(word, glyphs)?, gid_of(word, glyphs)?)?,
             }
         }
         Ok(())
@@ -97,19 +106,33 @@ impl Choice {
         Ok(())
     }
 
-    /// What words name, with `.notdef`: glyphs and characters that rise.
+    /// Adds what words name.
+    fn put(
+        &mut self,
+        alloc: Global,
+        face: &Face<'_>,
+        words: &ArgMatches<'_>,
+    ) -> Result<(), Failure> {
+        if let Some(text) = words.get_str("text") {
+            return self.put_text(face, text);
+        }
+        if let Some(list) = words.get_str("unicodes") {
+            return self.put_unicodes(face, list);
+        }
+        let list = words.get_str("gids").unwrap_or("");
+        self.put_gids(list, face.font.char_strings.len())?;
+        self.put_chars(alloc, face)
+    }
+
+    /// What words name, with `.notdef`: glyphs and characters that rise. Words that name nothing are refused.
     pub fn read(alloc: Global, face: &Face<'_>, words: &ArgMatches<'_>) -> Result<Choice, Failure> {
         let mut choice = Choice {
             glyphs: Vec::new(alloc),
             pairs: Vec::new(alloc),
         };
-        if let Some(text) = words.get_str("text") {
-            choice.put_text(face, text)?;
-        } else if let Some(list) = words.get_str("unicodes") {
-            choice.put_unicodes(face, list)?;
-        } else {
-            choice.put_gids(words.get_str("gids").unwrap_or(""))?;
-            choice.put_chars(alloc, face)?;
+        choice.put(alloc, face, words)?;
+        if choice.glyphs.is_empty() {
+            return Err(Failure::NoneNamed);
         }
         choice.glyphs.push(0)?;
         choice.glyphs.sort()?;
@@ -129,10 +152,11 @@ fn char_of(word: &str) -> Result<u32, Failure> {
     }
 }
 
-/// A glyph by its number.
-fn gid_of(word: &str) -> Result<u16, Failure> {
-    match word.parse::<u16>() {
-        Ok(gid) => Ok(gid),
+/// A glyph by its number, one of so many.
+fn gid_of(word: &str, glyphs: usize) -> Result<u32, Failure> {
+    match word.parse::<u32>() {
+        Ok(gid) if (gid as usize) < glyphs => Ok(gid),
+        Ok(gid) => Err(Failure::NoGid(gid)),
         Err(_) => Err(Failure::Usage("--gids: a list of numbers, as 1,7-12")),
     }
 }
