@@ -76,7 +76,8 @@ enum {
     PSF_SEVERAL_FONTS = 41,               /* the font set has several fonts, or none */
     PSF_NO_PART = 42,                     /* a glyph of a CID-keyed font has no font dictionary */
     PSF_NO_GLYPHS = 43,                   /* no glyphs are named */
-    PSF_NOT_READ_BACK = 44                /* what was written is not read back as the font; no font is known for which this comes */
+    PSF_NOT_READ_BACK = 44,               /* what was written is not read back as the font; no font is known for which this comes */
+    PSF_TOO_LARGE = 45                    /* what is to be written is too large */
 };
 
 /* What a segment is. */
@@ -197,7 +198,7 @@ int32_t psf_glyph_operations(const uint8_t *cff, size_t length, const psf_font *
 /* The font without subroutines, to the front of flat[0..room]: a table CFF of the same glyphs, each of which draws what it drew,
  * with the same advance, name or CID, and codes.
  * On PSF_OK and PSF_NO_ROOM *count is how many bytes it has, and *refusal is as it was. Else *refusal is told.
- * Also answered: PSF_REFUSED_GLYPH, PSF_SEVERAL_FONTS, PSF_NO_PART, PSF_NOT_READ_BACK, and errors from 1 to 16. */
+ * Also answered: PSF_REFUSED_GLYPH, PSF_SEVERAL_FONTS, PSF_NO_PART, PSF_TOO_LARGE, PSF_NOT_READ_BACK, and errors from 1 to 16. */
 int32_t psf_font_flat(const uint8_t *cff, size_t length, uint8_t *flat, size_t room, size_t *count, psf_refusal *refusal);
 
 /* The font of .notdef and the glyphs that glyphs[0..named] names alone, without subroutines, to the front of subset[0..room].

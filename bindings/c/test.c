@@ -183,7 +183,7 @@ static void check_texts(void) {
     uint8_t text[80];
     size_t count = 0;
     holds(psf_version() == PSF_VERSION, "the version of the header");
-    for (int32_t status = 0; status <= PSF_NOT_READ_BACK; status++)
+    for (int32_t status = 0; status <= PSF_TOO_LARGE; status++)
         holds(psf_status_text(status, text, sizeof text, &count) == PSF_OK && count > 0, "a text");
     holds(psf_status_text(PSF_NO_GLYPH, text, sizeof text, &count) == PSF_OK && memcmp(text, "no such glyph", 13) == 0, "its words");
     holds(psf_status_text(PSF_NO_GLYPH, text, 3, &count) == PSF_NO_ROOM && count == 13, "no room for a text");

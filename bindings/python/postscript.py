@@ -108,6 +108,7 @@ class Status(enum.IntEnum):
     NO_PART = 42
     NO_GLYPHS = 43
     NOT_READ_BACK = 44
+    TOO_LARGE = 45
 
 
 def _status(number: int) -> Union[Status, int]:

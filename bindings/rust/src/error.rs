@@ -88,12 +88,14 @@ pub enum Error {
     NoGlyphs = 43,
     /// What was written is not read back as the font. No font is known for which this comes.
     NotReadBack = 44,
+    /// What is to be written is too large.
+    TooLarge = 45,
     /// A status that this crate does not know.
     Other = -1,
 }
 
 /// All that have a number.
-const ERRORS: [Error; 39] = [
+const ERRORS: [Error; 40] = [
     Error::UnexpectedEof,
     Error::Memory,
     Error::MalformedOffset,
@@ -133,6 +135,7 @@ const ERRORS: [Error; 39] = [
     Error::NoPart,
     Error::NoGlyphs,
     Error::NotReadBack,
+    Error::TooLarge,
 ];
 
 impl Error {

@@ -7,10 +7,10 @@ use Rattle.postscript_c.specs.Texts.{HandsBytes}
 use Rattle.postscript_c.specs.declared.written.PsfRefusal.{PsfRefusal}
 use Rattle.postscript_view.specs.Order.{View, view}
 use Rattle.postscript_write.specs.Glyphs.{Sources}
-use Rattle.postscript_write.specs.Refusals.{IsRefusedBy}
+use Rattle.postscript_write.specs.Refusals.{IsRefusedBy, IsSubsetRefusedBy}
 use Rattle.postscript_write.specs.Sources.{AreThere, IsWritten, every}
 use Rattle.postscript_write.specs.declared.error.Error.{Error}
-use Rattle.postscript_write.specs.declared.error.Error.TheVariants.{Refused, Glyph, SeveralFonts, MissingGlyph, MissingPart, MissingName, NoGlyphs, NotReadBack}
+use Rattle.postscript_write.specs.declared.error.Error.TheVariants.{Refused, Glyph, SeveralFonts, MissingGlyph, MissingPart, MissingName, NoGlyphs, TooLarge, NotReadBack}
 
 -- the number of a refusal: that of the cause where the font is refused
 abbrev pub written_code : Error → ℕ
@@ -22,6 +22,7 @@ written_code (MissingPart glyph) = 42
 written_code (MissingName glyph) = 38
 written_code NoGlyphs = 43
 written_code NotReadBack = 44
+written_code TooLarge = 45
 
 abbrev pub refusal : (glyph : ℕ) → (cause : ℤ) → PsfRefusal
 refusal glyph cause = record { glyph = glyph; cause = cause }
@@ -36,23 +37,21 @@ refusal_of (Refused cause) = refusal 0 (pos 0)
 refusal_of SeveralFonts = refusal 0 (pos 0)
 refusal_of NoGlyphs = refusal 0 (pos 0)
 refusal_of NotReadBack = refusal 0 (pos 0)
+refusal_of TooLarge = refusal 0 (pos 0)
 
 -- the font is handed over, or a refusal is told by its number, its glyph and its cause
 abbrev pub TellsWritten : Result (Vec ℕ Global) Error → (status : ℤ) → (room : List ℕ) → (count : ℕ) → PsfRefusal → Type 0
 TellsWritten (Ok flat) status room count told = HandsBytes flat.items status room count
 TellsWritten (Err e) status room count told = (status ≡ pos (written_code e)) × (told ≡ refusal_of e)
 
--- the font made of the glyphs that this gives for so many, or why there is none
-pub record IsMade (kept : Bool) (sources : (glyphs : ℕ) → Sources) (bytes : List ℕ) (answer : Result (Vec ℕ Global) Error) : Type 0 where
-  pub written : IfOk answer (λ flat. IsWritten kept sources bytes flat.items)
-  pub refused : IfErr answer (λ e. IsRefusedBy sources bytes e)
+-- the font made of all glyphs, or why there is none
+pub record IsFlat (bytes : List ℕ) (answer : Result (Vec ℕ Global) Error) : Type 0 where
+  pub written : IfOk answer (λ flat. IsWritten true every bytes flat.items)
+  pub refused : IfErr answer (λ e. IsRefusedBy every bytes e)
 
--- that of all glyphs
-abbrev pub IsFlat : List ℕ → Result (Vec ℕ Global) Error → Type 0
-IsFlat bytes answer = IsMade true every bytes answer
-
--- that of the glyphs that are named, which are glyphs of the font; refused where none is named
+-- the font made of the glyphs that are named, which are glyphs of the font, or why there is none; refused where none is named
 pub record IsSubset (kept : Bool) (sources : (named : List ℕ) → (glyphs : ℕ) → Sources) (bytes named : List ℕ) (answer : Result (Vec ℕ Global) Error) : Type 0 where
-  pub made : IsMade kept (sources named) bytes answer
+  pub written : IfOk answer (λ flat. IsWritten kept (sources named) bytes flat.items)
+  pub refused : IfErr answer (λ e. IsSubsetRefusedBy named (sources named) bytes e)
   pub there : OnOk answer ((font : View) → view bytes 0 ≡ Got font 0 → AreThere named (length font.char_strings))
   pub some : named ≡ [] → answer ≡ Err NoGlyphs

@@ -32,3 +32,6 @@ pub(crate) const NO_GLYPHS: i32 = 43;
 
 /// What was written is not read back as the font that was to be written.
 pub(crate) const NOT_READ_BACK: i32 = 44;
+
+/// What is to be written is too large.
+pub(crate) const TOO_LARGE: i32 = 45;

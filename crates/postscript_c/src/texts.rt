@@ -81,6 +81,7 @@ fn text_of(status: i32) -> Option<&'static str> {
         42 => Some("a glyph has no font dictionary"),
         43 => Some("no glyphs are named"),
         44 => Some("the font is not read back as it was written"),
+        45 => Some("the font is too large to be written"),
         _ => refusal_text(status),
     }
 }

@@ -7,13 +7,23 @@ use Rattle.postscript_base.specs.Tape.Outcome.{Got}
 use Rattle.postscript_base.specs.declared.error.Error as base
 use Rattle.postscript_base.specs.declared.error.Error.TheVariants as causes
 use Rattle.postscript_type2.specs.Program.Runs.{fault_of}
+use Rattle.std.proofs.lemmas.List.{length-map}
+use Rattle.postscript_items.specs.Lent.{items_of}
+use Rattle.postscript_view.specs.CharSets.{IsCharSetOf}
+use Rattle.postscript_view.specs.Glyphs.{HasPartNumber}
+use Rattle.postscript_view.specs.Naming.{Names}
 use Rattle.postscript_view.specs.Order.{View, Part, view}
+use Rattle.postscript_view.specs.Select.{IsSelected}
+use Rattle.postscript_view.specs.Shown.{view_shown, part_shown, parts_shown}
+use Rattle.postscript_view.specs.declared.char_set.CharSetView.{CharSetView}
+use Rattle.postscript_view.specs.declared.font.FontView.{FontView}
 use Rattle.postscript_write.specs.Fonts.{IsMade}
-use Rattle.postscript_write.specs.Glyphs.{AreNumbersOf, HasPartFor, IsCodeFor, Sources, run_in}
+use Rattle.postscript_write.specs.Glyphs.{AreCodesOf, AreNumbersOf, HasPartFor, IsCodeFor, Sources, run_in}
 use Rattle.postscript_write.specs.Parts.{SameParts}
-use Rattle.postscript_write.specs.Refusals.{FontRefusedBy, IsFaultless, IsOther, IsRefusedBy, RefusedBy, RefusedFor}
+use Rattle.postscript_write.specs.Refusals.{AreSound, FontRefusedBy, IsFaultless, IsFirstPast, IsRefusedBy, IsSubsetRefusedBy}
+use Rattle.postscript_write.specs.Steps.{IsLate, IsNotChosen, IsNotOpened, RefusedBy, RefusedFor}
 use Rattle.postscript_write.specs.declared.error.Error.{Error}
-use Rattle.postscript_write.specs.declared.error.Error.TheVariants.{Refused, Glyph, SeveralFonts, MissingGlyph, MissingPart, MissingName, NoGlyphs, NotReadBack}
+use Rattle.postscript_write.specs.declared.error.Error.TheVariants.{Refused, Glyph, SeveralFonts, MissingGlyph, MissingPart, MissingName, NoGlyphs, TooLarge, NotReadBack}
 
 pub made : (bytes flat : List ℕ) (old new : View) (source : Option ℕ) (i number : ℕ) (code : List ℕ) → SameParts old.parts new.parts → slice_get new.char_strings i ≡ Some code →
     HasPartFor bytes old source number → IsCodeFor old source number code → HasPartFor flat new (option_map (λ _. i) source) number → IsMade bytes old source flat new i
@@ -40,81 +50,133 @@ faultless_for font None number flat h = tt
 faultless_for font (Some glyph) number flat h = record { code = h.code; part = h.part; has_code = h.has_code; has_part = h.has_part; faultless = h.faultless }
 
 -- the refusal of a glyph behind glyphs that are not refused
-pub refused_by : (font : View) (sources : Sources) (numbers : List ℕ) (flats : List (List ℕ)) (i : ℕ) (source : Option ℕ) (e : Error) → i < length sources → slice_index_or sources i None ≡ source →
-    RefusedFor font source (slice_index_or numbers i 0) e →
+pub refused_by : (font : View) (sources : Sources) (numbers : List ℕ) (flats : List (List ℕ)) (i : ℕ) (e : Error) → i < length sources → RefusedFor font (slice_index_or sources i None) (slice_index_or numbers i 0) e →
     ((k : ℕ) → k < i → IsCodeFor font (slice_index_or sources k None) (slice_index_or numbers k 0) (slice_index_or flats k [])) → RefusedBy font sources numbers e
-refused_by font sources numbers flats i (Some one) (Glyph glyph cause) less is h before = record {
+refused_by font sources numbers flats i (Glyph glyph cause) less h before = record {
   place = i;
   there = less;
-  is = is ∙ ap Some h.0;
+  is = h.0;
   refused = h.1;
   before = λ k below. faultless_for font (slice_index_or sources k None) (slice_index_or numbers k 0) (slice_index_or flats k []) (before k below);
 }
-refused_by font sources numbers flats i None (Glyph glyph cause) less is h before = absurd h
-refused_by font sources numbers flats i source (Refused cause) less is h before = tt
-refused_by font sources numbers flats i source SeveralFonts less is h before = tt
-refused_by font sources numbers flats i source (MissingGlyph glyph) less is h before = tt
-refused_by font sources numbers flats i source (MissingPart glyph) less is h before = tt
-refused_by font sources numbers flats i source (MissingName glyph) less is h before = tt
-refused_by font sources numbers flats i source NoGlyphs less is h before = tt
-refused_by font sources numbers flats i source NotReadBack less is h before = tt
-
-pub other_font : (bytes : List ℕ) (font : View) (sources : Sources) (e : Error) → IsOther e → FontRefusedBy bytes font sources e
-other_font bytes font sources (Glyph glyph cause) h = absurd h
-other_font bytes font sources (Refused cause) h = tt
-other_font bytes font sources SeveralFonts h = tt
-other_font bytes font sources (MissingGlyph glyph) h = tt
-other_font bytes font sources (MissingPart glyph) h = tt
-other_font bytes font sources (MissingName glyph) h = tt
-other_font bytes font sources NoGlyphs h = tt
-other_font bytes font sources NotReadBack h = tt
-
-pub other_for : (font : View) (source : Option ℕ) (number : ℕ) (e : Error) → IsOther e → RefusedFor font source number e
-other_for font source number (Glyph glyph cause) h = absurd h
-other_for font source number (Refused cause) h = tt
-other_for font source number SeveralFonts h = tt
-other_for font source number (MissingGlyph glyph) h = tt
-other_for font source number (MissingPart glyph) h = tt
-other_for font source number (MissingName glyph) h = tt
-other_for font source number NoGlyphs h = tt
-other_for font source number NotReadBack h = tt
-
-pub other_is : (sources : (glyphs : ℕ) → Sources) (bytes : List ℕ) (e : Error) → IsOther e → IsRefusedBy sources bytes e
-other_is sources bytes (Glyph glyph cause) h = absurd h
-other_is sources bytes (Refused cause) h = tt
-other_is sources bytes SeveralFonts h = tt
-other_is sources bytes (MissingGlyph glyph) h = tt
-other_is sources bytes (MissingPart glyph) h = tt
-other_is sources bytes (MissingName glyph) h = tt
-other_is sources bytes NoGlyphs h = tt
-other_is sources bytes NotReadBack h = tt
+refused_by font sources numbers flats i (Refused cause) less h before = h
+refused_by font sources numbers flats i SeveralFonts less h before = absurd h
+refused_by font sources numbers flats i (MissingGlyph glyph) less h before = absurd h
+refused_by font sources numbers flats i (MissingPart glyph) less h before = absurd h
+refused_by font sources numbers flats i (MissingName glyph) less h before = absurd h
+refused_by font sources numbers flats i NoGlyphs less h before = absurd h
+refused_by font sources numbers flats i TooLarge less h before = absurd h
+refused_by font sources numbers flats i NotReadBack less h before = absurd h
 
 pub font_refused : (bytes : List ℕ) (font : View) (sources : Sources) (numbers : List ℕ) (e : Error) → AreNumbersOf bytes font sources numbers → RefusedBy font sources numbers e → FontRefusedBy bytes font sources e
 font_refused bytes font sources numbers (Glyph glyph cause) are h = (numbers, are, h)
-font_refused bytes font sources numbers (Refused cause) are h = tt
-font_refused bytes font sources numbers SeveralFonts are h = tt
-font_refused bytes font sources numbers (MissingGlyph glyph) are h = tt
-font_refused bytes font sources numbers (MissingPart glyph) are h = tt
-font_refused bytes font sources numbers (MissingName glyph) are h = tt
-font_refused bytes font sources numbers NoGlyphs are h = tt
-font_refused bytes font sources numbers NotReadBack are h = tt
+font_refused bytes font sources numbers (Refused cause) are h = λ n. absurd (n h)
+font_refused bytes font sources numbers SeveralFonts are h = absurd h
+font_refused bytes font sources numbers (MissingGlyph glyph) are h = absurd h
+font_refused bytes font sources numbers (MissingPart glyph) are h = absurd h
+font_refused bytes font sources numbers (MissingName glyph) are h = absurd h
+font_refused bytes font sources numbers NoGlyphs are h = absurd h
+font_refused bytes font sources numbers TooLarge are h = absurd h
+font_refused bytes font sources numbers NotReadBack are h = absurd h
+
+-- a glyph without a part
+pub partless : (font : FontView) (sources : Sources) (i : ℕ) (e : Error) → i < length sources →
+    ((glyph : ℕ) × (slice_index_or sources i None ≡ Some glyph) × (e ≡ MissingPart glyph) × ((part : ℕ) → HasPartNumber font glyph part → ⊥)) → FontRefusedBy font.bytes.now (view_shown font) sources e
+partless font sources i e less h =
+    let many : length (parts_shown font.parts.items) ≡ length font.parts.items = length-map font.parts.items part_shown in
+    subst (λ e. FontRefusedBy font.bytes.now (view_shown font) sources e) (sym h.2) (record {
+      one = (i, less, h.1);
+      partless = λ there number has. h.3 number (record {
+        glyph_there = there;
+        part_there = subst (λ n. number < n) many has.there;
+        selected = subst (λ n. ((n ≡ 1) × (number ≡ 0)) ⊎ ((n ≢ 1) × IsSelected font.bytes.now font.dictionary (length (items_of font.char_strings)) h.0 number)) many has.selected;
+      });
+    })
+
+-- a glyph without a name
+pub nameless : (font : FontView) (set : CharSetView) (sources : Sources) (i : ℕ) (e : Error) → IsCharSetOf set font.bytes.now font.dictionary (length (items_of font.char_strings)) → i < length sources →
+    ((glyph : ℕ) × (slice_index_or sources i None ≡ Some glyph) × (e ≡ MissingName glyph) × ((identifier : ℕ) → Names set glyph identifier → ⊥)) → FontRefusedBy font.bytes.now (view_shown font) sources e
+nameless font set sources i e has less h = subst (λ e. FontRefusedBy font.bytes.now (view_shown font) sources e) (sym h.2) (record {
+  one = (i, less, h.1);
+  set = set;
+  has_set = has;
+  nameless = h.3;
+})
+
+-- writing is refused where nothing is wrong with the font
+pub late_refused : (bytes : List ℕ) (font : View) (sources : Sources) (numbers : List ℕ) (flats : List (List ℕ)) (e : Error) → AreNumbersOf bytes font sources numbers → AreCodesOf font sources numbers flats → IsLate e → FontRefusedBy bytes font sources e
+late_refused bytes font sources numbers flats e are codes h = by e h
+  where
+    sound : AreSound bytes font sources
+    sound = (numbers, are, λ i less. faultless_for font (slice_index_or sources i None) (slice_index_or numbers i 0) (slice_index_or flats i []) (codes.each i less))
+
+    by : (e : Error) → IsLate e → FontRefusedBy bytes font sources e
+    by (Glyph glyph cause) h = absurd h
+    by (Refused cause) h = λ n. absurd (n h)
+    by SeveralFonts h = absurd h
+    by (MissingGlyph glyph) h = absurd h
+    by (MissingPart glyph) h = absurd h
+    by (MissingName glyph) h = absurd h
+    by NoGlyphs h = absurd h
+    by TooLarge h = sound
+    by NotReadBack h = sound
+
+pub memory_font : (bytes : List ℕ) (font : View) (sources : Sources) (e : Error) → e ≡ Refused causes.Memory → FontRefusedBy bytes font sources e
+memory_font bytes font sources e is = subst (FontRefusedBy bytes font sources) (sym is) (λ n. absurd (n refl))
+
+pub memory_bytes : (sources : (glyphs : ℕ) → Sources) (bytes : List ℕ) (e : Error) → e ≡ Refused causes.Memory → IsRefusedBy sources bytes e
+memory_bytes sources bytes e is = subst (IsRefusedBy sources bytes) (sym is) (λ n. absurd (n refl))
 
 pub is_refused : (sources : (glyphs : ℕ) → Sources) (bytes : List ℕ) (font : View) (e : Error) → view bytes 0 ≡ Got font 0 → FontRefusedBy bytes font (sources (length font.char_strings)) e → IsRefusedBy sources bytes e
 is_refused sources bytes font (Glyph glyph cause) is h = (font, is, h)
-is_refused sources bytes font (Refused cause) is h = tt
-is_refused sources bytes font SeveralFonts is h = tt
-is_refused sources bytes font (MissingGlyph glyph) is h = tt
-is_refused sources bytes font (MissingPart glyph) is h = tt
-is_refused sources bytes font (MissingName glyph) is h = tt
-is_refused sources bytes font NoGlyphs is h = tt
-is_refused sources bytes font NotReadBack is h = tt
+is_refused sources bytes font (Refused cause) is h = λ n. inr (font, is, h n)
+is_refused sources bytes font SeveralFonts is h = absurd h
+is_refused sources bytes font (MissingGlyph glyph) is h = absurd h
+is_refused sources bytes font (MissingPart glyph) is h = (font, is, h)
+is_refused sources bytes font (MissingName glyph) is h = (font, is, h)
+is_refused sources bytes font NoGlyphs is h = absurd h
+is_refused sources bytes font TooLarge is h = (font, is, h)
+is_refused sources bytes font NotReadBack is h = (font, is, h)
+
+pub not_opened : (sources : (glyphs : ℕ) → Sources) (bytes : List ℕ) (e : Error) → IsNotOpened bytes e → IsRefusedBy sources bytes e
+not_opened sources bytes (Glyph glyph cause) h = absurd h
+not_opened sources bytes (Refused cause) h = λ n. inl (h n)
+not_opened sources bytes SeveralFonts h = h
+not_opened sources bytes (MissingGlyph glyph) h = absurd h
+not_opened sources bytes (MissingPart glyph) h = absurd h
+not_opened sources bytes (MissingName glyph) h = absurd h
+not_opened sources bytes NoGlyphs h = absurd h
+not_opened sources bytes TooLarge h = absurd h
+not_opened sources bytes NotReadBack h = absurd h
+
+pub not_chosen : (named : List ℕ) (sources : (glyphs : ℕ) → Sources) (bytes : List ℕ) (font : View) (e : Error) → view bytes 0 ≡ Got font 0 → IsNotChosen named (length font.char_strings) e → IsSubsetRefusedBy named sources bytes e
+not_chosen named sources bytes font (Glyph glyph cause) is h = absurd h
+not_chosen named sources bytes font (Refused cause) is h = λ n. absurd (n h)
+not_chosen named sources bytes font SeveralFonts is h = absurd h
+not_chosen named sources bytes font (MissingGlyph glyph) is h = (font, is, h)
+not_chosen named sources bytes font (MissingPart glyph) is h = absurd h
+not_chosen named sources bytes font (MissingName glyph) is h = absurd h
+not_chosen named sources bytes font NoGlyphs is h = absurd h
+not_chosen named sources bytes font TooLarge is h = absurd h
+not_chosen named sources bytes font NotReadBack is h = absurd h
+
+pub of_subset : (named : List ℕ) (sources : (glyphs : ℕ) → Sources) (bytes : List ℕ) (e : Error) → IsRefusedBy sources bytes e → IsSubsetRefusedBy named sources bytes e
+of_subset named sources bytes (Glyph glyph cause) h = h
+of_subset named sources bytes (Refused cause) h = h
+of_subset named sources bytes SeveralFonts h = h
+of_subset named sources bytes (MissingGlyph glyph) h = absurd h.2
+of_subset named sources bytes (MissingPart glyph) h = h
+of_subset named sources bytes (MissingName glyph) h = h
+of_subset named sources bytes NoGlyphs h = absurd h.2
+of_subset named sources bytes TooLarge h = h
+of_subset named sources bytes NotReadBack h = h
 
 -- the refusal of a glyph, want of memory aside
 pub run_refused : (font : View) (glyph number : ℕ) (code : List ℕ) (part : Part) (cause : base.Error) (e : Error) → slice_get font.char_strings glyph ≡ Some code → slice_get font.parts number ≡ Some part →
     (cause ≡ causes.Memory) ⊎ (fault_of (run_in font part code).end ≡ Some (refusal_of cause)) →
     (e ≡ Refused causes.Memory) ⊎ ((cause ≢ causes.Memory) × (e ≡ Glyph glyph cause)) → RefusedFor font (Some glyph) number e
 run_refused font glyph number code part cause e has_code has_part fault is = elim is [
-  | inl memory ↦ subst (λ e. RefusedFor font (Some glyph) number e) (sym memory) tt
+  | inl memory ↦ subst (λ e. RefusedFor font (Some glyph) number e) (sym memory) refl
   | inr other ↦ subst (λ e. RefusedFor font (Some glyph) number e) (sym other.1) (
     refl,
     record {

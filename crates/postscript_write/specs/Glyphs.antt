@@ -39,6 +39,14 @@ pub record IsCodeOf (font : View) (glyph number : ℕ) (flat : List ℕ) : Type 
 abbrev pub Sources : Type 0
 Sources = List (Option ℕ)
 
+-- it is made of one of so many glyphs, or empty
+abbrev pub IsGlyph : Option ℕ → (glyphs : ℕ) → Type 0
+IsGlyph None glyphs = Unit {0}
+IsGlyph (Some glyph) glyphs = glyph < glyphs
+
+abbrev pub AreGlyphs : Sources → (glyphs : ℕ) → Type 0
+AreGlyphs sources glyphs = (i : ℕ) → i < length sources → IsGlyph (slice_index_or sources i None) glyphs
+
 abbrev pub IsCodeFor : View → Option ℕ → (number : ℕ) → List ℕ → Type 0
 IsCodeFor font None number flat = flat ≡ 0x0e ∷ []
 IsCodeFor font (Some glyph) number flat = IsCodeOf font glyph number flat

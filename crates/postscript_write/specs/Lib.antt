@@ -8,3 +8,4 @@ pub mod Naming
 pub mod Fonts
 pub mod Sources
 pub mod Refusals
+pub mod Steps

@@ -1,13 +1,19 @@
--- Why a font is not written.
-use Rattle.std.specs.Prelude.{◌≡◌, ℕ, ◌<◌, List, Option, Some, None, length, slice_get, slice_index_or}
+-- Why a font is not written. Want of memory, `Refused Memory`, may come in the place of any other answer.
+use Rattle.std.specs.Prelude.{◌≡◌, ◌≢◌, ◌⊎◌, ℕ, ◌<◌, ◌≤◌, List, [], Option, Some, None, length, slice_get, slice_index_or}
 use Rattle.postscript_base.specs.Refusal.{refusal_of}
-use Rattle.postscript_base.specs.Tape.Outcome.{Got}
+use Rattle.postscript_base.specs.Tape.Outcome.{Got, RefusedAs}
 use Rattle.postscript_base.specs.declared.error.Error as causes
+use Rattle.postscript_base.specs.declared.error.Error.TheVariants.{Memory}
 use Rattle.postscript_type2.specs.Program.Runs.{fault_of}
-use Rattle.postscript_view.specs.Order.{View, Part, view}
-use Rattle.postscript_write.specs.Glyphs.{AreNumbersOf, Sources, run_in}
+use Rattle.postscript_view.specs.CharSets.{IsCharSetOf}
+use Rattle.postscript_view.specs.Encodings.{IsEncodingOf}
+use Rattle.postscript_view.specs.Naming.{Names}
+use Rattle.postscript_view.specs.Order.{View, Part, fonts, view}
+use Rattle.postscript_view.specs.declared.char_set.CharSetView.{CharSetView}
+use Rattle.postscript_view.specs.declared.encoding.EncodingView.{EncodingView}
+use Rattle.postscript_write.specs.Glyphs.{AreNumbersOf, HasPart, Sources, run_in}
 use Rattle.postscript_write.specs.declared.error.Error.{Error}
-use Rattle.postscript_write.specs.declared.error.Error.TheVariants.{Refused, Glyph, SeveralFonts, MissingGlyph, MissingPart, MissingName, NoGlyphs, NotReadBack}
+use Rattle.postscript_write.specs.declared.error.Error.TheVariants.{Refused, Glyph, SeveralFonts, MissingGlyph, MissingPart, MissingName, NoGlyphs, TooLarge, NotReadBack}
 
 -- the run of a glyph with the part of a number is refused with this cause
 pub record IsRunRefused (font : View) (glyph number : ℕ) (cause : causes.Error) : Type 0 where
@@ -37,62 +43,78 @@ pub record IsFirstRefused (font : View) (sources : Sources) (numbers : List ℕ)
   pub refused : IsRunRefused font glyph (slice_index_or numbers place 0) cause
   pub before : (i : ℕ) → i < place → IsFaultless font (slice_index_or sources i None) (slice_index_or numbers i 0)
 
--- where the refusal is that of a glyph, it is that of the first one whose run is refused
-abbrev pub RefusedBy : View → Sources → (numbers : List ℕ) → Error → Type 0
-RefusedBy font sources numbers (Glyph glyph cause) = IsFirstRefused font sources numbers glyph cause
-RefusedBy font sources numbers (Refused cause) = Unit {0}
-RefusedBy font sources numbers SeveralFonts = Unit {0}
-RefusedBy font sources numbers (MissingGlyph glyph) = Unit {0}
-RefusedBy font sources numbers (MissingPart glyph) = Unit {0}
-RefusedBy font sources numbers (MissingName glyph) = Unit {0}
-RefusedBy font sources numbers NoGlyphs = Unit {0}
-RefusedBy font sources numbers NotReadBack = Unit {0}
-
--- a refusal that is not that of a glyph
-abbrev pub IsOther : Error → Type 0
-IsOther (Glyph glyph cause) = ⊥
-IsOther (Refused cause) = Unit {0}
-IsOther SeveralFonts = Unit {0}
-IsOther (MissingGlyph glyph) = Unit {0}
-IsOther (MissingPart glyph) = Unit {0}
-IsOther (MissingName glyph) = Unit {0}
-IsOther NoGlyphs = Unit {0}
-IsOther NotReadBack = Unit {0}
-
--- where the refusal is that of a glyph, it is that of this one
-abbrev pub RefusedFor : View → Option ℕ → (number : ℕ) → Error → Type 0
-RefusedFor font (Some one) number (Glyph glyph cause) = (one ≡ glyph) × IsRunRefused font glyph number cause
-RefusedFor font None number (Glyph glyph cause) = ⊥
-RefusedFor font source number (Refused cause) = Unit {0}
-RefusedFor font source number SeveralFonts = Unit {0}
-RefusedFor font source number (MissingGlyph glyph) = Unit {0}
-RefusedFor font source number (MissingPart glyph) = Unit {0}
-RefusedFor font source number (MissingName glyph) = Unit {0}
-RefusedFor font source number NoGlyphs = Unit {0}
-RefusedFor font source number NotReadBack = Unit {0}
-
 -- the first refused one of these glyphs of a font, each with its part
 abbrev pub IsFirst : List ℕ → View → Sources → (glyph : ℕ) → causes.Error → Type 0
 IsFirst bytes font sources glyph cause = (numbers : List ℕ) × AreNumbersOf bytes font sources numbers × IsFirstRefused font sources numbers glyph cause
 
+-- one of these glyphs
+abbrev pub IsOneOf : Sources → (glyph : ℕ) → Type 0
+IsOneOf sources glyph = (place : ℕ) × (place < length sources) × (slice_index_or sources place None ≡ Some glyph)
+
+-- one of these glyphs, which has no part
+pub record IsPartless (bytes : List ℕ) (font : View) (sources : Sources) (glyph : ℕ) : Type 0 where
+  pub one : IsOneOf sources glyph
+  pub partless : glyph < length font.char_strings → (number : ℕ) → HasPart bytes font glyph number → ⊥
+
+-- one of these glyphs, which the char set of the font does not name
+pub record IsNameless (bytes : List ℕ) (font : View) (sources : Sources) (glyph : ℕ) : Type 0 where
+  pub one : IsOneOf sources glyph
+  pub set : CharSetView
+  pub has_set : IsCharSetOf set bytes font.tables.dictionary (length font.char_strings)
+  pub nameless : (identifier : ℕ) → Names set glyph identifier → ⊥
+
+-- the font has a char set; it has an encoding
+abbrev pub HasSet : List ℕ → View → Type 0
+HasSet bytes font = (set : CharSetView) × IsCharSetOf set bytes font.tables.dictionary (length font.char_strings)
+
+abbrev pub HasEncoding : List ℕ → View → Type 0
+HasEncoding bytes font = (encoding : EncodingView) × IsEncodingOf encoding bytes font.tables.dictionary
+
+-- Each of these glyphs has its part, and no fault ends its run.
+abbrev pub AreSound : List ℕ → View → Sources → Type 0
+AreSound bytes font sources =
+    (numbers : List ℕ) × AreNumbersOf bytes font sources numbers × ((i : ℕ) → i < length sources → IsFaultless font (slice_index_or sources i None) (slice_index_or numbers i 0))
+
+-- What a refusal says of the font that glyphs are taken from. `TooLarge` and `NotReadBack` come only where nothing is wrong with it.
 abbrev pub FontRefusedBy : List ℕ → View → Sources → Error → Type 0
 FontRefusedBy bytes font sources (Glyph glyph cause) = IsFirst bytes font sources glyph cause
-FontRefusedBy bytes font sources (Refused cause) = Unit {0}
-FontRefusedBy bytes font sources SeveralFonts = Unit {0}
-FontRefusedBy bytes font sources (MissingGlyph glyph) = Unit {0}
-FontRefusedBy bytes font sources (MissingPart glyph) = Unit {0}
-FontRefusedBy bytes font sources (MissingName glyph) = Unit {0}
-FontRefusedBy bytes font sources NoGlyphs = Unit {0}
-FontRefusedBy bytes font sources NotReadBack = Unit {0}
+FontRefusedBy bytes font sources (Refused cause) = cause ≢ Memory → (HasSet bytes font → ⊥) ⊎ (HasEncoding bytes font → ⊥)
+FontRefusedBy bytes font sources (MissingPart glyph) = IsPartless bytes font sources glyph
+FontRefusedBy bytes font sources (MissingName glyph) = IsNameless bytes font sources glyph
+FontRefusedBy bytes font sources TooLarge = AreSound bytes font sources
+FontRefusedBy bytes font sources NotReadBack = AreSound bytes font sources
+FontRefusedBy bytes font sources SeveralFonts = ⊥
+FontRefusedBy bytes font sources (MissingGlyph glyph) = ⊥
+FontRefusedBy bytes font sources NoGlyphs = ⊥
 
--- Where the refusal is that of a glyph, a font begins the bytes, and of the glyphs that this gives for so many it is the first
--- one whose run is refused, with the cause of that run.
+-- a font begins the bytes, of which this holds
+abbrev pub OfFont : List ℕ → (View → Type 0) → Type 0
+OfFont bytes P = (old : View) × (view bytes 0 ≡ Got old 0) × P old
+
+-- the font set has another number of fonts than one
+abbrev pub HasOtherFonts : List ℕ → Type 0
+HasOtherFonts bytes = (count : ℕ) × (fonts bytes 0 ≡ Got count 0) × (count ≢ 1)
+
+-- the font set is refused with this cause, or its first font
+abbrev pub IsRefusedAs : List ℕ → causes.Error → Type 0
+IsRefusedAs bytes cause = RefusedAs cause (fonts bytes 0) ⊎ RefusedAs cause (view bytes 0)
+
+-- What a refusal says of the bytes, from whose font are taken the glyphs that this gives for so many.
 abbrev pub IsRefusedBy : ((glyphs : ℕ) → Sources) → List ℕ → Error → Type 0
-IsRefusedBy sources bytes (Glyph glyph cause) = (old : View) × (view bytes 0 ≡ Got old 0) × IsFirst bytes old (sources (length old.char_strings)) glyph cause
-IsRefusedBy sources bytes (Refused cause) = Unit {0}
-IsRefusedBy sources bytes SeveralFonts = Unit {0}
-IsRefusedBy sources bytes (MissingGlyph glyph) = Unit {0}
-IsRefusedBy sources bytes (MissingPart glyph) = Unit {0}
-IsRefusedBy sources bytes (MissingName glyph) = Unit {0}
-IsRefusedBy sources bytes NoGlyphs = Unit {0}
-IsRefusedBy sources bytes NotReadBack = Unit {0}
+IsRefusedBy sources bytes SeveralFonts = HasOtherFonts bytes
+IsRefusedBy sources bytes (Refused cause) = cause ≢ Memory → IsRefusedAs bytes cause ⊎ OfFont bytes (λ old. (HasSet bytes old → ⊥) ⊎ (HasEncoding bytes old → ⊥))
+IsRefusedBy sources bytes e = OfFont bytes (λ old. FontRefusedBy bytes old (sources (length old.char_strings)) e)
+
+-- the first one that is named and is none of so many glyphs
+pub record IsFirstPast (named : List ℕ) (glyphs glyph : ℕ) : Type 0 where
+  pub place : ℕ
+  pub there : place < length named
+  pub is : slice_index_or named place 0 ≡ glyph
+  pub past : glyphs ≤ glyph
+  pub before : (i : ℕ) → i < place → slice_index_or named i 0 < glyphs
+
+-- what a refusal of a subset says of the glyphs that are named, and else of the bytes
+abbrev pub IsSubsetRefusedBy : (named : List ℕ) → ((glyphs : ℕ) → Sources) → List ℕ → Error → Type 0
+IsSubsetRefusedBy named sources bytes NoGlyphs = named ≡ []
+IsSubsetRefusedBy named sources bytes (MissingGlyph glyph) = OfFont bytes (λ old. IsFirstPast named (length old.char_strings) glyph)
+IsSubsetRefusedBy named sources bytes e = IsRefusedBy sources bytes e

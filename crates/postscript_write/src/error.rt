@@ -1,5 +1,6 @@
 //! What writing is refused with.
 ghost use Rattle.std.specs.Prelude.{◌≡◌};
+ghost use Rattle.postscript_write.specs.Steps.{IsLate};
 ghost use Rattle.postscript_base.specs.declared.error.Error.TheVariants as causes;
 ghost use Rattle.postscript_write.specs.declared.error.Error.TheVariants as errors;
 
@@ -13,8 +14,7 @@ pub type Result<T> = std::result::Result<T, Error>;
 /// A refusal.
 #[derive(Debug, Drop, Error)]
 pub enum Error {
-    /// The font is refused: as it is read, or because what is to be written is too large (`OutOfRangeOffset`). Also memory
-    /// that was refused (`Memory`).
+    /// The font is refused, or its char set or encoding. Also memory that was refused (`Memory`).
     #[error("{0}")]
     Refused(Cause),
     /// The run of the glyph of this number is refused, and this is why.
@@ -35,6 +35,9 @@ pub enum Error {
     /// No glyphs are named.
     #[error("no glyphs are named")]
     NoGlyphs,
+    /// What is to be written is too large: an INDEX has more than 65,535 items or 32 bits of bytes, or a place more than 31 bits.
+    #[error("the font is too large to be written")]
+    TooLarge,
     /// What was written is not read back as the font that was to be written. No font is known for which this comes.
     #[error("the font is not read back as it was written")]
     NotReadBack,
@@ -64,5 +67,26 @@ impl<T: Drop> From<AllocFailed<T>> for Error {
 
     fn from(_fault: AllocFailed<T>) -> Error {
         Error::Refused(Cause::Memory)
+    }
+}
+
+/// The refusal where writing is refused: `TooLarge`, want of memory aside.
+pub(crate) fn unwritten(fault: Cause) -> Error
+    ensures { IsLate result }
+{
+    match fault {
+        Cause::Memory => Error::Refused(Cause::Memory),
+        Cause::OutOfRangeOffset => Error::TooLarge,
+        _ => Error::NotReadBack,
+    }
+}
+
+/// The refusal where a font that was written is refused: `NotReadBack`, want of memory aside.
+pub(crate) fn not_back(fault: Cause) -> Error
+    ensures { IsLate result }
+{
+    match fault {
+        Cause::Memory => Error::Refused(Cause::Memory),
+        _ => Error::NotReadBack,
     }
 }

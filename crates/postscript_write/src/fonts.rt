@@ -1,10 +1,11 @@
 //! Fonts that are made of glyphs of other fonts.
 ghost use Rattle.std.specs.Prelude.{◌≡◌, [], true, false, Err, length, IfOk, IfErr, OnOk};
 ghost use Rattle.postscript_base.specs.Tape.Outcome.{Got};
-ghost use Rattle.postscript_view.specs.Order.{View, view as the_view};
+ghost use Rattle.postscript_view.specs.Order.{View, fonts as the_fonts, view as the_view};
 ghost use Rattle.postscript_view.specs.Shown.{view_shown};
-ghost use Rattle.postscript_write.specs.Refusals.{IsOther, IsRefusedBy};
+ghost use Rattle.postscript_write.specs.Refusals.{IsRefusedBy, IsSubsetRefusedBy};
 ghost use Rattle.postscript_write.specs.Sources.{AreThere, IsWritten, chosen as the_chosen, every as the_every, keeping as the_keeping};
+ghost use Rattle.postscript_write.specs.Steps.{IsNotOpened};
 ghost use Rattle.postscript_write.specs.declared.error.Error.TheVariants as errors;
 
 use crate::error::{Error, Result};
@@ -17,7 +18,8 @@ use std::alloc::Global;
 fn only_font<'l>(alloc: Global, bytes: &'l [u8]) -> Result<FontView<'l>>
     ensures is { IfOk result (λ font. the_view bytes.now 0 ≡ Got (view_shown font) 0) }
     ensures bytes { IfOk result (λ font. font.bytes.now ≡ bytes.now) }
-    ensures other { IfErr result (λ e. IsOther e) }
+    ensures one { OnOk result (the_fonts bytes.now 0 ≡ Got 1 0) }
+    ensures refused { IfErr result (λ e. IsNotOpened bytes.now e) }
 {
     if FontView::fonts(bytes)? != 1 {
         return Err(Error::SeveralFonts);
@@ -31,9 +33,10 @@ fn only_font<'l>(alloc: Global, bytes: &'l [u8]) -> Result<FontView<'l>>
 ///
 /// Refused: `Glyph` with the first glyph whose run is refused, and why; `Refused` where the font, its char set or its encoding is
 /// refused, or where memory is; `MissingPart` where FDSelect gives a glyph no font dictionary; `SeveralFonts` where there is
-/// not one font; `NotReadBack` where what is written is not read back as this font.
+/// not one font; `TooLarge` where what is written is too large; `NotReadBack` where it is not read back as this font.
 pub fn flat_font(alloc: Global, bytes: &[u8]) -> Result<Vec<u8>>
     ensures written { IfOk result (λ flat. IsWritten true the_every bytes.now flat.items) }
+    ensures one { OnOk result (the_fonts bytes.now 0 ≡ Got 1 0) }
     ensures refused { IfErr result (λ e. IsRefusedBy the_every bytes.now e) }
 {
     let font = only_font(alloc, bytes)?;
@@ -50,7 +53,8 @@ pub fn flat_font(alloc: Global, bytes: &[u8]) -> Result<Vec<u8>>
 /// has no identifier for a glyph; and as `flat_font` is, but only for these glyphs.
 pub fn subset(alloc: Global, bytes: &[u8], named: &[usize]) -> Result<Vec<u8>>
     ensures written { IfOk result (λ flat. IsWritten false (the_chosen named.now) bytes.now flat.items) }
-    ensures refused { IfErr result (λ e. IsRefusedBy (the_chosen named.now) bytes.now e) }
+    ensures one { OnOk result (the_fonts bytes.now 0 ≡ Got 1 0) }
+    ensures refused { IfErr result (λ e. IsSubsetRefusedBy named.now (the_chosen named.now) bytes.now e) }
     ensures there { OnOk result ((font : View) → the_view bytes.now 0 ≡ Got font 0 → AreThere named.now (length font.char_strings)) }
     ensures none { named.now ≡ [] → result ≡ Err errors.NoGlyphs }
 {
@@ -69,7 +73,8 @@ pub fn subset(alloc: Global, bytes: &[u8], named: &[usize]) -> Result<Vec<u8>>
 /// these glyphs.
 pub fn subset_keeping(alloc: Global, bytes: &[u8], named: &[usize]) -> Result<Vec<u8>>
     ensures written { IfOk result (λ flat. IsWritten true (the_keeping named.now) bytes.now flat.items) }
-    ensures refused { IfErr result (λ e. IsRefusedBy (the_keeping named.now) bytes.now e) }
+    ensures one { OnOk result (the_fonts bytes.now 0 ≡ Got 1 0) }
+    ensures refused { IfErr result (λ e. IsSubsetRefusedBy named.now (the_keeping named.now) bytes.now e) }
     ensures there { OnOk result ((font : View) → the_view bytes.now 0 ≡ Got font 0 → AreThere named.now (length font.char_strings)) }
     ensures none { named.now ≡ [] → result ≡ Err errors.NoGlyphs }
 {

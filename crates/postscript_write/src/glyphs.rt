@@ -1,11 +1,14 @@
 //! The codes of glyphs, without calls.
-ghost use Rattle.std.specs.Prelude.{◌≡◌, ◌≢◌, ◌⊎◌, [], ◌∷◌, Some, length, IfOk, IfErr};
+ghost use Rattle.std.specs.Prelude.{◌≡◌, ◌≢◌, ◌⊎◌, ◌<◌, ℕ, [], ◌∷◌, Some, length, IfOk, IfErr, OnOk};
 ghost use Rattle.postscript_base.specs.declared.error.Error.TheVariants as causes;
 ghost use Rattle.postscript_type2.specs.Program.Routines.{texts};
 ghost use Rattle.postscript_write.specs.declared.error.Error.TheVariants as errors;
 ghost use Rattle.postscript_view.specs.Shown.{view_shown};
-ghost use Rattle.postscript_write.specs.Glyphs.{AreCodesOf, AreNumbersOf, HasPartFor, IsCodeFor, IsCodeOf};
-ghost use Rattle.postscript_write.specs.Refusals.{IsOther, RefusedBy, RefusedFor};
+ghost use Rattle.postscript_items.specs.Lent.{items_of};
+ghost use Rattle.postscript_write.specs.Glyphs.{AreCodesOf, AreGlyphs, AreNumbersOf, HasPartFor, IsCodeFor, IsCodeOf, IsGlyph};
+ghost use Rattle.postscript_view.specs.Glyphs.{HasPartNumber};
+ghost use Rattle.postscript_write.specs.Refusals.{FontRefusedBy};
+ghost use Rattle.postscript_write.specs.Steps.{RefusedBy, RefusedFor};
 
 use crate::error::{Error, Result};
 use postscript_base::Error as Cause;
@@ -16,7 +19,8 @@ use std::alloc::Global;
 /// The number of the part of the glyph that a glyph is made of.
 fn number_of(font: &FontView<'_>, source: Option<usize>) -> Result<usize>
     ensures number { IfOk result (λ number. HasPartFor font.now.bytes.now (view_shown font.now) source number) }
-    ensures other { IfErr result (λ e. IsOther e) }
+    ensures there { OnOk result (IsGlyph source (length (items_of font.now.char_strings))) }
+    ensures refused { IfErr result (λ e. (glyph : ℕ) × (source ≡ Some glyph) × (e ≡ errors.MissingPart glyph) × ((part : ℕ) → HasPartNumber font.now glyph part → ⊥)) }
 {
     let Some(glyph) = source else {
         return Ok(0);
@@ -34,7 +38,8 @@ pub(crate) fn numbers_of(
     sources: &[Option<usize>],
 ) -> Result<Vec<usize>>
     ensures numbers { IfOk result (λ numbers. AreNumbersOf font.now.bytes.now (view_shown font.now) sources.now numbers.items) }
-    ensures other { IfErr result (λ e. IsOther e) }
+    ensures there { OnOk result (AreGlyphs sources.now (length (items_of font.now.char_strings))) }
+    ensures refused { IfErr result (λ e. FontRefusedBy font.now.bytes.now (view_shown font.now) sources.now e) }
 {
     let mut numbers = Vec::with_capacity(alloc, sources.len())?;
     for i in 0..sources.len() {
@@ -56,12 +61,13 @@ fn refusal(glyph: usize, cause: Cause) -> Error
 
 /// The code of a glyph without calls.
 fn flat_code(alloc: Global, font: &FontView<'_>, glyph: usize, number: usize) -> Result<Vec<u8>>
+    requires glyph { glyph < length (items_of font.now.char_strings) }
+    requires part { number < length font.now.parts.items }
     ensures code { IfOk result (λ flat. IsCodeOf (view_shown font.now) glyph number flat.items) }
     ensures refused { IfErr result (λ e. RefusedFor (view_shown font.now) (Some glyph) number e) }
 {
-    let (Some(code), Some(part)) = (font.char_strings.get(glyph), font.parts.get(number)) else {
-        return Err(Error::MissingGlyph(glyph));
-    };
+    let code = font.char_strings.item(glyph);
+    let part = &font.parts[number];
     match Program::inlined_over(alloc, code, font.global_subroutines, part.subroutines) {
         Ok(flat) => Ok(flat),
         Err(cause) => Err(refusal(glyph, cause)),
@@ -71,7 +77,7 @@ fn flat_code(alloc: Global, font: &FontView<'_>, glyph: usize, number: usize) ->
 /// The code of an empty glyph.
 fn empty_code(alloc: Global) -> Result<Vec<u8>>
     ensures code { IfOk result (λ flat. flat.items ≡ 0x0e ∷ []) }
-    ensures other { IfErr result (λ e. IsOther e) }
+    ensures memory { IfErr result (λ e. e ≡ errors.Refused causes.Memory) }
 {
     let mut flat = Vec::new(alloc);
     flat.push(0x0e)?;
@@ -85,6 +91,8 @@ fn code_of(
     source: Option<usize>,
     number: usize,
 ) -> Result<Vec<u8>>
+    requires glyph { IsGlyph source (length (items_of font.now.char_strings)) }
+    requires part { HasPartFor font.now.bytes.now (view_shown font.now) source number }
     ensures code { IfOk result (λ flat. IsCodeFor (view_shown font.now) source number flat.items) }
     ensures refused { IfErr result (λ e. RefusedFor (view_shown font.now) source number e) }
 {
@@ -101,7 +109,8 @@ pub(crate) fn codes_of(
     sources: &[Option<usize>],
     numbers: &[usize],
 ) -> Result<Vec<Vec<u8>>>
-    requires { length numbers.now ≡ length sources.now }
+    requires glyphs { AreGlyphs sources.now (length (items_of font.now.char_strings)) }
+    requires numbers { AreNumbersOf font.now.bytes.now (view_shown font.now) sources.now numbers.now }
     ensures codes { IfOk result (λ flats. AreCodesOf (view_shown font.now) sources.now numbers.now (texts flats.items)) }
     ensures refused { IfErr result (λ e. RefusedBy (view_shown font.now) sources.now numbers.now e) }
 {

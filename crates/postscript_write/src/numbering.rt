@@ -1,34 +1,64 @@
 //! Char sets, encodings and FDSelect of the glyphs that are written (Technical Note 5176, sections 12, 13 and 19).
-ghost use Rattle.std.specs.Prelude.{IfErr};
-ghost use Rattle.postscript_write.specs.Refusals.{IsOther};
+ghost use Rattle.std.specs.Prelude.{◌≡◌, ℕ, IfErr, Some, length};
+ghost use Rattle.postscript_items.specs.Lent.{items_of};
+ghost use Rattle.postscript_view.specs.CharSets.{IsCharSetOf};
+ghost use Rattle.postscript_view.specs.Naming.{Names};
+ghost use Rattle.postscript_view.specs.Shown.{view_shown};
+ghost use Rattle.postscript_write.specs.Refusals.{FontRefusedBy};
+ghost use Rattle.postscript_write.specs.Steps.{IsLate};
+ghost use Rattle.postscript_write.specs.declared.error.Error.TheVariants as errors;
 
-use crate::error::{Error, Result};
+use crate::error::{Error, Result, unwritten};
 use crate::layout::{Glyphs, own_char_set, own_encoding};
 use crate::number::put_number;
 use postscript_view::{CharSetView, FontView};
 use std::alloc::Global;
 
-/// The bytes, copied, if there are any.
-fn copied(alloc: Global, bytes: Option<&[u8]>) -> Result<Option<Vec<u8>>>
-    ensures { IfErr result (λ e. IsOther e) }
+/// The bytes that a reading answers, copied, if there are any.
+fn copied(alloc: Global, bytes: postscript_base::Result<Option<&[u8]>>) -> Result<Option<Vec<u8>>>
+    ensures { IfErr result (λ e. IsLate e) }
 {
-    let Some(bytes) = bytes else {
-        return Ok(None);
+    match bytes {
+        Ok(Some(bytes)) => {
+            let mut out = Vec::new(alloc);
+            out.extend_from_slice(bytes)?;
+            Ok(Some(out))
+        }
+        Ok(None) => Ok(None),
+        Err(fault) => Err(unwritten(fault)),
+    }
+}
+
+/// The identifier that names what a glyph is made of; 0, that of `.notdef`, of an empty one.
+fn identifier_of(set: &CharSetView<'_>, source: Option<usize>) -> Result<u16>
+    ensures refused { IfErr result (λ e. (glyph : ℕ) × (source ≡ Some glyph) × (e ≡ errors.MissingName glyph) × ((identifier : ℕ) → Names set.now glyph identifier → ⊥)) }
+{
+    let Some(glyph) = source else {
+        return Ok(0);
     };
-    let mut out = Vec::new(alloc);
-    out.extend_from_slice(bytes)?;
-    Ok(Some(out))
+    match set.identifier(glyph) {
+        Some(identifier) => Ok(identifier),
+        None => Err(Error::MissingName(glyph)),
+    }
 }
 
 /// A char set of format 0 of what glyphs are made of.
-fn listed(alloc: Global, set: &CharSetView<'_>, sources: &[Option<usize>]) -> Result<Vec<u8>>
-    ensures { IfErr result (λ e. IsOther e) }
+pub(crate) fn listed(
+    alloc: Global,
+    font: &FontView<'_>,
+    set: &CharSetView<'_>,
+    sources: &[Option<usize>],
+) -> Result<Vec<u8>>
+    requires { IsCharSetOf set.now font.now.bytes.now font.now.dictionary (length (items_of font.now.char_strings)) }
+    ensures refused { IfErr result (λ e. FontRefusedBy font.now.bytes.now (view_shown font.now) sources.now e) }
 {
     let mut out = Vec::new(alloc);
     put_number(&mut out, 1, 0)?;
     for i in 1..sources.len() {
-        let glyph = sources[i].ok_or(Error::MissingName(i))?;
-        let identifier = set.identifier(glyph).ok_or(Error::MissingName(glyph))?;
+        let identifier = match identifier_of(set, sources[i]) {
+            Ok(identifier) => identifier,
+            Err(e) => return Err(e),
+        };
         put_number(&mut out, 2, usize::from(identifier))?;
     }
     Ok(out)
@@ -47,7 +77,7 @@ fn ranges_of(numbers: &[usize]) -> usize {
 
 /// FDSelect of format 0.
 fn put_bytes(out: &mut Vec<u8>, numbers: &[usize]) -> Result<()>
-    ensures { IfErr result (λ e. IsOther e) }
+    ensures { IfErr result (λ e. IsLate e) }
 {
     put_number(out, 1, 0)?;
     for number in numbers {
@@ -58,7 +88,7 @@ fn put_bytes(out: &mut Vec<u8>, numbers: &[usize]) -> Result<()>
 
 /// FDSelect of format 3.
 fn put_ranges(out: &mut Vec<u8>, numbers: &[usize], count: usize) -> Result<()>
-    ensures { IfErr result (λ e. IsOther e) }
+    ensures { IfErr result (λ e. IsLate e) }
 {
     put_number(out, 1, 3)?;
     put_number(out, 2, count)?;
@@ -74,7 +104,7 @@ fn put_ranges(out: &mut Vec<u8>, numbers: &[usize], count: usize) -> Result<()>
 
 /// FDSelect of glyphs with font dictionaries of these numbers, in the format that has fewer bytes.
 fn select(alloc: Global, numbers: &[usize]) -> Result<Vec<u8>>
-    ensures { IfErr result (λ e. IsOther e) }
+    ensures { IfErr result (λ e. IsLate e) }
 {
     let mut out = Vec::new(alloc);
     let count = ranges_of(numbers);
@@ -86,45 +116,35 @@ fn select(alloc: Global, numbers: &[usize]) -> Result<Vec<u8>>
     Ok(out)
 }
 
-/// The char set that is written: the font's own where glyphs keep their numbers, and else a list.
-fn char_set(
-    alloc: Global,
-    font: &FontView<'_>,
-    set: &CharSetView<'_>,
-    sources: &[Option<usize>],
-    kept: bool,
-) -> Result<Option<Vec<u8>>>
-    ensures { IfErr result (λ e. IsOther e) }
-{
-    if !kept {
-        return Ok(Some(listed(alloc, set, sources)?));
-    }
-    let own = own_char_set(font.bytes, &font.dictionary, sources.len())?;
-    copied(alloc, own)
-}
-
-/// What is written of glyphs besides their codes. Where they keep their numbers, char set and encoding stay as they are;
-/// else an encoding of the font's own gives way to the standard one.
+/// What is written of glyphs besides their codes. Where their names are not listed, they keep their numbers, and char set and
+/// encoding stay as they are; else an encoding of the font's own gives way to the standard one.
 pub(crate) fn numbered(
     alloc: Global,
     font: &FontView<'_>,
-    set: &CharSetView<'_>,
-    sources: &[Option<usize>],
     numbers: &[usize],
-    kept: bool,
+    listed: Option<Vec<u8>>,
 ) -> Result<Glyphs>
-    ensures { IfErr result (λ e. IsOther e) }
+    ensures { IfErr result (λ e. IsLate e) }
 {
     let select = if font.is_cid_keyed() {
         Some(select(alloc, numbers)?)
     } else {
         None
     };
-    let encoding = own_encoding(font.bytes, &font.dictionary)?;
+    let encoding = copied(alloc, own_encoding(font.bytes, &font.dictionary))?;
+    if listed.is_some() {
+        return Ok(Glyphs {
+            char_set: listed,
+            standard: encoding.is_some(),
+            encoding: None,
+            select,
+        });
+    }
+    let own = own_char_set(font.bytes, &font.dictionary, numbers.len());
     Ok(Glyphs {
-        char_set: char_set(alloc, font, set, sources, kept)?,
-        encoding: if kept { copied(alloc, encoding)? } else { None },
-        standard: !kept && encoding.is_some(),
+        char_set: copied(alloc, own)?,
+        encoding,
+        standard: false,
         select,
     })
 }

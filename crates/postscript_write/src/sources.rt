@@ -1,7 +1,9 @@
 //! The glyphs that a font is made of.
 ghost use Rattle.std.specs.Prelude.{◌≡◌, ◌<◌, ◌==◌, ◌||◌, ◌++◌, ℕ, [], ◌∷◌, Some, None, false, length, slice_index_or, if◌then◌else◌, IfOk, IfErr, OnOk};
-ghost use Rattle.postscript_write.specs.Refusals.{IsOther};
+ghost use Rattle.postscript_base.specs.declared.error.Error.TheVariants as causes;
 ghost use Rattle.postscript_write.specs.Sources.{AreMarks, AreThere, chosen as the_chosen, every as the_every, keeping as the_keeping};
+ghost use Rattle.postscript_write.specs.Steps.{IsNotChosen};
+ghost use Rattle.postscript_write.specs.declared.error.Error.TheVariants as errors;
 
 use crate::error::{Error, Result};
 use std::alloc::Global;
@@ -9,7 +11,7 @@ use std::alloc::Global;
 /// Every one of so many glyphs.
 pub(crate) fn every(alloc: Global, glyphs: usize) -> Result<Vec<Option<usize>>>
     ensures sources { IfOk result (λ sources. sources.items ≡ the_every glyphs) }
-    ensures other { IfErr result (λ e. IsOther e) }
+    ensures memory { IfErr result (λ e. e ≡ errors.Refused causes.Memory) }
 {
     let mut sources = Vec::with_capacity(alloc, glyphs)?;
     for glyph in 0..glyphs {
@@ -22,7 +24,7 @@ pub(crate) fn every(alloc: Global, glyphs: usize) -> Result<Vec<Option<usize>>>
 fn unmarked(alloc: Global, glyphs: usize) -> Result<Vec<bool>>
     ensures many { IfOk result (λ marks. length marks.items ≡ glyphs) }
     ensures none { IfOk result (λ marks. (glyph : ℕ) → glyph < glyphs → slice_index_or marks.items glyph false ≡ false) }
-    ensures other { IfErr result (λ e. IsOther e) }
+    ensures memory { IfErr result (λ e. e ≡ errors.Refused causes.Memory) }
 {
     Ok(vec![in alloc; false; glyphs]?)
 }
@@ -30,7 +32,7 @@ fn unmarked(alloc: Global, glyphs: usize) -> Result<Vec<bool>>
 /// Marks those of so many glyphs that are named.
 fn marked(alloc: Global, named: &[usize], glyphs: usize) -> Result<Vec<bool>>
     ensures marks { IfOk result (λ marks. AreMarks named.now glyphs marks.items) }
-    ensures other { IfErr result (λ e. IsOther e) }
+    ensures refused { IfErr result (λ e. IsNotChosen named.now glyphs e) }
 {
     let mut marks = unmarked(alloc, glyphs)?;
     for i in 0..named.len() {
@@ -54,7 +56,7 @@ fn is_kept(marks: &[bool], glyph: usize) -> bool
 /// Appends a glyph, where it is kept.
 fn push_if(sources: &mut Vec<Option<usize>>, kept: bool, glyph: usize) -> Result<()>
     ensures sources { OnOk result (sources.new.items ≡ sources.old.items ++ (if kept then Some glyph ∷ [] else [])) }
-    ensures other { IfErr result (λ e. IsOther e) }
+    ensures memory { IfErr result (λ e. e ≡ errors.Refused causes.Memory) }
 {
     if kept {
         sources.push(Some(glyph))?;
@@ -66,7 +68,7 @@ fn push_if(sources: &mut Vec<Option<usize>>, kept: bool, glyph: usize) -> Result
 pub(crate) fn chosen(alloc: Global, named: &[usize], glyphs: usize) -> Result<Vec<Option<usize>>>
     ensures sources { IfOk result (λ sources. sources.items ≡ the_chosen named.now glyphs) }
     ensures there { OnOk result (AreThere named.now glyphs) }
-    ensures other { IfErr result (λ e. IsOther e) }
+    ensures refused { IfErr result (λ e. IsNotChosen named.now glyphs e) }
 {
     let marks = marked(alloc, named, glyphs)?;
     let mut sources = Vec::new(alloc);
@@ -88,7 +90,7 @@ fn kept_or_none(kept: bool, glyph: usize) -> Option<usize>
 pub(crate) fn keeping(alloc: Global, named: &[usize], glyphs: usize) -> Result<Vec<Option<usize>>>
     ensures sources { IfOk result (λ sources. sources.items ≡ the_keeping named.now glyphs) }
     ensures there { OnOk result (AreThere named.now glyphs) }
-    ensures other { IfErr result (λ e. IsOther e) }
+    ensures refused { IfErr result (λ e. IsNotChosen named.now glyphs e) }
 {
     let marks = marked(alloc, named, glyphs)?;
     let mut sources = Vec::with_capacity(alloc, glyphs)?;

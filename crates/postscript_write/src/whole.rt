@@ -9,17 +9,17 @@ ghost use Rattle.postscript_items.specs.Lent.{items_of};
 ghost use Rattle.postscript_view.specs.Shown.{view_shown};
 ghost use Rattle.postscript_write.specs.Fonts.{IsFontOf, Repeats};
 ghost use Rattle.postscript_write.specs.Glyphs.{AreCodesOf, AreNumbersOf};
-ghost use Rattle.postscript_write.specs.Refusals.{FontRefusedBy, IsOther};
+ghost use Rattle.postscript_write.specs.Refusals.{FontRefusedBy};
+ghost use Rattle.postscript_write.specs.Steps.{IsLate};
 ghost use Rattle.postscript_write.specs.Naming.{KeepsCodes, SameEncoding, SameNames};
 
 use crate::alike::{same_encoding, same_names, same_numbers, same_parts};
-use crate::error::{Error, Result};
+use crate::error::{Error, Result, not_back, unwritten};
 use crate::glyphs::{codes_of, numbers_of};
 use crate::kept::KEPT;
 use crate::layout::written;
-use crate::numbering::numbered;
+use crate::numbering::{listed, numbered};
 use crate::same::{are_codes, are_none, same_at, same_items};
-use postscript_base::Error as Cause;
 use postscript_view::{CharSetView, EncodingView, FontView};
 use std::alloc::Global;
 
@@ -36,16 +36,6 @@ fn says_same(old: &FontView<'_>, new: &FontView<'_>) -> bool
     same_parts(&old.parts, &new.parts)
 }
 
-/// The refusal where a font that was written is refused: `NotReadBack`, want of memory aside.
-fn not_back(fault: Cause) -> Error
-    ensures { IsOther result }
-{
-    match fault {
-        Cause::Memory => Error::Refused(Cause::Memory),
-        _ => Error::NotReadBack,
-    }
-}
-
 /// The char set of a font that is read back, where it gives the same names.
 fn back_names<'l>(
     old: &CharSetView<'_>,
@@ -54,7 +44,7 @@ fn back_names<'l>(
 ) -> Result<CharSetView<'l>>
     ensures is { IfOk result (λ set. IsCharSetOf set new.now.bytes.now new.now.dictionary (length (items_of new.now.char_strings))) }
     ensures same { IfOk result (λ set. SameNames old.now sources.now set) }
-    ensures other { IfErr result (λ e. IsOther e) }
+    ensures late { IfErr result (λ e. IsLate e) }
 {
     match new.char_set() {
         Ok(set) => if same_names(old, sources, &set) {
@@ -70,7 +60,7 @@ fn back_names<'l>(
 fn back_codes<'l>(old: &EncodingView<'_>, new: &FontView<'l>) -> Result<EncodingView<'l>>
     ensures is { IfOk result (λ encoding. IsEncodingOf encoding new.now.bytes.now new.now.dictionary) }
     ensures same { IfOk result (λ encoding. SameEncoding old.now encoding) }
-    ensures other { IfErr result (λ e. IsOther e) }
+    ensures late { IfErr result (λ e. IsLate e) }
 {
     match new.encoding() {
         Ok(encoding) => if same_encoding(old, &encoding) {
@@ -85,19 +75,20 @@ fn back_codes<'l>(old: &EncodingView<'_>, new: &FontView<'l>) -> Result<Encoding
 /// Compares the encodings, where glyphs keep their numbers.
 fn keeps_codes(
     font: &FontView<'_>,
+    encoding: &EncodingView<'_>,
     sources: &[Option<usize>],
     old: &CharSetView<'_>,
     again: &FontView<'_>,
     new: &CharSetView<'_>,
     kept: bool,
 ) -> Result<()>
-    requires { SameNames old.now sources.now new.now }
+    requires encoding { IsEncodingOf encoding.now font.now.bytes.now font.now.dictionary }
+    requires names { SameNames old.now sources.now new.now }
     ensures codes { OnOk result (IsTrue kept → KeepsCodes sources.now font.now.bytes.now (view_shown font.now) again.now.bytes.now (view_shown again.now) old.now new.now) }
-    ensures other { IfErr result (λ e. IsOther e) }
+    ensures late { IfErr result (λ e. IsLate e) }
 {
     if kept {
-        let encoding = font.encoding()?;
-        back_codes(&encoding, again)?;
+        back_codes(encoding, again)?;
     }
     Ok(())
 }
@@ -107,6 +98,7 @@ fn read_back(
     alloc: Global,
     font: &FontView<'_>,
     set: &CharSetView<'_>,
+    encoding: &EncodingView<'_>,
     sources: &[Option<usize>],
     numbers: &[usize],
     codes: &[Vec<u8>],
@@ -114,10 +106,11 @@ fn read_back(
     flat: &[u8],
 ) -> Result<()>
     requires set { IsCharSetOf set.now font.now.bytes.now font.now.dictionary (length (items_of font.now.char_strings)) }
+    requires encoding { IsEncodingOf encoding.now font.now.bytes.now font.now.dictionary }
     requires numbers { AreNumbersOf font.now.bytes.now (view_shown font.now) sources.now numbers.now }
     requires codes { AreCodesOf (view_shown font.now) sources.now numbers.now (texts codes.now) }
     ensures font { OnOk result ((new : View) × (the_view flat.now 0 ≡ Got new 0) × IsFontOf kept sources.now font.now.bytes.now (view_shown font.now) flat.now new) }
-    ensures other { IfErr result (λ e. IsOther e) }
+    ensures late { IfErr result (λ e. IsLate e) }
 {
     let again = match FontView::read_font(alloc, flat, 0) {
         Ok(again) => again,
@@ -130,8 +123,55 @@ fn read_back(
         return Err(Error::NotReadBack);
     }
     let new = back_names(set, sources, &again)?;
-    keeps_codes(font, sources, set, &again, &new, kept)?;
+    keeps_codes(font, encoding, sources, set, &again, &new, kept)?;
     Ok(())
+}
+
+/// The font that is made of codes of glyphs of another one. Where their names are not listed, char set and encoding stay as they are.
+fn put_together(
+    alloc: Global,
+    font: &FontView<'_>,
+    set: &CharSetView<'_>,
+    encoding: &EncodingView<'_>,
+    sources: &[Option<usize>],
+    numbers: &[usize],
+    codes: &[Vec<u8>],
+    listed: Option<Vec<u8>>,
+    kept: bool,
+) -> Result<Vec<u8>>
+    requires set { IsCharSetOf set.now font.now.bytes.now font.now.dictionary (length (items_of font.now.char_strings)) }
+    requires encoding { IsEncodingOf encoding.now font.now.bytes.now font.now.dictionary }
+    requires numbers { AreNumbersOf font.now.bytes.now (view_shown font.now) sources.now numbers.now }
+    requires codes { AreCodesOf (view_shown font.now) sources.now numbers.now (texts codes.now) }
+    ensures font { IfOk result (λ flat. (new : View) × (the_view flat.items 0 ≡ Got new 0) × IsFontOf kept sources.now font.now.bytes.now (view_shown font.now) flat.items new) }
+    ensures late { IfErr result (λ e. IsLate e) }
+{
+    let glyphs = numbered(alloc, font, numbers, listed)?;
+    let flat = match written(alloc, font, &glyphs, codes) {
+        Ok(flat) => flat,
+        Err(fault) => return Err(unwritten(fault)),
+    };
+    read_back(
+        alloc, font, set, encoding, sources, numbers, codes, kept, &flat,
+    )?;
+    Ok(flat)
+}
+
+/// The list of the names of glyphs, where they do not keep their numbers.
+fn list_of(
+    alloc: Global,
+    font: &FontView<'_>,
+    set: &CharSetView<'_>,
+    sources: &[Option<usize>],
+    kept: bool,
+) -> Result<Option<Vec<u8>>>
+    requires { IsCharSetOf set.now font.now.bytes.now font.now.dictionary (length (items_of font.now.char_strings)) }
+    ensures refused { IfErr result (λ e. FontRefusedBy font.now.bytes.now (view_shown font.now) sources.now e) }
+{
+    if kept {
+        return Ok(None);
+    }
+    Ok(Some(listed(alloc, font, set, sources)?))
 }
 
 /// The font that is made of glyphs of another one. Where glyphs keep their numbers, char set and encoding stay as they are.
@@ -145,10 +185,11 @@ pub(crate) fn font_of(
     ensures refused { IfErr result (λ e. FontRefusedBy font.now.bytes.now (view_shown font.now) sources.now e) }
 {
     let set = font.char_set()?;
+    let encoding = font.encoding()?;
     let numbers = numbers_of(alloc, font, sources)?;
     let codes = codes_of(alloc, font, sources, &numbers)?;
-    let glyphs = numbered(alloc, font, &set, sources, &numbers, kept)?;
-    let flat = written(alloc, font, &glyphs, &codes)?;
-    read_back(alloc, font, &set, sources, &numbers, &codes, kept, &flat)?;
-    Ok(flat)
+    let listed = list_of(alloc, font, &set, sources, kept)?;
+    put_together(
+        alloc, font, &set, &encoding, sources, &numbers, &codes, listed, kept,
+    )
 }

@@ -4,7 +4,8 @@ use Rattle.postscript_view.specs.Shown.{view_shown}
 use Rattle.postscript_write.specs.Fonts.{IsFontOf}
 use Rattle.postscript_write.specs.Refusals.{FontRefusedBy}
 use Rattle.postscript_write.specs.Sources.{every}
-use Rattle.postscript_write.proofs.Making.{if_ok, if_err, is_refused}
+use Rattle.std.proofs.lemmas.Result.{err_from_is_err_and}
+use Rattle.postscript_write.proofs.Making.{if_ok, if_err, is_refused, memory_bytes, not_opened}
 use Rattle.postscript_write.proofs.fonts.flat_font.Goals as goal
 
 pub returns-clause-written : goal.returns-clause-written
@@ -27,5 +28,15 @@ returns-clause-refused c =
     let bytes = c.in_ok-font.ensures.bytes in
     let are : c.deref.result.now ≡ every (length old.char_strings) = c.deref.ensures.value ∙ c.in_ok-sources.ensures.sources ∙ ap (λ n. every n) c.len.ensures in
     if_err c.font_of.result (λ e h.
-    is_refused (every) c.args.bytes.now old e c.in_ok-font.ensures.is
+    is_refused every c.args.bytes.now old e c.in_ok-font.ensures.is
     (subst (λ (s : List (Option ℕ)). FontRefusedBy c.args.bytes.now old s e) are (subst (λ (bs : List ℕ). FontRefusedBy bs old c.deref.result.now e) bytes h))) c.font_of.ensures.refused
+
+pub returns-in_err-font-clause-refused : goal.returns-in_err-font-clause-refused
+returns-in_err-font-clause-refused c =
+    let error = err_from_is_err_and c.from_residual.result c.from_residual.ensures.1 in
+    rw (error.1, error.2) (not_opened every c.args.bytes.now _ c.in_err-font.ensures.refused)
+
+pub returns-in_err-sources-clause-refused : goal.returns-in_err-sources-clause-refused
+returns-in_err-sources-clause-refused c =
+    let error = err_from_is_err_and c.from_residual-in_err-sources.result c.from_residual-in_err-sources.ensures.1 in
+    rw (error.1, error.2) (memory_bytes every c.args.bytes.now _ c.in_err-sources.ensures.memory)

@@ -6,7 +6,10 @@ use Rattle.postscript_write.specs.Refusals.{FontRefusedBy}
 use Rattle.postscript_base.specs.Tape.Outcome.{Got}
 use Rattle.postscript_view.specs.Order.{View}
 use Rattle.postscript_write.specs.Sources.{AreThere, chosen}
-use Rattle.postscript_write.proofs.Making.{if_ok, if_err, is_refused}
+use Rattle.std.proofs.lemmas.Result.{err_from_is_err_and}
+use Rattle.postscript_write.specs.Steps.{IsNotChosen}
+use Rattle.postscript_write.specs.declared.error.Error.{Error}
+use Rattle.postscript_write.proofs.Making.{if_ok, if_err, is_refused, not_chosen, not_opened, of_subset}
 use Rattle.postscript_write.proofs.fonts.subset.Goals as goal
 
 pub returns-clause-written : goal.returns-clause-written
@@ -29,8 +32,8 @@ returns-clause-refused c =
     let bytes = c.in_ok-font.ensures.bytes in
     let are : c.deref.result.now ≡ chosen c.args.named.now (length old.char_strings) = c.deref.ensures.value ∙ c.in_ok-sources.ensures.sources ∙ ap (λ n. chosen c.args.named.now n) c.len.ensures in
     if_err c.font_of.result (λ e h.
-    is_refused (chosen c.args.named.now) c.args.bytes.now old e c.in_ok-font.ensures.is
-    (subst (λ (s : List (Option ℕ)). FontRefusedBy c.args.bytes.now old s e) are (subst (λ (bs : List ℕ). FontRefusedBy bs old c.deref.result.now e) bytes h))) c.font_of.ensures.refused
+    of_subset c.args.named.now (chosen c.args.named.now) c.args.bytes.now e (is_refused (chosen c.args.named.now) c.args.bytes.now old e c.in_ok-font.ensures.is
+    (subst (λ (s : List (Option ℕ)). FontRefusedBy c.args.bytes.now old s e) are (subst (λ (bs : List ℕ). FontRefusedBy bs old c.deref.result.now e) bytes h)))) c.font_of.ensures.refused
 
 pub returns-clause-there : goal.returns-clause-there
 returns-clause-there c =
@@ -39,3 +42,15 @@ returns-clause-there c =
     let both : Got (view_shown c.in_ok-font.font) 0 ≡ Got font 0 = sym c.in_ok-font.ensures.is ∙ is in
     let same : view_shown c.in_ok-font.font ≡ font = cc in
     subst (λ (v : View). AreThere c.args.named.now (length v.char_strings)) same there) c.font_of.ensures.font
+
+pub returns-in_err-font-clause-refused : goal.returns-in_err-font-clause-refused
+returns-in_err-font-clause-refused c =
+    let error = err_from_is_err_and c.from_residual.result c.from_residual.ensures.1 in
+    rw (error.1, error.2) (of_subset c.args.named.now (chosen c.args.named.now) c.args.bytes.now _ (not_opened (chosen c.args.named.now) c.args.bytes.now _ c.in_err-font.ensures.refused))
+
+pub returns-in_err-sources-clause-refused : goal.returns-in_err-sources-clause-refused
+returns-in_err-sources-clause-refused c =
+    let error = err_from_is_err_and c.from_residual-in_err-sources.result c.from_residual-in_err-sources.ensures.1 in
+    let same : (e : Error) → IsNotChosen c.args.named.now c.len.result e → IsNotChosen c.args.named.now (length (view_shown c.in_ok-font.font).char_strings) e = λ e h. subst (λ (n : ℕ). IsNotChosen c.args.named.now n e) c.len.ensures h in
+    rw (error.1, error.2) (not_chosen c.args.named.now (chosen c.args.named.now) c.args.bytes.now (view_shown c.in_ok-font.font) _ c.in_ok-font.ensures.is
+    (same _ c.in_err-sources.ensures.refused))

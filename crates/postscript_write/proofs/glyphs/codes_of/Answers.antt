@@ -11,7 +11,7 @@ returns-in-Err-clause-refused c =
     let sources = c.args.sources.now in
     let i : ℕ = c.loop-i.i in
     let less : i < length sources = omega arith in
-    refused_by (view_shown c.args.font.now) sources c.args.numbers.now (texts c.loop-i.flats.items) i (get_or sources i None) c.in-Err.e less refl c.in-Err.ensures.refused c.loop-i.invariant.1
+    refused_by (view_shown c.args.font.now) sources c.args.numbers.now (texts c.loop-i.flats.items) i c.in-Err.e less c.in-Err.ensures.refused c.loop-i.invariant.1
 
 pub loop-i-preserved : goal.loop-i-preserved
 loop-i-preserved c = (

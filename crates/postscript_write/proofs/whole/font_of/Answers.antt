@@ -1,15 +1,27 @@
-use Rattle.std.proofs.Common.{◌≡◌, ℕ, List, subst}
-use Rattle.postscript_base.specs.Tape.Outcome.{Got}
-use Rattle.postscript_view.specs.Order.{view}
+use Rattle.std.proofs.Common.{List, ℕ, subst, inl, inr}
+use Rattle.std.proofs.lemmas.Result.{err_from_is_err_and}
+use Rattle.postscript_type2.specs.Program.Routines.{texts}
 use Rattle.postscript_view.specs.Shown.{view_shown}
-use Rattle.postscript_write.specs.Fonts.{IsFontOf}
+use Rattle.postscript_write.specs.Glyphs.{AreCodesOf}
+use Rattle.postscript_write.proofs.Making.{if_err, late_refused}
 use Rattle.postscript_write.proofs.whole.font_of.Goals as goal
 
-pub returns-clause-font : goal.returns-clause-font
-returns-clause-font c =
-    let back = c.in_ok-read_back.ensures.font in
-    let same = c.deref-6.ensures.value in (
-      back.0,
-      subst (λ (xs : List ℕ). view xs 0 ≡ Got back.0 0) same back.1,
-      subst (λ (xs : List ℕ). IsFontOf c.args.kept c.args.sources.now c.args.font.now.bytes.now (view_shown c.args.font.now) xs back.0) same back.2,
-    )
+pub returns-in_err-set-clause-refused : goal.returns-in_err-set-clause-refused
+returns-in_err-set-clause-refused c =
+    let error = err_from_is_err_and c.from_residual.result c.from_residual.ensures.1 in
+    rw (error.1, error.2) (λ n. inl (λ has. c.in_err-set.ensures.none has.0 has.1))
+
+pub returns-in_err-encoding-clause-refused : goal.returns-in_err-encoding-clause-refused
+returns-in_err-encoding-clause-refused c =
+    let error = err_from_is_err_and c.from_residual-in_err-encoding.result c.from_residual-in_err-encoding.ensures.1 in
+    rw (error.1, error.2) (λ n. inr (λ has. c.in_err-encoding.ensures.none has.0 has.1))
+
+pub returns-clause-refused : goal.returns-clause-refused
+returns-clause-refused c =
+    let font = view_shown c.args.font.now in
+    let bytes = c.args.font.now.bytes.now in
+    let sources = c.args.sources.now in
+    let numbers = c.in_ok-numbers.numbers.items in
+    let flats = texts c.in_ok-codes.codes.items in
+    let codes : AreCodesOf font sources numbers flats = subst (λ (ns : List ℕ). AreCodesOf font sources ns flats) c.deref.ensures.value c.in_ok-codes.ensures.codes in
+    if_err c.put_together.result (λ e late. late_refused bytes font sources numbers flats e c.in_ok-numbers.ensures.numbers codes late) c.put_together.ensures.late

@@ -5,11 +5,11 @@ use Rattle.postscript_write.proofs.whole.keeps_codes.Goals as goal
 
 pub returns-in_ok-back_codes-clause-codes : goal.returns-in_ok-back_codes-clause-codes
 returns-in_ok-back_codes-clause-codes c = λ _. record {
-  old_encoding = c.in_ok-encoding.encoding;
+  old_encoding = c.args.encoding.now;
   new_encoding = c.in_ok-back_codes.field-0;
-  was = c.in_ok-encoding.ensures.found;
+  was = c.requires.encoding;
   is = c.in_ok-back_codes.ensures.is;
   codes = λ code glyph less same.
-      keeps_code c.in_ok-encoding.encoding c.in_ok-back_codes.field-0 c.in_ok-back_codes.ensures.same c.args.old.now c.args.new.now code glyph
-      (subst (λ source. SameName c.args.old.now source c.args.new.now glyph) same (c.requires glyph less));
+      keeps_code c.args.encoding.now c.in_ok-back_codes.field-0 c.in_ok-back_codes.ensures.same c.args.old.now c.args.new.now code glyph
+      (subst (λ source. SameName c.args.old.now source c.args.new.now glyph) same (c.requires.names glyph less));
 }

@@ -1,0 +1,15 @@
+use Rattle.std.proofs.Common.{◌≡◌, ℕ, List, subst}
+use Rattle.postscript_base.specs.Tape.Outcome.{Got}
+use Rattle.postscript_view.specs.Order.{view}
+use Rattle.postscript_view.specs.Shown.{view_shown}
+use Rattle.postscript_write.specs.Fonts.{IsFontOf}
+use Rattle.postscript_write.proofs.whole.put_together.Goals as goal
+
+pub returns-clause-font : goal.returns-clause-font
+returns-clause-font c =
+    let back = c.in_ok-read_back.ensures.font in
+    let same = c.deref.ensures.value in (
+      back.0,
+      subst (λ (xs : List ℕ). view xs 0 ≡ Got back.0 0) same back.1,
+      subst (λ (xs : List ℕ). IsFontOf c.args.kept c.args.sources.now c.args.font.now.bytes.now (view_shown c.args.font.now) xs back.0) same back.2,
+    )

@@ -1,0 +1,39 @@
+-- What the refusals of the steps say, of which a font is written.
+use Rattle.std.specs.Prelude.{◌≡◌, ◌≢◌, ℕ, List, Option, Some}
+use Rattle.postscript_base.specs.declared.error.Error.TheVariants.{Memory}
+use Rattle.postscript_write.specs.Glyphs.{Sources}
+use Rattle.postscript_view.specs.Order.{View}
+use Rattle.postscript_write.specs.Refusals.{HasOtherFonts, IsFirstPast, IsFirstRefused, IsRefusedAs, IsRunRefused}
+use Rattle.postscript_write.specs.declared.error.Error.{Error}
+use Rattle.postscript_write.specs.declared.error.Error.TheVariants.{Refused, Glyph, SeveralFonts, MissingGlyph, TooLarge, NotReadBack}
+
+-- of opening the only font of a set
+abbrev pub IsNotOpened : List ℕ → Error → Type 0
+IsNotOpened bytes SeveralFonts = HasOtherFonts bytes
+IsNotOpened bytes (Refused cause) = cause ≢ Memory → IsRefusedAs bytes cause
+IsNotOpened bytes _ = ⊥
+
+-- of choosing the glyphs that are named, of so many
+abbrev pub IsNotChosen : (named : List ℕ) → (glyphs : ℕ) → Error → Type 0
+IsNotChosen named glyphs (MissingGlyph glyph) = IsFirstPast named glyphs glyph
+IsNotChosen named glyphs (Refused cause) = cause ≡ Memory
+IsNotChosen named glyphs _ = ⊥
+
+-- of a code: the run of the glyph is refused that it is made of
+abbrev pub RefusedFor : View → Option ℕ → (number : ℕ) → Error → Type 0
+RefusedFor font source number (Glyph glyph cause) = (source ≡ Some glyph) × IsRunRefused font glyph number cause
+RefusedFor font source number (Refused cause) = cause ≡ Memory
+RefusedFor font source number _ = ⊥
+
+-- of the codes: the run of the first such glyph is refused
+abbrev pub RefusedBy : View → Sources → (numbers : List ℕ) → Error → Type 0
+RefusedBy font sources numbers (Glyph glyph cause) = IsFirstRefused font sources numbers glyph cause
+RefusedBy font sources numbers (Refused cause) = cause ≡ Memory
+RefusedBy font sources numbers _ = ⊥
+
+-- of writing and reading back, when the codes are there
+abbrev pub IsLate : Error → Type 0
+IsLate (Refused cause) = cause ≡ Memory
+IsLate TooLarge = Unit {0}
+IsLate NotReadBack = Unit {0}
+IsLate _ = ⊥
