@@ -1,5 +1,6 @@
 //! Drawings of glyphs.
 use crate::face::Face;
+use crate::refused::rule_of;
 use postscript_base::Error as Fault;
 use postscript_outline::Outline;
 use postscript_view::{Advance, Glyph};
@@ -11,7 +12,7 @@ use thiserror::Error;
 pub enum Refusal {
     #[error("FDSelect gives it no font dictionary")]
     NoPart,
-    #[error("{} (refusal {})", .0, .0.code())]
+    #[error("{} (refusal {}): {}", .0, .0.code(), rule_of(.0.code()))]
     Run(#[from] Fault),
 }
 

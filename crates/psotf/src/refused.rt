@@ -111,23 +111,25 @@ fn in_private(alloc: Global, place: u64, text: &[u8]) -> Spot {
 pub fn rule_of(code: u8) -> &'static str {
     match code {
         1 =>
-            "what is named here has to end within the table (Technical Note 5176, section 3); the file may be cut off",
+            "what stands here has to end within the table (Technical Note 5176, section 2); the file may be cut off",
         5 => "offsets of an INDEX have 1 to 4 bytes (Technical Note 5176, section 5)",
         7 =>
             "a number begins with one of the bytes 28 to 30 and 32 to 254, and a real ends (Technical Note 5176, section 4)",
         8 =>
             "a real has up to 18 digits that count, and exponents from -1000 to 1000 (a limit of this library)",
-        9 => "an operator is one of those in Technical Note 5176, appendix H, or 5177, appendix A",
+        9 =>
+            "an operator is one of those in Technical Note 5176, Tables 9, 10 and 23, or of a charstring in 5177, appendix A",
         12 => "CharstringType is 2 (Technical Note 5176, Table 9)",
-        13 => "an offset and a size are whole numbers (Technical Note 5176, Table 9)",
-        14 => "the operator has to be there, with its operands (Technical Note 5176, Table 9)",
+        13 => "an offset and a size are whole numbers (Technical Note 5176, Tables 9 and 23)",
+        14 =>
+            "the operator has to be there, with its operands (Technical Note 5176, Tables 9 and 23)",
         15 => "an offset and a size are not negative (Technical Note 5176, section 3)",
         17 | 18 | 19 | 20 | 21 =>
             "each operator takes its operands off the stack (Technical Note 5177, sections 4.1 to 4.6)",
         22 =>
             "the number of a subroutine, with its bias, is one of the list (Technical Note 5177, section 4.7)",
         23 => "return stands in a subroutine alone (Technical Note 5177, section 4.7)",
-        24 => "nothing follows endchar (Technical Note 5177, section 4.3)",
+        24 => "nothing follows endchar (Technical Note 5177, section 4.2)",
         25 => "ten calls may nest (Technical Note 5177, appendix B)",
         26 => "numbers and coordinates are 16.16 bits (Technical Note 5177, section 3.2)",
         27 => "div takes a divisor other than zero (Technical Note 5177, section 4.4)",
