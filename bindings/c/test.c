@@ -187,7 +187,7 @@ static void check_texts(void) {
         holds(psf_status_text(status, text, sizeof text, &count) == PSF_OK && count > 0, "a text");
     holds(psf_status_text(PSF_NO_GLYPH, text, sizeof text, &count) == PSF_OK && memcmp(text, "no such glyph", 13) == 0, "its words");
     holds(psf_status_text(PSF_NO_GLYPH, text, 3, &count) == PSF_NO_ROOM && count == 13, "no room for a text");
-    holds(psf_status_text(45, text, sizeof text, &count) == PSF_NO_STATUS, "no text");
+    holds(psf_status_text(PSF_TOO_LARGE + 1, text, sizeof text, &count) == PSF_NO_STATUS, "no text");
     holds(psf_status_text(-1, text, sizeof text, &count) == PSF_NO_STATUS, "no text below 0");
 }
 
