@@ -20,15 +20,10 @@ pub struct Table<'t> {
 /// The sum of bytes as numbers of four bytes each, zeros behind the last one.
 fn sum(bytes: &[u8]) -> u32 {
     let mut sum = 0u32;
-    let mut rest = bytes;
-    while let [a, b, c, d, behind @ ..] = rest {
-        sum = sum.wrapping_add(u32::from_be_bytes([*a, *b, *c, *d]));
-        rest = behind;
-    }
     let mut shift = 24u32;
-    for byte in rest {
+    for byte in bytes {
         sum = sum.wrapping_add(u32::from(*byte).wrapping_shl(shift));
-        shift = shift.wrapping_sub(8);
+        shift = shift.wrapping_sub(8) & 31;
     }
     sum
 }
@@ -116,9 +111,8 @@ fn directory(alloc: Global, tables: &[Table<'_>]) -> Result<(Vec<u8>, u32), Allo
     let mut place = count.wrapping_mul(16).wrapping_add(12);
     let mut total = 0u32;
     for table in tables {
-        let sum = table.sum();
-        put_words(&mut file, &[table.tag, sum, place, table.size()])?;
-        total = total.wrapping_add(sum);
+        put_words(&mut file, &[table.tag, table.sum(), place, table.size()])?;
+        total = total.wrapping_add(table.sum());
         place = place.wrapping_add(table.size()).wrapping_add(3) & 0xfffffffc;
     }
     Ok((file, total))
