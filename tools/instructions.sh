@@ -37,7 +37,7 @@ done
 cp "$tools/instructions_main.txt" "$own/src/main.rt"
 : > "$own/specs/Lib.antt"
 : > "$own/proofs/Lib.antt"
-(grep -E '^postscript_(base|items|type2|outline):' "$tools/../crates.txt" && echo 'instructions: postscript_outline postscript_type2 postscript_base hex anyhow') > "$copy/crates.txt"
+(grep -E '^postscript_(base|items|type2|outline):' "$tools/../crates.txt" && echo 'instructions: postscript_outline postscript_type2 postscript_items postscript_base hex anyhow') > "$copy/crates.txt"
 (cd "$own" && rt run < /dev/null > "$copy/printed" 2> "$copy/messages") || { cat "$copy/messages" >&2; exit 1; }
 
 gcc -shared -fPIC -O2 "$tools/refused.c" -o "$copy/refused.so"

@@ -173,6 +173,38 @@ fn stripped(number: u128) -> (u128, u32)
     ensures no_last_zero { result.0 % 10 ≢ 0 }
     ensures few { result.1 < 39 }
 {
+    match u64::try_from(number) {
+        Ok(short) => {
+            let (rest, zeros) = stripped_short(short);
+            (u128::from(rest), zeros)
+        }
+        Err(_) => stripped_long(number),
+    }
+}
+
+/// The same of a number of 64 bits: divisions of 128 bits are dear.
+fn stripped_short(number: u64) -> (u64, u32)
+    requires { 0 < number }
+    ensures whole { number ≡ result.0 * 10 ^ result.1 }
+    ensures no_last_zero { result.0 % 10 ≢ 0 }
+    ensures few { result.1 < 39 }
+{
+    let mut short = number;
+    let mut zeros = 0u32;
+    while short % 10 == 0 {
+        short /= 10;
+        zeros += 1;
+    }
+    (short, zeros)
+}
+
+/// The same of any number.
+fn stripped_long(number: u128) -> (u128, u32)
+    requires { 0 < number }
+    ensures whole { number ≡ result.0 * 10 ^ result.1 }
+    ensures no_last_zero { result.0 % 10 ≢ 0 }
+    ensures few { result.1 < 39 }
+{
     let mut rest = number;
     let mut zeros = 0u32;
     while rest % 10 == 0 {

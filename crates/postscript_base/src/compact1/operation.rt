@@ -12,6 +12,9 @@ use crate::tape::{Tape, Value};
 use crate::{Error, Result};
 use std::alloc::Global;
 
+/// For how many operands there is room at first: most operators have fewer.
+const ROOM: usize = 4;
+
 /// An operation: an operator and its operands.
 pub type Operation = (Operator, Vec<Operand>);
 
@@ -38,7 +41,7 @@ impl Value for Operation {
 
     #[inline(always)]
     fn read<T: Tape>(alloc: Global, tape: &mut T) -> Result<Operation> {
-        let mut operands = Vec::new(alloc);
+        let mut operands = Vec::with_capacity(alloc, ROOM)?;
         'operands: loop {
             if let Some(operator) = step(alloc, tape, &mut operands)? {
                 return Ok((operator, operands));

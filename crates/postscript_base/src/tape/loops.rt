@@ -12,7 +12,7 @@ use std::alloc::Global;
 use std::io::SeekFrom;
 
 /// For how many values there is room at first, up to the end of a tape: dictionaries mostly have fewer operations.
-const ROOM: usize = 16;
+const ROOM: usize = 24;
 
 /// Reads so many values, one after the other. The list grows as they come.
 ///

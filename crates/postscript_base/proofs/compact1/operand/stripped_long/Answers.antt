@@ -1,6 +1,6 @@
 use Rattle.std.proofs.Common.{arith, ◌∙◌}
 use Rattle.postscript_base.proofs.Decimals.{tens_few, ten_more}
-use Rattle.postscript_base.proofs.compact1.operand.stripped.Goals as goal
+use Rattle.postscript_base.proofs.compact1.operand.stripped_long.Goals as goal
 
 pub overflow_add-zeros : goal.overflow_add-zeros
 overflow_add-zeros c =

@@ -1,5 +1,5 @@
 use Rattle.std.proofs.Common.{◌≡◌, ◌*◌, ◌^◌, ◌<◌}
-use Rattle.postscript_base.proofs.compact1.operand.stripped.Given as goal
+use Rattle.postscript_base.proofs.compact1.operand.stripped_long.Given as goal
 
 abbrev pub invariant-loop-rest : goal.invariant-loop-rest
 invariant-loop-rest l = record { whole : l.number ≡ l.rest * 10 ^ l.zeros; positive : 0 < l.rest }
