@@ -106,7 +106,7 @@ mapped-grows : (xs : List Segment) (r : Result Drawing Refusal) → IfOk (mapped
 mapped-grows xs (Ok d) = front-of xs d.segments
 mapped-grows xs (Err e) = tt
 
-drawing-grows : (ss : List Stroke) (d : Drawing) → Grows d (drawing ss d)
+pub drawing-grows : (ss : List Stroke) (d : Drawing) → Grows d (drawing ss d)
 drawing-grows ss d =
     let same = sym (ap (drawing ss) (sym (from-bare d)) ∙ drawing-under d.segments ss (bare d)) in
     subst (Grows d) same (mapped-grows d.segments (drawing ss (bare d)))
@@ -121,7 +121,7 @@ onwards : {B : Type 0} (to : B → List Segment) (xs ys : List Segment) (r : Res
 onwards to xs ys (Ok e) h k = front-trans xs ys (to e) h k
 onwards to xs ys (Err e) h k = tt
 
-front-through : {A B : Type 0} (of : A → List Segment) (to : B → List Segment) (xs : List Segment) (r : Result A Refusal) (next : A → Result B Refusal)
+pub front-through : {A B : Type 0} (of : A → List Segment) (to : B → List Segment) (xs : List Segment) (r : Result A Refusal) (next : A → Result B Refusal)
     → IfOk r (λ x. IsFront xs (of x)) → ((x : A) → IfOk (next x) (λ e. IsFront (of x) (to e))) → IfOk (r >>= next) (λ e. IsFront xs (to e))
 front-through of to xs (Ok x) next h grows = onwards to xs (of x) (next x) h (grows x)
 front-through of to xs (Err e) next h grows = tt

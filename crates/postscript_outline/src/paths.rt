@@ -1,14 +1,14 @@
-//! Paths: what the operands of the commonest operators spell is drawn as it is read, by one method for each pattern (Technical
-//! Note 5177, "Path Construction Operators"). The others are drawn by their strokes.
+//! Paths: what the operands of an operator spell is drawn as it is read, by one method for each pattern (Technical Note 5177,
+//! "Path Construction Operators"). Flexes are drawn by their strokes.
 ghost use Rattle.std.specs.Option.{ok_or};
 ghost use Rattle.std.specs.Prelude.{◌≡◌, ◌⊎◌, OnErr, IfOk, IfErr};
 ghost use Rattle.postscript_base.specs.declared.error.Error.TheVariants as errors;
 ghost use Rattle.postscript_outline.specs.Drawing.{DrawsInto, IsFront, drawing, held};
 ghost use Rattle.postscript_outline.specs.Operators.{strokes as the_strokes};
-ghost use Rattle.postscript_outline.specs.Strokes.{move as the_move, move_along as the_move_along, lines as the_lines, lines_in_turn as the_lines_in_turn, curves as the_curves, curves_in_turn as the_curves_in_turn};
+ghost use Rattle.postscript_outline.specs.Strokes.{move as the_move, move_along as the_move_along, lines as the_lines, lines_in_turn as the_lines_in_turn, curves as the_curves, curves_along as the_curves_along, curves_level as the_curves_level, curves_in_turn as the_curves_in_turn, curves_then_line as the_curves_then_line, lines_then_curve as the_lines_then_curve};
 
 use crate::operands::{by, vector, wide};
-use crate::operators::{Strokes, curve, curve_in_turn, line_in_turn};
+use crate::operators::{Strokes, curve, curve_along, curve_in_turn, first_aside, line_in_turn};
 use crate::pen::Pen;
 use crate::sink::Sink;
 use crate::stroke::Axis;
@@ -39,9 +39,19 @@ impl Pen {
             Operator::HLineTo => self.lines_in_turn(Axis::Horizontal, operands, sink, fault),
             Operator::VLineTo => self.lines_in_turn(Axis::Vertical, operands, sink, fault),
             Operator::RRCurveTo => self.curves(operands, sink, fault),
+            Operator::HHCurveTo => self.curves_level(Axis::Horizontal, operands, sink, fault),
+            Operator::VVCurveTo => self.curves_level(Axis::Vertical, operands, sink, fault),
             Operator::HVCurveTo => self.curves_in_turn(Axis::Horizontal, operands, sink, fault),
             Operator::VHCurveTo => self.curves_in_turn(Axis::Vertical, operands, sink, fault),
-            _ => self.draw_all(Strokes::of(operator, operands), sink, fault),
+            Operator::RCurveLine => self.curves_then_line(operands, sink, fault),
+            Operator::RLineCurve => self.lines_then_curve(operands, sink, fault),
+            Operator::Flex | Operator::HFlex | Operator::HFlex1 | Operator::Flex1 => self.draw_all(
+                Strokes::of(operator, operands),
+                sink,
+                fault,
+            ),
+            // stems, masks and the operators of which no run tells
+            _ => Some(()),
         }
     }
 
@@ -78,6 +88,7 @@ impl Pen {
     }
 
     /// {dxa dya}+
+    #[inline(always)]
     fn lines<S: Sink>(
         &mut self,
         operands: &[Operand],
@@ -97,7 +108,8 @@ impl Pen {
         Some(())
     }
 
-    /// {da}+
+    /// {da}+: a round draws one line along each axis.
+    #[inline(always)]
     fn lines_in_turn<S: Sink>(
         &mut self,
         first: Axis,
@@ -110,17 +122,20 @@ impl Pen {
         ensures kept { IsFront (S.given sink.old) (S.given sink.new) }
         ensures front { OnErr (ok_or result fault.new) (IfOk (drawing (the_lines_in_turn first operands.now) (held self.old (S.given sink.old))) (λ drawing. IsFront (S.given sink.new) drawing.segments)) }
     {
-        let mut axis = first;
         let mut ahead = operands;
-        while let Some((a, rest)) = line_in_turn(axis, ahead) {
+        while let Some((a, behind)) = line_in_turn(first, ahead) {
             self.line_by(a, sink, fault)?;
-            axis = axis.other();
+            let Some((b, rest)) = line_in_turn(first.other(), behind) else {
+                return Some(());
+            };
+            self.line_by(b, sink, fault)?;
             ahead = rest;
         }
         Some(())
     }
 
     /// {dxa dya dxb dyb dxc dyc}+
+    #[inline(always)]
     fn curves<S: Sink>(
         &mut self,
         operands: &[Operand],
@@ -140,7 +155,50 @@ impl Pen {
         Some(())
     }
 
-    /// {da dxb dyb dc}+ de?
+    /// d1? {da dxb dyb dc}+
+    fn curves_level<S: Sink>(
+        &mut self,
+        axis: Axis,
+        operands: &[Operand],
+        sink: &mut S,
+        fault: &mut Error,
+    ) -> Option<()>
+        ensures exact { DrawsInto (S.refuses sink.new) (drawing (the_curves_level axis operands.now) (held self.old (S.given sink.old))) (ok_or result fault.new) (held self.new (S.given sink.new)) }
+        ensures refused { IfErr (ok_or result fault.new) (λ e. S.refuses sink.new e ⊎ (e ≡ errors.Overflow)) }
+        ensures kept { IsFront (S.given sink.old) (S.given sink.new) }
+        ensures front { OnErr (ok_or result fault.new) (IfOk (drawing (the_curves_level axis operands.now) (held self.old (S.given sink.old))) (λ drawing. IsFront (S.given sink.new) drawing.segments)) }
+    {
+        let (first, rest) = first_aside(operands);
+        self.curves_along(axis, first, rest, sink, fault)
+    }
+
+    /// {da dxb dyb dc}+
+    #[inline(always)]
+    fn curves_along<S: Sink>(
+        &mut self,
+        axis: Axis,
+        first: i64,
+        operands: &[Operand],
+        sink: &mut S,
+        fault: &mut Error,
+    ) -> Option<()>
+        ensures exact { DrawsInto (S.refuses sink.new) (drawing (the_curves_along axis first operands.now) (held self.old (S.given sink.old))) (ok_or result fault.new) (held self.new (S.given sink.new)) }
+        ensures refused { IfErr (ok_or result fault.new) (λ e. S.refuses sink.new e ⊎ (e ≡ errors.Overflow)) }
+        ensures kept { IsFront (S.given sink.old) (S.given sink.new) }
+        ensures front { OnErr (ok_or result fault.new) (IfOk (drawing (the_curves_along axis first operands.now) (held self.old (S.given sink.old))) (λ drawing. IsFront (S.given sink.new) drawing.segments)) }
+    {
+        let mut off = first;
+        let mut ahead = operands;
+        while let Some(bend) = curve_along(axis, off, ahead) {
+            self.curve_by(bend.a, bend.b, bend.c, sink, fault)?;
+            off = 0;
+            ahead = bend.rest;
+        }
+        Some(())
+    }
+
+    /// {da dxb dyb dc}+ de?: a round draws one curve that begins along each axis.
+    #[inline(always)]
     fn curves_in_turn<S: Sink>(
         &mut self,
         first: Axis,
@@ -153,13 +211,49 @@ impl Pen {
         ensures kept { IsFront (S.given sink.old) (S.given sink.new) }
         ensures front { OnErr (ok_or result fault.new) (IfOk (drawing (the_curves_in_turn first operands.now) (held self.old (S.given sink.old))) (λ drawing. IsFront (S.given sink.new) drawing.segments)) }
     {
-        let mut axis = first;
         let mut ahead = operands;
-        while let Some(bend) = curve_in_turn(axis, ahead) {
+        while let Some(bend) = curve_in_turn(first, ahead) {
             self.curve_by(bend.a, bend.b, bend.c, sink, fault)?;
-            axis = axis.other();
-            ahead = bend.rest;
+            let Some(turned) = curve_in_turn(first.other(), bend.rest) else {
+                return Some(());
+            };
+            self.curve_by(turned.a, turned.b, turned.c, sink, fault)?;
+            ahead = turned.rest;
         }
         Some(())
+    }
+
+    /// {dxa dya dxb dyb dxc dyc}+ dxd dyd
+    fn curves_then_line<S: Sink>(
+        &mut self,
+        operands: &[Operand],
+        sink: &mut S,
+        fault: &mut Error,
+    ) -> Option<()>
+        ensures exact { DrawsInto (S.refuses sink.new) (drawing (the_curves_then_line operands.now) (held self.old (S.given sink.old))) (ok_or result fault.new) (held self.new (S.given sink.new)) }
+        ensures refused { IfErr (ok_or result fault.new) (λ e. S.refuses sink.new e ⊎ (e ≡ errors.Overflow)) }
+        ensures kept { IsFront (S.given sink.old) (S.given sink.new) }
+        ensures front { OnErr (ok_or result fault.new) (IfOk (drawing (the_curves_then_line operands.now) (held self.old (S.given sink.old))) (λ drawing. IsFront (S.given sink.new) drawing.segments)) }
+    {
+        let (these, those) = operands.split_at(operands.len().saturating_sub(2));
+        self.curves(these, sink, fault)?;
+        self.lines(those, sink, fault)
+    }
+
+    /// {dxa dya}+ dxb dyb dxc dyc dxd dyd
+    fn lines_then_curve<S: Sink>(
+        &mut self,
+        operands: &[Operand],
+        sink: &mut S,
+        fault: &mut Error,
+    ) -> Option<()>
+        ensures exact { DrawsInto (S.refuses sink.new) (drawing (the_lines_then_curve operands.now) (held self.old (S.given sink.old))) (ok_or result fault.new) (held self.new (S.given sink.new)) }
+        ensures refused { IfErr (ok_or result fault.new) (λ e. S.refuses sink.new e ⊎ (e ≡ errors.Overflow)) }
+        ensures kept { IsFront (S.given sink.old) (S.given sink.new) }
+        ensures front { OnErr (ok_or result fault.new) (IfOk (drawing (the_lines_then_curve operands.now) (held self.old (S.given sink.old))) (λ drawing. IsFront (S.given sink.new) drawing.segments)) }
+    {
+        let (these, those) = operands.split_at(operands.len().saturating_sub(6));
+        self.lines(these, sink, fault)?;
+        self.curves(those, sink, fault)
     }
 }
