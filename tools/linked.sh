@@ -3,7 +3,7 @@
 #
 #     tools/linked.sh CASES SEED WORD..
 #
-# Each WORD is an installed Debian package, of which each file .otf is taken, or a font file. First every glyph of every font is drawn
+# Each WORD is a folder or an installed Debian package, of which each file .otf is taken, or a font file. First every glyph of every font is drawn
 # by all three, and the segments are compared: with ttf-parser's to 0.05 of a unit, since its numbers are of 24 bits, and with
 # FreeType's, unscaled and unhinted, to whole units. Then CASES tables are made of these with one to four bytes changed, from SEED,
 # and are opened and drawn by this library and by ttf-parser: the classes of disagreement are printed with the code of the first.
@@ -19,8 +19,14 @@ cases=$1
 seed=$2
 shift 2
 fonts=$(for word in "$@"; do
-    if [ -f "$word" ]; then echo "$word"; else dpkg -L "$word" | grep '\.otf$' | sort; fi
+    if [ -f "$word" ]; then echo "$word"
+    elif [ -d "$word" ]; then find "$word" -name '*.otf' | sort
+    else dpkg -L "$word" | grep '\.otf$' | sort; fi
 done)
+
+# Calls the program with some words and then the fonts, whose names may have spaces.
+over_fonts() { echo "$1" | tr '\n' '\0' | { shift; xargs -0 -x -s 1000000 "$@"; }; }
+
 work=$(mktemp -d)
 trap 'rm -r "$work"' EXIT
 bindings="$tools/../bindings"
@@ -55,13 +61,14 @@ END
 linked="$work/target/release/linked"
 
 status=0
-"$linked" whole $fonts || status=1
-"$linked" fuzz "$cases" "$seed" $fonts || status=1
+over_fonts "$fonts" "$linked" whole || status=1
+over_fonts "$fonts" "$linked" fuzz "$cases" "$seed" || status=1
 first=$(echo "$fonts" | head -1)
 for flags in -DGUARD -fsanitize=address,undefined; do
     cc -O1 -g $flags -I"$bindings/c" "$tools/linked_spoiled.c" "$bindings/c/build/libpostscript.a" -o "$work/spoiled"
     echo "spoiled fonts, $flags:"
     "$work/spoiled" "$first" 20000 "$seed" || status=1
 done
-"$linked" speed $(echo "$fonts" | grep -E 'EBGaramond12-Regular|FreeSerif.otf' || echo "$fonts" | head -2)
+timed=$(echo "$fonts" | grep -E 'EBGaramond12-Regular|FreeSerif.otf' || echo "$fonts" | head -2)
+over_fonts "$timed" "$linked" speed
 exit $status
