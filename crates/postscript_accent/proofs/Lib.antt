@@ -1,0 +1,2 @@
+pub mod AccentRows
+pub mod Owns

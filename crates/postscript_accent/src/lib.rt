@@ -1,0 +1,14 @@
+//! Accented glyphs: the outline of a glyph whose `endchar` names two others, a base and an accent (Adobe Technical Note 5177,
+//! Appendix C, "Compatibility and Deprecated Operators").
+#![tactic(auto)]
+
+mod accent;
+mod component;
+mod drawing;
+mod error;
+mod moving;
+
+pub use accent::{Accent, accent_of};
+pub use component::component_of;
+pub use drawing::{draw_glyph, outline_of};
+pub use error::{Error, Result};
