@@ -1,6 +1,7 @@
 //! Drawings of glyphs.
 use crate::face::Face;
 use crate::refused::rule_of;
+use postscript_accent::{Error as Undrawn, outline_of};
 use postscript_base::Error as Fault;
 use postscript_outline::Outline;
 use postscript_view::{Advance, Glyph};
@@ -14,9 +15,20 @@ pub enum Refusal {
     NoPart,
     #[error("{} (refusal {}): {}", .0, .0.code(), rule_of(.0.code()))]
     Run(#[from] Fault),
+    #[error("{0}: endchar over four operands names a base and an accent (Technical Note 5177, appendix C)")]
+    Accent(Undrawn),
 }
 
-/// A glyph and its outline.
+/// Why a glyph is refused.
+fn refusal_of(error: Undrawn) -> Refusal {
+    match error {
+        Undrawn::Font(fault) => Refusal::Run(fault),
+        Undrawn::NoSuchGlyph(_) => Refusal::NoPart,
+        error => Refusal::Accent(error),
+    }
+}
+
+/// A glyph and its outline, with the components of an accented one.
 pub fn draw<'f, 'l>(
     alloc: Global,
     face: &'f Face<'l>,
@@ -25,8 +37,10 @@ pub fn draw<'f, 'l>(
     let Some(glyph) = face.font.glyph(usize::from(gid)) else {
         return Err(Refusal::NoPart);
     };
-    let outline = Outline::of_program(alloc, &mut glyph.program(alloc))?;
-    Ok((glyph, outline))
+    match outline_of(alloc, &face.font, usize::from(gid)) {
+        Ok(outline) => Ok((glyph, outline)),
+        Err(error) => Err(refusal_of(error)),
+    }
 }
 
 /// The width of a glyph by its program in 65536ths of a unit: told there, and added to the nominal one, or else the default one.
