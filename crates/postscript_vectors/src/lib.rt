@@ -2,6 +2,8 @@
 #![tactic(auto)]
 
 #[cfg(test)]
+mod accents;
+#[cfg(test)]
 mod ample;
 #[cfg(test)]
 mod char_sets;

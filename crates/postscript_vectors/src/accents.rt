@@ -1,0 +1,89 @@
+//! Accented glyphs: a font whose glyphs name others by their codes in the standard encoding.
+use crate::checks::{bytes_of, is_text, put_shown};
+use postscript_accent::{draw_glyph, outline_of};
+use postscript_outline::Segment;
+use postscript_view::FontView;
+use std::alloc::Global;
+use std::process::Abort;
+
+/// A font of thirteen glyphs: `.notdef`, `A`, `acute`, and from `C` on those of the rows.
+const FONT: &str = "01000401 000101010250 000101010e 1c002a0f1c0043118b1c00b112 0000 \
+    0001010108 c2a963ccf7560e 00 0022 007d 0024 0025 0026 0027 0028 0029 002a 002b 002c 002d \
+    000d01 01020a161c2a303640484a4e535e 0e 959f15ef06bd070e 928c8d158e8f90919293080e a963ccf7560e \
+    949016939305f75cf7c0ccf7560e 8b8bcef7560e 8b8bcdf7560e 8b8bff00418000f7560e 1c7fff8bccf7560e \
+    201d 8c8d8e0e 8b8bcccd0e 90169393058c8d8e8f0c0e";
+
+/// The glyphs: the path data and the width, or the refusal. What is drawn is as fontTools 4.38 draws it.
+const ROWS: [&str; 13] = [
+    "",
+    "M10 20L110 20L110 70Z",
+    "M1 2C4 6 9 12 16 20Z width 7",
+    // The base, and then the accent, 30 to the right and 40 down.
+    "M10 20L110 20L110 70ZM31 -38C34 -34 39 -28 46 -20Z",
+    // A width and a contour of its own.
+    "M5 0L13 8ZM10 20L110 20L110 70ZM201 302C204 306 209 312 216 320Z width 9",
+    // The base is accented itself.
+    "the glyph of the code 67 is accented itself",
+    // No glyph is called `B`.
+    "there is no glyph of the code 66",
+    // 65.5 is no code.
+    "an accented glyph names no codes",
+    // The accent is moved out of the range.
+    "found an overflow",
+    // The operands stand in a subroutine, with a width beneath them.
+    "M10 20L110 20L110 70ZM31 -38C34 -34 39 -28 46 -20Z width 55",
+    // Three operands name nothing, and the one on top is the width.
+    " width 3",
+    // The accent is missing.
+    "there is no glyph of the code 66",
+    // No `endchar` ends it: `neg` has its byte at the end.
+    "M5 0L13 8Z",
+];
+
+/// What is told of a glyph.
+fn told<R: Abort>(rt: &R, alloc: Global, font: &FontView<'_>, glyph: usize) -> String {
+    let mut text = String::new(alloc);
+    match outline_of(alloc, font, glyph) {
+        Ok(outline) => {
+            put_shown(rt, &mut text, "", &outline);
+            if let Some(width) = outline.width {
+                put_shown(rt, &mut text, " width ", &width);
+            }
+        }
+        Err(e) => put_shown(rt, &mut text, "", &e),
+    }
+    text
+}
+
+#[test]
+fn accented_glyphs(rt: HostRuntime) {
+    let alloc = rt.alloc();
+    let bytes = bytes_of(&rt, alloc, FONT);
+    let font = FontView::read(alloc, bytes.as_slice()).expect(&rt, "a font");
+    for (glyph, wanted) in ROWS.iter().enumerate() {
+        let text = told(&rt, alloc, &font, glyph);
+        is_text(&rt, text.as_str(), wanted, "a glyph");
+    }
+    let text = told(&rt, alloc, &font, 13);
+    is_text(&rt, text.as_str(), "there is no glyph 13", "a glyph");
+}
+
+#[test]
+fn an_accented_glyph_is_given_to_a_sink(rt: HostRuntime) {
+    let alloc = rt.alloc();
+    let bytes = bytes_of(&rt, alloc, FONT);
+    let font = FontView::read(alloc, bytes.as_slice()).expect(&rt, "a font");
+    let mut segments: Vec<Segment> = Vec::new(alloc);
+    let width = draw_glyph(alloc, &font, 3, &mut segments).expect(&rt, "a glyph");
+    let mut text = String::new(alloc);
+    for segment in &segments {
+        put_shown(&rt, &mut text, "", segment);
+    }
+    is_text(&rt, text.as_str(), ROWS[3], "the segments");
+    is_text(
+        &rt,
+        if width.is_none() { "" } else { "a width" },
+        "",
+        "the width",
+    );
+}
