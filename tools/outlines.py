@@ -14,6 +14,7 @@ as they are drawn, as SVG.
 """
 
 import collections
+import concurrent.futures
 import math
 import re
 import subprocess
@@ -39,21 +40,19 @@ def segments_of(path):
         yield NAMES[letter], tuple(zip(numbers[::2], numbers[1::2]))
 
 
-def drawn(char_string):
-    """What fontTools draws, and the width."""
-    pen = RecordingPen()
-    char_string.draw(pen)
-    return [(kind, tuple((Fraction(x), Fraction(y)) for x, y in points)) for kind, points in pen.value if kind != "addComponent"]
+def drawn(recorded):
+    """What fontTools draws."""
+    return [(kind, tuple((Fraction(x), Fraction(y)) for x, y in points)) for kind, points in recorded.value if kind != "addComponent"]
 
 
 def sides_of(text):
     return None if text == "-" else [int(side) for side in text.split(",")]
 
 
-def is_bounds(found, char_string):
+def is_bounds(found, recorded):
     """Whether these are the bounds of all points."""
     pen = ControlBoundsPen(None)
-    char_string.draw(pen)
+    recorded.replay(pen)
     wanted = None if pen.bounds is None else [Fraction(side) * 65536 for side in pen.bounds]
     return found == wanted
 
@@ -65,52 +64,64 @@ def excess_of(side, exact, outwards):
     return 0 if further == -1 and abs(exact - round(exact)) < 0.001 else further if further >= 0 else None
 
 
-def tightness(found, char_string):
+def tightness(found, recorded):
     """How many sides lie one 65536th further out than fontTools' ones, or None where one lies elsewhere."""
     pen = BoundsPen(None)
-    char_string.draw(pen)
+    recorded.replay(pen)
     if found is None or pen.bounds is None:
         return 0 if found is None and pen.bounds is None else None
     excess = [excess_of(*sides) for sides in zip(found, pen.bounds, (-1, -1, 1, 1), strict=True)]
     return None if None in excess or max(excess) > 1 else sum(excess)
 
 
-def is_accented(char_string):
+def is_accented(recorded):
     """Whether the glyph is made of two others."""
-    pen = RecordingPen()
-    char_string.draw(pen)
-    return any(kind == "addComponent" for kind, _ in pen.value)
+    return any(kind == "addComponent" for kind, _ in recorded.value)
 
 
 def width_of(word, private):
     return Fraction(private.defaultWidthX) if word == "-" else private.nominalWidthX + Fraction(int(word), 65536)
 
 
-def compare(program, path, counts):
+def compare(program, path):
     """Counts the glyphs of a font file, and tells those that differ."""
+    counts, told = collections.Counter(), []
     lines = lines_of(path)
     if not lines:
-        return
+        return counts, told
     text = "".join(f"{kind} {code.hex()}\n" for kind, code in lines)
     printed = subprocess.run([program], input=text.encode(), stdout=subprocess.PIPE, check=True).stdout.decode().split("\n")
     font = TTFont(path, lazy=True)
     strings = font["CFF "].cff[0].CharStrings
     counts["fonts"] += 1
     for name, line in zip(font.getGlyphOrder(), printed, strict=False):
-        char_string = strings[name]
-        if is_accented(char_string):
+        char_string, recorded = strings[name], RecordingPen()
+        char_string.draw(recorded)
+        if is_accented(recorded):
             counts["left out"] += 1
             continue
         word, bounds, tight, data = (line.split(" ", 3) + ["-", "-", ""])[:4]
-        wanted = drawn(char_string)
-        further = tightness(sides_of(tight), char_string) if word != "refused" else None
+        wanted = drawn(recorded)
+        further = tightness(sides_of(tight), recorded) if word != "refused" else None
         found = list(segments_of(data))
         counts["glyphs"] += 1
         counts["segments"] += len(wanted)
         counts["sides one further"] += further or 0
-        if further is None or not is_bounds(sides_of(bounds), char_string) or found != wanted or width_of(word, char_string.private) != Fraction(char_string.width):
+        if further is None or not is_bounds(sides_of(bounds), recorded) or found != wanted or width_of(word, char_string.private) != Fraction(char_string.width):
             counts["different"] += 1
-            print(f"{path}: {name}: {line[:60]}", flush=True)
+            told.append(f"{path}: {name}: {line[:60]}")
+    return counts, told
+
+
+def compare_all(program, words):
+    """Compares the fonts, as many at a time as there are processors, and counts all."""
+    counts = collections.Counter({"different": 0, "left out": 0})
+    paths = [path for word in words for path in files_of(word)]
+    with concurrent.futures.ProcessPoolExecutor() as pool:
+        for found, told in pool.map(compare, [program] * len(paths), paths):
+            counts.update(found)
+            print("".join(f"{line}\n" for line in told), end="", flush=True)
+    return counts
 
 
 def sheet(program, path):
@@ -141,10 +152,7 @@ def main(words):
     if words[1] == "--sheet":
         sheet(words[0], words[2])
         return
-    counts = collections.Counter({"different": 0, "left out": 0})
-    for word in words[1:]:
-        for path in files_of(word):
-            compare(words[0], path, counts)
+    counts = compare_all(words[0], words[1:])
     print(", ".join(f"{count} {kind}" for kind, count in sorted(counts.items())))
     sys.exit(counts["different"] > 0)
 

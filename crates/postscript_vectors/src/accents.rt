@@ -13,7 +13,8 @@ const FONT: &str = "01000401 000101010250 000101010e 1c002a0f1c0043118b1c00b112 
     949016939305f75cf7c0ccf7560e 8b8bcef7560e 8b8bcdf7560e 8b8bff00418000f7560e 1c7fff8bccf7560e \
     201d 8c8d8e0e 8b8bcccd0e 90169393058c8d8e8f0c0e";
 
-/// The glyphs: the path data and the width, or the refusal. What is drawn is as fontTools 4.38 draws it.
+/// The glyphs: the path data and the width, or the refusal. What is drawn is as fontTools 4.38 draws it, where it draws the glyph; the
+/// refusals, the width of three operands and the last row are by the rules.
 const ROWS: [&str; 13] = [
     "",
     "M10 20L110 20L110 70Z",
