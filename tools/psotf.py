@@ -73,10 +73,15 @@ def told(*words):
     return [json.loads(line) for line in done.stdout.splitlines()]
 
 
-def segments_of(char_string):
+def recorded(char_string):
+    """What fontTools draws."""
     pen = RecordingPen()
     char_string.draw(pen)
-    return [[LETTERS[kind], *(Fraction(x) for point in points for x in point)] for kind, points in pen.value]
+    return pen
+
+
+def segments_of(drawing):
+    return [[LETTERS[kind], *(Fraction(x) for point in points for x in point)] for kind, points in drawing.value]
 
 
 def sides_of(texts):
@@ -88,23 +93,23 @@ def named_of(glyph, is_cid):
     return f"cid{glyph['cid']:05d}" if is_cid and glyph["name"] is None and glyph["gid"] else glyph["name"] or ".notdef"
 
 
-def drawing_differs(glyph, char_string):
+def drawing_differs(glyph, char_string, drawing):
     return (
-        [[segment[0], *map(Fraction, segment[1:])] for segment in glyph["segments"]] != segments_of(char_string)
+        [[segment[0], *map(Fraction, segment[1:])] for segment in glyph["segments"]] != segments_of(drawing)
         or Fraction(glyph["width"]) != Fraction(char_string.width)
-        or not is_bounds(sides_of(glyph["bounds"]), char_string)
-        or tightness(sides_of(glyph["tight_bounds"]), char_string) is None
+        or not is_bounds(sides_of(glyph["bounds"]), drawing)
+        or tightness(sides_of(glyph["tight_bounds"]), drawing) is None
     )
 
 
-def glyph_differs(glyph, number, name, font, char_string, characters):
+def glyph_differs(glyph, number, name, font, char_string, drawing, characters):
     return (
         "refused" in glyph
         or glyph["gid"] != number
         or named_of(glyph, "cid" in glyph) != name
         or glyph["advance"] != font["hmtx"][name][0]
         or sorted(glyph["chars"]) != (sorted(characters) if number else [])
-        or drawing_differs(glyph, char_string)
+        or drawing_differs(glyph, char_string, drawing)
     )
 
 
@@ -170,9 +175,11 @@ def compare(path, number):
         different += 1
         print(f"{path}: face {number}")
     for gid, (name, glyph) in enumerate(zip(names, glyphs, strict=False)):
-        if is_accented(top.CharStrings[name]):
+        char_string = top.CharStrings[name]
+        drawing = recorded(char_string)
+        if is_accented(drawing):
             left_out += 1
-        elif glyph_differs(glyph, gid, name, font, top.CharStrings[name], characters.get(name, [])):
+        elif glyph_differs(glyph, gid, name, font, char_string, drawing, characters.get(name, [])):
             different += 1
             print(f"{path}: {name}")
     return len(names), left_out, different
