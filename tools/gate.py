@@ -1,13 +1,15 @@
 #!/usr/bin/env python3
 """Runs the gate on some processors, and prints which part of it takes how much processor time.
 
-    tools/gate.py [PROCESSORS]
+    tools/gate.py [PROCESSORS [CRATE..]]
 
-PROCESSORS are those of taskset, 0,1 where none are named. At the top of a clone with nothing in any `out/`, it runs `rt ci`, whose
-output goes to gate.log in a temporary folder that it names, and looks at the processes of the prover four times a second. It
-ends with the last line of `rt ci`, the minutes that it took, and a table. Needs Linux, and taskset of util-linux.
+PROCESSORS are those of taskset, 0,1 where none are named. At the top of a clone with nothing in any `out/`, it runs `rt ci`, or, where
+crates are named, `rt must-fail` of these. The output goes to gate.log in a temporary folder that it names. Four times a second it looks
+at the processes of the prover. It ends with the last line of the output, the minutes that it took, a table of the parts, and one of
+the must-fail edits, the dearest first. Needs Linux, and taskset of util-linux.
 """
 import collections
+import glob
 import os
 import re
 import subprocess
@@ -40,8 +42,31 @@ def below(root):
             yield pid, seconds
 
 
+def edited(edit, crate):
+    """The texts of the files that an edit changes, as it leaves them."""
+    path, old, texts = "", "", {}
+    for line in text_of(edit).split("\n"):
+        key, _, rest = line.partition(": ")
+        if key == "file":
+            path = rest.strip()
+            texts.setdefault(path, text_of(f"{crate}/{path}"))
+        elif key == "old":
+            old = rest
+        elif line.startswith("new:"):
+            texts[path] = texts[path].replace(old, line[len("new:"):].removeprefix(" "))
+    return texts
+
+
+def edit_in(room, crate):
+    """Which edit of a crate stands in a copy of it, if one does."""
+    for edit in sorted(glob.glob(f"{crate}/must-fail/*.edit")):
+        if all(text_of(f"{room}/{path}") == text for path, text in edited(edit, crate).items()):
+            return os.path.basename(edit).removesuffix(".edit")
+    return None
+
+
 def part_of(pid):
-    """Which part of the gate a process belongs to."""
+    """Which part of the gate a process belongs to, and which edit it tries."""
     words = text_of(f"/proc/{pid}/cmdline").split("\0")
     name = re.search(r"\0--crate-name\0(\w+)\0", "\0".join(words))
     try:
@@ -51,36 +76,46 @@ def part_of(pid):
     if not words[0].endswith("/rattle") or not name:
         return None
     if "/rt-edit-" in where:
-        return f"edits of {name[1]}"
-    return f"{name[1]}{' with its tests' if '--test' in words else ''}"
+        return f"edits of {name[1]}", edit_in(where, f"crates/{name[1]}")
+    return f"{name[1]}{' with its tests' if '--test' in words else ''}", None
 
 
-def main():
-    processors = sys.argv[1] if len(sys.argv) > 1 else "0,1"
-    log = f"{tempfile.mkdtemp()}/gate.log"
-    print(f"log: {log}", flush=True)
-    seconds, parts, lane, began = {}, {}, {}, time.time()
+def watched(words, log):
+    """Runs a command, and gives its status and, for each process of the prover, its part, its edit and its seconds."""
+    seconds, parts, lane = {}, {}, {}
     with open(log, "w", encoding="utf-8") as out:
-        gate = subprocess.Popen(["taskset", "-c", processors, "rt", "ci"], stdout=out, stderr=subprocess.STDOUT)
+        gate = subprocess.Popen(words, stdout=out, stderr=subprocess.STDOUT)
         while gate.poll() is None:
             for pid, taken in below(gate.pid):
                 # (a process is seen before it is the prover)
                 if not parts.get(pid):
                     parts[pid] = part_of(pid)
                 seconds[pid] = taken
-                lane.setdefault(parts[pid], [time.time(), 0])[1] = time.time()
+                lane.setdefault((parts[pid] or ["all else"])[0], [time.time(), 0])[1] = time.time()
             time.sleep(0.25)
-    ended = time.time()
-    sums = collections.Counter()
-    for pid, taken in seconds.items():
-        sums[parts[pid] or "all else"] += taken
+    return gate.returncode, [(*(parts[pid] or ("all else", None)), taken) for pid, taken in seconds.items()], lane
+
+
+def main():
+    processors, crates = (sys.argv[1:] or ["0,1"])[0], sys.argv[2:]
+    log, began = f"{tempfile.mkdtemp()}/gate.log", time.time()
+    print(f"log: {log}", flush=True)
+    status, found, lane = watched(["taskset", "-c", processors, "rt", *(["must-fail", *crates] if crates else ["ci"])], log)
+    ended, sums, edits = time.time(), collections.Counter(), collections.Counter()
+    for part, edit, taken in found:
+        sums[part] += taken
+        if edit:
+            edits[part.removeprefix("edits of "), edit] += taken
     print(text_of(log).rstrip().split("\n")[-1])
     print(f"{(ended - began) / 60:.1f} minutes, {sum(sums.values()) / 60:.1f} of processor time")
     print("| part | minutes of processor time | from minute | to minute |\n|---|---|---|---|")
     for part, taken in sums.most_common():
-        first, last = lane[None if part == "all else" else part]
+        first, last = lane[part]
         print(f"| {part} | {taken / 60:.1f} | {(first - began) / 60:.1f} | {(last - began) / 60:.1f} |")
-    return gate.returncode
+    print("| edit | seconds of processor time |\n|---|---|")
+    for (crate, edit), taken in edits.most_common():
+        print(f"| {crate}/{edit} | {taken:.0f} |")
+    return status
 
 
 sys.exit(main())
