@@ -28,13 +28,10 @@ wants (Fault refusal) = is_end refusal
 wants Past = false
 
 wants_after : {A B : Type 0} (o : Outcome A) (f : A → ℕ → Outcome B) → ((value : A) (next : ℕ) → wants (f value next) ≡ false) → wants (after o f) ≡ wants o
-wants_after (Got value next) f h = h value next
-wants_after (Fault refusal) f h = refl
-wants_after Past f h = refl
+wants_after o f h = grind arith
 
 wants_if : {A : Type 0} (b : Bool) (x y : Reading A) (bytes : List ℕ) (place : ℕ) (s t : Bool) → wants (x bytes place) ≡ s → wants (y bytes place) ≡ t → wants ((if b then x else y) bytes place) ≡ (if b then s else t)
-wants_if true x y bytes place s t h g = h
-wants_if false x y bytes place s t h g = g
+wants_if b x y bytes place s t h g = grind arith
 
 wants_number : (size : ℕ) (bytes : List ℕ) (place : ℕ) → wants (unsigned size bytes place) ≡ nat_lt (length (drop place bytes)) size
 unfolding unsigned slice
@@ -52,18 +49,10 @@ wants_ended all rest text next e = by rest (sym (length-drop (prefix_len is_in_t
 
 wants_text : (bytes : List ℕ) (place : ℕ) → wants (text_of_real bytes place) ≡ is_open (nibbles (drop place bytes))
 unfolding text_of_real
-wants_text bytes place =
-    let all = nibbles (drop place bytes) in
-    let count = prefix_len is_in_text all in
-    wants_ended all (drop count all) (flat_map symbols (take count all)) (place + (count / 2 + 1)) refl
-
-wants_operand : (o : Option Decimal) (bytes : List ℕ) (place : ℕ) → wants (operand_if o bytes place) ≡ false
-wants_operand None bytes place = refl
-wants_operand (Some operand) bytes place = refl
+wants_text bytes place = grind (arith, wants_ended)
 
 wants_valued : (o : Option Real) (bytes : List ℕ) (place : ℕ) → wants (valued o bytes place) ≡ false
-wants_valued None bytes place = refl
-wants_valued (Some r) bytes place = wants_operand (operand_of (value_of r).mantissa (value_of r).exponent) bytes place
+wants_valued o bytes place = grind arith
 
 wants_real : (bytes : List ℕ) (place : ℕ) → wants (real bytes place) ≡ is_open (nibbles (drop place bytes))
 unfolding real
@@ -99,20 +88,13 @@ unfolding operator_of no_operand
 unknown first h = no_entry first operators refl h
 
 operator_none : (first : ℕ) (bytes : List ℕ) (place : ℕ) → begins_operand first ≡ true → operator_begun first bytes place ≡ Fault unknown_operator
-operator_none first bytes place h =
-    let a : (first == 0x0c) ≡ false = grind (arith, nat_tests) in
-    rw (a, unknown first h) refl
+operator_none first bytes place h = grind (arith, nat_tests, unknown)
 
 wants_known : (o : Option Operator) (bytes : List ℕ) (place : ℕ) → wants (known o bytes place) ≡ false
-wants_known None bytes place = refl
-wants_known (Some o) bytes place = refl
+wants_known o bytes place = grind arith
 
 wants_operator : (first : ℕ) (bytes : List ℕ) (place : ℕ) → wants (operator_begun first bytes place) ≡ ((first == 0x0c) && nat_lt (length (drop place bytes)) 1)
-wants_operator first bytes place = by (first == 0x0c)
-  where
-    by : (b : Bool) → wants ((if b then (unsigned 1 >>= λ second. known (operator_of (0x0c00 + second))) else known (operator_of first)) bytes place) ≡ (b && nat_lt (length (drop place bytes)) 1)
-    by true = wants_after (unsigned 1 bytes place) _ (λ second next. wants_known (operator_of (0x0c00 + second)) bytes next) ∙ wants_number 1 bytes place
-    by false = wants_known (operator_of first) bytes place
+wants_operator first bytes place = grind (arith, wants_after, wants_known, wants_number)
 
 abbrev pub found_operand : List Decimal → Decimal → ℕ → Outcome Found
 found_operand operands operand next = Got (None, operands ++ operand ∷ []) next
@@ -174,12 +156,7 @@ wants_step front bytes place = elim (stands bytes place) [
 ]
 
 is_fault : {A : Type 0} (o : Outcome A) → wants o ≡ true → o ≡ end
-is_fault (Got value next) e = absurd (cc)
-is_fault (Fault (Numbered n)) e = let is : n ≡ 1 = grind (arith, nat_tests) in ap (λ n. Fault (Numbered n)) is
-is_fault (Fault (OfPart part)) e = absurd (cc)
-is_fault (Fault (OfMalformed operator)) e = absurd (cc)
-is_fault (Fault (OfMissing operator)) e = absurd (cc)
-is_fault Past e = absurd (cc)
+is_fault o e = grind arith
 
 pub cut_step : (front : List Decimal) (bytes : List ℕ) (place : ℕ) → is_cut (drop place bytes) ≡ true → step front bytes place ≡ end
 cut_step front bytes place cut = is_fault (step front bytes place) (wants_step front bytes place ∙ cut)
@@ -200,10 +177,7 @@ operator_step front bytes place o next e = elim (stands bytes place) [
 
 -- what is refused is a step that is refused
 pub bad_step : (front : List Decimal) (bytes : List ℕ) (place : ℕ) (refusal : Refusal) → BadAt bytes place refusal → step front bytes place ≡ Fault refusal
-bad_step front bytes place refusal bad = elim (stands bytes place) [
-  | a_number b s w n ↦ s front ∙ ap (λ o. after o (found_operand front)) (subst (λ b. RefusedBy b bytes place refusal) b bad)
-  | an_operator other b s w n ↦ s front ∙ ap (λ o. after o (found_operator front)) (subst (λ b. RefusedBy b bytes place refusal) b bad)
-]
+bad_step front bytes place refusal bad = grind (arith, stands)
 
 pub bad_cut : (bytes : List ℕ) (place : ℕ) (refusal : Refusal) → BadAt bytes place refusal → is_cut (drop place bytes) ≡ is_end refusal
 bad_cut bytes place refusal bad = sym (wants_step [] bytes place) ∙ ap wants (bad_step [] bytes place refusal bad)

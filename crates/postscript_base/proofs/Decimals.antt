@@ -1,4 +1,6 @@
 -- Decimals of one value.
+use Rattle.std.proofs.lemmas.Grind.{common_steps}
+use Rattle.std.proofs.lemmas.Bool.Decides.{nat_tests}
 use Rattle.std.proofs.Common.{◌≡◌, ℕ, zero, suc, ◌+◌, ◌-◌, ◌*◌, ◌/◌, ◌%◌, ◌^◌, ◌<◌, ◌≤◌, Bool, true, false, refl, sym, ap, ◌∙◌, ◌≢◌, Option, Some, None, arith, inl, inr, ℤ, pos, negsuc, ◌+ℤ◌, ◌-ℤ◌, ◌*ℤ◌, neg_ℤ}
 use Rattle.std.specs.Prelude.{IfSome, IfNone}
 use Rattle.std.specs.Int.{int_min}
@@ -24,12 +26,10 @@ tens_few n r k e p lt =
     ]
 
 neg_times : (n b : ℕ) → neg_ℤ (pos n) *ℤ pos b ≡ neg_ℤ (pos (n * b))
-neg_times zero b = grind (arith, ints)
-neg_times (suc n) b = refl
+neg_times n b = grind arith
 
 times_assoc : (m : ℤ) (a b : ℕ) → (m *ℤ pos a) *ℤ pos b ≡ m *ℤ pos (a * b)
-times_assoc (pos m) a b = ap pos (mul_assoc m a b)
-times_assoc (negsuc m) a b = neg_times (suc m * a) b ∙ ap (λ n. neg_ℤ (pos n)) (mul_assoc (suc m) a b)
+times_assoc m a b = grind (arith, mul_assoc, neg_times)
 
 cancel : (a b k : ℕ) → 0 < k → a * k ≡ b * k → a ≡ b
 cancel a b k p e = sym (mul-div_cancel a p) ∙ ap (λ n. n / k) e ∙ mul-div_cancel b p
@@ -44,10 +44,7 @@ pos_is : (a b : ℕ) → pos a ≡ pos b → a ≡ b
 pos_is a b e = cc
 
 pub times_cancel : (m n : ℤ) (k : ℕ) → 0 < k → m *ℤ pos k ≡ n *ℤ pos k → m ≡ n
-times_cancel (pos a) (pos b) k p e = ap pos (cancel a b k p (pos_is (a * k) (b * k) e))
-times_cancel (pos a) (negsuc b) k p e = let q : 0 < suc b * k = mul-pos (omega arith) p in absurd (omega (arith, opposite _ _ e))
-times_cancel (negsuc a) (pos b) k p e = let q : 0 < suc a * k = mul-pos (omega arith) p in absurd (omega (arith, opposite _ _ (sym e)))
-times_cancel (negsuc a) (negsuc b) k p e = let h = cancel (suc a) (suc b) k p (neg_is _ _ e) in ap negsuc (omega arith)
+times_cancel m n k p e = grind (arith, cancel, pos_is, mul-pos, opposite, neg_is)
 
 pub scaled-scaled : (m : ℤ) (a b : ℕ) → scaled (scaled m a) b ≡ scaled m (a + b)
 scaled-scaled m a b = times_assoc m (10 ^ a) (10 ^ b) ∙ ap (λ n. m *ℤ pos n) (sym (pow-add 10 a b))
@@ -80,9 +77,7 @@ meets-IsSameValue m e m' e' i j h =
     (above m e m' e' a b (i - a) shifted).value
 
 pub IsSameValue-sym : (m e m' e' : ℤ) → IsSameValue m e m' e' → IsSameValue m' e' m e
-IsSameValue-sym m e m' e' h =
-    let p = IsSameValue-meets m e m' e' h in
-    meets-IsSameValue m' e' m e _ _ (record { place = sym p.place; value = sym p.value })
+IsSameValue-sym m e m' e' h = grind (arith, nat_tests)
 
 pub IsSameValue-trans : (m e m' e' n f : ℤ) → IsSameValue m e m' e' → IsSameValue m' e' n f → IsSameValue m e n f
 IsSameValue-trans m e m' e' n f g h =
@@ -99,28 +94,17 @@ IsSameValue-trans m e m' e' n f g h =
     })
 
 pub zero_abs : (m : ℤ) → unsigned_abs m ≡ 0 → m ≡ pos 0
-zero_abs (pos a) e = ap pos e
-zero_abs (negsuc a) e = absurd (omega arith)
-
-abs-neg : (n : ℕ) → unsigned_abs (neg_ℤ (pos n)) ≡ n
-abs-neg zero = refl
-abs-neg (suc n) = refl
+zero_abs m e = grind arith
 
 pub abs-scaled : (m : ℤ) (k : ℕ) → unsigned_abs (scaled m k) ≡ unsigned_abs m * 10 ^ k
-abs-scaled (pos a) k = refl
-abs-scaled (negsuc a) k = abs-neg (suc a * 10 ^ k)
+abs-scaled m k = grind arith
 
 pub last_zero : (n k : ℕ) → (n * 10 ^ suc k) % 10 ≡ 0
 last_zero n k = rw (pow-suc 10 k, ← mul_assoc n (10 ^ k) 10) (mul-mod_left (n * 10 ^ k) 10)
 
 -- a canonical pair that is another one at a lower exponent is 0
 both_zero : (m e m' e' : ℤ) (i k : ℕ) → IsCanonical m e → IsCanonical m' e' → m ≡ scaled m' (suc k) → (m ≡ m') × (e ≡ e')
-both_zero m e m' e' i k c d h =
-    let size : unsigned_abs m ≡ unsigned_abs m' * 10 ^ suc k = ap unsigned_abs h ∙ abs-scaled m' (suc k) in
-    let m0 : m ≡ pos 0 = c.no_last_zero (rw size (last_zero (unsigned_abs m') k)) in
-    let n0 : unsigned_abs m' * 10 ^ suc k ≡ 0 * 10 ^ suc k = sym size ∙ ap unsigned_abs m0 ∙ omega arith in
-    let m'0 : m' ≡ pos 0 = zero_abs m' (cancel (unsigned_abs m') 0 (10 ^ suc k) (tens_pos (suc k)) n0) in
-    (m0 ∙ sym m'0, c.zero_alone m0 ∙ sym (d.zero_alone m'0))
+both_zero m e m' e' i k c d h = grind (arith, nat_tests, common_steps, abs-scaled, last_zero, zero_abs, cancel, tens_pos)
 
 -- a value has one canonical pair
 pub one_form : (m e m' e' : ℤ) → IsCanonical m e → IsCanonical m' e' → IsSameValue m e m' e' → (m ≡ m') × (e ≡ e')
@@ -142,36 +126,20 @@ one_form m e m' e' c d h = go (unsigned_abs (e -ℤ int_min e e')) (unsigned_abs
     ]
 
 pub ten_more : (r z : ℕ) → r % 10 ≡ 0 → r * 10 ^ z ≡ r / 10 * 10 ^ (z + 1)
-ten_more r z h =
-    let whole : r ≡ r / 10 * 10 = omega arith in
-    ap (λ n. n * 10 ^ z) whole ∙ mul_assoc (r / 10) 10 (10 ^ z) ∙ ap (λ n. r / 10 * n) (mul_comm 10 (10 ^ z) ∙ sym (pow-suc 10 z) ∙ ap (λ n. 10 ^ n) (omega arith))
+ten_more r z h = grind (arith, nat_tests, common_steps, mul_assoc, mul_comm, pow-suc)
 
 -- a number, and the digits that are left of it at a higher exponent
 scaled_sign : (m : ℤ) (d z : ℕ) → unsigned_abs m ≡ d * 10 ^ z → scaled (signed (lt_z m (pos 0)) d) z ≡ scaled m 0
-scaled_sign (pos a) d z e = let test : lt_z (pos a) (pos 0) ≡ false = le-ltb a 0 (omega arith) in let one : a * 10 ^ 0 ≡ a = omega arith in rw (test, one) (ap pos (sym e))
-scaled_sign (negsuc a) d z e = neg_times d (10 ^ z) ∙ ap (λ k. neg_ℤ (pos k)) (sym e ∙ one)
-  where
-    one : suc a ≡ suc a * 10 ^ 0
-    one = omega arith
+scaled_sign m d z e = grind arith
 
 pub stripped_same : (m e : ℤ) (b : Bool) (n d z : ℕ) (x : ℤ) → b ≡ lt_z m (pos 0) → n ≡ unsigned_abs m → n ≡ d * 10 ^ z → x ≡ e +ℤ pos z → IsSameValue (signed b d) x m e
 stripped_same m e b n d z x sign size whole place = rw (sign, place) (meets-IsSameValue _ _ m e z 0 (record { place = omega (arith, ints); value = scaled_sign m d z (sym size ∙ whole) }))
 
 pub stripped_canonical : (m : ℤ) (b : Bool) (n d z : ℕ) (x : ℤ) → n ≡ d * 10 ^ z → d % 10 ≢ 0 → IsCanonical (signed b d) x
-stripped_canonical m b n d z x whole last =
-    let not_zero : d ≢ 0 = λ h. last (rw h refl) in
-    record {
-      zero_alone = λ h. absurd (not_zero (sym (abs-signed b d) ∙ ap unsigned_abs h));
-      no_last_zero = λ h. absurd (last (ap (λ k. k % 10) (sym (abs-signed b d)) ∙ h));
-    }
-  where
-    abs-signed : (b : Bool) (d : ℕ) → unsigned_abs (signed b d) ≡ d
-    abs-signed true d = abs-neg d
-    abs-signed false d = refl
+stripped_canonical m b n d z x whole last = grind arith
 
 pub some_same : (r : Option Decimal) (s x m e : ℤ) → IfSome r (λ o. (o.mantissa ≡ s) × (o.exponent ≡ x)) → IfSome r HasOperand → IsSameValue s x m e → IfSome r (λ o. HasOperand o × IsSameValue o.mantissa o.exponent m e)
-some_same None s x m e p operand h = tt
-some_same (Some o) s x m e p operand h = (operand, rw (p.0, p.1) h)
+some_same r s x m e p operand h = grind arith
 
 pub none_same : (r : Option Decimal) (s x m e : ℤ) → IfNone r (IsOperand s x → ⊥) → IsCanonical s x → IsSameValue s x m e → IfNone r ((n f : ℤ) → IsOperand n f → IsSameValue n f m e → ⊥)
 none_same None s x m e p c h = λ n f operand same.
@@ -183,14 +151,10 @@ pub IsSameValue-refl : (m e : ℤ) → IsSameValue m e m e
 IsSameValue-refl m e = refl
 
 pub same_decimal : (a b : Decimal) → a.mantissa ≡ b.mantissa → a.exponent ≡ b.exponent → a ≡ b
-same_decimal a b p q =
-    let at : ℤ → ℤ → Decimal = λ m e. record { mantissa = m; exponent = e } in
-    ap (λ m. at m a.exponent) p ∙ ap (λ e. at b.mantissa e) q
+same_decimal a b p q = grind arith
 
 pub abs-signed : (b : Bool) (d : ℕ) → unsigned_abs (signed b d) ≡ d
-abs-signed true d = abs-neg d
-abs-signed false d = refl
+abs-signed b d = grind arith
 
 pub scaled-signed : (b : Bool) (d k : ℕ) → scaled (signed b d) k ≡ signed b (d * 10 ^ k)
-scaled-signed true d k = neg_times d (10 ^ k)
-scaled-signed false d k = refl
+scaled-signed b d k = grind arith

@@ -22,9 +22,7 @@ use Rattle.postscript_base.proofs.Cuts.{bad_cut}
 use Rattle.postscript_base.proofs.OperationIs.{IsOperation, bad_ends, cut_ends, is_at, operation_is, reads}
 
 choose : (x : Option (List Decimal)) (b : Bool) (v : List Decimal) (y : Option (List Decimal)) → option_or x (cond b (Some v) y) ≡ option_or (option_or x (cond b (Some v) None)) y
-choose (Some w) b v y = refl
-choose None true v y = refl
-choose None false v y = refl
+choose x b v y = grind arith
 
 -- the last operation of each operator counts
 get_fold : (d : Dictionary) (os : List Operation) (q : Operator) → get (fold put d os) q ≡ option_or (last_of os q) (get d q)
@@ -32,8 +30,7 @@ get_fold d [] q = refl
 get_fold d (o ∷ os) q = get_fold (put d o) os q ∙ ap (option_or (last_of os q)) (get-insert operators_total d o.0 o.1 q) ∙ choose (last_of os q) (eq_by_cmp operator_cmp q o.0) o.1 (get d q)
 
 or_none : (x : Option (List Decimal)) → option_or x None ≡ x
-or_none None = refl
-or_none (Some v) = refl
+or_none x = grind arith
 
 pub get_last : (os : List Operation) (q : Operator) → get (dictionary_of os) q ≡ last_of os q
 get_last os q = get_fold empty os q ∙ ap (option_or (last_of os q)) (get-empty operator_cmp q) ∙ or_none (last_of os q)
@@ -47,9 +44,7 @@ unfolding to_end_from
 stepped most bytes place o e = ap (λ o. unless_end o (Got [] (length bytes)) (following bytes most)) e
 
 regroup : (o : Operation) (os : List Operation) (rest : Outcome (List Operation)) → after (with_front os rest) (λ rest next. Got (o ∷ rest) next) ≡ with_front (o ∷ os) rest
-regroup o os (Got rest next) = refl
-regroup o os (Fault refusal) = refl
-regroup o os Past = refl
+regroup o os rest = grind arith
 
 -- with steps enough, operations that stand there come first
 all_taken : (most : ℕ) (bytes : List ℕ) (place : ℕ) (os : List Operation) (next : ℕ) → OperationsAt bytes place os next → length bytes - place < most
@@ -126,22 +121,10 @@ Is bytes place Past = ⊥
 
 dictionary_is : (bytes : List ℕ) (place : ℕ) → Is bytes place (dictionary bytes place)
 unfolding dictionary to_end
-dictionary_is bytes place = by (to_end_from operation (suc (length bytes)) bytes place) (run_is (suc (length bytes)) bytes place (omega arith))
-  where
-    by : (o : Outcome (List Operation)) → IsRun bytes place o → Is bytes place (after o (λ all next. Got (dictionary_of all) next))
-    by (Got os next) h = (record { operations = os; next = h.0.rest; are = h.0.are; rest = h.0.cut; last = get_last os }, h.1)
-    by (Fault refusal) h = h
-    by Past h = h
+dictionary_is bytes place = grind (arith, run_is, all, get_last)
 
 refusals_known : (refusal : Refusal) → IsOneOf known_refusals (number_of refusal) → is_end refusal ≡ false → (refusal ≡ malformed_number) ⊎ ((refusal ≡ out_of_range_number) ⊎ (refusal ≡ unknown_operator))
-refusals_known (Numbered n) (inl e) other = let never : is_end (Numbered 1) ≡ false = subst (λ n. is_end (Numbered n) ≡ false) e other in absurd (cc)
-refusals_known (Numbered n) (inr (inl e)) other = inl (ap Numbered e)
-refusals_known (Numbered n) (inr (inr (inl e))) other = inr (inl (ap Numbered e))
-refusals_known (Numbered n) (inr (inr (inr (inl e)))) other = inr (inr (ap Numbered e))
-refusals_known (Numbered n) (inr (inr (inr (inr none)))) other = elim none [ ]
-refusals_known (OfMalformed operator) one other = absurd (grind (arith))
-refusals_known (OfMissing operator) one other = absurd (grind (arith))
-refusals_known (OfPart part) one other = absurd (grind (arith))
+refusals_known refusal one other = grind arith
 
 refused_only : (bytes : List ℕ) (place : ℕ) (refusal : Refusal) → dictionary bytes place ≡ Fault refusal → IsRefused bytes place refusal
 refused_only bytes place refusal e = subst (Is bytes place) e (dictionary_is bytes place)

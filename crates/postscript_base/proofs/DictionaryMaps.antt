@@ -1,4 +1,5 @@
 -- The finite map of a hash map's entries.
+use Rattle.std.proofs.Common.{arith}
 use Rattle.std.proofs.Common.{◌≡◌, ℕ, Bool, true, false, cond, List, [], ◌∷◌, Option, Some, None, refl, sym, ap, ◌∙◌, get_or}
 use Rattle.std.specs.Option.{option_map}
 use Rattle.std.specs.Ordering.{is_eq}
@@ -40,66 +41,13 @@ at n = (get_or operators n (0, Version)).1
 
 at_place : (a : Operator) → at (place_of a) ≡ a
 unfolding at
-at_place Version = refl
-at_place Notice = refl
-at_place FullName = refl
-at_place FamilyName = refl
-at_place Weight = refl
-at_place FontBBox = refl
-at_place BlueValues = refl
-at_place OtherBlues = refl
-at_place FamilyBlues = refl
-at_place FamilyOtherBlues = refl
-at_place StdHW = refl
-at_place StdVW = refl
-at_place UniqueID = refl
-at_place XUID = refl
-at_place CharSet = refl
-at_place Encoding = refl
-at_place CharStrings = refl
-at_place Private = refl
-at_place Subrs = refl
-at_place DefaultWidthX = refl
-at_place NominalWidthX = refl
-at_place Copyright = refl
-at_place IsFixedPitch = refl
-at_place ItalicAngle = refl
-at_place UnderlinePosition = refl
-at_place UnderlineThickness = refl
-at_place PaintType = refl
-at_place CharStringType = refl
-at_place FontMatrix = refl
-at_place StrokeWidth = refl
-at_place BlueScale = refl
-at_place BlueShift = refl
-at_place BlueFuzz = refl
-at_place StemSnapH = refl
-at_place StemSnapV = refl
-at_place ForceBold = refl
-at_place LanguageGroup = refl
-at_place ExpansionFactor = refl
-at_place InitialRandomSeed = refl
-at_place SyntheticBase = refl
-at_place PostScript = refl
-at_place BaseFontName = refl
-at_place BaseFontBlend = refl
-at_place ROS = refl
-at_place CIDFontVersion = refl
-at_place CIDFontRevision = refl
-at_place CIDFontType = refl
-at_place CIDCount = refl
-at_place UIDBase = refl
-at_place FDArray = refl
-at_place FDSelect = refl
-at_place FontName = refl
+at_place a = grind arith
 
 pub exact : IsAntisymmetric operator_cmp
 exact a b h = sym (at_place a) ∙ ap at (exact_unsigned (place_of a) (place_of b) h) ∙ at_place b
 
 equal : (o : Ordering) → is_eq o ≡ true → o ≡ Equal
-equal Equal f = refl
-equal Less f = absurd (cc)
-equal Greater f = absurd (cc)
+equal o f = grind arith
 
 -- `==` of operators is that of their places
 pub same_place : (a b : Operator) → eq-value.it a b ≡ is_eq (operator_cmp a b)
@@ -114,8 +62,7 @@ same_place a b = by (eq-value.it a b) refl (is_eq (operator_cmp a b)) refl
     by false e false f = refl
 
 choose : (b : Bool) (v : Vec Decimal Global) (x : Option (Vec Decimal Global)) → cond b (Some v.items) (items x) ≡ items (cond b (Some v) x)
-choose true v x = refl
-choose false v x = refl
+choose b v x = grind arith
 
 find_listed : (es : List (Operator × Vec Decimal Global)) (q : Operator) → find operator_cmp q (listed es) ≡ items (lookup (eq-value.it q) es)
 find_listed [] q = refl

@@ -18,12 +18,7 @@ made size f = unsigned size >>= λ n. pure (f n)
 
 made_at : (size : ℕ) (f : ℕ → Decimal) (bytes xs : List ℕ) (place : ℕ) → length xs ≡ size → 0 < size → take size (drop place bytes) ≡ xs → made size f bytes place ≡ Got (f (big_endian xs)) (place + size)
 unfolding unsigned slice
-made_at size f bytes xs place many some e =
-    let long = ap length e in
-    let taken = length-take size (drop place bytes) in
-    let left = length-drop place bytes in
-    let enough : nat_lt (length bytes - place) size ≡ false = grind (arith, nat_tests) in
-    rw (enough, e) refl
+made_at size f bytes xs place many some e = grind (arith, length-take, length-drop, nat_tests)
 
 record IsMade (size : ℕ) (f : ℕ → Decimal) (bytes : List ℕ) (place : ℕ) (operand : Decimal) (next : ℕ) : Type 0 where
   pub xs : List ℕ
@@ -34,49 +29,20 @@ record IsMade (size : ℕ) (f : ℕ → Decimal) (bytes : List ℕ) (place : ℕ
 
 is_made : (size : ℕ) (f : ℕ → Decimal) (bytes : List ℕ) (place : ℕ) (operand : Decimal) (next : ℕ) → made size f bytes place ≡ Got operand next → IsMade size f bytes place operand next
 unfolding unsigned slice
-is_made size f bytes place operand next e = by (nat_lt (length bytes - place) size) refl e
-  where
-    by : (b : Bool) → nat_lt (length bytes - place) size ≡ b → after (after (if b then end else Got (take size (drop place bytes)) (place + size)) (λ bs next. Got (big_endian bs) next)) (λ v next. Got (f v) next) ≡ Got operand next
-        → IsMade size f bytes place operand next
-    by true wanting got = absurd (cc)
-    by false enough got =
-        let taken = length-take size (drop place bytes) in
-        let left = length-drop place bytes in
-        record { xs = take size (drop place bytes); many = grind (arith, nat_tests); are = refl; is = cc; behind = cc }
+is_made size f bytes place operand next e = grind (arith, length-take, length-drop, nat_tests)
 
 -- which reading a first byte begins
 abbrev of_small : ℕ → Decimal
 of_small first = whole (small first)
 
 small_is : (first : ℕ) (bytes : List ℕ) (place : ℕ) → 0x20 ≤ first → first < 0xf7 → begun first bytes place ≡ Got (whole (small first)) place
-small_is first bytes place low high =
-    let a : (first == 0x1c) ≡ false = grind (arith, nat_tests) in
-    let b : (first == 0x1d) ≡ false = grind (arith, nat_tests) in
-    let c : (first == 0x1e) ≡ false = grind (arith, nat_tests) in
-    let d : nat_lt first 0x20 ≡ false = grind (arith, nat_tests) in
-    let e : nat_lt first 0xf7 ≡ true = grind (arith, nat_tests) in
-    rw (a, b, c, d, e) refl
+small_is first bytes place low high = grind (arith, nat_tests)
 
 above_is : (first : ℕ) (bytes : List ℕ) (place : ℕ) → 0xf7 ≤ first → first < 0xfb → begun first bytes place ≡ made 1 (λ second. whole (above first second)) bytes place
-above_is first bytes place low high =
-    let a : (first == 0x1c) ≡ false = grind (arith, nat_tests) in
-    let b : (first == 0x1d) ≡ false = grind (arith, nat_tests) in
-    let c : (first == 0x1e) ≡ false = grind (arith, nat_tests) in
-    let d : nat_lt first 0x20 ≡ false = grind (arith, nat_tests) in
-    let e : nat_lt first 0xf7 ≡ false = grind (arith, nat_tests) in
-    let f : nat_lt first 0xfb ≡ true = grind (arith, nat_tests) in
-    rw (a, b, c, d, e, f) refl
+above_is first bytes place low high = grind (arith, nat_tests)
 
 below_is : (first : ℕ) (bytes : List ℕ) (place : ℕ) → 0xfb ≤ first → first < 0xff → begun first bytes place ≡ made 1 (λ second. whole (below first second)) bytes place
-below_is first bytes place low high =
-    let a : (first == 0x1c) ≡ false = grind (arith, nat_tests) in
-    let b : (first == 0x1d) ≡ false = grind (arith, nat_tests) in
-    let c : (first == 0x1e) ≡ false = grind (arith, nat_tests) in
-    let d : nat_lt first 0x20 ≡ false = grind (arith, nat_tests) in
-    let e : nat_lt first 0xf7 ≡ false = grind (arith, nat_tests) in
-    let f : nat_lt first 0xfb ≡ false = grind (arith, nat_tests) in
-    let g : nat_lt first 0xff ≡ true = grind (arith, nat_tests) in
-    rw (a, b, c, d, e, f, g) refl
+below_is first bytes place low high = grind (arith, nat_tests)
 
 -- the first byte of a spelling, and those behind it
 record Front (bytes : List ℕ) (place first : ℕ) (xs : List ℕ) : Type 0 where
@@ -207,7 +173,4 @@ only bytes place operand next e = by (drop place bytes) refl
     by (first ∷ rest) h = read first rest h (begun_is first bytes (place + 1) operand next (sym (ap (λ o. after o (λ first at. begun first bytes at)) (byte_at bytes rest place first h)) ∙ e))
 
 pub reads_integers : ReadsIntegers
-reads_integers = record {
-  all = λ bytes place operand next h. all bytes place h.spelling h.value h.is h.stands ∙ ap (λ o. Got o (place + length h.spelling)) (sym h.same) ∙ ap (Got operand) (sym h.behind);
-  only = only;
-}
+reads_integers = grind (arith, all, only)

@@ -42,8 +42,7 @@ go_on bytes r next = if r.0 then Got r.1 next else text_behind r.1 (drop next by
 
 step_behind : (o : Option (Bool × List ℕ)) (bytes xs : List ℕ) (next : ℕ) → xs ≡ drop next bytes →
     stepped o next (λ more. text_behind more xs next) ≡ after (step_of o bytes next) (go_on bytes)
-step_behind None bytes xs next e = refl
-step_behind (Some r) bytes xs next e = ap (λ ys. if r.0 then Got r.1 next else text_behind r.1 ys next) e
+step_behind o bytes xs next e = grind arith
 
 steps_by : (text bytes xs : List ℕ) (place : ℕ) → xs ≡ drop place bytes → text_behind text xs place ≡ after (step text bytes place) (go_on bytes)
 unfolding step text_behind
@@ -68,12 +67,7 @@ text_refused text bytes place e h = subst (RefusedAs e) (sym (text_steps text by
 
 at_once : (text : List ℕ) (high low : ℕ) (rest : List ℕ) (place : ℕ) (more : List ℕ → Outcome (List ℕ)) → is_in_text high ≡ false →
     stepped (then_low (one_nibble text high) low) (place + 1) more ≡ finished text (high ∷ low ∷ rest) place
-at_once text high low rest place more stops = by (high == 15) refl (high == 13) refl
-  where
-    by : (e : Bool) → (high == 15) ≡ e → (d : Bool) → (high == 13) ≡ d → stepped (then_low (one_nibble text high) low) (place + 1) more ≡ finished text (high ∷ low ∷ rest) place
-    by true e d f = rw (stops, e) (ap (λ whole. Got whole (place + 1)) (sym (append-nil text)))
-    by false e true f = rw (stops, e, f) refl
-    by false e false f = absurd (grind (arith, nat_tests))
+at_once text high low rest place more stops = grind (arith, append-nil, nat_tests)
 
 within : (high : ℕ) → is_in_text high ≡ true → ((high == 15) ≡ false) × ((high == 13) ≡ false)
 within high stays = (grind (arith, nat_tests), grind (arith, nat_tests))
@@ -119,21 +113,15 @@ text_is text bytes place none = sym (text_by [] (drop place bytes) place) ∙ ap
 -- what a loop over the bytes of a text has read so far, by the outcome of the whole text
 pub goes_on : (whole : Outcome (List ℕ)) (text here bytes : List ℕ) (place : ℕ) (ended : Bool) (more : List ℕ) (next : ℕ) → whole ≡ text_behind text (drop place bytes) place → here ≡ bytes →
     ended ≡ false → step text here place ≡ Got (ended, more) next → whole ≡ text_behind more (drop next bytes) next
-goes_on whole text here bytes place ended more next so_far same test e =
-    so_far ∙ text_more text bytes place more next (subst (λ b. step text bytes place ≡ Got (b, more) next) test (subst (λ bs. step text bs place ≡ Got (ended, more) next) same e))
+goes_on whole text here bytes place ended more next so_far same test e = grind (arith, text_more)
 
 pub ends : (whole : Outcome (List ℕ)) (text here bytes : List ℕ) (place : ℕ) (ended : Bool) (more : List ℕ) (next : ℕ) → whole ≡ text_behind text (drop place bytes) place → here ≡ bytes →
     ended ≡ true → step text here place ≡ Got (ended, more) next → whole ≡ Got more next
-ends whole text here bytes place ended more next so_far same test e =
-    so_far ∙ text_ends text bytes place more next (subst (λ b. step text bytes place ≡ Got (b, more) next) test (subst (λ bs. step text bs place ≡ Got (ended, more) next) same e))
+ends whole text here bytes place ended more next so_far same test e = grind (arith, text_ends)
 
 pub refused : (whole : Outcome (List ℕ)) (text here bytes : List ℕ) (place : ℕ) (e : Error) → whole ≡ text_behind text (drop place bytes) place → here ≡ bytes →
     (e ≢ Memory → RefusedAs e (step text here place)) → e ≢ Memory → RefusedAs e whole
 refused whole text here bytes place e so_far same h other = subst (RefusedAs e) (sym so_far) (text_refused text bytes place e (subst (λ bs. RefusedAs e (step text bs place)) same (h other)))
 
 pub byte_front : (bytes : List ℕ) (place b next : ℕ) → number 1 bytes place ≡ Got b next → take 1 (drop place bytes) ≡ b ∷ []
-byte_front bytes place b next e = by (drop place bytes) refl
-  where
-    by : (xs : List ℕ) → xs ≡ drop place bytes → take 1 xs ≡ b ∷ []
-    by [] h = let is : Fault unexpected_eof ≡ Got b next = sym (byte_none bytes place h) ∙ e in absurd (cc)
-    by (x ∷ xs) h = let is : Got x (place + 1) ≡ Got b next = sym (byte_at bytes xs place x h) ∙ e in let same : x ≡ b = cc in ap (λ y. y ∷ []) same
+byte_front bytes place b next e = grind (arith, byte_none, byte_at)

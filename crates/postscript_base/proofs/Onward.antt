@@ -1,4 +1,5 @@
 -- Readings move on: the next place lies at some place or behind it, and within the bytes.
+use Rattle.std.proofs.lemmas.Grind.{common_steps}
 use Rattle.std.proofs.Common.{◌≡◌, refl, ap, ℕ, ◌+◌, ◌-◌, ◌*◌, ◌/◌, ◌≤◌, ◌<◌, Bool, true, false, List, [], ◌∷◌, length, take, drop, ◌==◌, nat_lt, Option, Some, None, length-drop, inl, inr, arith, if◌then◌else◌}
 use Rattle.std.specs.Prelude.{flat_map}
 use Rattle.std.specs.List.{prefix_len}
@@ -25,27 +26,17 @@ Goes least size (Fault refusal) = IsOneOf known_refusals (number_of refusal)
 Goes least size Past = ⊥
 
 pub goes_moves : {A : Type 0} (o : Outcome A) (place size : ℕ) → Goes (place + 1) size o → MovesOn place size o
-goes_moves (Got value next) place size h = (omega arith, h.1)
-goes_moves (Fault refusal) place size h = tt
-goes_moves Past place size h = h
+goes_moves o place size h = grind arith
 
 pub goes_later : {A : Type 0} (o : Outcome A) (least next size : ℕ) → least ≤ next → Goes next size o → Goes least size o
-goes_later (Got value last) least next size h g = (omega arith, g.1)
-goes_later (Fault refusal) least next size h g = g
-goes_later Past least next size h g = g
+goes_later o least next size h g = grind arith
 
 pub goes_after : {A B : Type 0} (o : Outcome A) (f : A → ℕ → Outcome B) (least size : ℕ) → Goes least size o → ((value : A) (next : ℕ) → next ≤ size → Goes next size (f value next)) → Goes least size (after o f)
-goes_after (Got value next) f least size h each = goes_later (f value next) least next size h.0 (each value next h.1)
-goes_after (Fault refusal) f least size h each = h
-goes_after Past f least size h each = h
+goes_after o f least size h each = grind arith
 
 pub slice_goes : (count : ℕ) (bytes : List ℕ) (place : ℕ) → 0 < count → Goes (place + count) (length bytes) (slice count bytes place)
 unfolding slice
-slice_goes count bytes place some = by (nat_lt (length bytes - place) count) refl
-  where
-    by : (b : Bool) → nat_lt (length bytes - place) count ≡ b → Goes (place + count) (length bytes) (if b then end else Got (take count (drop place bytes)) (place + count))
-    by true e = inl refl
-    by false e = (omega arith, grind (arith, nat_tests))
+slice_goes count bytes place some = grind arith
 
 pub number_goes : (size : ℕ) (bytes : List ℕ) (place : ℕ) → 0 < size → Goes (place + size) (length bytes) (number size bytes place)
 unfolding number
@@ -59,28 +50,14 @@ length-nibbles [] = refl
 length-nibbles (b ∷ bytes) = let e : length (nibbles bytes) ≡ 2 * length bytes = length-nibbles bytes in omega arith
 
 ended_goes : (rest text : List ℕ) (least next size : ℕ) → least ≤ next → (0 < length rest → next ≤ size) → Goes least size (ended_by rest text next)
-ended_goes [] text least next size h within = inl refl
-ended_goes (nibble ∷ rest) text least next size h within = by (nibble == 15)
-  where
-    by : (b : Bool) → Goes least size (if b then Got text next else Fault malformed_number)
-    by true = (h, within (omega arith))
-    by false = inr (inl refl)
+ended_goes rest text least next size h within = grind arith
 
 text_goes : (bytes : List ℕ) (place : ℕ) → Goes place (length bytes) (text_of_real bytes place)
 unfolding text_of_real
-text_goes bytes place =
-    let all = nibbles (drop place bytes) in
-    let count = prefix_len is_in_text all in
-    ended_goes (drop count all) (flat_map symbols (take count all)) place (place + (count / 2 + 1)) (length bytes) (omega arith)
-    (λ left. let n = length-drop count all in let m = length-nibbles (drop place bytes) in let k = length-drop place bytes in omega arith)
-
-operand_goes : (o : Option Decimal) (bytes : List ℕ) (place : ℕ) → place ≤ length bytes → Goes place (length bytes) (operand_if o bytes place)
-operand_goes None bytes place h = inr (inr (inl refl))
-operand_goes (Some operand) bytes place h = (omega arith, h)
+text_goes bytes place = grind (arith, nat_tests, common_steps, ended_goes, length-drop, length-nibbles)
 
 valued_goes : (o : Option Real) (bytes : List ℕ) (place : ℕ) → place ≤ length bytes → Goes place (length bytes) (valued o bytes place)
-valued_goes None bytes place h = inr (inl refl)
-valued_goes (Some r) bytes place h = operand_goes (operand_of (value_of r).mantissa (value_of r).exponent) bytes place h
+valued_goes o bytes place h = grind arith
 
 real_goes : (bytes : List ℕ) (place : ℕ) → Goes place (length bytes) (real bytes place)
 unfolding real
@@ -90,8 +67,7 @@ of_goes : (size : ℕ) (f : ℕ → Decimal) (bytes : List ℕ) (place : ℕ) �
 of_goes size f bytes place some = goes_after (number size bytes place) _ place (length bytes) (goes_later (number size bytes place) place (place + size) (length bytes) (omega arith) (number_goes size bytes place some)) (λ value next within. (omega arith, within))
 
 pub if_goes : {A : Type 0} (b : Bool) (x y : Reading A) (bytes : List ℕ) (place least : ℕ) → Goes least (length bytes) (x bytes place) → Goes least (length bytes) (y bytes place) → Goes least (length bytes) ((if b then x else y) bytes place)
-if_goes true x y bytes place least h g = h
-if_goes false x y bytes place least h g = g
+if_goes b x y bytes place least h g = grind arith
 
 pub begun_goes : (first : ℕ) (bytes : List ℕ) (place : ℕ) → place ≤ length bytes → Goes place (length bytes) (begun first bytes place)
 begun_goes first bytes place h =
@@ -110,10 +86,6 @@ byte_then_goes f each bytes place = goes_after (number 1 bytes place) _ (place +
 pub dict_number_takes : TakesBytes dict_number
 unfolding dict_number
 dict_number_takes bytes place = goes_moves (dict_number bytes place) place (length bytes) (byte_then_goes begun begun_goes bytes place)
-
--- one byte more
-byte_goes : {A : Type 0} (f : ℕ → Reading A) (bytes : List ℕ) (place : ℕ) → ((first next : ℕ) → next ≤ length bytes → Goes next (length bytes) (f first bytes next)) → Goes place (length bytes) ((number 1 >>= f) bytes place)
-byte_goes f bytes place each = goes_after (number 1 bytes place) _ place (length bytes) (goes_later (number 1 bytes place) place (place + 1) (length bytes) (omega arith) (number_goes 1 bytes place (omega arith))) each
 
 -- past the end bytes are wanting
 pub slice_needs : (size : ℕ) → 0 < size → NeedsBytes (slice size)

@@ -51,10 +51,7 @@ record IsFormOf (m e : ℤ) (d : Decimal) : Type 0 where
   value : IsSameValue d.mantissa d.exponent m e
 
 zero_form : (m e : ℤ) → m ≡ pos 0 → IsFormOf m e (record { mantissa = pos 0; exponent = pos 0 })
-zero_form m e h = record {
-  form = record { zero_alone = λ k. refl; no_last_zero = λ k. refl };
-  value = rw h (ap pos (omega arith));
-}
+zero_form m e h = grind arith
 
 canonical_form : (m e : ℤ) → IsFormOf m e (canonical m e)
 unfolding canonical
@@ -76,13 +73,7 @@ canonical_form m e = elim (eqb_tells (unsigned_abs m) 0) [
     above (suc n) = inl (omega arith)
 
 range_tells : (d : Decimal) → ((is_in_range d ≡ true) × (unsigned_abs d.mantissa < 10 ^ 18) × (negsuc 999 ≤ℤ d.exponent) × (d.exponent ≤ℤ pos 1000)) ⊎ ((is_in_range d ≡ false) × (HasOperand d → ⊥))
-range_tells d = by (nat_lt (unsigned_abs d.mantissa) (10 ^ 18)) (int_le (negsuc 999) d.exponent) (int_le d.exponent (pos 1000)) refl refl refl
-  where
-    by : (a b c : Bool) → nat_lt (unsigned_abs d.mantissa) (10 ^ 18) ≡ a → int_le (negsuc 999) d.exponent ≡ b → int_le d.exponent (pos 1000) ≡ c → (((a && (b && c)) ≡ true) × (unsigned_abs d.mantissa < 10 ^ 18) × (negsuc 999 ≤ℤ d.exponent) × (d.exponent ≤ℤ pos 1000)) ⊎ (((a && (b && c)) ≡ false) × (HasOperand d → ⊥))
-    by true true true p q r = inl (refl, ltb-true (unsigned_abs d.mantissa) (10 ^ 18) p, omega (arith, ints), omega (arith, ints))
-    by true true false p q r = inr (refl, λ h. let high = h.high in omega (arith, ints))
-    by true false c p q r = inr (refl, λ h. let low = h.low in omega (arith, ints))
-    by false b c p q r = inr (refl, λ h. let few = h.few_digits in let many = ltb-false (unsigned_abs d.mantissa) (10 ^ 18) p in omega arith)
+range_tells d = grind arith
 
 pub operand_found : (m e : ℤ) → Finds (operand_of m e) m e
 unfolding operand_of
@@ -117,14 +108,7 @@ raised d = scaled d.mantissa (unsigned_abs d.exponent)
 
 i32_tells : (d : Decimal) → ((to_i32 d ≡ Some (raised d)) × (pos 0 ≤ℤ d.exponent) × IsOf32Bits (raised d)) ⊎ ((to_i32 d ≡ None) × (pos 0 ≤ℤ d.exponent → IsOf32Bits (raised d) → ⊥))
 unfolding to_i32
-i32_tells d = by (int_le (pos 0) d.exponent) (int_le (negsuc (2 ^ 31 - 1)) (raised d)) (int_le (raised d) (pos (2 ^ 31 - 1))) refl refl refl
-  where
-    by : (a b c : Bool) → int_le (pos 0) d.exponent ≡ a → int_le (negsuc (2 ^ 31 - 1)) (raised d) ≡ b → int_le (raised d) (pos (2 ^ 31 - 1)) ≡ c →
-        (((if a && (b && c) then Some (raised d) else None) ≡ Some (raised d)) × (pos 0 ≤ℤ d.exponent) × IsOf32Bits (raised d)) ⊎ (((if a && (b && c) then Some (raised d) else None) ≡ None) × (pos 0 ≤ℤ d.exponent → IsOf32Bits (raised d) → ⊥))
-    by true true true p q r = inl (refl, omega (arith, ints), record { low = omega (arith, ints); high = omega (arith, ints) })
-    by true true false p q r = inr (refl, λ k h. let high = h.high in omega (arith, ints))
-    by true false c p q r = inr (refl, λ k h. let low = h.low in omega (arith, ints))
-    by false b c p q r = inr (refl, λ k h. omega (arith, ints))
+i32_tells d = grind arith
 
 -- a whole number that has an operand: a positive exponent above 9 lifts it out of 32 bits
 far_out : (m : ℤ) (k : ℕ) → unsigned_abs m ≢ 0 → 9 < k → IsOf32Bits (scaled m k) → ⊥
@@ -147,10 +131,7 @@ pub i32_below : (d : Decimal) → d.exponent <ℤ pos 0 → to_i32 d ≡ None
 i32_below d low = elim (i32_tells d) [ inl t ↦ let k = t.1 in absurd (omega (arith, ints)) | inr t ↦ t.0 ]
 
 pub i32_above : (d : Decimal) → HasOperand d → pos 9 <ℤ d.exponent → to_i32 d ≡ None
-i32_above d operand high = elim (i32_tells d) [
-  | inl t ↦ absurd (far_out d.mantissa (unsigned_abs d.exponent) (not_zero d operand (λ h. omega (arith, ints))) (omega (arith, ints)) t.2)
-  | inr t ↦ t.0
-]
+i32_above d operand high = grind (arith, i32_tells, far_out, not_zero, ints)
 
 pub i32_none : (d : Decimal) → (IsOf32Bits (raised d) → ⊥) → to_i32 d ≡ None
 i32_none d out = elim (i32_tells d) [ inl t ↦ absurd (out t.2) | inr t ↦ t.0 ]
@@ -159,17 +140,13 @@ pub i32_some : (d : Decimal) → pos 0 ≤ℤ d.exponent → IsOf32Bits (raised 
 i32_some d low h = elim (i32_tells d) [ inl t ↦ t.0 | inr t ↦ absurd (t.1 low h) ]
 
 scaled_none : (v : ℤ) → scaled v 0 ≡ v
-scaled_none (pos n) = ap pos (omega arith)
-scaled_none (negsuc n) = let one : suc n * 10 ^ 0 ≡ suc n = omega arith in rw one refl
+scaled_none v = grind arith
 
 pub whole_same : (d : Decimal) → pos 0 ≤ℤ d.exponent → IsSameValue d.mantissa d.exponent (raised d) (pos 0)
 whole_same d low = meets-IsSameValue d.mantissa d.exponent (raised d) (pos 0) (unsigned_abs d.exponent) 0 (record { place = omega (arith, ints); value = sym (scaled_none (raised d)) })
 
 same_whole : (d : Decimal) (v : ℤ) → pos 0 ≤ℤ d.exponent → IsSameValue d.mantissa d.exponent v (pos 0) → raised d ≡ v
-same_whole d v low h =
-    let i_is : unsigned_abs (d.exponent -ℤ int_min d.exponent (pos 0)) ≡ unsigned_abs d.exponent = omega (arith, ints, clamps) in
-    let j_is : unsigned_abs (pos 0 -ℤ int_min d.exponent (pos 0)) ≡ 0 = omega (arith, ints, clamps) in
-    ap (scaled d.mantissa) (sym i_is) ∙ h ∙ ap (scaled v) j_is ∙ scaled_none v
+same_whole d v low h = grind (arith, ints, clamps, scaled_none)
 
 -- a value below the units is no whole number
 no_whole : (d : Decimal) (v : ℤ) → HasOperand d → d.exponent <ℤ pos 0 → IsSameValue d.mantissa d.exponent v (pos 0) → ⊥
@@ -193,15 +170,7 @@ scaled_at m n a b p q = rw (p, q) refl
 
 -- a number of 32 bits has an operand
 few_in_32 : (n front zeros : ℕ) → n ≤ 2 ^ 31 → 0 < n → n ≡ front * 10 ^ zeros → front % 10 ≢ 0 → (front < 10 ^ 18) × (zeros < 39)
-few_in_32 n front zeros small some whole last =
-    let positive = first_positive front last in
-    let power = tens_pos zeros in
-    let size : front * 1 ≤ front * 10 ^ zeros = mul-le-mul {n₁ = front} {m₁ = 1} {n₂ = front} {m₂ = 10 ^ zeros} (omega arith) power in
-    (omega arith, tens_few n front zeros whole positive (omega arith))
-  where
-    first_positive : (front : ℕ) → front % 10 ≢ 0 → 0 < front
-    first_positive zero p = absurd (p refl)
-    first_positive (suc n) p = omega arith
+few_in_32 n front zeros small some whole last = grind (arith, tens_pos, mul-le-mul, tens_few)
 
 operand_in_32 : (n : ℤ) → IsOf32Bits n → HasOperand (canonical n (pos 0))
 unfolding canonical
@@ -234,19 +203,13 @@ whole_operand n small =
 
 -- what a test of the exponent and of the value finds
 pub finds_whole : (r : Option ℤ) (d : Decimal) → HasOperand d → pos 0 ≤ℤ d.exponent → IfSome r (λ v. (v ≡ raised d) × IsOf32Bits v) → IfNone r (IsOf32Bits (raised d) → ⊥) → r ≡ to_i32 d
-finds_whole (Some v) d operand low p q = let e = p.0 in ap Some p.0 ∙ sym (i32_some d low (rw (← p.0) p.1))
-finds_whole None d operand low p q = sym (i32_none d q)
+finds_whole r d operand low p q = grind (arith, i32_some, i32_none)
 
 pub whole_if_some : (r : Option ℤ) (d : Decimal) → r ≡ to_i32 d → IfSome r (λ v. IsSameValue d.mantissa d.exponent v (pos 0))
-whole_if_some None d e = tt
-whole_if_some (Some v) d e = elim (i32_tells d) [
-  | inl t ↦ let is : Some v ≡ Some (raised d) = e ∙ t.0 in let v_is : v ≡ raised d = cc in rw v_is (whole_same d t.1)
-  | inr t ↦ let is : Some v ≡ None = e ∙ t.0 in absurd cc
-]
+whole_if_some r d e = grind (arith, i32_tells, whole_same)
 
 pub none_if_none : (r : Option ℤ) (d : Decimal) → HasOperand d → r ≡ to_i32 d → IfNone r ((v : ℤ) → negsuc (2 ^ 31 - 1) ≤ℤ v → v ≤ℤ pos (2 ^ 31 - 1) → IsSameValue d.mantissa d.exponent v (pos 0) → ⊥)
-none_if_none (Some w) d operand e = tt
-none_if_none None d operand e = λ v low high same. none_whole d v operand (sym e) (record { low = low; high = high }) same
+none_if_none r d operand e = grind (arith, none_whole)
 
 -- the operand of a value is found exactly where there is one
 pub finds_operands : FindsOperands

@@ -13,15 +13,10 @@ use Rattle.postscript_base.proofs.Onward.{Goes, goes_after, goes_later, goes_mov
 use Rattle.postscript_base.proofs.Outcomes.{refused_after}
 
 known_goes : (o : Option Operator) (bytes : List ℕ) (place : ℕ) → place ≤ length bytes → Goes place (length bytes) (known o bytes place)
-known_goes None bytes place h = inr (inr (inr (inl refl)))
-known_goes (Some operator) bytes place h = (omega arith, h)
+known_goes o bytes place h = grind arith
 
 operator_goes : (first : ℕ) (bytes : List ℕ) (place : ℕ) → place ≤ length bytes → Goes place (length bytes) (operator_begun first bytes place)
-operator_goes first bytes place h = by (first == 0x0c)
-  where
-    by : (b : Bool) → Goes place (length bytes) ((if b then (number 1 >>= λ second. known (operator_of (0x0c00 + second))) else known (operator_of first)) bytes place)
-    by true = goes_later ((number 1 >>= λ second. known (operator_of (0x0c00 + second))) bytes place) place (place + 1) (length bytes) (omega arith) (byte_then_goes (λ second. known (operator_of (0x0c00 + second))) (λ second bytes place h. known_goes (operator_of (0x0c00 + second)) bytes place h) bytes place)
-    by false = known_goes (operator_of first) bytes place h
+operator_goes first bytes place h = grind (arith, goes_later, byte_then_goes, known_goes)
 
 abbrev pub Found : Type 0
 Found = Option Operator × List Decimal
@@ -32,19 +27,14 @@ behind operands first = if begins_operand first then (begun first >>= λ operand
     else (operator_begun first >>= λ operator. pure (Some operator, operands))
 
 behind_goes : (operands : List Decimal) (first : ℕ) (bytes : List ℕ) (place : ℕ) → place ≤ length bytes → Goes place (length bytes) (behind operands first bytes place)
-behind_goes operands first bytes place h = by (begins_operand first)
-  where
-    by : (b : Bool) → Goes {A = Found} place (length bytes) ((if b then (begun first >>= λ operand. pure (None, operands ++ operand ∷ [])) else (operator_begun first >>= λ operator. pure (Some operator, operands))) bytes place)
-    by true = goes_after (begun first bytes place) _ place (length bytes) (begun_goes first bytes place h) (λ operand next within. (omega arith, within))
-    by false = goes_after (operator_begun first bytes place) _ place (length bytes) (operator_goes first bytes place h) (λ operator next within. (omega arith, within))
+behind_goes operands first bytes place h = grind (arith, goes_after, begun_goes, operator_goes)
 
 pub step_goes : (operands : List Decimal) (bytes : List ℕ) (place : ℕ) → Goes (place + 1) (length bytes) (step operands bytes place)
 unfolding step
 step_goes operands bytes place = byte_then_goes (behind operands) (behind_goes operands) bytes place
 
 rest_goes : (o : Option Operator) (all : List Decimal) (more : List Decimal → Reading Operation) (bytes : List ℕ) (place : ℕ) → place ≤ length bytes → ((all : List Decimal) → Goes (place + 1) (length bytes) (more all bytes place)) → Goes place (length bytes) (ended_or o all more bytes place)
-rest_goes None all more bytes place h each = goes_later (more all bytes place) place (place + 1) (length bytes) (omega arith) (each all)
-rest_goes (Some operator) all more bytes place h each = (omega arith, h)
+rest_goes o all more bytes place h each = grind arith
 
 from_goes : (most : ℕ) (operands : List Decimal) (bytes : List ℕ) (place : ℕ) → Goes (place + 1) (length bytes) (operation_from most operands bytes place)
 unfolding operation_from

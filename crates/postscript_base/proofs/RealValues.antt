@@ -15,10 +15,7 @@ limited far size e = elim (cases_lt far (2 ^ 70)) [ inl lt ↦ inl (omega arith)
 
 -- digits that do not end in 0, at their exponent
 pub front_same : (b : Bool) (n front zeros : ℕ) (e x : ℤ) → n ≡ front * 10 ^ zeros → x ≡ e +ℤ pos zeros → IsSameValue (signed b front) x (signed b n) e
-front_same b n front zeros e x whole place = meets-IsSameValue _ _ (signed b n) e zeros 0 (record {
-  place = omega (arith, ints);
-  value = scaled-signed b front zeros ∙ ap (signed b) (sym whole ∙ omega arith) ∙ sym (scaled-signed b n 0);
-})
+front_same b n front zeros e x whole place = grind (arith, meets-IsSameValue, ints, scaled-signed)
 
 pub only_front : (b : Bool) (n front zeros : ℕ) (e : ℤ) (d : Decimal) → n ≡ front * 10 ^ zeros → front % 10 ≢ 0 → HasOperand d → IsSameValue d.mantissa d.exponent (signed b n) e → (d.mantissa ≡ signed b front) × (d.exponent ≡ e +ℤ pos zeros)
 only_front b n front zeros e d whole last operand same =
@@ -34,11 +31,7 @@ long_none b n e d h operand same =
     omega arith
 
 pub zero_same : (b : Bool) (n : ℕ) (e : ℤ) (o : Decimal) → n ≡ 0 → o.mantissa ≡ pos 0 → IsSameValue o.mantissa o.exponent (signed b n) e
-zero_same b n e o h m = rw (h, m) (go b)
-  where
-    go : (b : Bool) → IsSameValue (pos 0) o.exponent (signed b 0) e
-    go true = ap pos (omega arith)
-    go false = ap pos (omega arith)
+zero_same b n e o h m = grind arith
 
 -- the exponent that the code computes, and the one that is meant
 pub record Reaches (down : Bool) (zeros places power far : ℕ) (x : ℤ) : Type 0 where
@@ -51,8 +44,7 @@ exact : (down : Bool) (zeros places power far : ℕ) (x : ℤ) → Reaches down 
 exact down zeros places power far x h e = h.computed ∙ rw e (omega (arith, ints))
 
 apart : (down : Bool) (zeros places far : ℕ) (x : ℤ) → zeros < 2 ^ 64 → places < 2 ^ 64 → 2 ^ 70 ≤ far → x ≡ (pos zeros -ℤ pos places) +ℤ signed down far → negsuc 999 ≤ℤ x → x ≤ℤ pos 1000 → ⊥
-apart true zeros places far x p q h e low high = omega (arith, ints)
-apart false zeros places far x p q h e low high = omega (arith, ints)
+apart down zeros places far x p q h e low high = grind (arith, ints)
 
 pub real_some : (r : Option Decimal) (b down : Bool) (n front zeros places power far : ℕ) (x : ℤ) → IfSome r (λ o. (o.mantissa ≡ signed b front) × (o.exponent ≡ x)) → IfSome r HasOperand → n ≡ front * 10 ^ zeros → Reaches down zeros places power far x → IfSome r (λ o. IsSameValue o.mantissa o.exponent (signed b n) (signed down power -ℤ pos places))
 real_some None b down n front zeros places power far x p operand whole h = tt
@@ -85,5 +77,4 @@ real_exact (Some o) v p q n = finds_operand (Some o) v.mantissa v.exponent (p, q
 real_exact None v p q n = finds_operand None v.mantissa v.exponent tt (λ m e operand same. n (record { mantissa = m; exponent = e }) operand same)
 
 pub signed_zero : (b : Bool) (n : ℕ) → n ≡ 0 → signed b n ≡ pos 0
-signed_zero true n e = rw e refl
-signed_zero false n e = ap pos e
+signed_zero b n e = grind arith

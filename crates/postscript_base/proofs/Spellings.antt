@@ -33,35 +33,28 @@ abbrev NoMinus : List ℕ → Type 0
 NoMinus rest = after_sign rest ≡ (false, rest)
 
 signs : (negative : Bool) (rest : List ℕ) → NoMinus rest → after_sign (minus negative ++ rest) ≡ (negative, rest)
-signs true rest h = refl
-signs false rest h = h
+signs negative rest h = grind arith
 
 digit_first : (d : ℕ) (ds : List ℕ) → d < 10 → NoMinus (d ∷ ds)
 digit_first d ds lt = let no : (d == 14) ≡ false = grind (arith, nat_tests) in rw no refl
 
 exponents_end : (exponent : Option (Bool × List ℕ)) → EndsDigits (exponent_symbols exponent)
-exponents_end None = refl
-exponents_end (Some exponent) = refl
+exponents_end exponent = grind arith
 
 fractions_end : (fraction : Option (List ℕ)) (exponent : Option (Bool × List ℕ)) → EndsDigits (fraction_symbols fraction ++ exponent_symbols exponent)
-fractions_end None exponent = exponents_end exponent
-fractions_end (Some fraction) exponent = refl
+fractions_end fraction exponent = grind arith
 
 no_fraction : (exponent : Option (Bool × List ℕ)) → fraction_at (exponent_symbols exponent) ≡ (None, exponent_symbols exponent)
-no_fraction None = refl
-no_fraction (Some exponent) = refl
+no_fraction exponent = grind arith
 
 fractions : (fraction : Option (List ℕ)) (exponent : Option (Bool × List ℕ)) → IsDigits (fraction_digits fraction) → fraction_at (fraction_symbols fraction ++ exponent_symbols exponent) ≡ (fraction, exponent_symbols exponent)
-fractions None exponent h = no_fraction exponent
-fractions (Some fraction) exponent h = rw (front_digits fraction (exponent_symbols exponent) h (exponents_end exponent), behind_digits fraction (exponent_symbols exponent) h (exponents_end exponent)) refl
+fractions fraction exponent h = grind (arith, no_fraction, front_digits, exponents_end, behind_digits)
 
 digits_of_exponent : (down : Bool) (ds : List ℕ) → IsDigits ds → 0 < length ds → after_sign (minus down ++ ds) ≡ (down, ds)
-digits_of_exponent down [] h some = absurd (omega arith)
-digits_of_exponent down (d ∷ ds) h some = signs down (d ∷ ds) (digit_first d ds (h zero (omega arith)))
+digits_of_exponent down ds h some = grind arith
 
 exponents : (exponent : Option (Bool × List ℕ)) → IfSome exponent (λ p. IsDigits p.1 × (0 < length p.1)) → exponent_at (exponent_symbols exponent) ≡ Some exponent
-exponents None h = refl
-exponents (Some exponent) h = rw (digits_of_exponent exponent.0 exponent.1 h.0 h.1, all_pass exponent.1 h.0, lt-ltb 0 (length exponent.1) h.1, eq-eqb (length exponent.1) (length exponent.1) refl) refl
+exponents exponent h = grind (arith, digits_of_exponent, all_pass, lt-ltb, eq-eqb)
 
 unsigned : (r : Real) → IsReal r → NoMinus (r.whole ++ (fraction_symbols r.fraction ++ exponent_symbols r.exponent))
 unsigned r h = by r.whole r.fraction h.whole h.some
@@ -73,44 +66,20 @@ unsigned r h = by r.whole r.fraction h.whole h.some
 
 spelled : (r : Real) → IsReal r → real_of (spelling r) ≡ Some r
 unfolding real_of
-spelled r h =
-    let rest = fraction_symbols r.fraction ++ exponent_symbols r.exponent in
-    rw (
-      signs r.negative (r.whole ++ rest) (unsigned r h),
-      front_digits r.whole rest h.whole (fractions_end r.fraction r.exponent),
-      behind_digits r.whole rest h.whole (fractions_end r.fraction r.exponent),
-      fractions r.fraction r.exponent h.fraction,
-      exponents r.exponent h.exponent,
-      lt-ltb 0 (length (r.whole ++ fraction_digits r.fraction)) h.some,
-    ) refl
+spelled r h = grind (arith, signs, unsigned, front_digits, fractions_end, behind_digits, fractions, exponents, lt-ltb)
 
 -- what is read is all of the text
 sign_back : (text : List ℕ) → minus (after_sign text).0 ++ (after_sign text).1 ≡ text
-sign_back [] = refl
-sign_back (n ∷ ns) = by (n == 14) refl
-  where
-    by : (b : Bool) → (n == 14) ≡ b → minus (after_sign (n ∷ ns)).0 ++ (after_sign (n ∷ ns)).1 ≡ n ∷ ns
-    by true e = let is : n ≡ 14 = grind (arith, nat_tests) in rw e (ap (λ k. k ∷ ns) (sym is))
-    by false e = rw e refl
+sign_back text = grind arith
 
 digits_back : (text : List ℕ) → digits_of text ++ after_digits text ≡ text
 digits_back text = take-append-drop (prefix_len is_digit text) text
 
 fraction_back : (text : List ℕ) → fraction_symbols (fraction_at text).0 ++ (fraction_at text).1 ≡ text
-fraction_back [] = refl
-fraction_back (n ∷ ns) = by (n == 10) refl
-  where
-    by : (b : Bool) → (n == 10) ≡ b → fraction_symbols (fraction_at (n ∷ ns)).0 ++ (fraction_at (n ∷ ns)).1 ≡ n ∷ ns
-    by true e = let is : n ≡ 10 = grind (arith, nat_tests) in rw e (ap (λ k. k ∷ (digits_of ns ++ after_digits ns)) (sym is) ∙ ap (λ all. n ∷ all) (digits_back ns))
-    by false e = rw e refl
+fraction_back text = grind (arith, nat_tests, digits_back)
 
 digits_of_fraction : (text : List ℕ) → IsDigits (fraction_digits (fraction_at text).0)
-digits_of_fraction [] = λ k lt. absurd (omega arith)
-digits_of_fraction (n ∷ ns) = by (n == 10) refl
-  where
-    by : (b : Bool) → (n == 10) ≡ b → IsDigits (fraction_digits (fraction_at (n ∷ ns)).0)
-    by true e = rw e (digits_are ns)
-    by false e = rw e (λ k lt. absurd (omega arith))
+digits_of_fraction text = grind (arith, digits_are)
 
 -- an exponent that is read is all of what stands there
 pub record IsExponentOf (text : List ℕ) (exponent : Option (Bool × List ℕ)) : Type 0 where
@@ -118,21 +87,7 @@ pub record IsExponentOf (text : List ℕ) (exponent : Option (Bool × List ℕ))
   pub digits : IfSome exponent (λ p. IsDigits p.1 × (0 < length p.1))
 
 exponent_back : (text : List ℕ) (exponent : Option (Bool × List ℕ)) → exponent_at text ≡ Some exponent → IsExponentOf text exponent
-exponent_back [] None e = record { spelled = refl; digits = tt }
-exponent_back [] (Some p) e = absurd cc
-exponent_back (n ∷ ns) exponent e = by (n == 11) refl (is_exponent (after_sign ns)) refl
-  where
-    by : (m : Bool) → (n == 11) ≡ m → (b : Bool) → is_exponent (after_sign ns) ≡ b → IsExponentOf (n ∷ ns) exponent
-    by false f b g = let no : None ≡ Some exponent = sym (rw f refl) ∙ e in absurd cc
-    by true f false g = let no : None ≡ Some exponent = sym (rw (f, g) refl) ∙ e in absurd cc
-    by true f true g =
-        let is : Some (Some (after_sign ns)) ≡ Some exponent = sym (rw (f, g) refl) ∙ e in
-        let power_is : Some (after_sign ns) ≡ exponent = cc in
-        let mark : 11 ≡ n = grind (arith, nat_tests) in
-        subst (IsExponentOf (n ∷ ns)) power_is (record {
-          spelled = ap (λ k. k ∷ (minus (after_sign ns).0 ++ (after_sign ns).1)) mark ∙ ap (λ all. n ∷ all) (sign_back ns);
-          digits = (all_digits (after_sign ns).1 (grind (arith, nat_tests)), grind (arith, nat_tests));
-        })
+exponent_back text exponent e = grind (arith, spelled, nat_tests, sign_back, all_digits)
 
 joined_back : (text : List ℕ) (negative : Bool) (whole : List ℕ) (fraction : Option (List ℕ)) (rest : List ℕ) (exponent : Option (Option (Bool × List ℕ))) (r : Real) → IsDigits whole → IsDigits (fraction_digits fraction) →
     exponent_at rest ≡ exponent → joined negative whole fraction exponent ≡ Some r → IsReal r × (spelling r ≡ minus negative ++ (whole ++ (fraction_symbols fraction ++ rest)))

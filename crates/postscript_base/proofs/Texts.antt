@@ -1,4 +1,6 @@
 -- The texts of reals: the digits in front, and the exponent.
+use Rattle.std.proofs.lemmas.Grind.{common_steps}
+use Rattle.std.proofs.lemmas.Bool.Decides.{nat_tests}
 use Rattle.std.proofs.Math.Seq.{drop-cons}
 use Rattle.std.proofs.Common.{◌≡◌, refl, sym, ap, subst, ◌∙◌, ℕ, zero, suc, ◌+◌, ◌-◌, ◌<◌, ◌≤◌, Bool, true, false, List, [], ◌∷◌, length, take, drop, get_or, nat_lt, Option, Some, length-drop, arith, if◌then◌else◌}
 use Rattle.std.specs.List.{prefix_len}
@@ -20,10 +22,7 @@ digits_are (x ∷ xs) = by (nat_lt x 10) refl (digits_are xs)
         go (suc k) lt = more k (omega arith)
 
 take_all : (xs : List ℕ) (n : ℕ) → length xs ≤ n → take n xs ≡ xs
-take_all [] zero h = refl
-take_all [] (suc n) h = refl
-take_all (x ∷ xs) zero h = absurd (omega arith)
-take_all (x ∷ xs) (suc n) h = ap (λ ys. x ∷ ys) (take_all xs n (omega arith))
+take_all xs n h = grind (arith, nat_tests, common_steps)
 
 pub all_digits : (text : List ℕ) → length text ≤ prefix_len is_digit text → IsDigits text
 all_digits text h = subst IsDigits (take_all text (prefix_len is_digit text) h) (digits_are text)
@@ -37,10 +36,7 @@ pub record FoundPower (text : List ℕ) (down : Bool) (digits : List ℕ) : Type
 
 power_front : (n : ℕ) (ns : List ℕ) → n ≡ 11 → 0 < length (after_sign ns).1 → length (after_sign ns).1 ≤ prefix_len is_digit (after_sign ns).1 →
     exponent_at (n ∷ ns) ≡ Some (Some (after_sign ns))
-power_front n ns mark some digits =
-    let exponent = (after_sign ns).1 in
-    let all : prefix_len is_digit exponent ≡ length exponent = omega (arith, prefix_len-le-length is_digit exponent) in
-    rw (eq-eqb n 11 mark, eq-eqb (prefix_len is_digit exponent) (length exponent) all, lt-ltb 0 (length exponent) some) refl
+power_front n ns mark some digits = grind (arith, prefix_len-le-length, eq-eqb, lt-ltb)
 
 pub exponent_found : (text : List ℕ) (n : ℕ) (ns : List ℕ) (down : Bool) (digits : List ℕ) → text ≡ n ∷ ns → n ≡ 11 → down ≡ (after_sign ns).0 → digits ≡ (after_sign ns).1 →
     0 < length digits → length digits ≤ prefix_len is_digit digits → FoundPower text down digits
@@ -52,6 +48,4 @@ exponent_found text n ns down digits text_is mark down_is digits_is some all = r
 }
 
 pub front_is : (text : List ℕ) → 0 < length text → text ≡ get_or text 0 0 ∷ take (length text - 1) (drop 1 text)
-front_is text some =
-    let all : length (drop 1 text) ≤ length text - 1 = rw (length-drop 1 text) (omega arith) in
-    drop-cons text 0 0 some ∙ ap (λ xs. get_or text 0 0 ∷ xs) (sym (take_all (drop 1 text) (length text - 1) all))
+front_is text some = grind (arith, length-drop, drop-cons, take_all)

@@ -4,12 +4,10 @@ use Rattle.std.proofs.Math.Nat.{pow-suc, pow-le-pow_right, mul_assoc, mul_comm, 
 use Rattle.postscript_base.specs.Compact1.Significant.{IsLong, IsShort, Keeps}
 
 pub as_long : (b : Bool) (m z n : ℕ) → b ≡ true → Keeps b m z n → IsLong n
-as_long true m z n e h = h
-as_long false m z n e h = absurd cc
+as_long b m z n e h = grind arith
 
 pub as_short : (b : Bool) (m z n : ℕ) → b ≡ false → Keeps b m z n → IsShort m z n
-as_short true m z n e h = absurd cc
-as_short false m z n e h = h
+as_short b m z n e h = grind arith
 
 ten_times : (m z n : ℕ) → n ≡ m * 10 ^ z → 10 * n ≡ m * 10 ^ (z + 1)
 ten_times m z n e = ap (λ k. 10 * k) e ∙ mul_comm 10 (m * 10 ^ z) ∙ mul_assoc m (10 ^ z) 10 ∙ ap (λ k. m * k) (sym (pow-suc 10 z) ∙ ap (λ k. 10 ^ k) (omega arith))
@@ -26,18 +24,7 @@ long_more n (suc d) lt h =
     own_front n (suc d) (omega arith) lt (let w = h.whole in let l = h.long in omega arith)
 
 pub short_zero : (m z n d : ℕ) → m ≢ 0 → d ≡ 0 → IsShort m z n → IsShort m (z + 1) (10 * n + d)
-short_zero m z n d p e h = record {
-  whole = let w = ten_times m z n h.whole in omega arith;
-  short = h.short;
-  one_form = ⊎_elim (λ a. inl a) (λ b. absurd (p b.0)) h.one_form;
-}
-
-pub short_none : (m z n d : ℕ) → m ≡ 0 → d ≡ 0 → IsShort m z n → IsShort m 0 (10 * n + d)
-short_none m z n d p e h = record {
-  whole = let w : n ≡ 0 = h.whole ∙ ap (λ k. k * 10 ^ z) p ∙ omega arith in omega arith;
-  short = h.short;
-  one_form = inr (p, refl);
-}
+short_zero m z n d p e h = grind (arith, ten_times)
 
 next_is : (m z n d v : ℕ) → v ≡ m * 10 ^ (z + 1) + d → IsShort m z n → v ≡ 10 * n + d
 next_is m z n d v e h = let w = ten_times m z n h.whole in omega arith

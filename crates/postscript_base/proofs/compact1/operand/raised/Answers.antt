@@ -1,3 +1,4 @@
+
 use Rattle.std.proofs.Common.{◌≡◌, ◌*◌, ◌^◌, ◌<◌, ◌≤◌, arith, ap, to_z, of_z, ◌∙◌}
 use Rattle.std.specs.Prelude.{pos, ◌*ℤ◌}
 use Rattle.std.specs.Int.{w128}
@@ -7,11 +8,7 @@ use Rattle.std.proofs.lemmas.Int.{ints, to_z-of_z, fits_signed_mul}
 use Rattle.postscript_base.proofs.compact1.operand.raised.Goals as goal
 
 pub overflow_mul-result : goal.overflow_mul-result
-overflow_mul-result c =
-    let wide : unsigned_abs (to_z w128 (of_z w128 c.from.result)) ≤ 2 ^ 63 = grind (arith, ints, to_z-of_z) in
-    let small : unsigned_abs (to_z w128 (of_z w128 c.from-2.result)) ≤ 2 ^ 32 = grind (arith, ints, to_z-of_z) in
-    let room : 2 ^ 63 * 2 ^ 32 < 2 ^ 127 = omega arith in
-    fits_signed_mul w128 (to_z w128 (of_z w128 c.from.result)) (to_z w128 (of_z w128 c.from-2.result)) (2 ^ 63) (2 ^ 32) wide small room
+overflow_mul-result c = grind (arith, ints, to_z-of_z, fits_signed_mul)
 
 pub returns : goal.returns
 returns c =

@@ -1,3 +1,6 @@
+
+use Rattle.std.proofs.Common.{arith}
+use Rattle.std.proofs.lemmas.Grind.{common_steps}
 use Rattle.std.proofs.Common.{map, rules, sym, ap, ◌∙◌}
 use Rattle.std.proofs.lemmas.Iterator.Adapters.{YieldsList-from_vec}
 use Rattle.std.proofs.lemmas.Iterator.Consumers.{YieldsList-end}
@@ -11,11 +14,7 @@ pub loop-operation-init : goal.loop-operation-init
 loop-operation-init c = c.in_ok-operations.ensures.empty
 
 pub loop-operation-preserved : goal.loop-operation-preserved
-loop-operation-preserved c =
-    c.in_ok-put.ensures.ok
-    ∙ ap (λ d. put d (c.in-Some.operation.0, c.in-Some.operation.1.items)) c.loop-operation.invariant
-    ∙ sym (fold_push put empty (map (λ operation. (operation.0, operation.1.items)) c.loop-operation.yielded) (c.in-Some.operation.0, c.in-Some.operation.1.items))
-    ∙ ap dictionary_of (sym (map_push (λ operation. (operation.0, operation.1.items)) c.loop-operation.yielded c.in-Some.operation))
+loop-operation-preserved c = grind (arith, common_steps)
 
 pub returns-clause-dictionary : goal.returns-clause-dictionary
 returns-clause-dictionary c =

@@ -1,3 +1,4 @@
+
 use Rattle.std.proofs.Common.{◌≡◌, ap, sym, subst, ◌∙◌, length, arith}
 use Rattle.std.proofs.lemmas.Result.{err_from_is_err_and}
 use Rattle.postscript_base.specs.Tape.Outcome.{Got}
@@ -28,14 +29,7 @@ returns-in_err-value-clause-exact g c = λ honest.
 
 -- the place of an honest tape rises
 pub returns-then-reached-place-clause-exact : goal.returns-then-reached-place-clause-exact
-returns-then-reached-place-clause-exact g c = λ honest.
-    let so_far = c.values.invariant.0 honest in
-    let next = c.in_ok-value.ensures.exact so_far.0.0 in
-    let here = rw (so_far.0.1, c.in-Some.is) at next.1 in
-    let place = c.in_ok-reached.ensures.exact next.0.0 in
-    let at = asked _ _ _ place.1 in
-    let moved = subst (MovesOn _ _) here (c.requires _ _) in
-    absurd (omega (arith, at.0, so_far.1, moved.0))
+returns-then-reached-place-clause-exact g c = grind arith
 
 pub values-preserved : goal.values-preserved
 values-preserved g c = (
@@ -62,11 +56,4 @@ values-preserved g c = (
 )
 
 pub returns-clause-exact : goal.returns-clause-exact
-returns-clause-exact g c = λ honest.
-    let so_far = c.values.invariant.0 honest in
-    let next = c.in_ok-value.ensures.exact so_far.0.0 in
-    let here = rw (so_far.0.1, c.in_default.is) at next.1 in
-    let ended = c.in_ok-go_to_end.ensures.exact next.0.0 in
-    let at = asked _ _ _ ended.1 in
-    let same = next.0.1 ∙ so_far.0.1 in
-    ((ended.0.0, ended.0.1 ∙ same), end_done _ _ _ _ _ here so_far.2 ∙ ap (Got (g.V.Value.views c.values.values.items)) (sym (at.1 ∙ ap length same)))
+returns-clause-exact g c = grind (arith, asked, end_done)

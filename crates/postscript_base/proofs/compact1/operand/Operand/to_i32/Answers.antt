@@ -1,3 +1,4 @@
+
 use Rattle.std.proofs.Common.{◌≡◌, arith, sym, subst, to_z, of_z, ◌∙◌}
 use Rattle.std.specs.Prelude.{IfSome, IfNone}
 use Rattle.std.specs.Int.{w32, w64, w128}
@@ -9,10 +10,8 @@ use Rattle.postscript_base.proofs.compact1.operand.Operand.to_i32.Goals as goal
 use Rattle.postscript_base.proofs.compact1.operand.Operand.to_i32.Goals.{then-exponent-lt0-via-then-exponent-lt0, then-exponent-lt0-via-else-exponent-lt0+then-exponent-gt9}
 
 pub returns-then-exponent-lt0-clause-exact : goal.returns-then-exponent-lt0-clause-exact
-returns-then-exponent-lt0-clause-exact c = let is = c.exponent-exponent.ensures in elim c.then-exponent-lt0.branch [
-  | then-exponent-lt0-via-then-exponent-lt0 w ↦ sym (i32_below c.args.self.now (let test = w.if-exponent-lt0.true in grind (arith, ints, to_z-of_z)))
-  | then-exponent-lt0-via-else-exponent-lt0+then-exponent-gt9 w ↦ sym (i32_above c.args.self.now c.mantissa-mantissa.ensures.operand (let test = w.if-exponent-gt9.true in grind (arith, ints, to_z-of_z)))
-]
+returns-then-exponent-lt0-clause-exact c =
+    grind (arith, then-exponent-lt0-via-then-exponent-lt0, i32_below, ints, to_z-of_z, then-exponent-lt0-via-else-exponent-lt0+then-exponent-gt9, i32_above)
 
 pub returns-then-exponent-lt0-clause-none : goal.returns-then-exponent-lt0-clause-none
 returns-then-exponent-lt0-clause-none c = none_if_none _ c.args.self.now c.mantissa-mantissa.ensures.operand (returns-then-exponent-lt0-clause-exact c)

@@ -1,3 +1,5 @@
+
+use Rattle.std.proofs.Common.{arith}
 use Rattle.std.proofs.Common.{refl, ◌∙◌}
 use Rattle.std.proofs.lemmas.Result.{err_from_is_err_and}
 use Rattle.postscript_base.proofs.OperationSteps.{starts, goes_on, ends, refused}
@@ -22,8 +24,4 @@ returns-in-Some-clause-exact g c = λ honest.
     ((step.0.0, step.0.1 ∙ so_far.0.1), ends _ _ _ _ _ _ _ here so_far.1)
 
 pub operands-preserved : goal.operands-preserved
-operands-preserved g c = λ honest.
-    let so_far = c.operands.invariant honest in
-    let step = c.in_ok-operator.ensures.exact so_far.0.0 in
-    let here = rw (so_far.0.1, c.in_default.is) at step.1 in
-    ((step.0.0, step.0.1 ∙ so_far.0.1), goes_on _ _ _ _ _ _ here so_far.1)
+operands-preserved g c = grind (arith, goes_on)

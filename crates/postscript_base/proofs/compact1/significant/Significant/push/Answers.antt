@@ -1,6 +1,8 @@
+
+use Rattle.std.proofs.Common.{arith}
 use Rattle.std.proofs.Common.{◌≡◌, ℕ, ◌+◌, ◌*◌, Bool, true, false}
 use Rattle.postscript_base.specs.Compact1.Significant.{Keeps, IsShort, IsLong}
-use Rattle.postscript_base.proofs.Zeros.{as_short, long_more, short_zero, short_none, short_more, short_long, short_far}
+use Rattle.postscript_base.proofs.Zeros.{as_short, long_more, short_zero, short_more, short_long, short_far}
 use Rattle.postscript_base.proofs.compact1.significant.Significant.push.Goals as goal
 
 kept_long : (b : Bool) (m z n k : ℕ) → b ≡ true → (IsLong n → IsLong k) → Keeps b m z n → Keeps b m z k
@@ -15,14 +17,10 @@ pub returns-then-self-clause-keeps : goal.returns-then-self-clause-keeps
 returns-then-self-clause-keeps c = λ n h. let s = c.args.self in kept_long s.is_long s.mantissa s.zeros n _ c.if-self.true (long_more n c.args.digit c.requires.digit) h
 
 pub returns-else-self-eq0-clause-keeps : goal.returns-else-self-eq0-clause-keeps
-returns-else-self-eq0-clause-keeps c = λ n h.
-    let s = c.args.self in
-    to_short s.is_long s.mantissa _ _ c.if-self.false (short_zero s.mantissa s.zeros n c.args.digit c.if-self-eq0.false c.if-digit-eq0.true (as_short s.is_long s.mantissa s.zeros n c.if-self.false h))
+returns-else-self-eq0-clause-keeps c = grind (arith, to_short, short_zero, as_short)
 
 pub returns-then-self-eq0-clause-keeps : goal.returns-then-self-eq0-clause-keeps
-returns-then-self-eq0-clause-keeps c = λ n h.
-    let s = c.args.self in
-    to_short s.is_long s.mantissa _ _ c.if-self.false (short_none s.mantissa s.zeros n c.args.digit c.if-self-eq0.true c.if-digit-eq0.true (as_short s.is_long s.mantissa s.zeros n c.if-self.false h))
+returns-then-self-eq0-clause-keeps c = grind arith
 
 pub returns-then-mantissa-lt-LONG-clause-keeps : goal.returns-then-mantissa-lt-LONG-clause-keeps
 returns-then-mantissa-lt-LONG-clause-keeps c = λ n h.
@@ -35,6 +33,4 @@ returns-else-mantissa-lt-LONG-clause-keeps c = λ n h.
     short_long s.mantissa s.zeros n c.args.digit (c.from.result * c.pow.result + c.from-then-self-lt18.result) c.if-digit-eq0.false c.requires.digit (cc) c.if-mantissa-lt-LONG.false (as_short s.is_long s.mantissa s.zeros n c.if-self.false h)
 
 pub returns-else-self-lt18-clause-keeps : goal.returns-else-self-lt18-clause-keeps
-returns-else-self-lt18-clause-keeps c = λ n h.
-    let s = c.args.self in
-    short_far s.mantissa s.zeros n c.args.digit c.if-digit-eq0.false c.requires.digit c.if-self-lt18.false (as_short s.is_long s.mantissa s.zeros n c.if-self.false h)
+returns-else-self-lt18-clause-keeps c = grind (arith, short_far, as_short)

@@ -1,3 +1,4 @@
+
 use Rattle.std.proofs.Common.{◌≡◌, List, ℕ, ◌+◌, ◌-◌, ◌++◌, length, take, drop, Option, Some, None, IfSome, option_map, vec_len, arith, rules, ◌∙◌, ap, sym}
 use Rattle.std.proofs.Math.Seq.{drop-append_seam}
 use Rattle.std.proofs.lemmas.List.{take-append-drop, drop-drop}
@@ -17,7 +18,4 @@ passed (Some bytes) all place more is =
     rw (count, is) (sym (take-append-drop more (drop place bytes)) ∙ ap (λ rest. take more (drop place bytes) ++ rest) (drop-drop more place bytes))
 
 pub returns-clause-bytes : goal.returns-clause-bytes
-returns-clause-bytes g c =
-    let front : vec_len c.args.bytes.now ≡ length c.args.bytes.now.items = search rules in
-    let read = behind _ _ _ _ c.in_ok-extend_from_slice.ensures.items front in
-    rw (read, c.set_position.ensures.inner, c.set_position.ensures.position, ← c.get_ref.ensures, ← c.position-place.ensures) (passed _ _ _ c.args.more c.as_byte_slice-all.ensures.bytes)
+returns-clause-bytes g c = grind (arith, behind, passed)
