@@ -1,18 +1,18 @@
 -- What the end cuts, and what stands behind operands: an operand more, an operator, or neither.
-use Rattle.std.proofs.Common.{◌≡◌, refl, sym, ap, subst, ◌∙◌, ℕ, ◌+◌, ◌-◌, ◌/◌, Bool, true, false, ◌&&◌, List, [], ◌∷◌, ◌++◌, length, take, drop, ◌==◌, nat_lt, not, Option, Some, None, arith, if◌then◌else◌, length-drop}
-use Rattle.std.specs.Prelude.{flat_map, nat_eq}
+use Rattle.std.proofs.Common.{◌≡◌, refl, sym, ap, subst, ◌∙◌, ℕ, ◌+◌, ◌-◌, Bool, true, false, ◌&&◌, List, [], ◌∷◌, ◌++◌, length, drop, ◌==◌, nat_lt, not, Option, Some, None, arith, if◌then◌else◌, length-drop}
+use Rattle.std.specs.Prelude.{nat_eq}
 use Rattle.std.specs.List.{prefix_len}
 use Rattle.std.specs.Map.{lookup}
 use Rattle.std.proofs.lemmas.List.{drop-drop}
 use Rattle.std.proofs.lemmas.List.Sums.{prefix_len-le-length}
 use Rattle.std.proofs.lemmas.Bool.Decides.{nat_tests}
-use Rattle.postscript_base.specs.Refusal.{Refusal, Numbered, OfPart, OfMalformed, OfMissing, malformed_number, unexpected_eof, unknown_operator}
+use Rattle.postscript_base.specs.Refusal.{Refusal, malformed_number, unexpected_eof, unknown_operator}
 use Rattle.postscript_base.specs.Tape.Outcome.{Outcome, Got, Fault, Past, Reading, after, end, ◌>>=◌, pure}
 use Rattle.postscript_base.specs.Tape.Loops.{is_end}
 use Rattle.postscript_base.specs.Numbers.{slice, number as unsigned, two_sided, above, below}
-use Rattle.postscript_base.specs.Compact1.Decimal.{Decimal, operand_of}
+use Rattle.postscript_base.specs.Compact1.Decimal.{Decimal}
 use Rattle.postscript_base.specs.Compact1.Number.{begun, number, whole}
-use Rattle.postscript_base.specs.Compact1.Reals.{Real, ended_by, is_in_text, nibbles, operand_if, real, real_of, symbols, text_of_real, valued, value_of}
+use Rattle.postscript_base.specs.Compact1.Reals.{Real, ended_by, is_in_text, nibbles, real, real_of, text_of_real, valued}
 use Rattle.postscript_base.specs.Compact1.Operation.{begins_operand, known, operator_begun, step}
 use Rattle.postscript_base.specs.Compact1.Operators.{operator_of, operators}
 use Rattle.postscript_base.specs.Compact1.DictionaryLaw.{begins, is_cut, is_cut_operand, is_open, operator, BadAt, RefusedBy}

@@ -13,7 +13,7 @@ use Rattle.std.specs.Vec.{vec_len}
 use Rattle.std.specs.declared.hash.FoldHasher.{FoldHasher}
 use Rattle.std.specs.declared.hash.BuildHasherDefault.{BuildHasherDefault}
 use Rattle.std.specs.declared.cmp.Ordering.{Ordering}
-use Rattle.std.specs.declared.cmp.Ordering.TheVariants.{Less, Equal, Greater}
+use Rattle.std.specs.declared.cmp.Ordering.TheVariants.{Equal}
 use denote.Enum.Bare.{same_true, same_false}
 use Rattle.postscript_base.specs.contracts.compact1.operator.Operator.{the_type}
 use Rattle.std.specs.FinMap.{get, insert, from_entries, find, same_map, get-insert, get-from_entries, IsAntisymmetric}
@@ -26,7 +26,7 @@ use Rattle.postscript_base.specs.Compact1.Decimal.{Decimal}
 use Rattle.postscript_base.specs.Compact1.Dictionary.{listed}
 use Rattle.postscript_base.specs.Compact1.Operators.{operators, place_of, operator_cmp}
 use Rattle.postscript_base.specs.declared.compact1.operator.Operator.{Operator}
-use Rattle.postscript_base.specs.declared.compact1.operator.Operator.TheVariants.{Version, Notice, FullName, FamilyName, Weight, FontBBox, BlueValues, OtherBlues, FamilyBlues, FamilyOtherBlues, StdHW, StdVW, UniqueID, XUID, CharSet, Encoding, CharStrings, Private, Subrs, DefaultWidthX, NominalWidthX, Copyright, IsFixedPitch, ItalicAngle, UnderlinePosition, UnderlineThickness, PaintType, CharStringType, FontMatrix, StrokeWidth, BlueScale, BlueShift, BlueFuzz, StemSnapH, StemSnapV, ForceBold, LanguageGroup, ExpansionFactor, InitialRandomSeed, SyntheticBase, PostScript, BaseFontName, BaseFontBlend, ROS, CIDFontVersion, CIDFontRevision, CIDFontType, CIDCount, UIDBase, FDArray, FDSelect, FontName}
+use Rattle.postscript_base.specs.declared.compact1.operator.Operator.TheVariants.{Version}
 use Rattle.postscript_base.specs.contracts.compact1.operator.OperatorPartialEq.TheImpl.{eq-value}
 
 pub operators_total : IsTotalOrder operator_cmp

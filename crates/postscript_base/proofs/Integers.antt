@@ -1,10 +1,10 @@
 -- Integers are read exactly where they are spelled.
-use Rattle.std.proofs.Common.{◌≡◌, refl, sym, ap, subst, ◌∙◌, ℕ, suc, ◌+◌, ◌-◌, ◌<◌, ◌≤◌, ◌⊎◌, inl, inr, ℤ, pos, ◌-ℤ◌, Bool, true, false, ◌==◌, nat_lt, List, [], ◌∷◌, length, length-drop, length-take, take, drop, arith, if◌then◌else◌}
+use Rattle.std.proofs.Common.{◌≡◌, refl, sym, ap, subst, ◌∙◌, ℕ, suc, ◌+◌, ◌<◌, ◌≤◌, ◌⊎◌, inl, inr, ℤ, pos, ◌-ℤ◌, Bool, true, false, ◌==◌, nat_lt, List, [], ◌∷◌, length, length-drop, length-take, take, drop, arith, if◌then◌else◌}
 use Rattle.std.proofs.lemmas.Bool.Decides.{nat_tests}
 use Rattle.std.proofs.lemmas.List.{drop-drop}
 use Rattle.postscript_base.specs.Numbers.{slice, number as unsigned, big_endian, two_sided, small, above, below}
 use Rattle.postscript_base.specs.Refusal.{malformed_number, unexpected_eof}
-use Rattle.postscript_base.specs.Tape.Outcome.{Got, Fault, Reading, after, end, ◌>>=◌, pure, fault}
+use Rattle.postscript_base.specs.Tape.Outcome.{Got, Fault, Reading, after, ◌>>=◌, pure, fault}
 use Rattle.postscript_base.specs.Compact1.Decimal.{Decimal}
 use Rattle.postscript_base.specs.Compact1.Integers as spellings
 use Rattle.postscript_base.specs.Compact1.Integers.{IsInteger, IsIntegerAt, ReadsIntegers, StandAt}

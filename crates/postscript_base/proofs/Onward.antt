@@ -1,19 +1,16 @@
 -- Readings move on: the next place lies at some place or behind it, and within the bytes.
 use Rattle.std.proofs.lemmas.Grind.{common_steps}
-use Rattle.std.proofs.Common.{◌≡◌, refl, ap, ℕ, ◌+◌, ◌-◌, ◌*◌, ◌/◌, ◌≤◌, ◌<◌, Bool, true, false, List, [], ◌∷◌, length, take, drop, ◌==◌, nat_lt, Option, Some, None, length-drop, inl, inr, arith, if◌then◌else◌}
-use Rattle.std.specs.Prelude.{flat_map}
-use Rattle.std.specs.List.{prefix_len}
+use Rattle.std.proofs.Common.{◌≡◌, refl, ap, ℕ, ◌+◌, ◌-◌, ◌*◌, ◌≤◌, ◌<◌, Bool, true, List, [], ◌∷◌, length, ◌==◌, nat_lt, Option, length-drop, inl, inr, arith, if◌then◌else◌}
 use Rattle.std.proofs.lemmas.Bool.Decides.{nat_tests}
 use Rattle.postscript_base.specs.Error.{IsOneOf}
 use Rattle.postscript_base.specs.Refusal.{number_of}
-use Rattle.postscript_base.specs.Tape.Outcome.{Outcome, Got, Fault, Past, Reading, after, end, ◌>>=◌, pure}
+use Rattle.postscript_base.specs.Tape.Outcome.{Outcome, Got, Fault, Past, Reading, after, ◌>>=◌, pure}
 use Rattle.postscript_base.specs.Tape.Onward.{MovesOn, TakesBytes}
 use Rattle.postscript_base.specs.Tape.At.{NeedsBytes}
-use Rattle.postscript_base.specs.Refusal.{malformed_number}
 use Rattle.postscript_base.specs.Numbers.{big_endian, slice, number, two_sided, above, below}
-use Rattle.postscript_base.specs.Compact1.Decimal.{Decimal, operand_of}
+use Rattle.postscript_base.specs.Compact1.Decimal.{Decimal}
 use Rattle.postscript_base.specs.Compact1.Number.{begun, number as dict_number, whole}
-use Rattle.postscript_base.specs.Compact1.Reals.{Real, ended_by, is_in_text, nibbles, operand_if, real, real_of, symbols, text_of_real, valued, value_of}
+use Rattle.postscript_base.specs.Compact1.Reals.{Real, ended_by, nibbles, real, real_of, text_of_real, valued}
 
 -- the refusals of numbers and operations
 abbrev pub known_refusals : List ℕ

@@ -1,12 +1,10 @@
 -- The steps of an operation.
-use Rattle.std.proofs.Common.{◌≡◌, refl, sym, ap, subst, ◌∙◌, ℕ, zero, suc, ◌+◌, ◌-◌, ◌≤◌, Bool, true, false, List, [], ◌∷◌, ◌++◌, length, ◌==◌, Option, Some, None, arith, inl, inr, if◌then◌else◌}
+use Rattle.std.proofs.Common.{◌≡◌, refl, sym, ap, subst, ◌∙◌, ℕ, zero, suc, ◌+◌, ◌-◌, ◌≤◌, List, [], ◌∷◌, ◌++◌, length, Option, Some, None, arith, inl, if◌then◌else◌}
 use Rattle.postscript_base.specs.Tape.Outcome.{Outcome, Got, Reading, RefusedAs, after, ◌>>=◌, pure}
 use Rattle.postscript_base.specs.Tape.Onward.{TakesBytes}
-use Rattle.postscript_base.specs.Numbers.{number}
 use Rattle.postscript_base.specs.Compact1.Decimal.{Decimal}
 use Rattle.postscript_base.specs.Compact1.Number.{begun}
 use Rattle.postscript_base.specs.Compact1.Operation.{Operation, begins_operand, ended_or, known, operation, operation_from, operator_begun, step}
-use Rattle.postscript_base.specs.Compact1.Operators.{operator_of}
 use Rattle.postscript_base.specs.declared.compact1.operator.Operator.{Operator}
 use Rattle.postscript_base.specs.declared.error.Error.{Error}
 use Rattle.postscript_base.proofs.Onward.{Goes, goes_after, goes_later, goes_moves, begun_goes, byte_then_goes}

@@ -7,7 +7,7 @@ use Rattle.std.proofs.lemmas.Bool.{lt-ltb, ltb-true, eq-eqb}
 use Rattle.std.proofs.lemmas.Bool.Decides.{nat_tests}
 use Rattle.std.proofs.lemmas.List.Folds.{prefix_len-append}
 use Rattle.postscript_base.specs.Compact1.Decimal.{IsDigits}
-use Rattle.postscript_base.specs.Compact1.Reals.{IsReal, ReadsSpellings, Real, after_digits, digits_of, is_digit, is_exponent, joined, minus, fraction_at, fraction_digits, fraction_symbols, exponent_at, real_of, after_sign, spelling, exponent_symbols}
+use Rattle.postscript_base.specs.Compact1.Reals.{IsReal, ReadsSpellings, Real, after_digits, digits_of, is_digit, joined, minus, fraction_at, fraction_digits, fraction_symbols, exponent_at, real_of, after_sign, spelling, exponent_symbols}
 use Rattle.postscript_base.proofs.Texts.{all_digits, digits_are}
 
 -- digits as far as a text goes

@@ -1,5 +1,4 @@
-
-use Rattle.std.proofs.Common.{◌≡◌, ◌*◌, ◌^◌, ◌<◌, ◌≤◌, arith, ap, to_z, of_z, ◌∙◌}
+use Rattle.std.proofs.Common.{◌≡◌, ◌^◌, arith, ap, to_z, of_z, ◌∙◌}
 use Rattle.std.specs.Prelude.{pos, ◌*ℤ◌}
 use Rattle.std.specs.Int.{w128}
 use Rattle.std.specs.Int.RustNames.{unsigned_abs}

@@ -1,5 +1,4 @@
-
-use Rattle.std.proofs.Common.{arith, ◌∙◌}
+use Rattle.std.proofs.Common.{arith}
 use Rattle.postscript_base.proofs.Decimals.{tens_few, ten_more}
 use Rattle.postscript_base.proofs.compact1.operand.stripped_short.Goals as goal
 

@@ -1,13 +1,10 @@
-
 use Rattle.std.proofs.Common.{arith}
 use Rattle.std.proofs.lemmas.Grind.{common_steps}
 use Rattle.std.proofs.Common.{map, rules, sym, ap, ◌∙◌}
 use Rattle.std.proofs.lemmas.Iterator.Adapters.{YieldsList-from_vec}
 use Rattle.std.proofs.lemmas.Iterator.Consumers.{YieldsList-end}
-use Rattle.std.proofs.lemmas.List.{map_push, map-id}
-use Rattle.std.proofs.lemmas.List.Sums.{fold_push}
-use Rattle.std.specs.FinMap.{empty}
-use Rattle.postscript_base.specs.Compact1.Dictionary.{dictionary_of, put}
+use Rattle.std.proofs.lemmas.List.{map-id}
+use Rattle.postscript_base.specs.Compact1.Dictionary.{dictionary_of}
 use Rattle.postscript_base.proofs.compact1.operations.of_all.Goals as goal
 
 pub loop-operation-init : goal.loop-operation-init

@@ -1,8 +1,5 @@
-
-use Rattle.std.proofs.Common.{ℕ, ◌+◌, ◌*◌, get_or, take, ap, sym, subst, arith, ◌∙◌}
+use Rattle.std.proofs.Common.{arith}
 use Rattle.std.proofs.lemmas.List.Sums.{fold_more, fold-append}
-use Rattle.postscript_base.specs.Compact1.Decimal.{digits_number}
-use Rattle.postscript_base.specs.Compact1.Significant.{Keeps}
 use Rattle.postscript_base.proofs.compact1.significant.push_all.Goals as goal
 
 pub loop-digit-preserved : goal.loop-digit-preserved

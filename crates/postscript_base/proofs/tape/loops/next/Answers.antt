@@ -1,6 +1,4 @@
-
 use Rattle.std.proofs.Common.{arith}
-use Rattle.postscript_base.proofs.Repeats.{wants}
 use Rattle.postscript_base.proofs.tape.loops.next.Goals as goal
 
 pub returns-in-Err-UnexpectedEof-clause-exact : goal.returns-in-Err-UnexpectedEof-clause-exact

@@ -1,7 +1,5 @@
-
-use Rattle.std.proofs.Common.{◌≡◌, ap, sym, subst, ◌∙◌, length, arith}
+use Rattle.std.proofs.Common.{◌≡◌, sym, subst, ◌∙◌, arith}
 use Rattle.std.proofs.lemmas.Result.{err_from_is_err_and}
-use Rattle.postscript_base.specs.Tape.Outcome.{Got}
 use Rattle.postscript_base.specs.Tape.Onward.{MovesOn}
 use Rattle.postscript_base.proofs.Repeats.{asked, views_push, views_none, end_starts, end_goes_on, end_refused, end_done}
 use Rattle.postscript_base.proofs.tape.loops.read_to_end.Goals as goal

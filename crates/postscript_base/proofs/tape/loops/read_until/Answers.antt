@@ -1,4 +1,3 @@
-
 use Rattle.std.proofs.Common.{arith}
 use Rattle.std.proofs.Common.{◌∙◌, refl, sym}
 use Rattle.std.proofs.lemmas.Result.{err_from_is_err_and}

@@ -1,5 +1,4 @@
-
-use Rattle.std.proofs.Common.{◌≡◌, arith, sym, subst, to_z, of_z, ◌∙◌}
+use Rattle.std.proofs.Common.{◌≡◌, arith, subst, to_z, of_z, ◌∙◌}
 use Rattle.std.specs.Prelude.{IfSome, IfNone}
 use Rattle.std.specs.Int.{w32, w64, w128}
 use Rattle.std.specs.Int.RustNames.{unsigned_abs}

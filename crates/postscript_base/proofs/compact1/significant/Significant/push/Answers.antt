@@ -1,4 +1,3 @@
-
 use Rattle.std.proofs.Common.{arith}
 use Rattle.std.proofs.Common.{◌≡◌, ℕ, ◌+◌, ◌*◌, Bool, true, false}
 use Rattle.postscript_base.specs.Compact1.Significant.{Keeps, IsShort, IsLong}
