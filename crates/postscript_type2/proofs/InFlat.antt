@@ -1,23 +1,21 @@
 -- One phrase of a run, in flat code.
+use Rattle.std.proofs.lemmas.Grind.{common_steps}
 use Rattle.std.proofs.Math.Seq.{take-append_seam, drop-append_seam, take-add}
 use Rattle.std.proofs.lemmas.Bool.Decides.{nat_tests}
 use Rattle.std.proofs.lemmas.List.{append-nil, length-take-le, take-take}
-use Rattle.std.proofs.Common.{◌≡◌, refl, ap, sym, subst, ◌∙◌, ℕ, suc, ◌+◌, ◌-◌, ◌<◌, ◌≤◌, ◌^◌, Bool, true, false, List, [], ◌∷◌, ◌++◌, take, drop, length, length-append, length-drop, append_assoc, add-one, nat_lt, ℤ, pos, Option, Some, None, Result, Ok, Err, slice_get, if◌then◌else◌, arith}
-use Rattle.std.specs.Option.{ok_or}
-use Rattle.postscript_base.specs.Refusal.{Refusal, unexpected_eof, expected_operand, expected_integer, missing_subroutine, too_many_stems}
+use Rattle.std.proofs.Common.{◌≡◌, refl, ap, sym, subst, ◌∙◌, ℕ, suc, ◌+◌, ◌<◌, ◌≤◌, ◌^◌, Bool, true, false, List, [], ◌∷◌, ◌++◌, take, drop, length, length-append, length-drop, append_assoc, add-one, nat_lt, ℤ, pos, Option, Some, None, Result, Ok, Err, slice_get, if◌then◌else◌, arith}
+use Rattle.postscript_base.specs.Refusal.{Refusal, unexpected_eof, too_many_stems}
 use Rattle.postscript_type2.specs.declared.operation.Operator.{Operator}
 use Rattle.postscript_type2.specs.declared.operation.Operator.TheVariants.{Drop}
-use Rattle.postscript_type2.specs.Program.Effects.{State, Move, Keeps, Clears, Calls, Returns, Ends, Refuses, clearing, stems_after, with_stems, mask_len, mask_clearing, work_move, store_move, named, subroutine, call_move, end_move, effect_of, effect, pushed, stacked, holding, cleared}
+use Rattle.postscript_type2.specs.Program.Effects.{State, Move, Keeps, Clears, Calls, Returns, Ends, Refuses, clearing, stems_after, with_stems, mask_len, mask_clearing, work_move, store_move, subroutine, call_move, end_move, effect_of, effect, pushed, stacked, holding, cleared}
 use Rattle.postscript_type2.specs.Program.Evaluation.{with_phrase, with_answer, with_any_answer, at_end, Stride, On, Into, Back, Over, Faults, said, moved, stride_by, stride, mean}
 use Rattle.postscript_type2.specs.Program.Flat.{without_operator, dropping, flat_of, flat_by, flat_said}
 use Rattle.postscript_type2.specs.Operation.Kinds.{Kind, Draws, DeclaresStems, Masks, Works, Stores, CallsFrom, GoesBack, EndsGlyph, IsRefused, kind, taken}
-use Rattle.postscript_type2.specs.Number.{to_int}
 use Rattle.postscript_type2.specs.Program.Parsing.{Phrase, Complete, NoPhrase, phrase, fronted}
 use Rattle.postscript_type2.specs.Program.Routines.{Lists}
 use Rattle.postscript_type2.specs.Program.Runs.{Said, Finished, Run}
 use Rattle.postscript_type2.specs.Program.Stacks.{removal}
 use Rattle.postscript_type2.specs.Program.Still.{next_still}
-use Rattle.postscript_type2.specs.Program.Works.{after, given, top_of}
 use Rattle.postscript_type2.proofs.Locals.{stands_flat, IsLocal, Local, local}
 use Rattle.postscript_type2.proofs.Strides.{still_step-at}
 
@@ -59,18 +57,11 @@ extent more (Clears taken stems width mask) = more + mask
 extent more move = more
 
 extent-is : (more : ℕ) (move : Move) → extent more move ≡ more + mask_of move
-extent-is more (Keeps stack stored) = omega arith
-extent-is more (Clears taken stems width mask) = refl
-extent-is more (Calls routine stack) = omega arith
-extent-is more Returns = omega arith
-extent-is more (Ends width) = omega arith
-extent-is more (Refuses e) = omega arith
+extent-is more move = grind arith
 
 -- a front of so many bytes, and what follows it
 cut : (P : List ℕ → List ℕ → Run) (front x : List ℕ) (n : ℕ) → length front ≡ n → P (take n (front ++ x)) (drop n (front ++ x)) ≡ P front x
-cut P front x n h =
-    ap (λ i. P (take i (front ++ x)) (drop i (front ++ x))) (sym h)
-    ∙ ap (λ t. P t (drop (length front) (front ++ x))) (take-append_seam front x) ∙ ap (P front) (drop-append_seam front x)
+cut P front x n h = grind (arith, take-append_seam, drop-append_seam)
 
 -- bytes that are a phrase with this move, whatever follows them
 phrase-in : (other : Lists) (left : ℕ) (bytes : List ℕ) (st : State) (ns : List ℤ) (op : Operator) (more : ℕ) (move : Move) → IsOwn move →
@@ -98,12 +89,7 @@ phrase-in other left bytes st ns op more move own reads does long = by_move move
 
 -- an operator that stands in flat code as it is
 pub flat-own : (op : Operator) (bytes : List ℕ) (k : Kind) → kind op ≡ k → stands_flat k ≡ true → flat_by op bytes ≡ record { operator = op; bytes = bytes }
-flat-own op bytes k is own = ap (λ k. flat_of k op bytes) is ∙ by_kind k own
-  where
-    by_kind : (k : Kind) → stands_flat k ≡ true → flat_of k op bytes ≡ record { operator = op; bytes = bytes }
-    by_kind (CallsFrom routines) own = absurd (cc)
-    by_kind GoesBack own = absurd (cc)
-    by_kind k own = refl
+flat-own op bytes k is own = grind arith
 
 -- An operator that stands in flat code as it is, with a move that is the same over other lists before any bytes, as many at
 -- least as its mask has.
@@ -144,24 +130,7 @@ own-in other left b r st ns op more l move own flat room does =
 
 -- a call and Drop take the same number off the stack
 pub dropped : (routines : List (List ℕ)) (stack : List ℤ) (done : List ℕ × List ℤ) → subroutine routines stack ≡ Ok done → removal stack ≡ Ok (tt, done.1)
-dropped routines stack done h = by_top (slice_get stack (length stack - 1)) h
-  where
-    beneath : List ℤ
-    beneath = take (length stack - 1) stack
-
-    by_named : (n : Option (List ℕ)) → given (ok_or n missing_subroutine) beneath ≡ Ok done → beneath ≡ done.1
-    by_named (Some routine) h = let e : (routine, beneath) ≡ done = cc in ap (λ d. d.1) e
-    by_named None h = absurd (cc)
-
-    by_whole : (n : Option ℤ) → after (given (ok_or n expected_integer) beneath) (λ number. given (ok_or (named routines number) missing_subroutine)) ≡ Ok done → beneath ≡ done.1
-    by_whole (Some number) h = by_named (named routines number) h
-    by_whole None h = absurd (cc)
-
-    by_top : (top : Option ℤ) →
-        after (after (top_of top expected_integer beneath) (λ bits. given (ok_or (to_int bits) expected_integer))) (λ number. given (ok_or (named routines number) missing_subroutine)) ≡ Ok done →
-        after (top_of top expected_operand beneath) (λ _. given {A = Unit {0}} (Ok tt)) ≡ Ok (tt, done.1)
-    by_top (Some bits) h = ap (λ xs. Ok (tt, xs)) (by_whole (to_int bits) h)
-    by_top None h = absurd (cc)
+dropped routines stack done h = grind arith
 
 last-get : (stack : List ℤ) (top : ℤ) → slice_get (stack ++ top ∷ []) (length stack) ≡ Some top
 last-get [] top = refl
@@ -169,17 +138,11 @@ last-get (x ∷ stack) top = last-get stack top
 
 -- and Drop takes a number that was pushed
 pub removal-top : (stack : List ℤ) (top : ℤ) → removal (stack ++ top ∷ []) ≡ Ok (tt, stack)
-removal-top stack top =
-    let n : length (stack ++ top ∷ []) - 1 ≡ length stack = let l = length-append stack (top ∷ []) in omega (arith, l) in
-    ap (λ i. after (top_of (slice_get (stack ++ top ∷ []) i) expected_operand (take i (stack ++ top ∷ []))) (λ _. given (Ok tt))) n
-    ∙ ap (λ o. after (top_of o expected_operand (take (length stack) (stack ++ top ∷ []))) (λ _. given (Ok tt))) (last-get stack top)
-    ∙ ap (λ xs. Ok (tt, xs)) (take-append_seam stack (top ∷ []))
+removal-top stack top = grind (arith, nat_tests, common_steps, length-append, last-get, take-append_seam)
 
 -- the numbers of a phrase whose operator has one byte
 pub numbers-of : (more : ℕ) (bytes : List ℕ) → more < length bytes → without_operator (take (more + 1) bytes) ≡ take more bytes
-numbers-of more bytes h =
-    let n : length (take (more + 1) bytes) - 1 ≡ more = let l = length-take-le (more + 1) bytes (omega arith) in omega (arith, l) in
-    ap (λ i. take i (take (more + 1) bytes)) n ∙ take-take more (more + 1) bytes (omega arith)
+numbers-of more bytes h = grind (arith, length-take-le, take-take)
 
 -- a phrase with bytes and Drop in place of an operator of one byte
 drop-in : (other : Lists) (left : ℕ) (b : ℕ) (r : List ℕ) (st : State) (ns : List ℤ) (op : Operator) (more : ℕ) → IsLocal 0 (b ∷ r) ns op more →
@@ -227,23 +190,16 @@ abbrev pub IsBare : Move → Type 0
 IsBare move = IsOwn move × (mask_of move ≡ 0)
 
 pub clearing-bare : (st : State) (stems : ℕ) (taken : Option ℕ) → IsBare (clearing st stems taken)
-clearing-bare st stems (Some n) = (tt, refl)
-clearing-bare st stems None = (tt, refl)
+clearing-bare st stems taken = grind arith
 
 pub stems-bare : (stems : ℕ) (move : Move) → IsBare move → IsBare (with_stems stems move)
-stems-bare stems move bare = by_room (nat_lt stems (2 ^ 32))
-  where
-    by_room : (room : Bool) → IsBare (if room then move else Refuses too_many_stems)
-    by_room true = bare
-    by_room false = (tt, refl)
+stems-bare stems move bare = grind arith
 
 pub work-bare : (stored : List ℤ) (result : Result (Unit {0} × List ℤ) Refusal) → IsBare (work_move stored result)
-work-bare stored (Ok done) = (tt, refl)
-work-bare stored (Err e) = (tt, refl)
+work-bare stored result = grind arith
 
 pub store-bare : (result : Result (List ℤ × List ℤ) Refusal) → IsBare (store_move result)
-store-bare (Ok done) = (tt, refl)
-store-bare (Err e) = (tt, refl)
+store-bare result = grind arith
 
 -- one phrase
 pub in-flat : (lists other : Lists) (left : ℕ) (b : ℕ) (r : List ℕ) (st : State) → InFlat other left st (stride lists (b ∷ r) st)

@@ -1,14 +1,15 @@
 -- Flat code means what the run meant.
+use Rattle.std.proofs.lemmas.Grind.{common_steps}
+use Rattle.std.proofs.lemmas.Bool.Decides.{nat_tests}
+use Rattle.std.proofs.Common.{arith}
 use Rattle.std.proofs.lemmas.List.{map-append, append-nil}
 use Rattle.std.proofs.lemmas.List.Concat.{flat_map-append}
 use Rattle.std.proofs.lemmas.List.Elements.{All-nil, All-cons}
-use Rattle.std.proofs.Common.{◌≡◌, refl, ap, sym, subst, ◌∙◌, ℕ, zero, suc, Bool, true, false, ◌&&◌, not, List, [], ◌∷◌, ◌++◌, map, drop, append_assoc, Some, None, Result, Ok, Err, IfOk, OnOk, if◌then◌else◌}
+use Rattle.std.proofs.Common.{◌≡◌, refl, ap, sym, subst, ◌∙◌, ℕ, zero, suc, Bool, true, false, List, [], ◌∷◌, ◌++◌, map, Some, None, Result, Ok, Err, IfOk, OnOk}
 use Rattle.std.specs.List.{AllPass}
-use Rattle.postscript_base.specs.Refusal.{trailing_data}
 use Rattle.postscript_type2.specs.declared.operation.Operator.{Operator}
-use Rattle.postscript_type2.specs.declared.operation.Operator.TheVariants.{CallSubr, CallGSubr, Return}
 use Rattle.postscript_type2.specs.Program.Effects.{State, start}
-use Rattle.postscript_type2.specs.Program.Evaluation.{at_end, with_phrase, with_answer, followed, is_empty, after_call, Stride, On, Into, Back, Over, Faults, stride, Callee, paced, routine, callee, mean, run_of}
+use Rattle.postscript_type2.specs.Program.Evaluation.{at_end, with_phrase, followed, after_call, Stride, stride, Callee, paced, routine, callee, mean, run_of}
 use Rattle.postscript_type2.specs.Program.Flat.{flat_by, flat_said, flat_bytes, flat_text}
 use Rattle.postscript_type2.specs.Program.Inlining.{is_flat, KeepsMeaning, FlatTextKeepsMeaning}
 use Rattle.postscript_type2.specs.Program.Routines.{Lists}
@@ -43,65 +44,29 @@ AllInline other left None = Unit {0}
 AllInline other left (Some means) = (sub : List ℕ) (st : State) → Inlines other left st (means sub st)
 
 flattened-two : (run go next : Run) → flattened run (flattened go next) ≡ flattened (followed run (λ end. go)) next
-flattened-two run go next =
-    let e : run.answers ++ (go.answers ++ next.answers) ≡ (run.answers ++ go.answers) ++ next.answers = sym (append_assoc run.answers go.answers next.answers) in
-    let f : map flat_said run.trace ++ (map flat_said go.trace ++ next.trace) ≡ map flat_said (run.trace ++ go.trace) ++ next.trace =
-    sym (append_assoc (map flat_said run.trace) (map flat_said go.trace) next.trace) ∙ ap (λ t. t ++ next.trace) (sym (map-append flat_said run.trace go.trace)) in
-    let told-run : List Answer → List Said → Run = λ a t. record { answers = a; trace = t; end = next.end } in
-    ap (λ a. told-run a (map flat_said run.trace ++ (map flat_said go.trace ++ next.trace))) e ∙ ap (told-run ((run.answers ++ go.answers) ++ next.answers)) f
+flattened-two run go next = grind (arith, nat_tests, common_steps, map-append)
 
 -- nothing follows
 pub followed-ends : (a : List Answer) (t : List Said) (before end : End) →
     followed (record { answers = a; trace = t; end = before }) (λ e. at_end end) ≡ record { answers = a; trace = t; end = end }
-followed-ends a t before end =
-    let told-run : List Answer → List Said → Run = λ a t. record { answers = a; trace = t; end = end } in
-    ap (λ a. told-run a (t ++ [])) (append-nil a) ∙ ap (told-run a) (append-nil t)
+followed-ends a t before end = grind (arith, append-nil)
 
 -- a call's run, and what comes of its end
 inline-followed : (other : Lists) (left : ℕ) (inner : Bool) (after : List ℕ) (st : State) (go : State → Run) → ((st' : State) → Inlines other left st' (go st')) →
     (a : List Answer) (t : List Said) (e : End) → Inlines other left st (record { answers = a; trace = t; end = e }) →
     Inlines other left st (followed (record { answers = a; trace = t; end = e }) (after_call inner after go))
-inline-followed other left inner after st go next a t UsedUp ih = subst (Inlines other left st) (sym (followed-ends a t UsedUp UsedUp)) ih
-inline-followed other left inner after st go next a t (Fault e) ih = λ x m. absurd m
-inline-followed other left inner after st go next a t (Finished width) ih = by_finish (inner && not (is_empty after))
-  where
-    by_finish : (bad : Bool) → Inlines other left st (followed (record { answers = a; trace = t; end = Finished width }) (λ e. at_end (if bad then Fault trailing_data else Finished width)))
-    by_finish true = λ x m. absurd m
-    by_finish false = subst (Inlines other left st) (sym (followed-ends a t (Finished width) (Finished width))) ih
-inline-followed other left inner after st go next a t (Returned st') ih = λ x m.
-    let run : Run = record { answers = a; trace = t; end = Returned st' } in
-    let texts : flat_text (t ++ (go st').trace) ++ x ≡ flat_text t ++ (flat_text (go st').trace ++ x) =
-    ap (λ bytes. bytes ++ x) (flat_map-append flat_bytes t (go st').trace) ∙ append_assoc (flat_text t) (flat_text (go st').trace) x in
-    ap (λ bytes. mean other left false bytes st) texts
-    ∙ ih (flat_text (go st').trace ++ x) tt
-    ∙ ap (flattened run) (next st' x m)
-    ∙ flattened-two run (go st') (onward other left (go st').end x)
+inline-followed other left inner after st go next a t e ih = grind (arith, nat_tests, common_steps, followed-ends, flat_map-append, flattened-two)
 
 -- a phrase, and a run behind it
 inline-told : (other : Lists) (left : ℕ) (st : State) (said : Said) (run : Run) (go : List ℕ → Run) →
     ((x : List ℕ) → mean other left false (flat_bytes said ++ x) st ≡ with_phrase (flat_said said) (go x)) →
     ((x : List ℕ) → MayFollow run.end x → go (flat_text run.trace ++ x) ≡ flattened run (onward other left run.end x)) → Inlines other left st (with_phrase said run)
-inline-told other left st said run go tells ih x m =
-    ap (λ bytes. mean other left false bytes st) (append_assoc (flat_bytes said) (flat_text run.trace) x) ∙ tells (flat_text run.trace ++ x) ∙ ap (with_phrase (flat_said said)) (ih x m)
+inline-told other left st said run go tells ih = grind (arith, nat_tests, common_steps)
 
 inline-by : (other : Lists) (left : ℕ) (callee : Callee) → AllInline other left callee → (inner : Bool) (r : List ℕ) (st : State)
     (go : ℕ → State → Run) → ((more : ℕ) (st' : State) → Inlines other left st' (go more st')) → (s : Stride) → InFlat other left st s →
     Inlines other left st (paced callee inner r go s)
-inline-by other left callee subs inner r st go next (On said None st' more) flat = inline-told other left st said (go more st') _ flat (next more st')
-inline-by other left callee subs inner r st go next (On said (Some answer) st' more) flat =
-    inline-told other left st said (with_answer answer (go more st')) _ flat (λ x m. ap (with_answer answer) (next more st' x m))
-inline-by other left None subs inner r st go next (Into said sub st' more) flat = λ x m. absurd m
-inline-by other left (Some means) subs inner r st go next (Into said sub st' more) flat =
-    inline-told other left st said (followed (means sub st') (after_call inner (drop more r) (go more))) _ flat
-    (inline-followed other left inner (drop more r) st' (go more) (next more) (means sub st').answers (means sub st').trace (means sub st').end (subs sub st'))
-inline-by other left callee subs true r st go next (Back said st') flat = inline-told other left st said (at_end (Returned st')) _ flat (λ x m. refl)
-inline-by other left callee subs false r st go next (Back said st') flat = λ x m. absurd m
-inline-by other left callee subs inner r st go next (Over said width more) flat = over-by (inner && not (is_empty (drop more r)))
-  where
-    over-by : (bad : Bool) → Inlines other left st (with_phrase said (at_end (if bad then Fault trailing_data else Finished width)))
-    over-by true = λ x m. absurd m
-    over-by false = inline-told other left st said (at_end (Finished width)) _ flat (λ x m. refl)
-inline-by other left callee subs inner r st go next (Faults e) flat = λ x m. absurd m
+inline-by other left callee subs inner r st go next s flat = grind (arith, nat_tests, common_steps, inline-told, inline-followed)
 
 inline-routine : (lists other : Lists) (left : ℕ) (callee : Callee) → AllInline other left callee → (inner : Bool) (k : ℕ) (r : List ℕ) (st : State) →
     Inlines other left st (routine lists callee inner k r st)
@@ -118,20 +83,14 @@ inline-callee lists other left (suc nested) = λ sub st. inline-routine lists ot
 
 -- flat code stays as it is
 flat-flat : (op : Operator) (bytes : List ℕ) → flat_said (flat_by op bytes) ≡ flat_by op bytes
-flat-flat CallSubr bytes = refl
-flat-flat CallGSubr bytes = refl
-flat-flat Return bytes = refl
-flat-flat op bytes = refl
+flat-flat op bytes = grind arith
 
 flat-text : (trace : List Said) → flat_text (map flat_said trace) ≡ flat_text trace
 flat-text [] = refl
 flat-text (said ∷ trace) = ap (λ s. s.bytes ++ flat_text (map flat_said trace)) (flat-flat said.operator said.bytes) ∙ ap (λ bytes. flat_bytes said ++ bytes) (flat-text trace)
 
 is-flat : (op : Operator) (bytes : List ℕ) → is_flat (flat_by op bytes).operator ≡ true
-is-flat CallSubr bytes = refl
-is-flat CallGSubr bytes = refl
-is-flat Return bytes = refl
-is-flat op bytes = refl
+is-flat op bytes = grind arith
 
 all-flat : (trace : List Said) → AllPass (λ said. is_flat said.operator) (map flat_said trace)
 all-flat [] = All-nil _
@@ -143,16 +102,10 @@ flat_end (Returned st) = UsedUp
 flat_end end = end
 
 pub flat-fault : (end : End) → fault_of (flat_end end) ≡ fault_of end
-flat-fault UsedUp = refl
-flat-fault (Returned st) = refl
-flat-fault (Finished width) = refl
-flat-fault (Fault e) = refl
+flat-fault end = grind arith
 
 pub flat-width : (a : List Answer) (end : End) → width_by None a (flat_end end) ≡ width_by None a end
-flat-width a UsedUp = refl
-flat-width a (Returned st) = refl
-flat-width a (Finished width) = refl
-flat-width a (Fault e) = refl
+flat-width a end = grind arith
 
 -- with nothing behind it
 flat-alone : (other : Lists) (left : ℕ) (st : State) (a : List Answer) (t : List Said) (end : End) → Inlines other left st (record { answers = a; trace = t; end = end }) →

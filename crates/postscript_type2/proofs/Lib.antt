@@ -1,6 +1,5 @@
 pub mod Greatest
 pub mod Groups
-pub mod Wholes
 pub mod Roots
 pub mod Rolls
 pub mod Fits
@@ -15,7 +14,6 @@ pub mod Taken
 pub mod Performed
 pub mod Meant
 pub mod Rows
-pub mod SubroutineRows
 pub mod EffectRows
 pub mod Locals
 pub mod InFlat
@@ -43,3 +41,4 @@ pub mod Cases
 pub mod Suffixes
 pub mod Slices
 pub mod Frames
+pub mod Wholes

@@ -1,16 +1,16 @@
 -- A phrase depends on its own bytes alone.
 use Rattle.std.proofs.lemmas.Bool.Decides.{nat_tests}
 use Rattle.std.proofs.lemmas.List.{take-append-le, take-take}
-use Rattle.std.proofs.Common.{◌≡◌, refl, ap, sym, ◌∙◌, ℕ, zero, suc, ◌+◌, ◌-◌, ◌<◌, ◌≤◌, ◌==◌, Bool, true, false, ◌&&◌, ◌||◌, cond, List, [], ◌∷◌, ◌++◌, take, length, length-take, length-append, nat_lt, Option, Some, None, ℤ, pos, ◌-ℤ◌, if◌then◌else◌, arith}
+use Rattle.std.proofs.Common.{◌≡◌, refl, ap, ◌∙◌, ℕ, zero, suc, ◌+◌, ◌<◌, ◌≤◌, ◌==◌, Bool, true, false, List, [], ◌∷◌, ◌++◌, take, length, length-take, length-append, nat_lt, Option, ℤ, pos, ◌-ℤ◌, if◌then◌else◌, arith, sym, ◌&&◌, ◌||◌, Some}
 use Rattle.postscript_base.specs.Numbers.{slice, number, big_endian, two_sided, above, below}
-use Rattle.postscript_base.specs.Tape.Outcome.{Outcome, Got, Fault, Past, end, after, Reading, ◌>>=◌, pure, fault}
+use Rattle.postscript_base.specs.Tape.Outcome.{Outcome, Got, Reading, ◌>>=◌, pure, fault}
 use Rattle.postscript_base.specs.Refusal.{malformed_number}
 use Rattle.postscript_type2.specs.declared.operation.Operator.{Operator}
 use Rattle.postscript_type2.specs.Operation.Kinds.{Kind, CallsFrom, GoesBack, kind}
 use Rattle.postscript_type2.specs.Number.{spelled, whole}
-use Rattle.postscript_type2.specs.Operation.Operators.{operators, lookup, operator_of}
+use Rattle.postscript_type2.specs.Operation.Operators.{operator_of, operators, lookup}
 use Rattle.postscript_type2.specs.Program.Parsing.{is_number, Phrase, Complete, NoPhrase, passed, with_number, with_operator, numbered, escaped, ending, phrase_after, phrase, fronted}
-use Rattle.postscript_type2.proofs.Fronts.{fronted-zero, passed-fronted, number-first}
+use Rattle.postscript_type2.proofs.Fronts.{number-first}
 
 -- a reading that looks at no byte past its next place
 abbrev IsPrompt : {A : Type 0} → Reading A → Type 0
@@ -21,27 +21,11 @@ if-prompt true first second one two = one
 if-prompt false first second one two = two
 
 mapped-prompt : {A B : Type 0} (reading : Reading A) (f : A → B) → IsPrompt reading → IsPrompt (reading >>= λ x. pure (f x))
-mapped-prompt {A} {B} reading f prompt r y m v next is within = by_outcome (reading r 0) refl is
-  where
-    by_outcome : (o : Outcome A) → reading r 0 ≡ o → after o (λ x n. Got (f x) n) ≡ Got v next → after (reading (take m r ++ y) 0) (λ x n. Got (f x) n) ≡ Got v next
-    by_outcome (Got x n) e h = let same : n ≡ next = cc in ap (λ o. after o (λ x n. Got (f x) n)) (prompt r y m x n e (omega arith)) ∙ h
-    by_outcome (Fault k) e h = absurd (cc)
-    by_outcome Past e h = absurd (cc)
+mapped-prompt reading f h0 = grind arith
 
 slice-prompt : (count : ℕ) → IsPrompt (slice count)
 unfolding slice
-slice-prompt count r y m x next is within = by_room (nat_lt (length r - 0) count) refl is
-  where
-    by_room : (short : Bool) → nat_lt (length r - 0) count ≡ short → (if short then end else Got (take count r) (0 + count)) ≡ Got x next →
-        (if nat_lt (length (take m r ++ y) - 0) count then end else Got (take count (take m r ++ y)) (0 + count)) ≡ Got x next
-    by_room true e h = absurd (cc)
-    by_room false e h =
-        let enough : count ≤ length r = grind (arith, nat_tests) in
-        let same : 0 + count ≡ next = cc in
-        let long : count ≤ length (take m r) = omega (arith, length-take m r) in
-        let room : nat_lt (length (take m r ++ y) - 0) count ≡ false = let l = length-append (take m r) y in grind (arith, nat_tests) in
-        let bytes : take count (take m r ++ y) ≡ take count r = take-append-le count (take m r) y long ∙ take-take count m r (omega arith) in
-        ap (λ b. if b then end else Got (take count (take m r ++ y)) (0 + count)) room ∙ ap (λ xs. Got xs (0 + count)) bytes ∙ h
+slice-prompt count = grind (arith, nat_tests, length-take, length-append, take-append-le, take-take)
 
 number-prompt : (size : ℕ) → IsPrompt (number size)
 unfolding number
@@ -113,13 +97,7 @@ Local k r (Complete numbers op more) = IsLocal k r numbers op more
 Local k r (NoPhrase e) = Unit {0}
 
 skip : (k b : ℕ) (r : List ℕ) (p : Phrase) → Local k r p → Local (suc k) (b ∷ r) (passed p)
-skip k b r (NoPhrase e) l = tt
-skip k b r (Complete numbers op more) l = record {
-  passes = let h : k ≤ more = l.passes in omega arith;
-  room = let h : more < length r = l.room in omega arith;
-  stands = λ y. ap passed (l.stands y);
-  fronts = λ short y. ap passed (l.fronts short y) ∙ passed-fronted numbers more (phrase y);
-}
+skip k b r p l = grind arith
 
 more-number : (b : ℕ) (r : List ℕ) (x : ℤ) (j : ℕ) → is_number b ≡ true → spelled b r 0 ≡ Got x j → (p : Phrase) → Local j r p → Local 0 (b ∷ r) (with_number x p)
 more-number b r x j t e (NoPhrase f) l = tt
@@ -136,33 +114,13 @@ more-number b r x j t e (Complete numbers op more) l = record {
 
 number-by : (b : ℕ) (r : List ℕ) → is_number b ≡ true → ((j : ℕ) → Local j r (phrase_after j r)) → (o : Outcome ℤ) → spelled b r 0 ≡ o →
     Local 0 (b ∷ r) (numbered o (λ j. phrase_after j r))
-number-by b r t ih (Got x j) e = more-number b r x j t e (phrase_after j r) (ih j)
-number-by b r t ih (Fault k) e = tt
-number-by b r t ih Past e = tt
-
--- an operator before other bytes
-operator-before : (b : ℕ) (z : List ℕ) (long : Bool) → is_number b ≡ false → (b == 0x0c) ≡ long →
-    phrase_after 0 (b ∷ z) ≡ (if long then escaped z else with_operator 0 (operator_of b))
-operator-before b z long t u =
-    ap (λ v. cond v (numbered (spelled b z 0) (λ k. phrase_after k z)) (ending b z)) t ∙ ap (λ v. if v then escaped z else with_operator 0 (operator_of b)) u
+number-by b r t ih o e = grind (arith, more-number)
 
 long-by : (b c : ℕ) (r : List ℕ) → is_number b ≡ false → (b == 0x0c) ≡ true → (o : Option Operator) → operator_of (0x0c00 + c) ≡ o → Local 0 (b ∷ c ∷ r) (with_operator 1 o)
-long-by b c r t u None h = tt
-long-by b c r t u (Some op) h = record {
-  passes = omega arith;
-  room = omega arith;
-  stands = λ y. operator-before b (c ∷ y) true t u ∙ ap (with_operator 1) h;
-  fronts = λ short y. let flat : stands_flat (kind op) ≡ true = long-flat c op h in absurd (cc);
-}
+long-by b c r t u o h = grind (arith, nat_tests)
 
 short-by : (b : ℕ) (r : List ℕ) → is_number b ≡ false → (b == 0x0c) ≡ false → (o : Option Operator) → operator_of b ≡ o → Local 0 (b ∷ r) (with_operator 0 o)
-short-by b r t u None h = tt
-short-by b r t u (Some op) h = record {
-  passes = omega arith;
-  room = omega arith;
-  stands = λ y. operator-before b y false t u ∙ ap (with_operator 0) h;
-  fronts = λ short y. sym (fronted-zero (phrase y));
-}
+short-by b r t u o h = grind arith
 
 ending-by : (b : ℕ) (r : List ℕ) → is_number b ≡ false → (long : Bool) → (b == 0x0c) ≡ long → Local 0 (b ∷ r) (if long then escaped r else with_operator 0 (operator_of b))
 ending-by b [] t true u = tt
@@ -171,8 +129,7 @@ ending-by b r t false u = short-by b r t u (operator_of b) refl
 
 head-by : (b : ℕ) (r : List ℕ) → ((j : ℕ) → Local j r (phrase_after j r)) → (t : Bool) → is_number b ≡ t →
     Local 0 (b ∷ r) (if t then numbered (spelled b r 0) (λ j. phrase_after j r) else ending b r)
-head-by b r ih true e = number-by b r e ih (spelled b r 0) refl
-head-by b r ih false e = ending-by b r e (b == 0x0c) refl
+head-by b r ih t e = grind (arith, number-by, ending-by)
 
 pub local : (k : ℕ) (r : List ℕ) → Local k r (phrase_after k r)
 local k [] = tt

@@ -1,15 +1,15 @@
 -- Numbers are read exactly where they are spelled.
 use Rattle.std.proofs.lemmas.Bool.Decides.{nat_tests}
 use Rattle.std.proofs.lemmas.List.{drop-drop, take-append-drop, length-take-le}
-use Rattle.std.proofs.Common.{◌≡◌, refl, ap, sym, subst, ◌∙◌, ℕ, suc, ◌+◌, ◌-◌, ◌<◌, ◌≤◌, ◌⊎◌, inl, inr, ℤ, Bool, true, false, nat_lt, ◌==◌, ◌||◌, List, [], ◌∷◌, ◌++◌, length, length-append, length-drop, take, drop, if◌then◌else◌, arith}
-use Rattle.postscript_base.specs.Numbers.{number as unsigned, big_endian}
-use Rattle.postscript_base.specs.Tape.Outcome.{Outcome, Got, Fault, Past, after, end}
+use Rattle.std.proofs.Common.{◌≡◌, refl, ap, sym, subst, ◌∙◌, ℕ, suc, ◌+◌, ◌-◌, ◌⊎◌, inl, inr, ℤ, Bool, true, false, nat_lt, ◌==◌, List, [], ◌∷◌, ◌++◌, length, length-drop, take, drop, arith}
+use Rattle.postscript_base.specs.Numbers.{big_endian}
+use Rattle.postscript_base.specs.Tape.Outcome.{Got, Fault, after, end}
 use Rattle.postscript_base.specs.Refusal.{malformed_number, unexpected_eof}
 use Rattle.postscript_type2.specs.Number.{number, spelled}
 use Rattle.postscript_type2.specs.Program.Parsing.{is_number}
 use Rattle.postscript_type2.specs.Program.Phrases.{IsNumber, IsNumberAt, ReadsNumbers}
 use Rattle.postscript_type2.proofs.Places.{later, spelled-local}
-use Rattle.postscript_type2.proofs.PhraseLaws.{ReadsSo, reads-number, Form, form, Stands, IsCut, number-at, neither}
+use Rattle.postscript_type2.proofs.PhraseLaws.{reads-number, form, Stands, IsCut, number-at, neither}
 use Rattle.postscript_type2.proofs.Slices.{at-place, past-end}
 
 -- the first byte, and what stands behind it

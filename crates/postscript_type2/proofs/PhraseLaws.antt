@@ -1,11 +1,12 @@
 -- Phrases as they are spelled, and as they are read.
+use Rattle.std.proofs.lemmas.Bool.Decides.{nat_tests}
 use Rattle.std.proofs.Math.Seq.{drop-append_seam, take-append-add}
-use Rattle.std.proofs.lemmas.Bool.{eqb-true, eqb-false, ltb-true, ltb-false, le-ltb, lt-ltb, ne_eqb}
+use Rattle.std.proofs.lemmas.Bool.{eqb-true, eqb-false, ltb-false, le-ltb, lt-ltb, ne_eqb}
 use Rattle.std.proofs.lemmas.List.{append-nil, take-append-drop, length-take-le}
-use Rattle.std.proofs.Common.{◌≡◌, ◌≢◌, refl, ap, sym, subst, ◌∙◌, ℕ, zero, suc, ◌+◌, ◌-◌, ◌<◌, ◌≤◌, ◌⊎◌, inl, inr, ℤ, pos, ◌-ℤ◌, Bool, true, false, cond, nat_lt, ◌==◌, ◌||◌, List, [], ◌∷◌, ◌++◌, length, length-append, length-drop, take, drop, append_assoc, zero-add, Option, Some, None, if◌then◌else◌, arith}
+use Rattle.std.proofs.Common.{◌≡◌, ◌≢◌, refl, ap, sym, subst, ◌∙◌, ℕ, zero, suc, ◌+◌, ◌-◌, ◌<◌, ◌≤◌, ◌⊎◌, inl, inr, ℤ, pos, ◌-ℤ◌, Bool, true, false, cond, nat_lt, ◌==◌, ◌||◌, List, [], ◌∷◌, ◌++◌, length, length-append, length-drop, take, drop, append_assoc, Option, Some, None, if◌then◌else◌, arith}
 use Rattle.postscript_base.specs.Numbers.{slice, number as unsigned, big_endian, two_sided, above, below}
-use Rattle.postscript_base.specs.Tape.Outcome.{Got, Fault, end, Reading, after, ◌>>=◌, pure, fault}
-use Rattle.postscript_base.specs.Refusal.{Refusal, unexpected_eof, malformed_number}
+use Rattle.postscript_base.specs.Tape.Outcome.{Got, Fault, Reading, ◌>>=◌, pure}
+use Rattle.postscript_base.specs.Refusal.{Refusal, unexpected_eof}
 use Rattle.postscript_type2.specs.declared.operation.Operator.{Operator}
 use Rattle.postscript_type2.specs.Program.Computed.{PhraseIsRead, NoPhraseIsRefused}
 use Rattle.postscript_type2.specs.Number.{spelled, whole}
@@ -15,21 +16,11 @@ use Rattle.postscript_type2.specs.Program.Phrases as spellings
 use Rattle.postscript_type2.specs.Program.Phrases.{IsNumber, IsPhrase, HasNoPhrase}
 use Rattle.postscript_type2.proofs.Fronts.{number-first, phrase-from}
 
--- tests, by what they tell
-differs : (a b : ℕ) → b < a → (a == b) ≡ false
-differs a b h = ne_eqb a b (λ e. omega (arith, h, e))
-
 either : (t u : Bool) → u ≡ true → (t || u) ≡ true
-either true u h = refl
-either false u h = h
-
-second-of : (t u : Bool) → (t || u) ≡ true → t ≡ false → u ≡ true
-second-of true u h e = absurd (cc)
-second-of false u h e = h
+either t u h = grind arith
 
 pub neither : (t u : Bool) → (t || u) ≡ false → (t ≡ false) × (u ≡ false)
-neither true u h = absurd (cc)
-neither false u h = (refl, h)
+neither t u h = grind arith
 
 no-number_by : (b : ℕ) → (b == 0x1c) ≡ false → b < 0x20 → is_number b ≡ false
 no-number_by b e low = ap (λ t. t || nat_lt 0x1f b) e ∙ le-ltb 0x1f b (omega (arith, low))
@@ -56,54 +47,25 @@ abbrev four : Reading ℤ
 four = unsigned 4 >>= λ bits. pure (two_sided 0x80000000 bits)
 
 reads-small : (b : ℕ) (r : List ℕ) → 0x20 ≤ b → b < 0xf7 → spelled b r 0 ≡ Got (whole (pos b -ℤ pos 139)) 0
-reads-small b r low high =
-    let n0 = differs b 0x1c (omega (arith, low)) in
-    let n1 : nat_lt b 0x20 ≡ false = le-ltb b 0x20 (omega (arith, low)) in
-    let n2 : nat_lt b 0xf7 ≡ true = lt-ltb b 0xf7 (omega (arith, high)) in
-    skip (b == 0x1c) two _ r 0 n0 ∙ skip (nat_lt b 0x20) (fault malformed_number) _ r 0 n1 ∙ hit (nat_lt b 0xf7) (pure (whole (pos b -ℤ pos 139))) _ r 0 n2
+reads-small b r low high = grind arith
 
 reads-above : (b : ℕ) (r : List ℕ) → 0xf7 ≤ b → b < 0xfb → spelled b r 0 ≡ one_above b r 0
-reads-above b r low high =
-    let n0 = differs b 0x1c (omega (arith, low)) in
-    let n1 : nat_lt b 0x20 ≡ false = le-ltb b 0x20 (omega (arith, low)) in
-    let n2 : nat_lt b 0xf7 ≡ false = le-ltb b 0xf7 (omega (arith, low)) in
-    let n3 : nat_lt b 0xfb ≡ true = lt-ltb b 0xfb (omega (arith, high)) in
-    skip (b == 0x1c) two _ r 0 n0 ∙ skip (nat_lt b 0x20) (fault malformed_number) _ r 0 n1 ∙ skip (nat_lt b 0xf7) (pure (whole (pos b -ℤ pos 139))) _ r 0 n2
-    ∙ hit (nat_lt b 0xfb) (one_above b) _ r 0 n3
+reads-above b r low high = grind arith
 
 reads-below : (b : ℕ) (r : List ℕ) → 0xfb ≤ b → b < 0xff → spelled b r 0 ≡ one_below b r 0
-reads-below b r low high =
-    let n0 = differs b 0x1c (omega (arith, low)) in
-    let n1 : nat_lt b 0x20 ≡ false = le-ltb b 0x20 (omega (arith, low)) in
-    let n2 : nat_lt b 0xf7 ≡ false = le-ltb b 0xf7 (omega (arith, low)) in
-    let n3 : nat_lt b 0xfb ≡ false = le-ltb b 0xfb (omega (arith, low)) in
-    let n4 : nat_lt b 0xff ≡ true = lt-ltb b 0xff (omega (arith, high)) in
-    skip (b == 0x1c) two _ r 0 n0 ∙ skip (nat_lt b 0x20) (fault malformed_number) _ r 0 n1 ∙ skip (nat_lt b 0xf7) (pure (whole (pos b -ℤ pos 139))) _ r 0 n2
-    ∙ skip (nat_lt b 0xfb) (one_above b) _ r 0 n3 ∙ hit (nat_lt b 0xff) (one_below b) _ r 0 n4
+reads-below b r low high = grind (arith, nat_tests)
 
 reads-bits : (b : ℕ) (r : List ℕ) → 0xff ≤ b → spelled b r 0 ≡ four r 0
-reads-bits b r low =
-    let n0 = differs b 0x1c (omega (arith, low)) in
-    let n1 : nat_lt b 0x20 ≡ false = le-ltb b 0x20 (omega (arith, low)) in
-    let n2 : nat_lt b 0xf7 ≡ false = le-ltb b 0xf7 (omega (arith, low)) in
-    let n3 : nat_lt b 0xfb ≡ false = le-ltb b 0xfb (omega (arith, low)) in
-    let n4 : nat_lt b 0xff ≡ false = le-ltb b 0xff (omega (arith, low)) in
-    skip (b == 0x1c) two _ r 0 n0 ∙ skip (nat_lt b 0x20) (fault malformed_number) _ r 0 n1 ∙ skip (nat_lt b 0xf7) (pure (whole (pos b -ℤ pos 139))) _ r 0 n2
-    ∙ skip (nat_lt b 0xfb) (one_above b) _ r 0 n3 ∙ skip (nat_lt b 0xff) (one_below b) four r 0 n4
+reads-bits b r low = grind arith
 
 -- the bytes behind the first one, where they are there and where they are cut
 unsigned-there : (n : ℕ) (f : ℕ → ℤ) (bytes : List ℕ) → n ≤ length bytes → (unsigned n >>= λ v. pure (f v)) bytes 0 ≡ Got (f (big_endian (take n bytes))) n
 unfolding unsigned slice
-unsigned-there n f bytes h =
-    let no = le-ltb (length bytes - 0) n (omega (arith, h)) in
-    ap (λ b. after (after (if b then end else Got (take n bytes) (0 + n)) (λ bs next. Got (big_endian bs) next)) (λ v next. Got (f v) next)) no
-    ∙ ap (Got (f (big_endian (take n bytes)))) (zero-add n)
+unsigned-there n f bytes h = grind arith
 
 unsigned-cut : (n : ℕ) (f : ℕ → ℤ) (bytes : List ℕ) → length bytes < n → (unsigned n >>= λ v. pure (f v)) bytes 0 ≡ Fault unexpected_eof
 unfolding unsigned slice
-unsigned-cut n f bytes h =
-    let yes = lt-ltb (length bytes - 0) n (omega (arith, h)) in
-    ap (λ b. after (after (if b then end else Got (take n bytes) (0 + n)) (λ bs next. Got (big_endian bs) next)) (λ v next. Got (f v) next)) yes
+unsigned-cut n f bytes h = grind arith
 
 is-number : (b : ℕ) → 0x20 ≤ b → is_number b ≡ true
 is-number b h = either (b == 0x1c) (nat_lt 0x1f b) (lt-ltb 0x1f b (omega (arith, h)))
@@ -141,26 +103,14 @@ same-next x y m n h = cc
 
 -- the same by the first byte
 spelled-front : (b : ℕ) (s : List ℕ) (x : ℤ) → IsNumber (b ∷ s) x → (tail : List ℕ) → (is_number b ≡ true) × (spelled b (s ++ tail) 0 ≡ Got x (length s))
-spelled-front b s x is tail =
-    let read = reads-number (b ∷ s) x is in
-    let parts = cons-parts b read.0 s read.1 read.2 in (
-      ap is_number parts.0 ∙ read.3,
-      ap (λ c. spelled c (s ++ tail) 0) parts.0 ∙ ap (λ t. spelled read.0 (t ++ tail) 0) parts.1 ∙ read.4 tail ∙ ap (λ t. Got x (length t)) (sym parts.1),
-    )
+spelled-front b s x is tail = grind (arith, reads-number, cons-parts)
 
 -- the forms of a first byte
 abbrev pub Form : ℕ → Type 0
 Form b = (b ≡ 0x1c) ⊎ (((0x20 ≤ b) × (b < 0xf7)) ⊎ (((0xf7 ≤ b) × (b < 0xfb)) ⊎ (((0xfb ≤ b) × (b < 0xff)) ⊎ (0xff ≤ b))))
 
 pub form : (b : ℕ) → is_number b ≡ true → Form b
-form b h = by_tests (b == 0x1c) (nat_lt b 0xf7) (nat_lt b 0xfb) (nat_lt b 0xff) refl refl refl refl
-  where
-    by_tests : (t u v w : Bool) → (b == 0x1c) ≡ t → nat_lt b 0xf7 ≡ u → nat_lt b 0xfb ≡ v → nat_lt b 0xff ≡ w → Form b
-    by_tests true u v w e f g i = inl (eqb-true b 0x1c e)
-    by_tests false true u v e f g i = inr (inl (ltb-true 0x1f b (second-of (b == 0x1c) (nat_lt 0x1f b) h e), ltb-true b 0xf7 f))
-    by_tests false false true w e f g i = inr (inr (inl (ltb-false b 0xf7 f, ltb-true b 0xfb g)))
-    by_tests false false false true e f g i = inr (inr (inr (inl (ltb-false b 0xfb g, ltb-true b 0xff i))))
-    by_tests false false false false e f g i = inr (inr (inr (inr (ltb-false b 0xff i))))
+form b h = grind arith
 
 -- a number stands there
 abbrev pub Stands : ℕ → List ℕ → Type 0
@@ -215,24 +165,12 @@ number-before number x is tail =
           ∙ ap (with_number x) (phrase-from (length s) (s ++ tail) ∙ ap (λ rest. fronted [] (length s) (phrase rest)) (drop-append_seam s tail)),
     )
 
-none-some : (op : Operator) → None ≡ Some op → ⊥
-none-some op h = cc
-
 -- an operator of one byte begins no number and is no escape
 no-number : (code : ℕ) (op : Operator) → code < 0x20 → operator_of code ≡ Some op → (is_number code ≡ false) × ((code == 0x0c) ≡ false)
-no-number code op low is = by_tests (code == 0x1c) (code == 0x0c) refl refl
-  where
-    by_tests : (t u : Bool) → (code == 0x1c) ≡ t → (code == 0x0c) ≡ u → (is_number code ≡ false) × ((code == 0x0c) ≡ false)
-    by_tests true u e f =
-        absurd (none-some op (ap operator_of (sym (eqb-true code 0x1c e)) ∙ is))
-    by_tests false true e f =
-        absurd (none-some op (ap operator_of (sym (eqb-true code 0x0c f)) ∙ is))
-    by_tests false false e f = (no-number_by code e low, f)
+no-number code op low is = grind (arith, nat_tests)
 
 one-byte : (code : ℕ) (behind : List ℕ) → is_number code ≡ false → (code == 0x0c) ≡ false → phrase (code ∷ behind) ≡ with_operator 0 (operator_of code)
-one-byte code behind e f =
-    ap (λ v. cond v (numbered (spelled code behind 0) (λ more. phrase_after more behind)) (ending code behind)) e
-    ∙ ap (λ v. cond v (escaped behind) (with_operator 0 (operator_of code))) f
+one-byte code behind e f = grind arith
 
 pub reads-phrase : (p : List ℕ) (xs : List ℤ) (op : Operator) → IsPhrase p xs op → (behind : List ℕ) →
     (more : ℕ) × (length p ≡ more + 1) × (phrase (p ++ behind) ≡ Complete xs op more)
@@ -283,8 +221,7 @@ pub reads-no_phrase : (bytes : List ℕ) (e : Refusal) → HasNoPhrase bytes e �
 reads-no_phrase bytes e spellings.no_operator = refl
 reads-no_phrase bytes e spellings.lone_escape = refl
 reads-no_phrase bytes e (spellings.cut_number bytes' missing x some more is) = cut-phrase bytes' missing (bytes' ++ missing) x some more refl is
-reads-no_phrase bytes e (spellings.no_such_operator code rest low other number is) =
-    one-byte code rest (no-number_by code (ne_eqb code 0x1c number) low) (ne_eqb code 0x0c other) ∙ ap (with_operator 0) is
+reads-no_phrase bytes e (spellings.no_such_operator code rest low other number is) = grind (arith, cut-phrase, one-byte, no-number_by, ne_eqb, number-before)
 reads-no_phrase bytes e (spellings.no_such_escape second rest is) = ap (with_operator 1) is
 reads-no_phrase bytes e (spellings.behind_number number rest x e' is none) =
     let before = number-before number x is rest in

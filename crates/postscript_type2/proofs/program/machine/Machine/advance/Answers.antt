@@ -1,4 +1,4 @@
-use Rattle.std.proofs.Common.{◌≡◌, ◌∙◌, ◌+◌, ◌-◌, ◌<◌, suc, ap, sym, refl, ℕ, ℤ, Option, List, ◌∷◌, take, length, inr, add-one, arith}
+use Rattle.std.proofs.Common.{◌≡◌, ◌∙◌, ◌+◌, ◌-◌, ◌<◌, ap, sym, refl, ℕ, ℤ, Option, List, take, length, inr, add-one}
 use Rattle.std.proofs.lemmas.Result.{err_from_is_err_and}
 use Rattle.postscript_type2.specs.Program.Callers.{rests}
 use Rattle.postscript_type2.specs.Program.Effects.{State, Keeps, Clears, Calls, Returns, Ends, effect, cleared, stacked, holding, settled, last_of}
