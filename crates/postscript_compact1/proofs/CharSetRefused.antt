@@ -7,7 +7,7 @@ use Rattle.postscript_base.specs.Numbers.{number}
 use Rattle.postscript_base.specs.Refusal.{Refusal, malformed_char_set, unknown_char_set_format}
 use Rattle.postscript_base.specs.Tape.Loops.{many, until, until_from}
 use Rattle.postscript_base.specs.Tape.Onward.{MovesOn, TakesBytes}
-use Rattle.postscript_base.specs.Tape.Outcome.{Outcome, Got, Fault, Past, Reading, after, pure, fault}
+use Rattle.postscript_base.specs.Tape.Outcome.{Outcome, Got, Fault, Past, Reading, after, fault}
 use Rattle.postscript_base.proofs.Onward.{number_takes}
 use Rattle.postscript_compact1.specs.CharSets.{char_set, char_set_0, char_set_of, covered, covered_1, covered_2, covering, glyphs_of_1, glyphs_of_2, if_any, listed, none_wanting, range_1, range_2, ranges, uncovered}
 use Rattle.postscript_compact1.specs.CharSets.Formats.{Listed, Covered}
@@ -24,18 +24,11 @@ Fails Q (Fault refusal) = Q refusal
 Fails Q Past = ⊥
 
 pub fails_after : {A B : Type 0} (o : Outcome A) (f : A → ℕ → Outcome B) (P Q : Refusal → Type 0) → Fails P o → ((refusal : Refusal) → P refusal → Q refusal) → ((value : A) (next : ℕ) → o ≡ Got value next → Fails Q (f value next)) → Fails Q (after o f)
-fails_after {A = A} o f P Q h more each = by o refl h
-  where
-    by : (p : Outcome A) → o ≡ p → Fails P p → Fails Q (after p f)
-    by (Got value next) e h = each value next e
-    by (Fault refusal) e h = more refusal h
-    by Past e h = h
+fails_after o f P Q h0 h1 h2 = grind arith
 
 -- a reading that moves on is refused as it is
 pub moves_fails : {A : Type 0} (o : Outcome A) (place size : ℕ) → MovesOn place size o → Fails (λ refusal. o ≡ Fault refusal) o
-moves_fails (Got value next) place size h = tt
-moves_fails (Fault refusal) place size h = refl
-moves_fails Past place size h = h
+moves_fails o place size h = grind arith
 
 module _ {A : Type 0} (one : Reading A) where
   -- behind fewer than so many one is cut
@@ -67,11 +60,7 @@ module _ {A : Type 0} (size : A → ℕ) (one : Reading A) (takes : TakesBytes o
 
   covering_fails : (wanting : ℕ) (bytes : List ℕ) (place : ℕ) → Fails (StopsAt wanting bytes place) (covering size one wanting bytes place)
   unfolding covering
-  covering_fails wanting bytes place = fails_after (one bytes place) _ _ _ (moves_fails (one bytes place) place (length bytes) (takes bytes place)) (λ refusal e. inl e) (λ value next e. by value next e (nat_lt wanting (size value)) refl)
-    where
-      by : (value : A) (next : ℕ) → one bytes place ≡ Got value next → (b : Bool) → nat_lt wanting (size value) ≡ b → Fails (StopsAt wanting bytes place) ((if b then fault malformed_char_set else pure value) bytes next)
-      by value next e true g = inr (value, next, e, grind (arith, nat_tests), refl)
-      by value next e false g = tt
+  covering_fails wanting bytes place = grind arith
 
   pub until_fails : (most wanting : ℕ) (bytes : List ℕ) (place : ℕ) → length bytes - place < most → Fails (StopsBehind wanting bytes place) (all_until size one most wanting bytes place)
   unfolding until_from
@@ -98,8 +87,7 @@ module _ {A : Type 0} (size : A → ℕ) (one : Reading A) (takes : TakesBytes o
 
   covering_stops : (wanting : ℕ) (bytes : List ℕ) (place : ℕ) (refusal : Refusal) → StopsAt wanting bytes place refusal → covering size one wanting bytes place ≡ Fault refusal
   unfolding covering
-  covering_stops wanting bytes place refusal (inl e) = rw e refl
-  covering_stops wanting bytes place refusal (inr h) = let more = h.3 in let past : nat_lt wanting (size h.0) ≡ true = grind (arith, nat_tests) in rw (h.2, past) (ap Fault (sym h.4))
+  covering_stops wanting bytes place refusal h0 = grind arith
 
   pub until_stops : (most wanting : ℕ) (bytes : List ℕ) (place : ℕ) (values : List A) (next : ℕ) (refusal : Refusal) → StandAt one bytes place values next → sum_by size values < wanting
       → StopsAt (wanting - sum_by size values) bytes next refusal → length bytes - place < most → all_until size one most wanting bytes place ≡ Fault refusal
@@ -129,11 +117,7 @@ NoneOr glyphs Q refusal = ((glyphs ≡ 0) × (refusal ≡ malformed_char_set)) �
 
 listed_fails : (glyphs : ℕ) (bytes : List ℕ) (place : ℕ) → Fails (NoneOr glyphs (CutBehind (number 2) (glyphs - 1) bytes place)) (listed glyphs bytes place)
 unfolding listed
-listed_fails glyphs bytes place = by (glyphs == 0) refl
-  where
-    by : (b : Bool) → (glyphs == 0) ≡ b → Fails {A = Listed} (NoneOr glyphs (CutBehind (number 2) (glyphs - 1) bytes place)) ((if b then fault malformed_char_set else (λ bytes place. after (many (number 2) (glyphs - 1) bytes place) (λ identifiers next. Got (record { format = 0; glyphs = identifiers }) next))) bytes place)
-    by true e = inl (is_format glyphs 0 e, refl)
-    by false e = fails_after (many (number 2) (glyphs - 1) bytes place) _ _ _ (many_fails (number 2) (number_takes 2 (omega arith)) (glyphs - 1) bytes place) (λ refusal h. inr h) (λ values next g. tt)
+listed_fails glyphs bytes place = grind (arith, is_format, fails_after, many_fails, number_takes)
 
 no_list : (bytes : List ℕ) (place glyphs format behind : ℕ) → number 1 bytes place ≡ Got format behind → format ≡ 0 → (refusal : Refusal) → NoneOr glyphs (CutBehind (number 2) (glyphs - 1) bytes behind) refusal → NoCharSet bytes place glyphs refusal
 no_list bytes place glyphs format behind e is refusal (inl h) = NoGlyphs format behind e (omega arith) h.0 h.1
@@ -143,11 +127,7 @@ no_list bytes place glyphs format behind e is refusal (inr h) = let fewer = h.3 
 module _ {A : Type 0} (format : ℕ) (size : A → ℕ) (one : Reading A) (takes : TakesBytes one) where
   pub covered_fails : (glyphs : ℕ) (bytes : List ℕ) (place : ℕ) → Fails (NoneOr glyphs (StopsBehind size one takes (glyphs - 1) bytes place)) (covered format size one glyphs bytes place)
   unfolding covered if_any until
-  covered_fails glyphs bytes place = by (glyphs == 0) refl
-    where
-      by : (b : Bool) → (glyphs == 0) ≡ b → Fails {A = Covered A} (NoneOr glyphs (StopsBehind size one takes (glyphs - 1) bytes place)) (after ((if b then fault malformed_char_set else ranges size one (glyphs - 1)) bytes place) (λ ranges next. Got (record { format = format; ranges = ranges }) next))
-      by true e = inl (is_format glyphs 0 e, refl)
-      by false e = fails_after (ranges size one (glyphs - 1) bytes place) _ _ _ (until_fails size one takes (suc (length bytes)) (glyphs - 1) bytes place (omega arith)) (λ refusal h. inr h) (λ values next g. tt)
+  covered_fails glyphs bytes place = grind (arith, is_format, fails_after, until_fails)
 
   -- what refuses behind the byte is a char set without glyphs, or ranges that do not cover them
   pub no_cover : (bytes : List ℕ) (place glyphs first behind : ℕ) → number 1 bytes place ≡ Got first behind → first ≡ format → (Q : Refusal → Type 0)
@@ -199,9 +179,7 @@ listed_none glyphs bytes place none = rw none refl
 
 listed_cut : (glyphs : ℕ) (bytes : List ℕ) (place : ℕ) (values : List ℕ) (next : ℕ) (refusal : Refusal) → StandAt (number 2) bytes place values next → 1 + length values < glyphs → number 2 bytes next ≡ Fault refusal → listed glyphs bytes place ≡ Fault refusal
 unfolding listed
-listed_cut glyphs bytes place values next refusal h fewer cut =
-    let some : (glyphs == 0) ≡ false = grind (arith, nat_tests) in
-    rw (some, many_cut (number 2) values (glyphs - 1) bytes place next refusal h (omega arith) cut) refl
+listed_cut glyphs bytes place values next refusal h fewer cut = grind (arith, nat_tests, many_cut)
 
 refused : (glyphs : ℕ) (bytes : List ℕ) (place : ℕ) (refusal : Refusal) → NoCharSet bytes place glyphs refusal → char_set glyphs bytes place ≡ Fault refusal
 unfolding char_set
@@ -213,11 +191,7 @@ refused glyphs bytes place refusal (NoGlyphs (suc (suc (suc format))) behind e f
 refused glyphs bytes place refusal (CutIdentifier behind values next e h fewer cut) = rw (e, listed_cut glyphs bytes behind values next refusal h fewer cut) refl
 refused glyphs bytes place refusal (NoRanges1 h) = let stop = covered_refused 1 glyphs_of_1 range_1 range_1_takes glyphs bytes place refusal h in rw (stop.1, stop.2) refl
 refused glyphs bytes place refusal (NoRanges2 h) = let stop = covered_refused 2 glyphs_of_2 range_2 range_2_takes glyphs bytes place refusal h in rw (stop.1, stop.2) refl
-refused glyphs bytes place refusal (OtherFormat format behind e greater is) =
-    let zeroth : (format == 0) ≡ false = grind (arith, nat_tests) in
-    let first : (format == 1) ≡ false = grind (arith, nat_tests) in
-    let second : (format == 2) ≡ false = grind (arith, nat_tests) in
-    rw (e, zeroth, first, second) (ap Fault (sym is))
+refused glyphs bytes place refusal (OtherFormat format behind e greater is) = grind (arith, listed_none, range_1_takes, range_2_takes, listed_cut, nat_tests)
 
 -- ---- char sets of one format
 fails_more : {A : Type 0} (o : Outcome A) (P Q : Refusal → Type 0) → ((refusal : Refusal) → P refusal → Q refusal) → Fails P o → Fails Q o

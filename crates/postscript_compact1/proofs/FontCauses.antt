@@ -1,15 +1,15 @@
 -- Why a font is refused, in the words of the layout.
-use Rattle.std.proofs.Common.{◌≡◌, ◌⊎◌, inl, inr, ℕ, zero, suc, ◌+◌, ◌^◌, ◌<◌, ◌≤◌, Bool, true, false, ℤ, pos, negsuc, ◌+ℤ◌, List, [], ◌∷◌, length, map, Option, Some, None, nat_lt, ◌==◌, if◌then◌else◌, refl, sym, ap, ◌∙◌, subst, arith}
+use Rattle.std.proofs.Common.{◌≡◌, ◌⊎◌, inl, inr, ℕ, zero, suc, ◌+◌, ◌<◌, ◌≤◌, Bool, true, false, ℤ, pos, negsuc, ◌+ℤ◌, List, [], ◌∷◌, length, map, Option, Some, None, ◌==◌, if◌then◌else◌, refl, sym, subst, arith}
 use Rattle.std.proofs.lemmas.Int.{ints}
 use Rattle.std.proofs.lemmas.Bool.Decides.{nat_tests}
 use Rattle.postscript_base.specs.Numbers.{slice}
 use Rattle.postscript_base.specs.Refusal.{refusal_of, out_of_range_offset, unknown_char_string_format}
 use Rattle.postscript_base.specs.Tape.At.{at, bytes_at}
 use Rattle.postscript_base.specs.Tape.Loops.{each}
-use Rattle.postscript_base.specs.Tape.Outcome.{Outcome, Got, Fault, Past, Reading, RefusedAs, after, pure, fault}
+use Rattle.postscript_base.specs.Tape.Outcome.{Got, Reading, RefusedAs, after, pure}
 use Rattle.postscript_base.specs.Compact1.Decimal.{Decimal, to_i32}
 use Rattle.postscript_base.specs.Compact1.Defaults.{look, first_of, first_two_of}
-use Rattle.postscript_base.specs.Compact1.Dictionary.{Dictionary, dictionary, dictionary_of}
+use Rattle.postscript_base.specs.Compact1.Dictionary.{Dictionary, dictionary_of}
 use Rattle.postscript_base.specs.Compact1.DictionaryLaw.{IsRefused, ReadsDictionaries}
 use Rattle.postscript_base.specs.Compact1.Header.{header}
 use Rattle.postscript_base.specs.declared.compact1.header.Header.{Header}
@@ -38,11 +38,7 @@ use Rattle.postscript_compact1.proofs.Steps.{Done, Last, Step, accepted, stopped
 
 refused_at : {A : Type 0} (e : Error) (there : ℕ) (reading : Reading A) (bytes : List ℕ) (place : ℕ) → RefusedAs e (at there reading bytes place) → RefusedAt e reading bytes there
 unfolding at
-refused_at e there reading bytes place h = by (nat_lt (length bytes) there) refl h
-  where
-    by : (b : Bool) → nat_lt (length bytes) there ≡ b → RefusedAs e (if b then Past else reading bytes there) → RefusedAt e reading bytes there
-    by true t h = inl (grind (arith, nat_tests), h)
-    by false t h = inr (grind (arith, nat_tests), h)
+refused_at e there reading bytes place h = grind arith
 
 pub no_first : (e : Error) (m : Dictionary) (op : Operator) (bytes : List ℕ) (place : ℕ) → RefusedAs e (first m op bytes place) → NoFirst e m op
 unfolding first
@@ -57,15 +53,10 @@ no_first e m op bytes place h = by (first_of (look m op)) refl h
     by (Some x) is h = number x (to_i32 x) is refl h
 
 no_range : (e : Error) (p : ℕ) (bytes : List ℕ) (place : ℕ) → RefusedAs e (in_range p bytes place) → (refusal_of e ≡ out_of_range_offset) × (IsPlace p → ⊥)
-no_range e p bytes place h = by (nat_lt p (2 ^ 64)) refl h
-  where
-    by : (b : Bool) → nat_lt p (2 ^ 64) ≡ b → RefusedAs e ((if b then pure p else fault out_of_range_offset) bytes place) → (refusal_of e ≡ out_of_range_offset) × (IsPlace p → ⊥)
-    by true t h = absurd h
-    by false t h = (h, λ fits. absurd (grind (arith, nat_tests)))
+no_range e p bytes place h = grind arith
 
 no_place : (e : Error) (start : ℕ) (z : ℤ) (bytes : List ℕ) (place : ℕ) → RefusedAs e (place_of start z bytes place) → NoPlace e start z
-no_place e start (negsuc n) bytes place h = (h, λ m is fits. let no : negsuc n ≡ pos m = is in absurd (cc))
-no_place e start (pos n) bytes place h = let r = no_range e (start + n) bytes place h in (r.0, λ m is fits. let same : n ≡ m = cc in r.1 (subst (λ k. IsPlace (start + k)) (sym same) fits))
+no_place e start z bytes place h = grind arith
 
 pub no_offset : (e : Error) (start base : ℕ) (m : Dictionary) (op : Operator) (bytes : List ℕ) (place : ℕ) → RefusedAs e (place_at start base m op bytes place) → NoOffset e start base m op
 unfolding place_at
@@ -96,12 +87,7 @@ no_encoding e m bytes place h = by (stopped e (Step (first m operators.Encoding)
 
 -- ---- char strings
 not_two : (e : Error) (z : ℤ) (bytes : List ℕ) (place : ℕ) → RefusedAs e (only_two z bytes place) → (z ≡ pos 2 → ⊥) × (refusal_of e ≡ unknown_char_string_format)
-not_two e (negsuc n) bytes place h = (λ is. let no : negsuc n ≡ pos 2 = is in absurd (cc), h)
-not_two e (pos n) bytes place h = by (n == 2) refl h
-  where
-    by : (b : Bool) → (n == 2) ≡ b → RefusedAs e ((if b then pure {A = Unit {0}} tt else fault unknown_char_string_format) bytes place) → (pos n ≡ pos 2 → ⊥) × (refusal_of e ≡ unknown_char_string_format)
-    by true t h = absurd h
-    by false t h = (λ is. let same : n ≡ 2 = cc in absurd (grind (arith, nat_tests)), h)
+not_two e z bytes place h = grind arith
 
 pub no_type : (e : Error) (m : Dictionary) (bytes : List ℕ) (place : ℕ) → RefusedAs e (type_two m bytes place) → NoFirst e m operators.CharStringType ⊎ ((z : ℤ) × HasFirst m operators.CharStringType z × (z ≡ pos 2 → ⊥) × (refusal_of e ≡ unknown_char_string_format))
 unfolding type_two
@@ -153,9 +139,7 @@ no_set_offset e bytes start glyphs m place h = by (stopped e (Step (first m oper
 
 set_offset_has : (m : Dictionary) (n : ℕ) (bytes : List ℕ) (place next : ℕ) → char_set_offset m bytes place ≡ Got n next → HasFirst m operators.CharSet (pos n)
 unfolding char_set_offset
-set_offset_has m n bytes place next e =
-    let h = accepted (Step (first m operators.CharSet) (λ z. Last (size_of z))) bytes place n next e in
-    subst (HasFirst m operators.CharSet) (size_has h.0 n bytes h.1 next h.3).0 (first_has m operators.CharSet h.0 bytes place h.1 h.2).0
+set_offset_has m n bytes place next e = grind (arith, accepted, size_has, first_has)
 
 no_char_set : (e : Error) (bytes : List ℕ) (start glyphs : ℕ) (m : Dictionary) (place : ℕ) → RefusedAs e (char_set start glyphs m bytes place) → NoCharSet e bytes start glyphs m
 unfolding char_set
@@ -209,13 +193,7 @@ no_two e start m bytes place h = by (first_two_of (look m operators.Private)) re
     by (Some (x, y)) is h = numbers x y (to_i32 x) (to_i32 y) is refl refl h
 
 no_bounded : (e : Error) (start : ℕ) (m n : ℤ) (bytes : List ℕ) (place : ℕ) → RefusedAs e (bounded start (m, n) bytes place) → (refusal_of e ≡ out_of_range_offset) × ((size offset : ℕ) → m ≡ pos size → n ≡ pos offset → IsPlace (start + offset) → ⊥)
-no_bounded e start (negsuc k) n bytes place h = (h, λ size offset is other fits. let no : negsuc k ≡ pos size = is in absurd (cc))
-no_bounded e start (pos k) (negsuc l) bytes place h = (h, λ size offset is other fits. let no : negsuc l ≡ pos offset = other in absurd (cc))
-no_bounded e start (pos k) (pos l) bytes place h = by (stopped {X = ℕ × ℕ × ℕ} e (Step (in_range (start + l)) (λ there. Done (k, l, there))) bytes place h)
-  where
-    by : Stops {X = ℕ × ℕ × ℕ} e (Step (in_range (start + l)) (λ there. Done (k, l, there))) bytes place → (refusal_of e ≡ out_of_range_offset) × ((size offset : ℕ) → pos k ≡ pos size → pos l ≡ pos offset → IsPlace (start + offset) → ⊥)
-    by (inl h) = let r = no_range e (start + l) bytes place h in (r.0, λ size offset is other fits. let same : l ≡ offset = cc in r.1 (subst (λ o. IsPlace (start + o)) (sym same) fits))
-    by (inr h) = absurd h.3
+no_bounded e start m n bytes place h = grind arith
 
 pub no_bounds : (e : Error) (start : ℕ) (m : Dictionary) (bytes : List ℕ) (place : ℕ) → RefusedAs e (bounds start m bytes place) → NoBounds e start m
 unfolding bounds
@@ -246,12 +224,7 @@ no_glyphs e bytes start m place h = by (stopped {X = Index × CharSet} e (Step (
 module _ (d : ReadsDictionaries) where
   pub no_map : (e : Error) (held bytes : List ℕ) (place : ℕ) → RefusedAs e (map_of held bytes place) → IsRefused held 0 (refusal_of e)
   unfolding map_of
-  no_map e held bytes place h = by (dictionary held 0) refl h
-    where
-      by : (o : Outcome Dictionary) → dictionary held 0 ≡ o → RefusedAs e (after o (λ m _. Got m place)) → IsRefused held 0 (refusal_of e)
-      by (Got m n) is h = absurd h
-      by (Fault r) is h = d.refused_only held 0 (refusal_of e) (is ∙ ap (λ k. Fault k) (sym h))
-      by Past is h = absurd (d.never_past held 0 is)
+  no_map e held bytes place h = grind arith
 
   no_private : (e : Error) (bytes : List ℕ) (start : ℕ) (m : Dictionary) (place : ℕ) → RefusedAs e (private start m bytes place) → NoPrivate e bytes start m
   unfolding private
@@ -270,7 +243,7 @@ module _ (d : ReadsDictionaries) where
     where
       by : Stops {X = Dictionary × Index} e (Step (private start m) (λ p. Step (own_subroutines manner start p.0 p.1) (λ s. Done (p.1, s)))) bytes place → NoPrivate e bytes start m ⊎ ((offset : ℕ) × (local : Dictionary) × HasPrivate bytes start m offset local × IsSought manner (first_of (look local operators.Subrs)) × NoSubroutines e bytes start offset local)
       by (inl h) = inl (no_private e bytes start m place h)
-      by (inr (p, from, is, inl h)) = let n = no_own_subroutines manner e bytes start p.0 p.1 from h in inr (p.0, p.1, private_has d start m p bytes place from is, n.0, n.1)
+      by (inr (p, from, is, inl h)) = let n = no_own_subroutines manner e bytes start p.0 p.1 from h in inr (p.0, p.1, private_has d start m p.0 p.1 bytes place from is, n.0, n.1)
       by (inr (p, from, is, inr h)) = absurd h.3
 
   no_locals : (manner : Manner) (e : Error) (bytes : List ℕ) (start : ℕ) (m : Dictionary) (place : ℕ) → RefusedAs e (locals manner start m bytes place)
@@ -303,7 +276,7 @@ module _ (d : ReadsDictionaries) where
       by : Stops {X = Part} e (Step (encoding m) (λ x. Step (glyphs start m) (λ g. Step (locals manner start m) (λ l. Done (record { encoding = x; char_strings = g.0; char_set = g.1; local_dictionary = l.0; local_subroutines = l.1 }))))) bytes place → NoPart manner e bytes start m
       by (inl h) = OfEncoding (no_encoding e m bytes place h)
       by (inr (x, from, is, inl h)) = of_glyphs x (encoding_has m x bytes place from is).0 (no_glyphs e bytes start m from h)
-      by (inr (x, from, is, inr (g, to, stand, inl h))) = let has = glyphs_have d bytes start m g from to stand in of_locals x g.0 has.0 g.1 (encoding_has m x bytes place from is).0 has.1 has.2 (no_locals manner e bytes start m to h)
+      by (inr (x, from, is, inr (g, to, stand, inl h))) = let has = glyphs_have d bytes start m g.0 g.1 from to stand in of_locals x g.0 has.0 g.1 (encoding_has m x bytes place from is).0 has.1 has.2 (no_locals manner e bytes start m to h)
       by (inr (x, from, is, inr (g, to, stand, inr h))) = absurd h.3
 
   no_parts : (manner : Manner) (e : Error) (bytes : List ℕ) (start : ℕ) (ms : List Dictionary) (place : ℕ) → RefusedAs e (each (part manner start) ms bytes place) → NoParts manner e bytes start ms
@@ -318,12 +291,7 @@ module _ (d : ReadsDictionaries) where
 
   -- ---- what stands behind the header
   no_maps : (e : Error) (items : List (List ℕ)) (bytes : List ℕ) (place : ℕ) → RefusedAs e (maps_of items bytes place) → HasRefused items (refusal_of e)
-  no_maps e items bytes place h = by (maps_of items bytes place) refl h
-    where
-      by : (o : Outcome (List Dictionary)) → maps_of items bytes place ≡ o → RefusedAs e o → HasRefused items (refusal_of e)
-      by (Got ms next) is h = absurd h
-      by (Fault r) is h = (reads_items d).refused_only items (refusal_of e) bytes place (is ∙ ap (λ k. Fault k) (sym h))
-      by Past is h = absurd ((reads_items d).never_past items bytes place is)
+  no_maps e items bytes place h = grind (arith, reads_items)
 
   no_tables : (e : Error) (bytes : List ℕ) (there place : ℕ) → RefusedAs e (tables there bytes place) → NoTables e bytes there
   unfolding tables names dictionaries

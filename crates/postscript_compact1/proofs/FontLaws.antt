@@ -1,18 +1,16 @@
 -- The parts of a font are read exactly where they stand.
-use Rattle.std.proofs.Common.{◌≡◌, ◌⊎◌, inl, inr, ℕ, zero, suc, ◌+◌, ◌-◌, ◌<◌, Bool, true, false, ℤ, pos, negsuc, ◌+ℤ◌, List, [], ◌∷◌, length, take, drop, map, nat_lt, ◌==◌, if◌then◌else◌, refl, sym, ap, ◌∙◌, subst, arith}
+use Rattle.std.proofs.Common.{◌≡◌, ◌⊎◌, inl, inr, ℕ, zero, suc, ◌+◌, ◌-◌, ◌<◌, Bool, true, false, ℤ, pos, ◌+ℤ◌, List, [], ◌∷◌, length, map, nat_lt, ◌==◌, if◌then◌else◌, refl, sym, ap, ◌∙◌, subst, arith}
 use Rattle.std.proofs.lemmas.Int.{ints}
 use Rattle.std.proofs.lemmas.Bool.Decides.{nat_tests}
 use Rattle.postscript_base.specs.Numbers.{slice}
-use Rattle.postscript_base.specs.Refusal.{OfPart, unexpected_eof}
 use Rattle.postscript_base.specs.Tape.At.{at, bytes_at, NeedsBytes}
 use Rattle.postscript_base.specs.Tape.Loops.{each}
-use Rattle.postscript_base.specs.Tape.Outcome.{Outcome, Got, Fault, Past, Reading, after, end, pure, fault}
+use Rattle.postscript_base.specs.Tape.Outcome.{Got, Reading, pure}
 use Rattle.postscript_base.specs.Compact1.Defaults.{look, first_of, first_two_of}
-use Rattle.postscript_base.specs.Compact1.Dictionary.{Dictionary, dictionary, dictionary_of}
+use Rattle.postscript_base.specs.Compact1.Dictionary.{Dictionary, dictionary_of}
 use Rattle.postscript_base.specs.Compact1.DictionaryLaw.{IsDictionary, ReadsDictionaries}
 use Rattle.postscript_base.specs.Compact1.Header.{header}
 use Rattle.postscript_base.specs.declared.compact1.operator.Operator.TheVariants as operators
-use Rattle.postscript_base.specs.declared.error.Part.TheVariants as unsupported
 use Rattle.postscript_compact1.specs.Index.{Index, index, empty}
 use Rattle.postscript_compact1.specs.IndexLaw.{IsIndex}
 use Rattle.postscript_compact1.specs.Kinds.{map_of, maps_of}
@@ -21,37 +19,28 @@ use Rattle.postscript_compact1.specs.CharSets.{char_set as the_set}
 use Rattle.postscript_compact1.specs.CharSetLaw.{IsCharSet}
 use Rattle.postscript_compact1.specs.declared.char_set.CharSet.{CharSet}
 use Rattle.postscript_compact1.specs.declared.encoding.Encoding.{Encoding}
-use Rattle.postscript_compact1.specs.declared.encoding.Encoding.TheVariants as encodings
 use Rattle.postscript_compact1.specs.declared.font_set.manner.Manner.{Manner}
 use Rattle.postscript_compact1.specs.declared.font_set.manner.Manner.TheVariants.{Strict, Lenient}
-use Rattle.postscript_compact1.specs.FontSet.Operands.{goes_without, first, size_of, in_range, place_at, type_two, bounds}
+use Rattle.postscript_compact1.specs.FontSet.Operands.{goes_without, first, size_of, in_range}
 use Rattle.postscript_compact1.specs.FontSet.Font.{Part, Tables, Font, columns, font_of}
 use Rattle.postscript_compact1.specs.FontSet.Order.{encoding_of, encoding, char_strings, own_char_set, char_set_of, char_set_offset, char_set, glyphs, private, subroutines, own_subroutines, own_locals, locals, part, names, dictionaries, tables, behind, parts, font_by, font, lenient_font}
-use Rattle.postscript_compact1.specs.FontSet.Layout.{HasFirst, HasTwo, IsSlice, IsPlace, HasEncoding, HasCharStrings, HasCharSet, Is_0, Is_1, Is_2, Own, HasPrivate, HasSubroutines, IsLacking, HasLocals, WithBoth, WithoutSubrs, WithoutPrivate, IsPart, AreParts, AreTables, IsFontBy, IsFont, IsLenientFont, ReadsLayout, ReadsLeniently}
+use Rattle.postscript_compact1.specs.FontSet.Layout.{HasFirst, IsSlice, IsPlace, HasEncoding, HasCharStrings, HasCharSet, Is_0, Is_1, Is_2, Own, HasPrivate, HasSubroutines, IsLacking, HasLocals, WithBoth, WithoutSubrs, WithoutPrivate, IsPart, AreParts, AreTables, IsFontBy, IsFont, IsLenientFont, ReadsLayout, ReadsLeniently}
 use Rattle.postscript_compact1.proofs.CharSetIs.{char_set_needs}
 use Rattle.postscript_compact1.proofs.CharSetRefused.{reads_char_sets}
 use Rattle.postscript_compact1.proofs.IndexRefused.{reads_indices}
 use Rattle.postscript_compact1.proofs.ItemsAre.{reads_items}
-use Rattle.postscript_compact1.proofs.OperandLaws.{faulty, lacking_is, lacking_has, there_is, first_is, first_has, size_has, in_range_is, in_range_has, placed_is, placed_has, type_is, type_has, bounds_is, bounds_has}
+use Rattle.postscript_compact1.proofs.OperandLaws.{lacking_is, lacking_has, there_is, first_is, first_has, size_has, in_range_is, in_range_has, placed_is, placed_has, type_is, type_has, bounds_is, bounds_has}
 use Rattle.postscript_compact1.proofs.Outcomes.{got}
 use Rattle.postscript_compact1.proofs.Steps.{Done, Last, Step, accepted}
 
 -- ---- other places
 pub at_has : {A : Type 0} (there : ℕ) (reading : Reading A) (bytes : List ℕ) (place : ℕ) (x : A) (next : ℕ) → at there reading bytes place ≡ Got x next → reading bytes there ≡ Got x next
 unfolding at
-at_has there reading bytes place x next e = by (nat_lt (length bytes) there) e
-  where
-    by : (b : Bool) → (if b then Past else reading bytes there) ≡ Got x next → reading bytes there ≡ Got x next
-    by true e = absurd (cc)
-    by false e = e
+at_has there reading bytes place x next e = grind arith
 
 pub at_is : {A : Type 0} (there : ℕ) (reading : Reading A) (bytes : List ℕ) (place : ℕ) (x : A) (next : ℕ) → NeedsBytes reading → reading bytes there ≡ Got x next → at there reading bytes place ≡ Got x next
 unfolding at
-at_is there reading bytes place x next needs e = by (nat_lt (length bytes) there) refl
-  where
-    by : (b : Bool) → nat_lt (length bytes) there ≡ b → (if b then Past else reading bytes there) ≡ Got x next
-    by true t = let past : length bytes < there = grind (arith, nat_tests) in let is : Fault unexpected_eof ≡ Got x next = sym (needs bytes there past) ∙ e in absurd (cc)
-    by false t = e
+at_is there reading bytes place x next needs e = grind arith
 
 -- an INDEX at a place that is sought
 pub index_at_is : (there : ℕ) (bytes : List ℕ) (place : ℕ) (i : Index) (next : ℕ) → IsIndex bytes there i next → at there index bytes place ≡ Got i next
@@ -76,18 +65,7 @@ slice_is size there held bytes place h = by (size == 0) refl
 
 pub slice_has : (size there : ℕ) (held bytes : List ℕ) (place next : ℕ) → bytes_at there size bytes place ≡ Got held next → IsSlice bytes there size held
 unfolding bytes_at at slice
-slice_has size there held bytes place next e = by (size == 0) refl e
-  where
-    cut : (b : Bool) → nat_lt (length bytes - there) size ≡ b → 0 < size → (if b then end else Got (take size (drop there bytes)) (there + size)) ≡ Got held next → IsSlice bytes there size held
-    cut true t some e = faulty held unexpected_eof next e
-    cut false t some e = (λ _. grind (arith, nat_tests), sym (got _ _ _ _ e).0)
-
-    by : (b : Bool) → (size == 0) ≡ b → (if b then pure [] else at there (slice size)) bytes place ≡ Got held next → IsSlice bytes there size held
-    by true t e =
-        let none : size ≡ 0 = grind (arith, nat_tests) in
-        let empty : [] ≡ held = (got _ _ _ _ e).0 in
-        (λ some. absurd (omega arith), rw none (sym empty))
-    by false t e = let some : 0 < size = grind (arith, nat_tests) in cut (nat_lt (length bytes - there) size) refl some (at_has there (slice size) bytes place held next e)
+slice_has size there held bytes place next e = grind arith
 
 -- ---- encodings
 pub encoding_is : (m : Dictionary) (e : Encoding) (bytes : List ℕ) (place : ℕ) → HasEncoding m e → encoding m bytes place ≡ Got e place
@@ -96,24 +74,11 @@ encoding_is m e bytes place (inl h) = rw (first_is m operators.Encoding (pos 0) 
 encoding_is m e bytes place (inr h) = rw (first_is m operators.Encoding (pos 1) bytes place h.0, h.1) refl
 
 encoding_of_has : (m : Dictionary) (z : ℤ) (x : Encoding) (bytes : List ℕ) (place next : ℕ) → HasFirst m operators.Encoding z → encoding_of z bytes place ≡ Got x next → HasEncoding m x × (place ≡ next)
-encoding_of_has m (negsuc n) x bytes place next h e = faulty x (OfPart unsupported.CustomEncoding) next e
-encoding_of_has m (pos n) x bytes place next h e = by (n == 0) refl e
-  where
-    second : (b : Bool) → (n == 1) ≡ b → (if b then pure encodings.Expert else fault (OfPart unsupported.CustomEncoding)) bytes place ≡ Got x next → HasEncoding m x × (place ≡ next)
-    second true t e = let is : n ≡ 1 = grind (arith, nat_tests) in let same = got _ _ _ _ e in (inr (subst (λ k. HasFirst m operators.Encoding (pos k)) is h, sym same.0), same.1)
-    second false t e = faulty x (OfPart unsupported.CustomEncoding) next e
-
-    by : (b : Bool) → (n == 0) ≡ b → (if b then pure encodings.Standard else (if n == 1 then pure encodings.Expert else fault (OfPart unsupported.CustomEncoding))) bytes place ≡ Got x next → HasEncoding m x × (place ≡ next)
-    by true t e = let is : n ≡ 0 = grind (arith, nat_tests) in let same = got _ _ _ _ e in (inl (subst (λ k. HasFirst m operators.Encoding (pos k)) is h, sym same.0), same.1)
-    by false t e = second (n == 1) refl e
+encoding_of_has m z x bytes place next h e = grind arith
 
 pub encoding_has : (m : Dictionary) (x : Encoding) (bytes : List ℕ) (place next : ℕ) → encoding m bytes place ≡ Got x next → HasEncoding m x × (place ≡ next)
 unfolding encoding
-encoding_has m x bytes place next e =
-    let h = accepted (Step (first m operators.Encoding) (λ z. Last (encoding_of z))) bytes place x next e in
-    let one = first_has m operators.Encoding h.0 bytes place h.1 h.2 in
-    let all = encoding_of_has m h.0 x bytes h.1 next one.0 h.3 in
-    (all.0, one.1 ∙ all.1)
+encoding_has m x bytes place next e = grind (arith, accepted, first_has, encoding_of_has)
 
 -- ---- char strings
 pub char_strings_is : (start : ℕ) (m : Dictionary) (bytes : List ℕ) (i : Index) (place next : ℕ) → HasCharStrings bytes start m i next → char_strings start m bytes place ≡ Got i next
@@ -124,12 +89,7 @@ char_strings_is start m bytes i place next h =
 
 pub char_strings_has : (start : ℕ) (m : Dictionary) (bytes : List ℕ) (i : Index) (place next : ℕ) → char_strings start m bytes place ≡ Got i next → HasCharStrings bytes start m i next
 unfolding char_strings
-char_strings_has start m bytes i place next e =
-    let h = accepted (Step (place_at start 0 m operators.CharStrings) (λ there. Step (type_two m) (λ _. Last (at there index)))) bytes place i next e in
-    let p = placed_has start 0 m operators.CharStrings h.0 bytes place h.1 h.2 in
-    let is : p.0 ≡ pos p.1 = let sum : pos 0 +ℤ p.0 ≡ pos p.1 = p.3 in omega (arith, ints) in
-    let t = type_has m h.3.0 bytes h.1 h.3.1 h.3.2 in
-    (p.1, subst (HasFirst m operators.CharStrings) is p.2, t.0, p.5, subst (λ k. IsIndex bytes k i next) p.4 (index_at_has h.0 bytes h.3.1 i next h.3.3))
+char_strings_has start m bytes i place next e = grind (arith, accepted, placed_has, ints, type_has, index_at_has)
 
 -- ---- char sets
 own_is : (start glyphs offset : ℕ) (bytes : List ℕ) (set : CharSet) (place next : ℕ) → IsPlace (start + offset) → IsCharSet bytes (start + offset) glyphs set next → own_char_set start glyphs offset bytes place ≡ Got set next
@@ -187,10 +147,7 @@ subroutines_is start base local bytes s place next h =
 
 pub subroutines_has : (start base : ℕ) (local : Dictionary) (bytes : List ℕ) (s : Index) (place next : ℕ) → subroutines start base local bytes place ≡ Got s next → HasSubroutines bytes start base local s next
 unfolding subroutines
-subroutines_has start base local bytes s place next e =
-    let h = accepted (Step (place_at start base local operators.Subrs) (λ there. Last (at there index))) bytes place s next e in
-    let p = placed_has start base local operators.Subrs h.0 bytes place h.1 h.2 in
-    (p.0, p.1, p.2, p.3, p.5, subst (λ k. IsIndex bytes k s next) p.4 (index_at_has h.0 bytes h.1 s next h.3))
+subroutines_has start base local bytes s place next e = grind (arith, accepted, placed_has, index_at_has)
 
 -- the local subroutines, where they may be lacking
 own_subroutines_have : (manner : Manner) (start base : ℕ) (local : Dictionary) (bytes : List ℕ) (s : Index) (place next : ℕ) → own_subroutines manner start base local bytes place ≡ Got s next
@@ -209,12 +166,10 @@ IsNext Strict next to = next ≡ to
 IsNext Lenient next to = Unit {0}
 
 is_next : (manner : Manner) (next : ℕ) → IsNext manner next next
-is_next Strict next = refl
-is_next Lenient next = tt
+is_next manner next = grind arith
 
 is_open : (manner : Manner) (next to : ℕ) → manner ≡ Lenient → IsNext manner next to
-is_open Strict next to is = absurd (cc)
-is_open Lenient next to is = tt
+is_open manner next to is = grind arith
 
 -- ---- a font that lacks nothing is one that may lack something
 no_lack : {C : Type 0} → Strict ≡ Lenient → C
@@ -240,17 +195,7 @@ wider_parts bytes start (m ∷ ms) (p ∷ ps) place next h =
     (h.0, one, wider_parts bytes start ms ps h.0 next h.2)
 
 wider_font : (bytes : List ℕ) (start : ℕ) (f : Font) (next : ℕ) → IsFont bytes start f next → IsFontBy Lenient bytes start f next
-wider_font bytes start f next h = record {
-  header_next = h.header_next;
-  tables = h.tables;
-  behind = h.behind;
-  parts = h.parts;
-  header = h.header;
-  place = h.place;
-  are_tables = h.are_tables;
-  are_parts = wider_parts bytes start h.tables.dictionaries h.parts h.behind next h.are_parts;
-  made_of = h.made_of;
-}
+wider_font bytes start f next h = grind (arith, wider_parts)
 
 -- ---- dictionaries, the readings of which are what the law says
 module _ (d : ReadsDictionaries) where
@@ -260,12 +205,7 @@ module _ (d : ReadsDictionaries) where
 
   pub map_has : (held : List ℕ) (m : Dictionary) (bytes : List ℕ) (place next : ℕ) → map_of held bytes place ≡ Got m next → IsDictionary held 0 m × (place ≡ next)
   unfolding map_of
-  map_has held m bytes place next e = by (dictionary held 0) refl e
-    where
-      by : (o : Outcome Dictionary) → dictionary held 0 ≡ o → after o (λ m _. Got m place) ≡ Got m next → IsDictionary held 0 m × (place ≡ next)
-      by (Got n to) is e = let same = got n m place next e in (subst (IsDictionary held 0) same.0 (d.only held 0 n to is).0, same.1)
-      by (Fault r) is e = faulty m r next e
-      by Past is e = absurd (cc)
+  map_has held m bytes place next e = grind arith
 
   -- ---- the private dictionary
   pub private_is : (start offset : ℕ) (m local : Dictionary) (bytes : List ℕ) (place : ℕ) → HasPrivate bytes start m offset local → (next : ℕ) × (private start m bytes place ≡ Got (offset, local) next)
@@ -274,23 +214,9 @@ module _ (d : ReadsDictionaries) where
       let s = slice_is h.0 (start + offset) h.1 bytes place h.4 in
       (s.0, rw (bounds_is start m h.0 offset bytes place h.2 h.3, s.1, map_is h.1 local bytes s.0 h.5) refl)
 
-  pub private_has : (start : ℕ) (m : Dictionary) (r : ℕ × Dictionary) (bytes : List ℕ) (place next : ℕ) → private start m bytes place ≡ Got r next → HasPrivate bytes start m r.0 r.1
+  pub private_has : (start : ℕ) (m : Dictionary) (offset : ℕ) (local : Dictionary) (bytes : List ℕ) (place next : ℕ) → private start m bytes place ≡ Got (offset, local) next → HasPrivate bytes start m offset local
   unfolding private
-  private_has start m r bytes place next e =
-      let h = accepted (Step (bounds start m) (λ b. Step (bytes_at b.2 b.0) (λ held. Step (map_of held) (λ local. Done (b.1, local))))) bytes place r next e in
-      let b = bounds_has start m h.0 bytes place h.1 h.2 in
-      let s = slice_has h.0.0 h.0.2 h.3.0 bytes h.1 h.3.1 h.3.2 in
-      let l = map_has h.3.0 h.3.3.0 bytes h.3.1 h.3.3.1 h.3.3.2 in
-      let pair = h.3.3.3.0 in
-      let offset : h.0.1 ≡ r.0 = ap (λ q. q.0) pair in
-      let local : h.3.3.0 ≡ r.1 = ap (λ q. q.1) pair in (
-        h.0.0,
-        h.3.0,
-        subst (λ k. HasTwo m operators.Private (pos h.0.0) (pos k)) offset b.0,
-        subst (λ k. IsPlace (start + k)) offset b.2,
-        subst (λ k. IsSlice bytes k h.0.0 h.3.0) (b.1 ∙ ap (λ k. start + k) offset) s,
-        subst (IsDictionary h.3.0 0) local l.0,
-      )
+  private_has start m offset local bytes place next e = grind (arith, bounds_has, slice_has, map_has)
 
   -- ---- the private dictionary and the local subroutines
   locals_are : (manner : Manner) (bytes : List ℕ) (start : ℕ) (m local : Dictionary) (s : Index) (place next : ℕ) → HasLocals manner bytes start m local s next → (to : ℕ) × (locals manner start m bytes place ≡ Got (local, s) to) × IsNext manner next to
@@ -324,16 +250,9 @@ module _ (d : ReadsDictionaries) where
       ) refl in
       (l.0, whole, l.2)
 
-  pub glyphs_have : (bytes : List ℕ) (start : ℕ) (m : Dictionary) (g : Index × CharSet) (place next : ℕ) → glyphs start m bytes place ≡ Got g next → (at : ℕ) × HasCharStrings bytes start m g.0 at × HasCharSet bytes start (length g.0.items) m g.1
+  pub glyphs_have : (bytes : List ℕ) (start : ℕ) (m : Dictionary) (i : Index) (s : CharSet) (place next : ℕ) → glyphs start m bytes place ≡ Got (i, s) next → (at : ℕ) × HasCharStrings bytes start m i at × HasCharSet bytes start (length i.items) m s
   unfolding glyphs
-  glyphs_have bytes start m g place next e =
-      let h = accepted (Step (char_strings start m) (λ i. Step (char_set start (length i.items) m) (λ s. Done (i, s)))) bytes place g next e in
-      let strings = ap (λ p. p.0) h.3.3.0 in
-      let set = ap (λ p. p.1) h.3.3.0 in (
-        h.1,
-        subst (λ k. HasCharStrings bytes start m k h.1) strings (char_strings_has start m bytes h.0 place h.1 h.2),
-        subst (λ k. HasCharSet bytes start (length g.0.items) m k) set (subst (λ k. HasCharSet bytes start (length k.items) m h.3.0) strings (char_set_has start (length h.0.items) m bytes h.3.0 h.1 h.3.1 h.3.2)),
-      )
+  glyphs_have bytes start m i s place next e = grind (arith, char_strings_has, char_set_has)
 
   own_locals_have : (manner : Manner) (bytes : List ℕ) (start : ℕ) (m : Dictionary) (l : Dictionary × Index) (place next : ℕ) → own_locals manner start m bytes place ≡ Got l next → HasLocals manner bytes start m l.0 l.1 next
   unfolding own_locals
@@ -344,8 +263,8 @@ module _ (d : ReadsDictionaries) where
       h = accepted (Step (private start m) (λ p. Step (own_subroutines manner start p.0 p.1) (λ s. Done (p.1, s)))) bytes place l next e
 
       by : HasSubroutines bytes start h.0.0 h.0.1 h.3.0 h.3.1 ⊎ (IsLacking manner (first_of (look h.0.1 operators.Subrs)) × (h.3.0 ≡ empty)) → HasLocals manner bytes start m h.0.1 h.3.0 h.3.1
-      by (inl stands) = WithBoth h.0.0 (private_has start m h.0 bytes place h.1 h.2) stands
-      by (inr none) = WithoutSubrs h.0.0 (private_has start m h.0 bytes place h.1 h.2) none.0 none.1
+      by (inl stands) = WithBoth h.0.0 (private_has start m h.0.0 h.0.1 bytes place h.1 h.2) stands
+      by (inr none) = WithoutSubrs h.0.0 (private_has start m h.0.0 h.0.1 bytes place h.1 h.2) none.0 none.1
 
   locals_have : (manner : Manner) (bytes : List ℕ) (start : ℕ) (m : Dictionary) (l : Dictionary × Index) (place next : ℕ) → locals manner start m bytes place ≡ Got l next → HasLocals manner bytes start m l.0 l.1 next
   unfolding locals
@@ -361,7 +280,7 @@ module _ (d : ReadsDictionaries) where
   unfolding part
   part_has manner bytes start m p place next e =
       let h = accepted (Step (encoding m) (λ e. Step (glyphs start m) (λ g. Step (locals manner start m) (λ l. Done (record { encoding = e; char_strings = g.0; char_set = g.1; local_dictionary = l.0; local_subroutines = l.1 }))))) bytes place p next e in
-      let g = glyphs_have bytes start m h.3.0 h.1 h.3.1 h.3.2 in
+      let g = glyphs_have bytes start m h.3.0.0 h.3.0.1 h.1 h.3.1 h.3.2 in
       let l = locals_have manner bytes start m h.3.3.0 h.3.1 h.3.3.1 h.3.3.2 in
       let q : Part = record { encoding = h.0; char_strings = h.3.0.0; char_set = h.3.0.1; local_dictionary = h.3.3.0.0; local_subroutines = h.3.3.0.1 } in
       let whole : IsPart manner bytes start m q h.3.3.1 = record {
@@ -450,7 +369,7 @@ module _ (d : ReadsDictionaries) where
       ) refl in
       (ps.0, whole, ps.2)
 
-  font_by_has : (manner : Manner) (bytes : List ℕ) (start : ℕ) (f : Font) (next : ℕ) → font_by manner bytes start ≡ Got f next → IsFontBy manner bytes start f next
+  pub font_by_has : (manner : Manner) (bytes : List ℕ) (start : ℕ) (f : Font) (next : ℕ) → font_by manner bytes start ≡ Got f next → IsFontBy manner bytes start f next
   unfolding font_by behind parts
   font_by_has manner bytes start f next e =
       let h = accepted (Step header (λ hd. Step (behind start hd) (λ t. Step (parts manner start t.dictionaries) (λ c. Done (font_of hd t c))))) bytes start f next e in

@@ -2,12 +2,12 @@
 use Rattle.std.proofs.Common.{◌≡◌, pos, refl, sym, ap, subst, ◌∙◌, ℕ, zero, suc, ◌+◌, ◌-◌, ◌*◌, ◌≤◌, ◌<◌, Bool, true, false, ◌||◌, ◌==◌, nat_lt, if◌then◌else◌, Option, Some, None, List, [], ◌∷◌, length, take, drop, map, length-take, length-drop, ◌⊎◌, inl, inr, arith}
 use Rattle.std.proofs.lemmas.Bool.Decides.{nat_tests}
 use Rattle.postscript_base.specs.Compact1.Offset.{offset, rises, rising, behind}
-use Rattle.postscript_base.specs.Numbers.{big_endian, number, slice}
+use Rattle.postscript_base.specs.Numbers.{number, slice}
 use Rattle.postscript_base.specs.Refusal.{Refusal, malformed_index, malformed_offset, unexpected_eof}
 use Rattle.postscript_base.specs.Tape.At.{NeedsBytes}
 use Rattle.postscript_base.specs.Tape.Loops.{chain, each}
 use Rattle.postscript_base.specs.Tape.Onward.{MovesOn, TakesBytes}
-use Rattle.postscript_base.specs.Tape.Outcome.{Outcome, Got, Fault, Past, after, end, fault, pure}
+use Rattle.postscript_base.specs.Tape.Outcome.{Outcome, Got, Fault, Past, after, fault, pure}
 use Rattle.postscript_base.proofs.Onward.{needs_after, number_needs}
 use Rattle.postscript_compact1.specs.Index.{Index, empty, filled, index, lengths, lengths_from, offsets}
 use Rattle.postscript_compact1.specs.Kinds.{char_strings}
@@ -25,11 +25,7 @@ IsSlice count bytes place Past = ⊥
 
 is_slice : (count : ℕ) (bytes : List ℕ) (place : ℕ) → 0 < count → IsSlice count bytes place (slice count bytes place)
 unfolding slice
-is_slice count bytes place some = by (nat_lt (length bytes - place) count) refl
-  where
-    by : (b : Bool) → nat_lt (length bytes - place) count ≡ b → IsSlice count bytes place (if b then end else Got (take count (drop place bytes)) (place + count))
-    by true e = inl refl
-    by false e = (grind (arith, nat_tests), refl, refl)
+is_slice count bytes place some = grind arith
 
 pub slice_got : (count : ℕ) (bytes : List ℕ) (place : ℕ) → place + count ≤ length bytes → slice count bytes place ≡ Got (take count (drop place bytes)) (place + count)
 unfolding slice
@@ -43,12 +39,7 @@ IsNumber size bytes place Past = ⊥
 
 pub is_number : (size : ℕ) (bytes : List ℕ) (place : ℕ) → 0 < size → IsNumber size bytes place (number size bytes place)
 unfolding number
-is_number size bytes place some = by (slice size bytes place) (is_slice size bytes place some)
-  where
-    by : (o : Outcome (List ℕ)) → IsSlice size bytes place o → IsNumber size bytes place (after o (λ bytes next. Got (big_endian bytes) next))
-    by (Got xs next) h = ((h.0, ap big_endian h.1), h.2)
-    by (Fault refusal) h = h
-    by Past h = h
+is_number size bytes place some = grind (arith, is_slice)
 
 pub number_got : (size : ℕ) (bytes : List ℕ) (place n : ℕ) → NumberAt bytes place size n → number size bytes place ≡ Got n (place + size)
 unfolding number
@@ -69,8 +60,7 @@ IsRising size last bytes place (Fault refusal) = Refuses refusal
 IsRising size last bytes place Past = ⊥
 
 pub sizes : (size : ℕ) → ((size == 0) || nat_lt 4 size) ≡ false → IsSize size
-sizes zero e = absurd (cc)
-sizes (suc size) e = (omega arith, grind (arith, nat_tests))
+sizes size e = grind arith
 
 pub is_rising : (size : ℕ) (last : Option ℕ) (bytes : List ℕ) (place : ℕ) → IsRising size last bytes place (rising (size, last) bytes place)
 unfolding rising offset
@@ -104,12 +94,10 @@ IsChain count size last bytes place (Fault refusal) = Refuses refusal
 IsChain count size last bytes place Past = ⊥
 
 pub nothing_follows : (last : Option ℕ) → Follows last []
-nothing_follows None = tt
-nothing_follows (Some last) = tt
+nothing_follows last = grind arith
 
 pub follows_on : (last : Option ℕ) (n : ℕ) (os : List ℕ) → rises last n ≡ true → RisesFrom n os → Follows last (n ∷ os)
-follows_on None n os up rest = (grind (arith, nat_tests), rest)
-follows_on (Some last) n os up rest = (grind (arith, nat_tests), rest)
+follows_on last n os up rest = grind arith
 
 pub is_chain : (count size : ℕ) (last : Option ℕ) (bytes : List ℕ) (place : ℕ) → IsChain count size last bytes place (chain rising behind (size, last) count bytes place)
 unfolding chain
@@ -130,8 +118,7 @@ is_chain (suc count) size last bytes place = by (rising (size, last) bytes place
     by Past h later = h
 
 pub up_by : (last : Option ℕ) (n : ℕ) (os : List ℕ) → Follows last (n ∷ os) → (rises last n ≡ true) × RisesFrom n os
-up_by None n os h = let first = h.0 in (grind (arith, nat_tests), h.1)
-up_by (Some last) n os h = let up = h.0 in (grind (arith, nat_tests), h.1)
+up_by last n os h = grind arith
 
 pub chain_got : (size : ℕ) (last : Option ℕ) (bytes : List ℕ) (place : ℕ) (os : List ℕ) → IsSize size → OffsetsAt bytes place size os → Follows last os → chain rising behind (size, last) (length os) bytes place ≡ Got os (place + length os * size)
 unfolding chain
@@ -234,30 +221,15 @@ module _ (bytes : List ℕ) (place count : ℕ) where
 
   offsets_got : (size : ℕ) (os : List ℕ) → IsSize size → length os ≡ count + 1 → OffsetsAt bytes (place + 3) size os → Follows None os → offsets size (count + 1) bytes (place + 2 + 1) ≡ Got os (place + 3 + (count + 1) * size)
   unfolding offsets
-  offsets_got size os sized many h up =
-      let begins : place + 2 + 1 ≡ place + 3 = omega arith in
-      rw begins (subst (λ n. chain rising behind (size, None) n bytes (place + 3) ≡ Got os (place + 3 + n * size)) many (chain_got size None bytes (place + 3) os sized h up))
+  offsets_got size os sized many h up = grind (arith, chain_got)
 
   filled_got : (size : ℕ) (os : List ℕ) (items : List (List ℕ)) (next : ℕ) → IsFilledAt bytes place (made size os items) next → filled count bytes (place + 2) ≡ Got (made size os items) next
   unfolding filled
-  filled_got size [] items next f = absurd f.rise
-  filled_got size (first ∷ rest) items next f =
-      let first_is = f.rise.0 in
-      let items_are = items_got (place + 2 + (count + 1) * size) first rest bytes items (place + 3 + (count + 1) * size) f.rise.1 f.items (omega arith) in
-      rw (number_got 1 bytes (place + 2) size f.size, offsets_got size (first ∷ rest) (f.least, f.most) f.many f.offsets f.rise, items_are) (ap (λ n. Got (made size (first ∷ rest) items) n) (sym f.behind))
+  filled_got size os items next f = grind (arith, items_got, number_got, offsets_got)
 
 pub is_index : (bytes : List ℕ) (place : ℕ) → Is bytes place (index bytes place)
 unfolding index
-is_index bytes place = by (number 2 bytes place) (is_number 2 bytes place (omega arith))
-  where
-    tested : (count at : ℕ) (b : Bool) → (count == 0) ≡ b → IsNumber 2 bytes place (Got count at) → Is bytes place ((if b then pure empty else filled count) bytes at)
-    tested count at true e h = let none : count ≡ 0 = grind (arith, nat_tests) in inl ((h.0.0, sym none ∙ h.0.1), refl, h.1)
-    tested count at false e h = let some : 0 < count = grind (arith, nat_tests) in is_filled bytes place count at some h.0 h.1
-
-    by : (o : Outcome ℕ) → IsNumber 2 bytes place o → Is bytes place (after o (λ count at. (if count == 0 then pure empty else filled count) bytes at))
-    by (Got count at) h = tested count at (count == 0) refl h
-    by (Fault refusal) h = h
-    by Past h = h
+is_index bytes place = grind (arith, is_number, nat_tests, is_filled)
 
 pub all : (bytes : List ℕ) (place : ℕ) (i : Index) (next : ℕ) → IsIndex bytes place i next → index bytes place ≡ Got i next
 unfolding index
@@ -286,15 +258,7 @@ measured before low (high ∷ os) bytes (item ∷ items) up h =
     (ap suc rest.0, rw (long, rest.1) refl, λ _. rest.2 within, omega arith)
 
 pub whole : (bytes : List ℕ) (place : ℕ) (i : Index) (next : ℕ) → IsIndex bytes place i next → IsWhole i
-whole bytes place i next (inl h) = inl h.1
-whole bytes place i next (inr f) = inr (record { some = f.some; items = parts.0; offsets = f.many; rise = f.rise; lengths = parts.1 })
-  where
-    by : (os : List ℕ) → length os ≡ i.count + 1 → AreOffsets os → ItemsAt bytes (before_data place i) os i.items → (length i.items ≡ i.count) × (map length i.items ≡ lengths os)
-    by [] many up h = absurd up
-    by (first ∷ rest) many up h = let m = measured (before_data place i) first rest bytes i.items up.1 h in let n = m.0 in (omega arith, m.1)
-
-    parts : (length i.items ≡ i.count) × (map length i.items ≡ lengths i.offsets)
-    parts = by i.offsets f.many f.rise f.items
+whole bytes place i next h0 = grind (arith, measured)
 
 moves : (bytes : List ℕ) (place : ℕ) (i : Index) (next : ℕ) → IsIndex bytes place i next → (place < next) × (next ≤ length bytes)
 moves bytes place i next (inl h) = let counted = h.0.0 in let behind = h.2 in (omega arith, omega arith)
