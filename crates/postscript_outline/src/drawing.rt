@@ -3,7 +3,7 @@ ghost use Rattle.std.specs.Prelude.{◌≡◌, ◌⊎◌, Err, IfErr, IfOk, OnEr
 ghost use Rattle.postscript_base.specs.declared.error.Error.TheVariants as errors;
 ghost use Rattle.postscript_base.specs.Error.{code as number, IsOneOf};
 ghost use Rattle.postscript_base.specs.Refusal.{refusal_of};
-ghost use Rattle.postscript_outline.specs.Drawing.{IsFront, held};
+ghost use Rattle.postscript_outline.specs.Drawing.{IsFront, closed, held};
 ghost use Rattle.postscript_outline.specs.Given.{DrawsFrom, DrawsPending, DrawsRun, IsFrontDrawn, outlined_from};
 ghost use Rattle.postscript_outline.specs.Outline.{outline_of, outlined};
 ghost use Rattle.postscript_type2.specs.Program.Endings.{next_refusals};
@@ -79,6 +79,17 @@ fn draw_from<S: Sink>(
             None => return Err(fault),
         }
     }
+    Ok(end(program, &mut pen, sink)?)
+}
+
+/// Ends the contour, if one is open, and answers the width.
+#[inline(always)]
+fn end<S: Sink>(program: &Program<'_>, pen: &mut Pen, sink: &mut S) -> Result<Option<Operand>>
+    ensures ok { IfOk result (λ width. held pen.new (S.given sink.new) ≡ closed (held pen.old (S.given sink.old))) }
+    ensures width { IfOk result (λ width. width ≡ program.now.width) }
+    ensures err { IfErr result (λ e. S.refuses sink.new e × (S.given sink.new ≡ S.given sink.old)) }
+    ensures kept { IsFront (S.given sink.old) (S.given sink.new) }
+{
     pen.end(sink)?;
     Ok(program.width())
 }

@@ -1,7 +1,8 @@
 //! Tallies, which take in the segments of an outline and keep no list of them.
-ghost use Rattle.std.specs.Prelude.{◌≡◌, ◌⊎◌, IfOk, MatchResult, fold};
+ghost use Rattle.std.specs.Prelude.{◌≡◌, ◌⊎◌, [], IfErr, IfOk, OnOk, MatchResult, fold};
 ghost use Rattle.postscript_base.specs.declared.error.Error.TheVariants as errors;
 ghost use Rattle.postscript_base.specs.Refusal.{refusal_of};
+ghost use Rattle.postscript_outline.specs.Drawing.{closed, held};
 ghost use Rattle.postscript_outline.specs.Outline.{outline_of, outlined};
 ghost use Rattle.postscript_outline.specs.Tally.{TalliesPending, TalliesRun};
 ghost use Rattle.postscript_type2.specs.Program.Evaluation.{run_of};
@@ -65,10 +66,19 @@ pub fn tally_program<T: Tally>(
         pen.draw_operator(operator, operands, &mut segments)?;
         add_all(&segments, tally);
     }
-    segments.truncate(0);
-    pen.end(&mut segments)?;
-    add_all(&segments, tally);
+    end(&mut pen, &mut segments, tally)?;
     Ok(program.width())
+}
+
+/// Ends the contour, if one is open, and takes in what that draws. The list is used for it, and forgotten.
+fn end<T: Tally>(pen: &mut Pen, segments: &mut Vec<Segment>, tally: &mut T) -> Result<()>
+    ensures ok { OnOk result (tally.new ≡ fold T.after tally.old (closed (held pen.old [])).segments) }
+    ensures err { IfErr result (λ e. e ≡ errors.Memory) }
+{
+    segments.truncate(0);
+    pen.end(segments)?;
+    add_all(segments, tally);
+    Ok(())
 }
 
 /// Takes in all of them, one after another.

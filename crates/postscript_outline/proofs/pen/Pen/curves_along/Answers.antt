@@ -16,3 +16,6 @@ returns-in_err-curve_by-clause-front g c =
     let same : drawing (curves_along c.args.axis c.loop-bend.off c.loop-bend.ahead.now) here ≡ drawing (curves_along c.args.axis c.args.first c.args.operands.now) (held c.args.self.now (g.S.Sink.given c.args.sink.now)) = search rules in
     let whole = front-of-first now stroke (curves_along c.args.axis (pos 0) c.in-Some.bend.rest.now) (curves_along c.args.axis c.loop-bend.off c.loop-bend.ahead.now) here _ all same first in
     search rules
+
+pub loop-bend-smaller : goal.loop-bend-smaller
+loop-bend-smaller g c = search rules steps 1000000

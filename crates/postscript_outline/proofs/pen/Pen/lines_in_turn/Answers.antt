@@ -26,3 +26,12 @@ returns-in_err-line_by-2-clause-front g c =
     let same : drawing (lines_in_turn (other c.args.first) c.in-Some.behind.now) here ≡ drawing (lines_in_turn c.args.first c.args.operands.now) (held c.args.self.now (g.S.Sink.given c.args.sink.now)) = search rules in
     let whole = front-of-first now stroke (lines_in_turn (other (other c.args.first)) c.in-Some-line_in_turn.rest.now) (lines_in_turn (other c.args.first) c.in-Some.behind.now) here _ all same first in
     search rules
+
+pub returns-in_default-line_in_turn-clause-exact : goal.returns-in_default-line_in_turn-clause-exact
+returns-in_default-line_in_turn-clause-exact g c = search rules steps 1000000
+
+pub returns-in_err-line_by-2-clause-exact : goal.returns-in_err-line_by-2-clause-exact
+returns-in_err-line_by-2-clause-exact g c = search rules steps 1000000
+
+pub loop-a-smaller : goal.loop-a-smaller
+loop-a-smaller g c = search rules steps 1000000
