@@ -81,12 +81,19 @@ def clause(path, function, wanted):
     return next(body for name, body in found if name == wanted)
 
 
+def bound(text):
+    """The names that a definition binds: in its type, behind a λ, or left of an equation."""
+    groups = re.findall(r"[({]([^(){}:]+) : ", text) + re.findall(r"λ ([^.]*)\.", text)
+    groups += re.findall(r"^(?!.* : )[^\s(]+ (.*?) =(?: |$)", text, re.M)
+    return {word for group in groups for word in WORD.findall(group) if word[0].islower()}
+
+
 def believed(crate, file, wanted):
     path = os.path.join(CRATES, crate, "src", file)
     known, told, left = {}, collections.OrderedDict(), []
 
     def look(text, scope, own):
-        for word in WORD.findall(text):
+        for word in sorted({*WORD.findall(text)} - bound(text)):
             if own and word in known[own]:
                 left.append((own, word))
             elif word in scope and scope[word][1] and file_of(scope[word][0]):
