@@ -7,13 +7,14 @@
 Each WORD is a folder or an installed Debian package, of which each file .otf is taken, or a font file or a collection, of which each face is that
 has a table `CFF `.
 Needs Debian's python3-fonttools. For each glyph it compares the number, the name or the CID, the characters, the advance, the width
-of the charstring with the nominal or the default one, each segment, coordinates as exact fractions, the bounds of all points, and
+of the charstring with the nominal or the default one, each operation and each segment, numbers as exact fractions, the bounds of all points, and
 the bounds of the curves, rounded outwards to 65536ths, which a side may leave by one more; glyphs that are made of two others are
 left out, since these are not followed. Of the face it compares each field of `inspect` but the refusals: operands of the
 dictionaries as floats, where fontTools reads numbers, and the glyphs with hints by its decompiler of charstrings. It prints each
 face and glyph that differs, and at the end how many were compared and how many differ. Nothing is drawn at random.
 """
 
+import concurrent.futures
 import itertools
 import json
 import pathlib
@@ -21,7 +22,7 @@ import subprocess
 import sys
 from fractions import Fraction
 
-from fontTools.misc.psCharStrings import SimpleT2Decompiler
+from fontTools.misc.psCharStrings import SimpleT2Decompiler, T2WidthExtractor
 from fontTools.pens.recordingPen import RecordingPen
 from fontTools.ttLib import TTFont
 
@@ -59,6 +60,64 @@ class Hints(SimpleT2Decompiler):
         return super().op_hintmask(index)
 
     op_cntrmask = op_hintmask
+
+
+class Operations(T2WidthExtractor):
+    """Runs a charstring, and keeps each operation: its name and its operands without the width."""
+
+    def __init__(self, char_string):
+        private = char_string.private
+        super().__init__(getattr(private, "Subrs", []), char_string.globalSubrs, 0, 0, private)
+        self.listed = []
+
+    def keep(self, name, operands):
+        self.listed.append((name, [Fraction(operand) for operand in operands]))
+
+    def countHints(self):
+        operands = self.popallWidth()
+        self.hintCount += len(operands) // 2
+        self.stems = operands
+
+    def op_hintmask(self, index):
+        self.stems = []
+        answer = super().op_hintmask(index)
+        self.keep("hintmask", self.stems)
+        return answer
+
+    def op_cntrmask(self, index):
+        self.stems = []
+        answer = super().op_hintmask(index)
+        self.keep("cntrmask", self.stems)
+        return answer
+
+
+def kept(name, operands_of):
+    def operator(self, index):
+        self.keep(name, operands_of(self))
+
+    return operator
+
+
+for name in ("rlineto hlineto vlineto rrcurveto hhcurveto vvcurveto hvcurveto vhcurveto rcurveline rlinecurve hflex flex hflex1 flex1").split():
+    setattr(Operations, f"op_{name}", kept(name, lambda run: run.popall()))
+for name in ("hmoveto", "vmoveto"):
+    setattr(Operations, f"op_{name}", kept(name, lambda run: run.popallWidth(1)))
+for name in ("rmoveto", "endchar"):
+    setattr(Operations, f"op_{name}", kept(name, lambda run: run.popallWidth()))
+for name in ("hstem", "vstem", "hstemhm", "vstemhm"):
+    setattr(Operations, f"op_{name}", kept(name, lambda run: run.countHints() or run.stems))
+
+
+def operations_of(char_string):
+    run = Operations(char_string)
+    run.execute(char_string)
+    return run.listed
+
+
+def operation_of(text):
+    """An operation as psotf writes it."""
+    name, *operands = text.split()
+    return name.lower(), [Fraction(operand) for operand in operands]
 
 
 def has_hint(char_string):
@@ -109,6 +168,7 @@ def glyph_differs(glyph, number, name, font, char_string, drawing, characters):
         or named_of(glyph, "cid" in glyph) != name
         or glyph["advance"] != font["hmtx"][name][0]
         or sorted(glyph["chars"]) != (sorted(characters) if number else [])
+        or [operation_of(text) for text in glyph["operations"]] != operations_of(char_string)
         or drawing_differs(glyph, char_string, drawing)
     )
 
@@ -161,8 +221,9 @@ def face_differs(face, path, font, top):
     )
 
 
-def compare(path, number):
-    """How many glyphs a face has, how many of them are left out, and how many differ."""
+def compare(face):
+    """How many glyphs a face has, how many of them are left out, how many differ, and a line for each that does."""
+    path, number = face
     font = TTFont(path, lazy=True, fontNumber=number)
     top = font["CFF "].cff.topDictIndex[0]
     characters = {}
@@ -170,18 +231,16 @@ def compare(path, number):
         characters.setdefault(name, []).append(f"U+{code:04X}")
     names = font.getGlyphOrder()
     glyphs = told("glyph", path, "--face", str(number), "--all")
-    different, left_out = abs(len(glyphs) - len(names)), 0
+    different, left_out = [f"{path}: {len(glyphs)} glyphs"] * (len(glyphs) != len(names)), 0
     if face_differs(told("inspect", path, "--face", str(number))[0], path, font, top):
-        different += 1
-        print(f"{path}: face {number}")
+        different.append(f"{path}: face {number}")
     for gid, (name, glyph) in enumerate(zip(names, glyphs, strict=False)):
         char_string = top.CharStrings[name]
         drawing = recorded(char_string)
         if is_accented(drawing):
             left_out += 1
         elif glyph_differs(glyph, gid, name, font, char_string, drawing, characters.get(name, [])):
-            different += 1
-            print(f"{path}: {name}")
+            different.append(f"{path}: {name}")
     return len(names), left_out, different
 
 
@@ -190,8 +249,11 @@ def main(words):
         sys.exit(__doc__)
     faces = [(path, number) for path in files_of(*words) for number in range(faces_of(path))]
     faces = [(path, number) for path, number in faces if "CFF " in TTFont(path, lazy=True, fontNumber=number).reader]
-    counts = [compare(path, number) for path, number in faces]
-    glyphs, left_out, different = (sum(column) for column in zip(*counts, strict=True))
+    glyphs = left_out = different = 0
+    with concurrent.futures.ProcessPoolExecutor() as pool:
+        for count, left, lines in pool.map(compare, faces):
+            glyphs, left_out, different = glyphs + count, left_out + left, different + len(lines)
+            print(*lines, sep="\n", end="\n" * bool(lines), flush=True)
     print(f"{len(faces)} faces, {glyphs} glyphs, {left_out} left out, {different} different")
     sys.exit(different > 0)
 
