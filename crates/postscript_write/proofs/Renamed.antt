@@ -9,17 +9,21 @@ use Rattle.postscript_view.specs.declared.char_set.CharSetView.{CharSetView}
 use Rattle.postscript_view.proofs.Naming.{named_once}
 use Rattle.postscript_write.specs.Strings.{own_string, SameString, SameText}
 
--- a standard string, or one of the font's own
-picked : (a b : Bool) (s t o p : Option (List ℕ)) → (if b then None else p) ≡ (if a then None else o) → ((if a then None else o) ≡ None → (b ≡ a) × (t ≡ s)) → (if b then t else p) ≡ (if a then s else o)
-picked true true s t o p e same = (same refl).1
-picked true false s t o p e same = let never : false ≡ true = (same refl).0 in absurd (cc)
-picked false true s t o p e same = let never : true ≡ false = (same (sym e)).0 in absurd (cc)
-picked false false s t o p e same = e
+standard : (strings : List (List ℕ)) (identifier : ℕ) → nat_lt identifier 391 ≡ true → string_of strings identifier ≡ standard_string identifier
+unfolding string_of
+standard strings identifier e = ap (λ b. if b then standard_string identifier else slice_get strings (identifier - 391)) e
+
+-- strings are the same where those of the fonts' own are, and standard ones
+picked : (a b : Bool) (o p s t : Option (List ℕ)) → (a ≡ true → o ≡ s) → (b ≡ true → p ≡ t) → (if b then None else p) ≡ (if a then None else o) → ((if a then None else o) ≡ None → (b ≡ a) × (t ≡ s)) → p ≡ o
+picked true true o p s t eo ep e same = ep refl ∙ (same refl).1 ∙ sym (eo refl)
+picked true false o p s t eo ep e same = let never : false ≡ true = (same refl).0 in absurd (cc)
+picked false true o p s t eo ep e same = let never : true ≡ false = (same (sym e)).0 in absurd (cc)
+picked false false o p s t eo ep e same = e
 
 same_string_of : (old new : List (List ℕ)) (was is : ℕ) → SameString old was new is → string_of new is ≡ string_of old was
-unfolding string_of own_string
+unfolding own_string
 same_string_of old new was is same =
-    picked (nat_lt was 391) (nat_lt is 391) (standard_string was) (standard_string is) (slice_get old (was - 391)) (slice_get new (is - 391)) same.string
+    picked (nat_lt was 391) (nat_lt is 391) (string_of old was) (string_of new is) (standard_string was) (standard_string is) (standard old was) (standard new is) same.string
     (λ none. let e : is ≡ was = same.identifier none in (ap (λ n. nat_lt n 391) e, ap standard_string e))
 
 own_none : (strings : List (List ℕ)) (identifier : ℕ) → identifier < 391 → own_string strings identifier ≡ None

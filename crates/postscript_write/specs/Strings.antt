@@ -1,5 +1,5 @@
 -- The strings of a font that is made of glyphs of another one, and what names them (Technical Note 5176, sections 9, 10 and 13).
-use Rattle.std.specs.Prelude.{◌≡◌, ◌↔◌, ◌⊎◌, ℕ, ◌+◌, ◌-◌, ◌<◌, ℤ, pos, List, Option, Some, None, Bool, true, false, ◌||◌, length, nat_lt, slice_get, slice_index_or, All, Any, MatchBool, if◌then◌else◌}
+use Rattle.std.specs.Prelude.{◌≡◌, ◌↔◌, ◌⊎◌, ℕ, ◌+◌, ◌<◌, ℤ, pos, List, Option, Some, None, Bool, true, false, ◌||◌, length, nat_lt, slice_index_or, All, Any, MatchBool, if◌then◌else◌}
 use Rattle.std.specs.Option.{option_and_then, is_some}
 use Rattle.postscript_base.specs.Compact1.Decimal.{to_i32}
 use Rattle.postscript_base.specs.Compact1.Defaults.{look, first_of}
@@ -9,7 +9,7 @@ use Rattle.postscript_base.specs.declared.compact1.operator.Operator.TheVariants
 use Rattle.postscript_view.specs.CharSets.{IsCharSetOf}
 use Rattle.postscript_view.specs.Naming.{Names}
 use Rattle.postscript_view.specs.Order.{Tables, View}
-use Rattle.postscript_view.specs.Strings.{HasName}
+use Rattle.postscript_view.specs.Strings.{HasName, string_of}
 use Rattle.postscript_view.specs.declared.char_set.CharSetView.{CharSetView}
 use Rattle.postscript_write.specs.Glyphs.{Sources}
 use Rattle.postscript_write.specs.Naming.{SameNames}
@@ -24,9 +24,9 @@ identifier_from _ = None
 unfoldable pub identifier_in : Dictionary → Operator → Option ℕ
 identifier_in map operator = identifier_from (option_and_then to_i32 (first_of (look map operator)))
 
--- the string of a font's own that an identifier names: from 391 on an item of the String INDEX
+-- the string that an identifier names, where it is one of the font's own: no standard string, which those below 391 name
 unfoldable pub own_string : List (List ℕ) → (identifier : ℕ) → Option (List ℕ)
-own_string strings identifier = if nat_lt identifier 391 then None else slice_get strings (identifier - 391)
+own_string strings identifier = if nat_lt identifier 391 then None else string_of strings identifier
 
 abbrev pub own_named : Tables → Operator → Option (List ℕ)
 own_named tables operator = option_and_then (own_string tables.strings) (identifier_in tables.dictionary operator)

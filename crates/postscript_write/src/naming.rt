@@ -7,7 +7,6 @@ ghost use Rattle.postscript_write.specs.Strings.{identifier_in as the_identifier
 use crate::kept::NAMED;
 use crate::same::{same_bytes, same_look};
 use postscript_base::compact1::{Operations, Operator, StringID};
-use postscript_items::Items;
 use postscript_view::{CharSetView, FontView};
 
 /// The identifier that an operator names a string by: its first operand, where that is a number of two bytes.
@@ -22,22 +21,22 @@ pub(crate) fn identifier_in(dictionary: &Operations, operator: Operator) -> Opti
     Some(number as u16)
 }
 
-/// The string of a font's own that an identifier names.
+/// The string that an identifier names, where it is one of the font's own.
 #[tactic(auto, unfolding(crate::specs::Strings::own_string))]
-fn own_string<'l>(strings: &Items<'l>, identifier: StringID) -> Option<&'l [u8]>
-    ensures { option_map (λ string. string.now) result ≡ the_own_string (items_of strings.now) identifier }
+fn own_string<'l>(font: &FontView<'l>, identifier: StringID) -> Option<&'l [u8]>
+    ensures { option_map (λ string. string.now) result ≡ the_own_string (items_of font.now.strings) identifier }
 {
     if identifier < 391 {
         return None;
     }
-    strings.get(usize::from(identifier) - 391)
+    font.string(identifier)
 }
 
-/// The string of a font's own that an operator of its dictionary names.
+/// The string of the font's own that an operator of its dictionary names.
 fn own_named<'l>(font: &FontView<'l>, operator: Operator) -> Option<&'l [u8]>
     ensures { option_map (λ string. string.now) result ≡ the_own_named (view_shown font.now).tables operator }
 {
-    own_string(&font.strings, identifier_in(&font.dictionary, operator)?)
+    own_string(font, identifier_in(&font.dictionary, operator)?)
 }
 
 /// Whether an operator names the same string of the font's own, or has the same operands and names none.
@@ -64,8 +63,8 @@ pub(crate) fn name_same(old: &FontView<'_>, new: &FontView<'_>) -> bool
 }
 
 /// Whether identifiers of two fonts name the same string of the font's own, or are the same and name none.
-fn same_string(old: &Items<'_>, was: StringID, new: &Items<'_>, is: StringID) -> bool
-    ensures { IsTrue result → SameString (items_of old.now) was (items_of new.now) is }
+fn same_string(old: &FontView<'_>, was: StringID, new: &FontView<'_>, is: StringID) -> bool
+    ensures { IsTrue result → SameString (items_of old.now.strings) was (items_of new.now.strings) is }
 {
     match (own_string(old, was), own_string(new, is)) {
         (None, None) => was == is,
@@ -89,7 +88,7 @@ fn same_text(
         return true;
     };
     match (old_set.identifier(glyph), new_set.identifier(i)) {
-        (Some(was), Some(is)) => same_string(&old.strings, was, &new.strings, is),
+        (Some(was), Some(is)) => same_string(old, was, new, is),
         _ => false,
     }
 }

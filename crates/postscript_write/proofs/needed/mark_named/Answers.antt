@@ -1,4 +1,4 @@
-use Rattle.std.proofs.Common.{◌∙◌, ap, inl, subst, sym, arith}
+use Rattle.std.proofs.Common.{◌∙◌, ap, inl, subst, sym}
 use Rattle.std.specs.Prelude.{Some}
 use Rattle.std.proofs.lemmas.List.{get_or_default}
 use Rattle.postscript_view.specs.Shown.{view_shown}
