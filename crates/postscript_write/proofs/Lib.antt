@@ -10,3 +10,4 @@ pub mod Likeness
 pub mod Encoded
 pub mod Making
 pub mod Marks
+pub mod Renamed

@@ -1,10 +1,13 @@
 -- Glyphs that are marked.
-use Rattle.std.proofs.Common.{◌≡◌, ◌≢◌, refl, sym, ap, subst, ◌∙◌, ℕ, zero, suc, ◌+◌, ◌<◌, ◌≤◌, List, [], ◌∷◌, ◌++◌, length, get_or, drop, add-one, arith, Bool, true, false, slice_set}
-use Rattle.std.specs.Prelude.{◌==◌, ◌||◌, Option, Some, None, if◌then◌else◌}
-use Rattle.std.proofs.Math.Seq.{drop-cons}
+use Rattle.std.proofs.Common.{◌≡◌, ◌≢◌, refl, sym, ap, subst, ◌∙◌, inl, inr, ℕ, zero, suc, ◌+◌, ◌<◌, ◌≤◌, List, [], ◌∷◌, ◌++◌, length, get_or, take, drop, add-one, arith, Bool, true, false, slice_set}
+use Rattle.std.specs.Prelude.{◌==◌, ◌||◌, ◌⊎◌, Option, Some, None, if◌then◌else◌}
+use Rattle.std.proofs.Math.Seq.{drop-cons, take-append_seam}
 use Rattle.std.proofs.lemmas.Bool.{eqb-true, eq-eqb}
-use Rattle.std.proofs.lemmas.List.{get_or-set_same, get_or-set_other}
+use Rattle.std.proofs.lemmas.List.{get_or-set_same, get_or-set_other, get_or_past}
 use Rattle.std.proofs.lemmas.List.FromFn.{filter_of_map_range_with_len_more, map-range_with_len_more}
+use Rattle.postscript_view.specs.Order.{View}
+use Rattle.postscript_view.specs.declared.char_set.CharSetView.{CharSetView}
+use Rattle.postscript_write.specs.Strings.{AreNeededMarks, IsNeeded}
 use Rattle.postscript_write.specs.Sources.{every, is_kept, is_chosen, chosen, kept_or_none, keeping}
 
 or_true : (a : Bool) → (a || true) ≡ true
@@ -53,3 +56,26 @@ keeping_more named sources more g kept so_far is e =
 
 pub every_more : (sources more : List (Option ℕ)) (g : ℕ) → sources ≡ every g → more ≡ sources ++ Some g ∷ [] → more ≡ every (g + 1)
 every_more sources more g so_far e = e ∙ ap (λ s. s ++ Some g ∷ []) so_far ∙ sym (map-range_with_len_more Some 0 g g (omega arith))
+
+-- where one mark more is set, a mark that is set was set, or is that one
+set_more : (marks : List Bool) (i number : ℕ) (b : Bool) → (i == number) ≡ b → get_or (slice_set marks i true) number false ≡ true → (i ≡ number) ⊎ (get_or marks number false ≡ true)
+set_more marks i number true e set = inl (eqb-true i number e)
+set_more marks i number false e set = inr (sym (get_or-set_other marks i number true false (apart i number e)) ∙ set)
+
+pub needed_more : (font : View) (set : CharSetView) (marks : List Bool) (identifier i : ℕ) → identifier ≡ 391 + i → ((number : ℕ) → identifier ≡ 391 + number → IsNeeded font set number) → AreNeededMarks font set marks →
+    AreNeededMarks font set (slice_set marks i true)
+needed_more font set marks identifier i is here before number mark = elim (set_more marks i number (i == number) refl mark) [
+  | inl same ↦ here number (is ∙ ap (λ n. 391 + n) same)
+  | inr old ↦ before number old
+]
+
+-- none is set at first
+pub none_needed : (font : View) (set : CharSetView) (marks : List Bool) (n : ℕ) → length marks ≡ n → ((k : ℕ) → k < n → get_or marks k false ≡ false) → AreNeededMarks font set marks
+none_needed font set marks n many none number mark =
+    let past : n ≤ number → ⊥ = λ h. let off : get_or marks number false ≡ false = get_or_past marks number false (omega (arith, many)) in let never : true ≡ false = sym mark ∙ off in absurd (cc) in
+    let within : number < n → ⊥ = λ h. let never : true ≡ false = sym mark ∙ none number h in absurd (cc) in
+    absurd (omega (arith, past, within))
+
+-- as many marks, written over others
+pub written_over : (n : ℕ) (marks behind : List Bool) → length marks ≡ n → take n (marks ++ behind) ≡ marks
+written_over n marks behind many = subst (λ k. take k (marks ++ behind) ≡ marks) many (take-append_seam marks behind)

@@ -4,8 +4,9 @@ use Rattle.postscript_type2.specs.Program.Routines.{Lists}
 use Rattle.postscript_type2.specs.Program.Runs.{fault_of}
 use Rattle.postscript_view.specs.Order.{View, Part}
 use Rattle.postscript_write.specs.Glyphs.{DrawsAs, HasPart, Sources, run_in}
-use Rattle.postscript_write.specs.Naming.{KeepsCodes, KeepsNames}
+use Rattle.postscript_write.specs.Naming.{KeepsCodes}
 use Rattle.postscript_write.specs.Parts.{SameAt, SamePart, SameParts}
+use Rattle.postscript_write.specs.Strings.{KeepsNames}
 use Rattle.postscript_write.specs.declared.kept.TheConstants.{KEPT}
 
 -- a glyph of a font has this code and this part
@@ -33,10 +34,9 @@ abbrev pub IsMade : List ℕ → View → Option ℕ → List ℕ → View → (
 IsMade bytes old None flat new i = slice_get new.char_strings i ≡ Some (0x0e ∷ [])
 IsMade bytes old (Some glyph) flat new i = IsMadeOf bytes old glyph flat new i
 
--- The new font has no subroutines, and what the old one has besides its glyphs and what names places.
+-- The new font has no subroutines, and what the old one has besides its glyphs, what names places, and strings with what names them.
 pub record Repeats (old new : View) : Type 0 where
   pub names : new.tables.names ≡ old.tables.names
-  pub strings : new.tables.strings ≡ old.tables.strings
   pub no_global : new.tables.subroutines ≡ []
   pub dictionary : SameAt KEPT old.tables.dictionary new.tables.dictionary
   pub parts : SameParts old.parts new.parts
@@ -47,5 +47,5 @@ pub record IsFontOf (kept : Bool) (sources : Sources) (bytes : List ℕ) (old : 
   pub repeats : Repeats old new
   pub many : length new.char_strings ≡ length sources
   pub glyphs : (i : ℕ) → i < length sources → IsMade bytes old (slice_index_or sources i None) flat new i
-  pub naming : KeepsNames sources bytes old flat new
+  pub naming : KeepsNames kept sources bytes old flat new
   pub codes : IsTrue kept → KeepsCodes sources bytes old flat new naming.old_set naming.new_set

@@ -5,6 +5,7 @@ pub mod Dictionaries
 pub mod Glyphs
 pub mod Parts
 pub mod Naming
+pub mod Strings
 pub mod Fonts
 pub mod Sources
 pub mod Refusals

@@ -1,6 +1,5 @@
 -- Names, CIDs and codes of the glyphs that are written (Technical Note 5176, sections 12 and 13).
 use Rattle.std.specs.Prelude.{◌≡◌, ◌↔◌, ℕ, ◌<◌, List, Option, Some, None, length, slice_index_or}
-use Rattle.postscript_view.specs.CharSets.{IsCharSetOf}
 use Rattle.postscript_view.specs.Encoding.{HasCode}
 use Rattle.postscript_view.specs.Encodings.{IsEncodingOf}
 use Rattle.postscript_view.specs.Naming.{Names}
@@ -29,14 +28,6 @@ SameCodes _ _ = ⊥
 pub record SameEncoding (old new : EncodingView) : Type 0 where
   pub codes : SameCodes old.codes new.codes
   pub supplements : new.supplements.now ≡ old.supplements.now
-
--- the char sets of both fonts give the same names
-pub record KeepsNames (sources : Sources) (bytes : List ℕ) (old : View) (flat : List ℕ) (new : View) : Type 0 where
-  pub old_set : CharSetView
-  pub new_set : CharSetView
-  pub was : IsCharSetOf old_set bytes old.tables.dictionary (length old.char_strings)
-  pub is : IsCharSetOf new_set flat new.tables.dictionary (length new.char_strings)
-  pub names : SameNames old_set sources new_set
 
 -- A glyph that keeps its number has the codes that it had.
 pub record KeepsCodes (sources : Sources) (bytes : List ℕ) (old : View) (flat : List ℕ) (new : View) (old_set new_set : CharSetView) : Type 0 where

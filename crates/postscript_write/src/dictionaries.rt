@@ -52,12 +52,17 @@ fn put_integers(out: &mut Vec<u8>, numbers: &[usize]) -> Result<()>
     Ok(())
 }
 
-/// The code of one byte of an operator that names places.
+/// The code of one byte of an operator that names places or a string.
 #[tactic(auto, unfolding(postscript_base::specs::Compact1::Operators::operator_of))]
 fn code_of(operator: Operator) -> Option<u8>
     ensures { IfSome result (λ code. IsCode code operator) }
 {
     match operator {
+        Operator::Version => Some(0x00),
+        Operator::Notice => Some(0x01),
+        Operator::FullName => Some(0x02),
+        Operator::FamilyName => Some(0x03),
+        Operator::Weight => Some(0x04),
         Operator::CharSet => Some(0x0f),
         Operator::Encoding => Some(0x10),
         Operator::CharStrings => Some(0x11),
@@ -67,14 +72,18 @@ fn code_of(operator: Operator) -> Option<u8>
     }
 }
 
-/// The second byte of the code of another operator that names places.
+/// The second byte of the code of another operator that names places or a string.
 #[tactic(auto, unfolding(postscript_base::specs::Compact1::Operators::operator_of))]
 fn second_of(operator: Operator) -> Option<u8>
     ensures { IfSome result (λ second. IsEscaped second operator) }
 {
     match operator {
+        Operator::Copyright => Some(0x00),
+        Operator::PostScript => Some(0x15),
+        Operator::BaseFontName => Some(0x16),
         Operator::FDArray => Some(0x24),
         Operator::FDSelect => Some(0x25),
+        Operator::FontName => Some(0x26),
         _ => None,
     }
 }
@@ -102,7 +111,7 @@ fn put_escaped(out: &mut Vec<u8>, numbers: &[usize], operator: Operator, second:
     Ok(())
 }
 
-/// Appends an operation, where the bytes so far are operations: integers, and an operator that names places.
+/// Appends an operation, where the bytes so far are operations: integers, and an operator that names places or a string.
 ///
 /// Refused: `MissingOperation` for another operator; `OutOfRangeOffset` for a number of more than 31 bits; `Memory`.
 pub fn put_operation(out: &mut Vec<u8>, numbers: &[usize], operator: Operator) -> Result<()>
@@ -116,7 +125,7 @@ pub fn put_operation(out: &mut Vec<u8>, numbers: &[usize], operator: Operator) -
     }
 }
 
-/// A place that an operator of a dictionary names.
+/// A place that an operator of a dictionary names, or the identifier of a string, as its offset.
 #[derive(Clone, Copy)]
 pub(crate) struct Place {
     pub(crate) operator: Operator,

@@ -46,8 +46,9 @@ pub fn flat_font(alloc: Global, bytes: &[u8]) -> Result<Vec<u8>>
 
 /// The font that the bytes begin with, with these glyphs alone: `.notdef` and those that are named, in ascending order, without
 /// subroutines. The order in which they are named, and whether one is named twice, does not matter. Each glyph draws what it
-/// drew, with the same advance and name or CID. Names, strings and dictionaries say the same, except of places; an encoding of
-/// the font's own gives way to the standard one.
+/// drew, with the same advance and name or CID. Names and dictionaries say the same, except of places; an encoding of the font's own
+/// gives way to the standard one. Strings that neither a glyph nor an operator of the font's dictionary names are left out, and the
+/// others get new identifiers, but in a CID-keyed font (Technical Note 5176, sections 9, 10 and 13).
 ///
 /// Refused: `NoGlyphs` where none is named; `MissingGlyph` with a number that no glyph has; `MissingName` where the char set
 /// has no identifier for a glyph; and as `flat_font` is, but only for these glyphs.
@@ -67,7 +68,7 @@ pub fn subset(alloc: Global, bytes: &[u8], named: &[usize]) -> Result<Vec<u8>>
 }
 
 /// As `subset`, but each glyph keeps its number: the glyphs between those that are kept are empty (`endchar`), and keep their
-/// names or CIDs. The encoding stays as it is.
+/// names or CIDs. The encoding and the strings stay as they are.
 ///
 /// Refused: `NoGlyphs` where none is named; `MissingGlyph` with a number that no glyph has; and as `flat_font` is, but only for
 /// these glyphs.

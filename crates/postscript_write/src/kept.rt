@@ -1,13 +1,8 @@
 //! The operators that keep their operands.
 use postscript_base::compact1::Operator;
 
-/// The operators of the dictionary of a font that keep their operands: all but those that name places.
-pub const KEPT: [Operator; 46] = [
-    Operator::Version,
-    Operator::Notice,
-    Operator::FullName,
-    Operator::FamilyName,
-    Operator::Weight,
+/// The operators of the dictionary of a font that keep their operands: all but those that name places or strings.
+pub const KEPT: [Operator; 37] = [
     Operator::FontBBox,
     Operator::BlueValues,
     Operator::OtherBlues,
@@ -20,7 +15,6 @@ pub const KEPT: [Operator; 46] = [
     Operator::Subrs,
     Operator::DefaultWidthX,
     Operator::NominalWidthX,
-    Operator::Copyright,
     Operator::IsFixedPitch,
     Operator::ItalicAngle,
     Operator::UnderlinePosition,
@@ -39,8 +33,6 @@ pub const KEPT: [Operator; 46] = [
     Operator::ExpansionFactor,
     Operator::InitialRandomSeed,
     Operator::SyntheticBase,
-    Operator::PostScript,
-    Operator::BaseFontName,
     Operator::BaseFontBlend,
     Operator::ROS,
     Operator::CIDFontVersion,
@@ -48,6 +40,18 @@ pub const KEPT: [Operator; 46] = [
     Operator::CIDFontType,
     Operator::CIDCount,
     Operator::UIDBase,
+];
+
+/// The operators of the dictionary of a font that name strings (Technical Note 5176, section 9, operands of kind SID).
+pub const NAMED: [Operator; 9] = [
+    Operator::Version,
+    Operator::Notice,
+    Operator::Copyright,
+    Operator::FullName,
+    Operator::FamilyName,
+    Operator::Weight,
+    Operator::PostScript,
+    Operator::BaseFontName,
     Operator::FontName,
 ];
 

@@ -1,7 +1,10 @@
 //! The parts of a font, and where they stand (Technical Note 5176, "CFF Data Layout").
 use crate::dictionaries::{Place, replaced, without};
 use crate::indices::put_index;
+use crate::kept::NAMED;
+use crate::naming::identifier_in;
 use crate::spans::{bytes_at, char_set_at, encoding_at};
+use crate::strings::Strings;
 use postscript_base::compact1::{Operations, Operator};
 use postscript_base::{Error, Result};
 use postscript_items::Items;
@@ -109,6 +112,8 @@ pub(crate) struct Glyphs {
     pub(crate) standard: bool,
     /// FDSelect, in a CID-keyed font.
     pub(crate) select: Option<Vec<u8>>,
+    /// The strings.
+    pub(crate) strings: Strings,
 }
 
 /// The parts that are written behind the tables, in this order, and behind them the font dictionaries of a CID-keyed font.
@@ -265,23 +270,40 @@ fn font_dictionaries(
     Ok(all)
 }
 
-/// Appends the tables: header, names, the dictionary, strings, and an INDEX without subroutines.
+/// The dictionary of a font, whose operators name strings by their new identifiers.
+fn dictionary_with(alloc: Global, font: &FontView<'_>, strings: &Strings) -> Result<Vec<u8>> {
+    let mut places = Vec::new(alloc);
+    for operator in &NAMED {
+        if let Some(old) = identifier_in(&font.dictionary, *operator) {
+            let new = strings.identifier(usize::from(old));
+            if new != usize::from(old) {
+                places.push(Place {
+                    operator: *operator,
+                    size: None,
+                    offset: new,
+                })?;
+            }
+        }
+    }
+    with_places(alloc, first_dictionary(font.bytes)?, &places)
+}
+
+/// Appends the tables: header, names, the dictionary with places, strings, and an INDEX without subroutines.
 fn put_tables(
     alloc: Global,
     out: &mut Vec<u8>,
     font: &FontView<'_>,
+    dictionary: &[u8],
+    strings: &[Vec<u8>],
     places: &[Place],
 ) -> Result<()> {
-    let source = first_dictionary(font.bytes)?;
     let names = copied(alloc, &font.names)?;
-    let strings = copied(alloc, &font.strings)?;
     out.extend_from_slice(&[1, 0, 4, 4])?;
     put_index(out, &names)?;
-    let dictionary = with_places(alloc, source, places)?;
     let mut dictionaries = Vec::new(alloc);
-    dictionaries.push(dictionary)?;
+    dictionaries.push(with_places(alloc, dictionary, places)?)?;
     put_index(out, &dictionaries)?;
-    put_index(out, &strings)?;
+    put_index(out, strings)?;
     put_index(out, &[])
 }
 
@@ -337,15 +359,14 @@ pub(crate) fn written(
         char_strings,
         privates: own_privates(alloc, font)?,
     };
+    let dictionary = dictionary_with(alloc, font, &glyphs.strings)?;
+    let texts = &glyphs.strings.texts;
     let mut draft = Vec::new(alloc);
-    put_tables(alloc, &mut draft, font, &places_from(alloc, 0, &parts)?)?;
+    let places = places_from(alloc, 0, &parts)?;
+    put_tables(alloc, &mut draft, font, &dictionary, texts, &places)?;
     let mut out = Vec::new(alloc);
-    put_tables(
-        alloc,
-        &mut out,
-        font,
-        &places_from(alloc, draft.len(), &parts)?,
-    )?;
+    let places = places_from(alloc, draft.len(), &parts)?;
+    put_tables(alloc, &mut out, font, &dictionary, texts, &places)?;
     put_parts(alloc, &mut out, font, &parts)?;
     Ok(out)
 }

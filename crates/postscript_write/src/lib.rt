@@ -10,14 +10,17 @@ mod indices;
 mod kept;
 pub mod laws;
 mod layout;
+mod naming;
+mod needed;
 mod number;
 mod numbering;
 mod same;
 mod sources;
 mod spans;
+mod strings;
 mod whole;
 
 pub use error::{Error, Result};
 pub use fonts::{flat_font, subset, subset_keeping};
 pub use indices::{index, put_index};
-pub use kept::{KEPT, KEPT_FONT, KEPT_PRIVATE};
+pub use kept::{KEPT, KEPT_FONT, KEPT_PRIVATE, NAMED};

@@ -11,6 +11,8 @@ ghost use Rattle.postscript_write.specs.declared.error.Error.TheVariants as erro
 use crate::error::{Error, Result, unwritten};
 use crate::layout::{Glyphs, own_char_set, own_encoding};
 use crate::number::put_number;
+use crate::strings::Strings;
+use postscript_base::compact1::StringID;
 use postscript_view::{CharSetView, FontView};
 use std::alloc::Global;
 
@@ -42,26 +44,55 @@ fn identifier_of(set: &CharSetView<'_>, source: Option<usize>) -> Result<u16>
     }
 }
 
-/// A char set of format 0 of what glyphs are made of.
-pub(crate) fn listed(
+/// The identifiers of what glyphs are made of, but for the first.
+pub(crate) fn identifiers_of(
     alloc: Global,
     font: &FontView<'_>,
     set: &CharSetView<'_>,
     sources: &[Option<usize>],
-) -> Result<Vec<u8>>
+) -> Result<Vec<StringID>>
     requires { IsCharSetOf set.now font.now.bytes.now font.now.dictionary (length (items_of font.now.char_strings)) }
     ensures refused { IfErr result (λ e. FontRefusedBy font.now.bytes.now (view_shown font.now) sources.now e) }
 {
-    let mut out = Vec::new(alloc);
-    put_number(&mut out, 1, 0)?;
+    let mut identifiers = Vec::new(alloc);
     for i in 1..sources.len() {
         let identifier = match identifier_of(set, sources[i]) {
             Ok(identifier) => identifier,
             Err(e) => return Err(e),
         };
-        put_number(&mut out, 2, usize::from(identifier))?;
+        identifiers.push(identifier)?;
+    }
+    Ok(identifiers)
+}
+
+/// A char set of format 0 of glyphs with these identifiers, by which strings are written under new ones.
+fn listed(alloc: Global, identifiers: &[StringID], strings: &Strings) -> Result<Vec<u8>>
+    ensures { IfErr result (λ e. IsLate e) }
+{
+    let mut out = Vec::new(alloc);
+    put_number(&mut out, 1, 0)?;
+    for identifier in identifiers {
+        put_number(&mut out, 2, strings.identifier(usize::from(*identifier)))?;
     }
     Ok(out)
+}
+
+/// The strings that are written: those that are needed, where glyphs get new numbers and have names; else all.
+fn strings_of(
+    alloc: Global,
+    font: &FontView<'_>,
+    identifiers: &Option<Vec<StringID>>,
+) -> Result<Strings>
+    ensures { IfErr result (λ e. IsLate e) }
+{
+    let strings = match identifiers {
+        Some(identifiers) if !font.is_cid_keyed() => Strings::needed(alloc, font, identifiers),
+        _ => Strings::every(alloc, font),
+    };
+    match strings {
+        Ok(strings) => Ok(strings),
+        Err(fault) => Err(unwritten(fault)),
+    }
 }
 
 /// How many ranges of glyphs have the same number.
@@ -116,13 +147,13 @@ fn select(alloc: Global, numbers: &[usize]) -> Result<Vec<u8>>
     Ok(out)
 }
 
-/// What is written of glyphs besides their codes. Where their names are not listed, they keep their numbers, and char set and
-/// encoding stay as they are; else an encoding of the font's own gives way to the standard one.
+/// What is written of glyphs besides their codes. Where their identifiers are not listed, they keep their numbers, and char set,
+/// encoding and strings stay as they are; else an encoding of the font's own gives way to the standard one.
 pub(crate) fn numbered(
     alloc: Global,
     font: &FontView<'_>,
     numbers: &[usize],
-    listed: Option<Vec<u8>>,
+    identifiers: &Option<Vec<StringID>>,
 ) -> Result<Glyphs>
     ensures { IfErr result (λ e. IsLate e) }
 {
@@ -132,12 +163,14 @@ pub(crate) fn numbered(
         None
     };
     let encoding = copied(alloc, own_encoding(font.bytes, &font.dictionary))?;
-    if listed.is_some() {
+    let strings = strings_of(alloc, font, identifiers)?;
+    if let Some(identifiers) = identifiers {
         return Ok(Glyphs {
-            char_set: listed,
+            char_set: Some(listed(alloc, identifiers, &strings)?),
             standard: encoding.is_some(),
             encoding: None,
             select,
+            strings,
         });
     }
     let own = own_char_set(font.bytes, &font.dictionary, numbers.len());
@@ -146,5 +179,6 @@ pub(crate) fn numbered(
         encoding,
         standard: false,
         select,
+        strings,
     })
 }

@@ -9,6 +9,13 @@ use postscript_base::compact1::laws::are_equal;
 use postscript_base::compact1::{Operand, Operations, Operator};
 use postscript_items::Items;
 
+/// Whether the bytes are the same.
+pub(crate) fn same_bytes(old: &[u8], new: &[u8]) -> bool
+    ensures { IsTrue result → new.now ≡ old.now }
+{
+    old == new
+}
+
 /// Whether the items are the same.
 pub(crate) fn same_items(old: &Items<'_>, new: &Items<'_>) -> bool
     ensures { IsTrue result → items_of new.now ≡ items_of old.now }

@@ -21,7 +21,7 @@ pub(crate) fn every(alloc: Global, glyphs: usize) -> Result<Vec<Option<usize>>>
 }
 
 /// So many marks, none of which is set.
-fn unmarked(alloc: Global, glyphs: usize) -> Result<Vec<bool>>
+pub(crate) fn unmarked(alloc: Global, glyphs: usize) -> Result<Vec<bool>>
     ensures many { IfOk result (λ marks. length marks.items ≡ glyphs) }
     ensures none { IfOk result (λ marks. (glyph : ℕ) → glyph < glyphs → slice_index_or marks.items glyph false ≡ false) }
     ensures memory { IfErr result (λ e. e ≡ errors.Refused causes.Memory) }

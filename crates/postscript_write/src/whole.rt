@@ -12,22 +12,26 @@ ghost use Rattle.postscript_write.specs.Glyphs.{AreCodesOf, AreNumbersOf};
 ghost use Rattle.postscript_write.specs.Refusals.{FontRefusedBy};
 ghost use Rattle.postscript_write.specs.Steps.{IsLate};
 ghost use Rattle.postscript_write.specs.Naming.{KeepsCodes, SameEncoding, SameNames};
+ghost use Rattle.postscript_write.specs.Strings.{keeps_strings, CutsStrings, KeepsStrings, SameStrings};
 
 use crate::alike::{same_encoding, same_names, same_numbers, same_parts};
 use crate::error::{Error, Result, not_back, unwritten};
 use crate::glyphs::{codes_of, numbers_of};
-use crate::kept::KEPT;
+use crate::kept::{KEPT, NAMED};
 use crate::layout::written;
-use crate::numbering::{listed, numbered};
+use crate::naming::{name_same, same_texts};
+use crate::needed::are_needed;
+use crate::numbering::{identifiers_of, numbered};
 use crate::same::{are_codes, are_none, same_at, same_items};
+use postscript_base::compact1::StringID;
 use postscript_view::{CharSetView, EncodingView, FontView};
 use std::alloc::Global;
 
-/// Whether a font has what another one has, besides its glyphs and what names places.
+/// Whether a font has what another one has, besides its glyphs, what names places, and strings with what names them.
 fn says_same(old: &FontView<'_>, new: &FontView<'_>) -> bool
     ensures { IsTrue result → Repeats (view_shown old.now) (view_shown new.now) }
 {
-    if !same_items(&old.names, &new.names) || !same_items(&old.strings, &new.strings) {
+    if !same_items(&old.names, &new.names) {
         return false;
     }
     if !are_none(&new.global_subroutines) || !same_at(&KEPT, &old.dictionary, &new.dictionary) {
@@ -36,23 +40,91 @@ fn says_same(old: &FontView<'_>, new: &FontView<'_>) -> bool
     same_parts(&old.parts, &new.parts)
 }
 
-/// The char set of a font that is read back, where it gives the same names.
-fn back_names<'l>(
-    old: &CharSetView<'_>,
+/// Whether strings keep their numbers: where glyphs do, and in a CID-keyed font.
+fn keeps_numbers(font: &FontView<'_>, kept: bool) -> bool
+    ensures { result ≡ keeps_strings kept font.now.dictionary }
+{
+    kept || font.is_cid_keyed()
+}
+
+/// Whether strings are as they were, and so are the identifiers that name them.
+fn are_kept(
+    old: &FontView<'_>,
+    old_set: &CharSetView<'_>,
     sources: &[Option<usize>],
-    new: &FontView<'l>,
-) -> Result<CharSetView<'l>>
-    ensures is { IfOk result (λ set. IsCharSetOf set new.now.bytes.now new.now.dictionary (length (items_of new.now.char_strings))) }
-    ensures same { IfOk result (λ set. SameNames old.now sources.now set) }
+    new: &FontView<'_>,
+    new_set: &CharSetView<'_>,
+) -> bool
+    ensures { IsTrue result → KeepsStrings sources.now (view_shown old.now) old_set.now (view_shown new.now) new_set.now }
+{
+    if !same_items(&old.strings, &new.strings) {
+        return false;
+    }
+    if !same_at(&NAMED, &old.dictionary, &new.dictionary) {
+        return false;
+    }
+    same_names(old_set, sources, new_set)
+}
+
+/// Whether the strings are those that are needed, and the same ones are named.
+fn are_cut(
+    alloc: Global,
+    old: &FontView<'_>,
+    old_set: &CharSetView<'_>,
+    sources: &[Option<usize>],
+    new: &FontView<'_>,
+    new_set: &CharSetView<'_>,
+) -> Result<bool>
+    ensures cut { IfOk result (λ same. IsTrue same → CutsStrings sources.now (view_shown old.now) old_set.now (view_shown new.now) new_set.now) }
     ensures late { IfErr result (λ e. IsLate e) }
 {
-    match new.char_set() {
-        Ok(set) => if same_names(old, sources, &set) {
-            Ok(set)
-        } else {
-            Err(Error::NotReadBack)
-        },
-        Err(fault) => Err(not_back(fault)),
+    if !name_same(old, new) || !same_texts(old, old_set, sources, new, new_set) {
+        return Ok(false);
+    }
+    are_needed(alloc, new, new_set)
+}
+
+/// Whether strings, and what names them, are as they are to be.
+fn same_strings(
+    alloc: Global,
+    old: &FontView<'_>,
+    old_set: &CharSetView<'_>,
+    sources: &[Option<usize>],
+    new: &FontView<'_>,
+    new_set: &CharSetView<'_>,
+    keeps: bool,
+) -> Result<bool>
+    ensures same { IfOk result (λ same. IsTrue same → SameStrings keeps sources.now (view_shown old.now) old_set.now (view_shown new.now) new_set.now) }
+    ensures late { IfErr result (λ e. IsLate e) }
+{
+    if keeps {
+        Ok(are_kept(old, old_set, sources, new, new_set))
+    } else {
+        are_cut(alloc, old, old_set, sources, new, new_set)
+    }
+}
+
+/// The char set of a font that is read back, where strings and names are as they are to be.
+fn back_names<'l>(
+    alloc: Global,
+    old: &FontView<'_>,
+    old_set: &CharSetView<'_>,
+    sources: &[Option<usize>],
+    new: &FontView<'l>,
+    keeps: bool,
+) -> Result<CharSetView<'l>>
+    ensures is { IfOk result (λ set. IsCharSetOf set new.now.bytes.now new.now.dictionary (length (items_of new.now.char_strings))) }
+    ensures same { IfOk result (λ set. SameStrings keeps sources.now (view_shown old.now) old_set.now (view_shown new.now) set) }
+    ensures late { IfErr result (λ e. IsLate e) }
+{
+    let set = match new.char_set() {
+        Ok(set) => set,
+        Err(fault) => return Err(not_back(fault)),
+    };
+    if same_strings(alloc, old, old_set, sources, new, &set, keeps)? {
+        Ok(set)
+    } else {
+        Err(Error::NotReadBack)
     }
 }
 
@@ -83,7 +155,7 @@ fn keeps_codes(
     kept: bool,
 ) -> Result<()>
     requires encoding { IsEncodingOf encoding.now font.now.bytes.now font.now.dictionary }
-    requires names { SameNames old.now sources.now new.now }
+    requires names { IsTrue kept → SameNames old.now sources.now new.now }
     ensures codes { OnOk result (IsTrue kept → KeepsCodes sources.now font.now.bytes.now (view_shown font.now) again.now.bytes.now (view_shown again.now) old.now new.now) }
     ensures late { IfErr result (λ e. IsLate e) }
 {
@@ -122,12 +194,13 @@ fn read_back(
     if !same_numbers(sources, numbers, &again) {
         return Err(Error::NotReadBack);
     }
-    let new = back_names(set, sources, &again)?;
+    let new = back_names(alloc, font, set, sources, &again, keeps_numbers(font, kept))?;
     keeps_codes(font, encoding, sources, set, &again, &new, kept)?;
     Ok(())
 }
 
-/// The font that is made of codes of glyphs of another one. Where their names are not listed, char set and encoding stay as they are.
+/// The font that is made of codes of glyphs of another one. Where their identifiers are not listed, char set, encoding and strings
+/// stay as they are.
 fn put_together(
     alloc: Global,
     font: &FontView<'_>,
@@ -136,7 +209,7 @@ fn put_together(
     sources: &[Option<usize>],
     numbers: &[usize],
     codes: &[Vec<u8>],
-    listed: Option<Vec<u8>>,
+    identifiers: &Option<Vec<StringID>>,
     kept: bool,
 ) -> Result<Vec<u8>>
     requires set { IsCharSetOf set.now font.now.bytes.now font.now.dictionary (length (items_of font.now.char_strings)) }
@@ -146,7 +219,7 @@ fn put_together(
     ensures font { IfOk result (λ flat. (new : View) × (the_view flat.items 0 ≡ Got new 0) × IsFontOf kept sources.now font.now.bytes.now (view_shown font.now) flat.items new) }
     ensures late { IfErr result (λ e. IsLate e) }
 {
-    let glyphs = numbered(alloc, font, numbers, listed)?;
+    let glyphs = numbered(alloc, font, numbers, identifiers)?;
     let flat = match written(alloc, font, &glyphs, codes) {
         Ok(flat) => flat,
         Err(fault) => return Err(unwritten(fault)),
@@ -157,24 +230,24 @@ fn put_together(
     Ok(flat)
 }
 
-/// The list of the names of glyphs, where they do not keep their numbers.
+/// The identifiers of glyphs, where they do not keep their numbers.
 fn list_of(
     alloc: Global,
     font: &FontView<'_>,
     set: &CharSetView<'_>,
     sources: &[Option<usize>],
     kept: bool,
-) -> Result<Option<Vec<u8>>>
+) -> Result<Option<Vec<StringID>>>
     requires { IsCharSetOf set.now font.now.bytes.now font.now.dictionary (length (items_of font.now.char_strings)) }
     ensures refused { IfErr result (λ e. FontRefusedBy font.now.bytes.now (view_shown font.now) sources.now e) }
 {
     if kept {
         return Ok(None);
     }
-    Ok(Some(listed(alloc, font, set, sources)?))
+    Ok(Some(identifiers_of(alloc, font, set, sources)?))
 }
 
-/// The font that is made of glyphs of another one. Where glyphs keep their numbers, char set and encoding stay as they are.
+/// The font that is made of glyphs of another one. Where glyphs keep their numbers, char set, encoding and strings stay as they are.
 pub(crate) fn font_of(
     alloc: Global,
     font: &FontView<'_>,
@@ -190,6 +263,6 @@ pub(crate) fn font_of(
     let codes = codes_of(alloc, font, sources, &numbers)?;
     let listed = list_of(alloc, font, &set, sources, kept)?;
     put_together(
-        alloc, font, &set, &encoding, sources, &numbers, &codes, listed, kept,
+        alloc, font, &set, &encoding, sources, &numbers, &codes, &listed, kept,
     )
 }

@@ -7,6 +7,7 @@ use Rattle.postscript_view.specs.CharSets.{IsCharSetOf}
 use Rattle.postscript_view.specs.Shown.{view_shown}
 use Rattle.postscript_write.specs.Glyphs.{HasPartFor}
 use Rattle.postscript_write.specs.Naming.{KeepsCodes}
+use Rattle.postscript_write.specs.Strings.{SameStrings}
 use Rattle.postscript_write.proofs.Making.{made}
 use Rattle.postscript_write.proofs.whole.read_back.Goals as goal
 
@@ -39,7 +40,7 @@ returns-clause-font c =
           new_set = c.in_ok-new.new;
           was = c.requires.set;
           is = subst (λ (bs : List ℕ). IsCharSetOf c.in_ok-new.new bs again.dictionary (length (items_of again.char_strings))) same c.in_ok-new.ensures.is;
-          names = c.in_ok-new.ensures.same;
+          strings = subst (λ keeps. SameStrings keeps sources old c.args.set.now new c.in_ok-new.new) c.keeps_numbers.ensures c.in_ok-new.ensures.same;
         };
         codes = λ kept. subst (λ (bs : List ℕ). KeepsCodes sources bytes old bs new c.args.set.now c.in_ok-new.new) same (c.in_ok-keeps_codes.ensures.codes kept);
       },

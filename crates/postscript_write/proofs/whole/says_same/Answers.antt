@@ -7,7 +7,6 @@ use Rattle.postscript_write.proofs.whole.says_same.Goals as goal
 pub returns : goal.returns
 returns c = λ h. record {
   names = c.same_items.ensures c.if-not-same_items.false;
-  strings = c.same_items-else-not-same_items.ensures c.if-not-same_items-2.false;
   no_global = c.are_none.ensures c.if-not-are_none.false;
   dictionary = c.same_at.ensures c.if-not-same_at.false;
   parts = subst (λ (ps : List Part). SameParts (parts_shown ps) (parts_shown c.args.new.now.parts.items)) c.deref.ensures.value

@@ -1,6 +1,6 @@
 use Rattle.std.proofs.Common.{arith}
 use Rattle.postscript_write.proofs.Making.{nameless}
-use Rattle.postscript_write.proofs.numbering.listed.Goals as goal
+use Rattle.postscript_write.proofs.numbering.identifiers_of.Goals as goal
 
 pub returns-in-Err : goal.returns-in-Err
 returns-in-Err c = record {

@@ -1,0 +1,96 @@
+-- The strings of a font that is made of glyphs of another one, and what names them (Technical Note 5176, sections 9, 10 and 13).
+use Rattle.std.specs.Prelude.{◌≡◌, ◌↔◌, ◌⊎◌, ℕ, ◌+◌, ◌<◌, ℤ, pos, List, Option, Some, None, Bool, true, false, ◌||◌, length, nat_lt, slice_index_or, All, Any, MatchBool, if◌then◌else◌}
+use Rattle.std.specs.Option.{option_and_then, is_some}
+use Rattle.postscript_base.specs.Compact1.Decimal.{to_i32}
+use Rattle.postscript_base.specs.Compact1.Defaults.{look, first_of}
+use Rattle.postscript_base.specs.Compact1.Dictionary.{Dictionary}
+use Rattle.postscript_base.specs.declared.compact1.operator.Operator.{Operator}
+use Rattle.postscript_base.specs.declared.compact1.operator.Operator.TheVariants as operators
+use Rattle.postscript_view.specs.CharSets.{IsCharSetOf}
+use Rattle.postscript_view.specs.Naming.{Names}
+use Rattle.postscript_view.specs.Order.{Tables, View}
+use Rattle.postscript_view.specs.Strings.{HasName, string_of}
+use Rattle.postscript_view.specs.declared.char_set.CharSetView.{CharSetView}
+use Rattle.postscript_write.specs.Glyphs.{Sources}
+use Rattle.postscript_write.specs.Naming.{SameNames}
+use Rattle.postscript_write.specs.Parts.{SameAt}
+use Rattle.postscript_write.specs.declared.kept.TheConstants.{NAMED}
+
+-- the identifier that an operator names a string by: its first operand, where that is a whole number of two bytes
+abbrev pub identifier_from : Option ℤ → Option ℕ
+identifier_from (Some (pos n)) = if nat_lt n 65536 then Some n else None
+identifier_from _ = None
+
+unfoldable pub identifier_in : Dictionary → Operator → Option ℕ
+identifier_in map operator = identifier_from (option_and_then to_i32 (first_of (look map operator)))
+
+-- the string that an identifier names, where it is one of the font's own: no standard string, which those below 391 name
+unfoldable pub own_string : List (List ℕ) → (identifier : ℕ) → Option (List ℕ)
+own_string strings identifier = if nat_lt identifier 391 then None else string_of strings identifier
+
+abbrev pub own_named : Tables → Operator → Option (List ℕ)
+own_named tables operator = option_and_then (own_string tables.strings) (identifier_in tables.dictionary operator)
+
+-- An operator names the same string of the font's own; where it names none of them, it has the same operands.
+pub record NamesSame (old new : Tables) (operator : Operator) : Type 0 where
+  pub string : own_named new operator ≡ own_named old operator
+  pub operands : own_named old operator ≡ None → look new.dictionary operator ≡ look old.dictionary operator
+
+abbrev pub NameSame : (old new : Tables) → Type 0
+NameSame old new = All (NamesSame old new) NAMED
+
+-- An identifier names the same string of the font's own as another one; where that names none of them, it is the same.
+pub record SameString (old : List (List ℕ)) (was : ℕ) (new : List (List ℕ)) (is : ℕ) : Type 0 where
+  pub string : own_string new is ≡ own_string old was
+  pub identifier : own_string old was ≡ None → is ≡ was
+
+-- A glyph has the name of the one that it is made of, and where that has none, none; a standard string keeps its identifier.
+pub record HasSameText (old : CharSetView) (old_strings : List (List ℕ)) (glyph : ℕ) (new : CharSetView) (new_strings : List (List ℕ)) (i : ℕ) : Type 0 where
+  pub name : (name : List ℕ) → HasName old old_strings glyph name ↔ HasName new new_strings i name
+  pub standard : (identifier : ℕ) → identifier < 391 → Names old glyph identifier ↔ Names new i identifier
+
+abbrev pub SameText : CharSetView → List (List ℕ) → Option ℕ → CharSetView → List (List ℕ) → (i : ℕ) → Type 0
+SameText old old_strings None new new_strings i = Unit {0}
+SameText old old_strings (Some glyph) new new_strings i = HasSameText old old_strings glyph new new_strings i
+
+abbrev pub SameTexts : CharSetView → List (List ℕ) → Sources → CharSetView → List (List ℕ) → Type 0
+SameTexts old old_strings sources new new_strings = (i : ℕ) → i < length sources → SameText old old_strings (slice_index_or sources i None) new new_strings i
+
+-- An operator of the dictionary names the string of a number, or it names a glyph.
+abbrev pub IsNeeded : View → CharSetView → (number : ℕ) → Type 0
+IsNeeded font set number =
+    Any (λ operator. identifier_in font.tables.dictionary operator ≡ Some (391 + number)) NAMED ⊎ ((glyph : ℕ) × (glyph < length font.char_strings) × Names set glyph (391 + number))
+
+abbrev pub AreNeeded : View → CharSetView → Type 0
+AreNeeded font set = (number : ℕ) → number < length font.tables.strings → IsNeeded font set number
+
+-- marks, which are set at needed strings alone
+abbrev pub AreNeededMarks : View → CharSetView → List Bool → Type 0
+AreNeededMarks font set marks = (number : ℕ) → slice_index_or marks number false ≡ true → IsNeeded font set number
+
+-- Strings stay as they are, and so do the identifiers that name them, in the dictionary and of glyphs.
+pub record KeepsStrings (sources : Sources) (old : View) (old_set : CharSetView) (new : View) (new_set : CharSetView) : Type 0 where
+  pub strings : new.tables.strings ≡ old.tables.strings
+  pub operators : SameAt NAMED old.tables.dictionary new.tables.dictionary
+  pub glyphs : SameNames old_set sources new_set
+
+-- Operators and glyphs name the same strings, and no string stands there that none of them names.
+pub record CutsStrings (sources : Sources) (old : View) (old_set : CharSetView) (new : View) (new_set : CharSetView) : Type 0 where
+  pub operators : NameSame old.tables new.tables
+  pub glyphs : SameTexts old_set old.tables.strings sources new_set new.tables.strings
+  pub needed : AreNeeded new new_set
+
+-- Strings are kept where glyphs keep their numbers, and in a CID-keyed font, whose glyphs have no names (section 18).
+abbrev pub keeps_strings : (kept : Bool) → Dictionary → Bool
+keeps_strings kept map = kept || is_some (look map operators.ROS)
+
+abbrev pub SameStrings : (keeps : Bool) → Sources → View → CharSetView → View → CharSetView → Type 0
+SameStrings keeps sources old old_set new new_set = MatchBool keeps (KeepsStrings sources old old_set new new_set) (CutsStrings sources old old_set new new_set)
+
+-- the char sets of both fonts, and what names strings
+pub record KeepsNames (kept : Bool) (sources : Sources) (bytes : List ℕ) (old : View) (flat : List ℕ) (new : View) : Type 0 where
+  pub old_set : CharSetView
+  pub new_set : CharSetView
+  pub was : IsCharSetOf old_set bytes old.tables.dictionary (length old.char_strings)
+  pub is : IsCharSetOf new_set flat new.tables.dictionary (length new.char_strings)
+  pub strings : SameStrings (keeps_strings kept old.tables.dictionary) sources old old_set new new_set
