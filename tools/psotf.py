@@ -63,7 +63,7 @@ class Hints(SimpleT2Decompiler):
 
 
 class Operations(T2WidthExtractor):
-    """Runs a charstring, and keeps each operation: its name and its operands without the width."""
+    """Runs a charstring, and keeps each operation up to its end: its name, and its operands without the width."""
 
     def __init__(self, char_string):
         private = char_string.private
@@ -74,21 +74,17 @@ class Operations(T2WidthExtractor):
         self.listed.append((name, [Fraction(operand) for operand in operands]))
 
     def countHints(self):
-        operands = self.popallWidth()
-        self.hintCount += len(operands) // 2
-        self.stems = operands
+        self.stems = self.popallWidth()
+        self.hintCount += len(self.stems) // 2
 
+    # stems that stand before a mask are counted, and are no operands of it
     def op_hintmask(self, index):
-        self.stems = []
-        answer = super().op_hintmask(index)
-        self.keep("hintmask", self.stems)
-        return answer
+        self.keep("hintmask", [])
+        return super().op_hintmask(index)
 
     def op_cntrmask(self, index):
-        self.stems = []
-        answer = super().op_hintmask(index)
-        self.keep("cntrmask", self.stems)
-        return answer
+        self.keep("cntrmask", [])
+        return super().op_hintmask(index)
 
 
 def kept(name, operands_of):
@@ -102,8 +98,7 @@ for name in ("rlineto hlineto vlineto rrcurveto hhcurveto vvcurveto hvcurveto vh
     setattr(Operations, f"op_{name}", kept(name, lambda run: run.popall()))
 for name in ("hmoveto", "vmoveto"):
     setattr(Operations, f"op_{name}", kept(name, lambda run: run.popallWidth(1)))
-for name in ("rmoveto", "endchar"):
-    setattr(Operations, f"op_{name}", kept(name, lambda run: run.popallWidth()))
+Operations.op_rmoveto = kept("rmoveto", lambda run: run.popallWidth())
 for name in ("hstem", "vstem", "hstemhm", "vstemhm"):
     setattr(Operations, f"op_{name}", kept(name, lambda run: run.countHints() or run.stems))
 
