@@ -1,5 +1,5 @@
 #!/bin/sh
-# Tries more wrong bodies: of several that fall at one definition the gate tries two or three, and the others stand in tools/edits.
+# Tries more wrong bodies: of those that fall at one definition the gate tries the ones that tell most; the others stand in tools/edits.
 #
 #     tools/edits.sh CRATE..
 #
