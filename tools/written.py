@@ -11,9 +11,11 @@ subset` and once by `psotf subset --retain-gids`. Of each file that is written f
 same segments, and to tell the same metrics and the same name or CID; FreeType has to tell the same points, unscaled and unhinted, and
 the same advance; the sums in the file have to be right; and `ots-sanitize` has to accept it where it accepts the source. The bytes of
 the table `CFF ` of the flat file and the time are added up beside `hb-subset --desubroutinize` of all glyphs. It prints each file that
-differs, and then how many fonts, files and glyphs were compared.
+differs, and then how many fonts, files and glyphs were compared. A process for each processor takes one font after another.
 """
 
+import collections
+import concurrent.futures
 import pathlib
 import random
 import subprocess
@@ -97,10 +99,17 @@ def chosen_of(draw, count):
     return sorted({0, *draw.sample(range(count), draw.randint(1, min(count, MOST)))})
 
 
-def tallied(path, folder, program, draw, sums):
+def tallied(path, seed, program):
+    """What is counted of one font, in a folder of its own; its glyphs are drawn from the seed and its name."""
+    with tempfile.TemporaryDirectory() as name:
+        return counted(path, pathlib.Path(name), program, random.Random(f"{seed} {pathlib.Path(path).name}"))
+
+
+def counted(path, folder, program, draw):
+    sums = collections.Counter()
     source = TTFont(path, lazy=True)
     if "CFF " not in source:
-        return
+        return sums
     count = source["maxp"].numGlyphs
     sums["fonts"] += 1
     sound = is_sound(path)
@@ -108,8 +117,8 @@ def tallied(path, folder, program, draw, sums):
     done, seconds, told = timed([PSOTF, "flat", path, "-o", flat])
     if not done:
         sums["refused"] += 1
-        print(f"{path}: {told}")
-        return
+        print(f"{path}: {told}", flush=True)
+        return sums
     files = [("flat", flat, list(range(count)))]
     for number in range(SUBSETS + 1):
         chosen = chosen_of(draw, count)
@@ -130,31 +139,31 @@ def tallied(path, folder, program, draw, sums):
         sums["differ"] += different + other
         sums["unsound"] += refused
         if different or other or refused:
-            print(f"{path}: {name}: {different} glyphs differ, {other} for FreeType, {'not ' if refused else ''}accepted")
+            print(f"{path}: {name}: {different} glyphs differ, {other} for FreeType, {'not ' if refused else ''}accepted", flush=True)
     done, theirs, _ = timed(["hb-subset", "--desubroutinize", "--gids=*", "--notdef-outline", "--glyph-names", "--layout-features=*", f"--output-file={theirs_at}", path])
     if done:
         sums["own_bytes"] += len(TTFont(flat, lazy=True).reader["CFF "])
         sums["their_bytes"] += len(TTFont(theirs_at, lazy=True).reader["CFF "])
         sums["own_seconds"] += seconds
         sums["their_seconds"] += theirs
+    return sums
 
 
 def main(words):
     if len(words) < 2:
         sys.exit(__doc__)
-    draw = random.Random(int(words[0]))
-    sums = dict.fromkeys(("fonts", "refused", "files", "glyphs", "points", "differ", "unsound", "own_bytes", "their_bytes", "own_seconds", "their_seconds"), 0)
+    seed = int(words[0])
     if words[1] == "--some":
         all_fonts = list(files_of(*words[3:]))
-        fonts = sorted(draw.sample(all_fonts, min(int(words[2]), len(all_fonts))))
+        fonts = sorted(random.Random(seed).sample(all_fonts, min(int(words[2]), len(all_fonts))))
         print(*fonts, sep="\n")
     else:
         fonts = files_of(*words[1:])
-    with tempfile.TemporaryDirectory() as name:
-        folder = pathlib.Path(name)
-        program = built(folder)
-        for path in fonts:
-            tallied(path, folder, program, draw, sums)
+    sums = collections.Counter()
+    with tempfile.TemporaryDirectory() as name, concurrent.futures.ProcessPoolExecutor() as pool:
+        program = built(pathlib.Path(name))
+        for done in concurrent.futures.as_completed([pool.submit(tallied, path, seed, program) for path in fonts]):
+            sums.update(done.result())
     print(f"seed {words[0]}: {sums['fonts']} fonts, {sums['refused']} refused, {sums['files']} files, {sums['glyphs']} glyphs, {sums['points']} also by FreeType, {sums['differ']} differ, {sums['unsound']} not accepted")
     if sums["their_bytes"]:
         print(f"beside hb-subset: {sums['own_bytes'] / sums['their_bytes']:.4f} of its bytes, {sums['own_seconds'] / sums['their_seconds']:.2f} of its time")

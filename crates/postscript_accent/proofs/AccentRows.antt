@@ -1,7 +1,7 @@
 -- What small programs end over, as it is computed, and names of codes.
 use Rattle.std.proofs.Common.{◌≡◌, refl, ℕ, [], ◌∷◌, ℤ, pos, neg_ℤ}
 use Rattle.postscript_outline.specs.Drawing.{point}
-use Rattle.postscript_outline.specs.declared.pen.Segment.TheVariants.{CurveTo}
+use Rattle.postscript_outline.specs.declared.segment.Segment.TheVariants.{CurveTo}
 use Rattle.postscript_base.specs.Numbers.{number, slice}
 use Rattle.postscript_type2.specs.Number.{whole}
 use Rattle.postscript_type2.specs.Program.Evaluation.{run_of}

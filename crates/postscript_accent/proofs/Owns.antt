@@ -5,7 +5,7 @@ use Rattle.postscript_base.specs.declared.error.Error.TheVariants as causes
 use Rattle.postscript_items.specs.Lent.{items_of}
 use Rattle.postscript_outline.specs.Outline.{Outlines}
 use Rattle.postscript_outline.specs.declared.outline.Outline.{Outline}
-use Rattle.postscript_outline.specs.declared.pen.Segment.{Segment}
+use Rattle.postscript_outline.specs.declared.segment.Segment.{Segment}
 use Rattle.postscript_type2.specs.Program.Evaluation.{run_of}
 use Rattle.postscript_type2.specs.Program.Routines.{lent}
 use Rattle.postscript_view.specs.Advances.{HasRun}

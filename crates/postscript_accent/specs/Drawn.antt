@@ -2,7 +2,7 @@
 use Rattle.std.specs.Prelude.{◌≡◌, ◌⊎◌, ℕ, List, ◌++◌, map, Option, Ok}
 use Rattle.postscript_outline.specs.Outline.{Outlines, outline_of}
 use Rattle.postscript_outline.specs.declared.outline.Outline.{Outline}
-use Rattle.postscript_outline.specs.declared.pen.Segment.{Segment}
+use Rattle.postscript_outline.specs.declared.segment.Segment.{Segment}
 use Rattle.postscript_type2.specs.Program.Runs.{Run, width_of}
 use Rattle.postscript_view.specs.Advances.{HasRun}
 use Rattle.postscript_view.specs.declared.font.FontView.{FontView}

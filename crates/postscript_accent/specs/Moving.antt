@@ -2,8 +2,8 @@
 use Rattle.std.specs.Prelude.{◌⊎◌, ℤ, ◌+ℤ◌, FitsSigned}
 use Rattle.std.specs.Int.{w32}
 use Rattle.postscript_outline.specs.Drawing.{point}
-use Rattle.postscript_outline.specs.declared.pen.Segment.{Segment}
-use Rattle.postscript_outline.specs.declared.pen.Segment.TheVariants.{MoveTo, LineTo, CurveTo, Close}
+use Rattle.postscript_outline.specs.declared.segment.Segment.{Segment}
+use Rattle.postscript_outline.specs.declared.segment.Segment.TheVariants.{MoveTo, LineTo, CurveTo, Close}
 use Rattle.postscript_outline.specs.declared.point.Point.{Point}
 
 -- a point, so far to the right and so far up

@@ -1,7 +1,7 @@
 //! What an accented glyph names: what its run ends over.
 ghost use Rattle.std.specs.Prelude.{◌≡◌, ◌⊎◌, ◌<◌, ℕ, map, length, IfOk, IfErr, MatchResult, MatchOption};
 ghost use Rattle.postscript_base.specs.declared.error.Error.TheVariants as causes;
-ghost use Rattle.postscript_type2.specs.Program.Whole.{operation_of};
+ghost use Rattle.postscript_type2.specs.Program.RunAnswers.{operation_of};
 ghost use Rattle.postscript_accent.specs.declared.error.Error.TheVariants as errors;
 ghost use Rattle.postscript_accent.specs.Accents.{HasNoCodes, IsAccent, IsCode, IsTold, IsUnread};
 ghost use Rattle.postscript_accent.specs.Ends.{alone, ends_in_endchar as has_endchar, line_operands as the_line_operands, operations, operands_past, run_by, taken_at_end};

@@ -1,7 +1,7 @@
 //! Names of glyphs.
 ghost use Rattle.std.specs.Prelude.{◌≡◌};
 ghost use Rattle.postscript_c.specs.Naming.{TellsName, TellsNameIn, TellsNamed, TellsNamedIn};
-ghost use Rattle.postscript_view.specs.Shown.{view_shown};
+ghost use Rattle.postscript_view.specs.Value.{view_shown};
 
 use crate::status::{NO_GLYPH, NO_NAME};
 use crate::texts::hand_bytes;

@@ -3,5 +3,5 @@ pub mod Operands
 pub mod Font
 pub mod Order
 pub mod Layout
-pub mod Shown
+pub mod Value
 pub mod Causes

@@ -7,7 +7,7 @@ ghost use Rattle.postscript_compact1.specs.FontSet.Font.{Font, font_of, tables_i
 ghost use Rattle.postscript_compact1.specs.FontSet.Causes.{NoFont, NoLenientFont};
 ghost use Rattle.postscript_compact1.specs.FontSet.Layout.{IsFont, IsLenientFont};
 ghost use Rattle.postscript_compact1.specs.FontSet.Order.{font, font_by, lenient_font};
-ghost use Rattle.postscript_compact1.specs.FontSet.Shown.{font_shown, tables_shown, parts_shown};
+ghost use Rattle.postscript_compact1.specs.FontSet.Value.{font_shown, tables_shown, parts_shown};
 
 pub mod laws;
 mod manner;
@@ -155,7 +155,7 @@ impl Value for FontSet {
     ghost use Rattle.postscript_compact1.specs.FontSet.Causes.{NoFont};
     ghost use Rattle.postscript_compact1.specs.FontSet.Layout.{IsFont};
     ghost use Rattle.postscript_compact1.specs.FontSet.Order.{font};
-    ghost use Rattle.postscript_compact1.specs.FontSet.Shown.{font_shown};
+    ghost use Rattle.postscript_compact1.specs.FontSet.Value.{font_shown};
 
     ghost Shown = { Font };
 

@@ -9,7 +9,7 @@ use Rattle.postscript_type2.specs.declared.operation.Operator.{Operator}
 use Rattle.postscript_type2.specs.Program.Evaluation.{run_of}
 use Rattle.postscript_type2.specs.Program.Routines.{Lists}
 use Rattle.postscript_type2.specs.Program.Runs.{operation, width_of, fault_of}
-use Rattle.postscript_type2.specs.Program.Whole.{operation_of}
+use Rattle.postscript_type2.specs.Program.RunAnswers.{operation_of}
 
 -- operations and a width
 abbrev pub Drawn : Type 0

@@ -4,7 +4,7 @@ ghost use Rattle.std.specs.Int.RustNames.{unsigned_abs};
 ghost use Rattle.postscript_base.specs.Compact1.Dictionary.{Dictionary};
 ghost use Rattle.postscript_base.specs.Refusal.{refusal_of};
 ghost use Rattle.postscript_compact1.specs.Index.{Index};
-ghost use Rattle.postscript_compact1.specs.FontSet.Shown.{font_shown};
+ghost use Rattle.postscript_compact1.specs.FontSet.Value.{font_shown};
 ghost use Rattle.postscript_type2.specs.Program.Evaluation.{run_of};
 ghost use Rattle.postscript_type2.specs.Program.Routines.{subroutines};
 ghost use Rattle.postscript_type2.specs.Program.Runs.{width_of};

@@ -4,7 +4,7 @@ ghost use Rattle.postscript_base.specs.Refusal.{refusal_of};
 ghost use Rattle.postscript_compact1.specs.Index.{Index};
 ghost use Rattle.postscript_compact1.specs.FontSet.Font.{Font};
 ghost use Rattle.postscript_compact1.specs.FontSet.Layout.{IsFont};
-ghost use Rattle.postscript_compact1.specs.FontSet.Shown.{font_shown};
+ghost use Rattle.postscript_compact1.specs.FontSet.Value.{font_shown};
 ghost use Rattle.postscript_examples.specs.Glyphs.{drawn, drawn_by, first_refused_by, lists, HasGlyphs};
 
 use crate::glyphs::{Glyph, each_glyph};

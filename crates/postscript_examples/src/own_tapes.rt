@@ -3,7 +3,7 @@ ghost use Rattle.std.specs.Prelude.{◌≡◌, ◌≢◌, ℕ, IfOk, IfErr};
 ghost use Rattle.postscript_base.specs.Tape.Cursor.{cursor_state};
 ghost use Rattle.postscript_compact1.specs.FontSet.Font.{Font};
 ghost use Rattle.postscript_compact1.specs.FontSet.Layout.{IsFont};
-ghost use Rattle.postscript_compact1.specs.FontSet.Shown.{font_shown};
+ghost use Rattle.postscript_compact1.specs.FontSet.Value.{font_shown};
 
 use postscript::compact1::FontSet;
 use postscript::tape::ReadSeek;

@@ -6,8 +6,8 @@ use Rattle.postscript_base.specs.declared.error.Error.{Error}
 use Rattle.postscript_base.specs.declared.error.Error.TheVariants as errors
 use Rattle.postscript_base.specs.Refusal.{Refusal, refusal_of}
 use Rattle.postscript_outline.specs.declared.pen.Pen.{Pen}
-use Rattle.postscript_outline.specs.declared.pen.Segment.{Segment}
-use Rattle.postscript_outline.specs.declared.pen.Segment.TheVariants.{MoveTo, LineTo, CurveTo, Close}
+use Rattle.postscript_outline.specs.declared.segment.Segment.{Segment}
+use Rattle.postscript_outline.specs.declared.segment.Segment.TheVariants.{MoveTo, LineTo, CurveTo, Close}
 use Rattle.postscript_outline.specs.declared.point.Point.{Point}
 use Rattle.postscript_outline.specs.declared.stroke.Stroke.{Stroke}
 use Rattle.postscript_outline.specs.declared.stroke.Stroke.TheVariants.{Move, Line, Curve}

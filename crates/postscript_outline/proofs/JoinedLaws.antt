@@ -2,7 +2,7 @@
 use Rattle.std.proofs.Common.{◌≡◌, inl, inr, List, [], ◌∷◌, ◌++◌, Result, Ok, Err, IfOk, refl, sym, ap, subst, ◌∙◌}
 use Rattle.postscript_base.specs.declared.error.Error.{Error}
 use Rattle.postscript_base.specs.Refusal.{Refusal}
-use Rattle.postscript_outline.specs.declared.pen.Segment.{Segment}
+use Rattle.postscript_outline.specs.declared.segment.Segment.{Segment}
 use Rattle.postscript_outline.specs.declared.stroke.Stroke.{Stroke}
 use Rattle.postscript_outline.specs.Drawing.{Drawing, ◌>>=◌, DrawsInto, IsFront, drawing, drawn}
 use Rattle.postscript_outline.proofs.GivenLaws.{drawing-grows, front-through}

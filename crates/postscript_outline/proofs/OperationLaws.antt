@@ -7,7 +7,7 @@ use Rattle.postscript_outline.proofs.ContourLaws.{contours}
 use Rattle.postscript_outline.specs.Applying.{applied}
 use Rattle.postscript_outline.specs.Contours.{AreContours}
 use Rattle.postscript_outline.specs.declared.outline.Outline.{Outline}
-use Rattle.postscript_outline.specs.declared.pen.Segment.{Segment}
+use Rattle.postscript_outline.specs.declared.segment.Segment.{Segment}
 use Rattle.postscript_outline.specs.Drawing.{Drawing, ◌>>=◌, blank, drawing}
 use Rattle.postscript_outline.specs.Fitting.{AllFit, fits, is_length}
 use Rattle.postscript_outline.specs.Operations.{OutlinesApplied, applied_all, outline_applied}

@@ -2,7 +2,7 @@
 use Rattle.std.proofs.Common.{◌≡◌, List, [], ◌∷◌, ◌++◌, Result, Ok, Err, fold, refl, sym, ap, ◌∙◌, append-nil}
 use Rattle.postscript_base.specs.Refusal.{Refusal}
 use Rattle.postscript_outline.specs.declared.pen.Pen.{Pen}
-use Rattle.postscript_outline.specs.declared.pen.Segment.{Segment}
+use Rattle.postscript_outline.specs.declared.segment.Segment.{Segment}
 use Rattle.postscript_outline.specs.Drawing.{◌>>=◌, drawing, held}
 use Rattle.postscript_outline.specs.Given.{outlined_from}
 use Rattle.postscript_outline.specs.Operators.{strokes}

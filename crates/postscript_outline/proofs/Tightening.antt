@@ -9,7 +9,7 @@ use Rattle.std.proofs.Math.Seq.{take-suc}
 use Rattle.std.specs.Prelude.{Any}
 use Rattle.postscript_outline.proofs.Bounding.{least, greatest, ≤ℤ_trans}
 use Rattle.postscript_outline.specs.declared.bounds.Bounds.{Bounds}
-use Rattle.postscript_outline.specs.declared.pen.Segment.{Segment}
+use Rattle.postscript_outline.specs.declared.segment.Segment.{Segment}
 use Rattle.postscript_outline.specs.declared.point.Point.{Point}
 use Rattle.postscript_outline.specs.Arcs.{Reaches}
 use Rattle.postscript_outline.specs.Bounds.{lower, upper}

@@ -1,8 +1,8 @@
 -- Curves from a point, in a drawing whose pen stands there.
 use Rattle.std.specs.Prelude.{◌≡◌, Bool, List, Ok, Err}
 use Rattle.postscript_base.specs.Refusal.{overflow}
-use Rattle.postscript_outline.specs.declared.pen.Segment.{Segment}
-use Rattle.postscript_outline.specs.declared.pen.Segment.TheVariants.{CurveTo}
+use Rattle.postscript_outline.specs.declared.segment.Segment.{Segment}
+use Rattle.postscript_outline.specs.declared.segment.Segment.TheVariants.{CurveTo}
 use Rattle.postscript_outline.specs.declared.point.Point.{Point}
 use Rattle.postscript_outline.specs.declared.stroke.Stroke.TheVariants.{Curve}
 use Rattle.postscript_outline.specs.declared.stroke.Vector.{Vector}

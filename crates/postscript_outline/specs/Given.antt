@@ -1,7 +1,7 @@
 -- What a sink is given of a run.
 use Rattle.std.specs.Prelude.{◌≡◌, ℤ, List, ◌++◌, Option, Result, Ok, Err, IfOk}
 use Rattle.postscript_base.specs.Refusal.{Refusal}
-use Rattle.postscript_outline.specs.declared.pen.Segment.{Segment}
+use Rattle.postscript_outline.specs.declared.segment.Segment.{Segment}
 use Rattle.postscript_outline.specs.Drawing.{Drawing, ◌>>=◌, IsFront}
 use Rattle.postscript_outline.specs.Outline.{drawing_of, finished, outline_of, outlined}
 use Rattle.postscript_type2.specs.Program.Programs.{Pending}

@@ -4,7 +4,7 @@ use Rattle.std.specs.Prelude.{◌≡◌, ℤ, List, [], ◌∷◌, map, Option, 
 use Rattle.postscript_base.specs.Refusal.{Refusal}
 use Rattle.postscript_outline.specs.Applying.{applied}
 use Rattle.postscript_outline.specs.declared.outline.Outline.{Outline}
-use Rattle.postscript_outline.specs.declared.pen.Segment.{Segment}
+use Rattle.postscript_outline.specs.declared.segment.Segment.{Segment}
 use Rattle.postscript_outline.specs.Drawing.{Drawing, ◌>>=◌, blank}
 use Rattle.postscript_outline.specs.Outline.{finished}
 use Rattle.postscript_type2.specs.declared.operation.Operator.{Operator}

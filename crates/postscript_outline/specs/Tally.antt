@@ -1,7 +1,7 @@
 -- What a tally takes in of a run.
 use Rattle.std.specs.Prelude.{◌≡◌, ℤ, List, Option, Result, Ok, Err, fold}
 use Rattle.postscript_base.specs.Refusal.{Refusal}
-use Rattle.postscript_outline.specs.declared.pen.Segment.{Segment}
+use Rattle.postscript_outline.specs.declared.segment.Segment.{Segment}
 use Rattle.postscript_outline.specs.Outline.{outline_of, outlined}
 use Rattle.postscript_type2.specs.Program.Programs.{Pending}
 use Rattle.postscript_type2.specs.Program.Runs.{Run, width_by, width_of}

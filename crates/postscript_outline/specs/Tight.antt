@@ -3,8 +3,8 @@ use Rattle.std.specs.Prelude.{◌≡◌, ℕ, ◌+◌, ◌<◌, ℤ, pos, ◌+�
 use Rattle.postscript_outline.specs.Arcs.{Reaches, bezier, cube, greatest, least}
 use Rattle.postscript_outline.specs.Bounds.{lower, upper}
 use Rattle.postscript_outline.specs.declared.bounds.Bounds.{Bounds}
-use Rattle.postscript_outline.specs.declared.pen.Segment.{Segment}
-use Rattle.postscript_outline.specs.declared.pen.Segment.TheVariants.{MoveTo, LineTo, CurveTo, Close}
+use Rattle.postscript_outline.specs.declared.segment.Segment.{Segment}
+use Rattle.postscript_outline.specs.declared.segment.Segment.TheVariants.{MoveTo, LineTo, CurveTo, Close}
 use Rattle.postscript_outline.specs.declared.point.Point.{Point}
 
 -- a curve: its first end, its control points, and its last end

@@ -8,10 +8,10 @@ ghost use Rattle.postscript_outline.specs.Operators.{strokes as the_strokes};
 ghost use Rattle.postscript_outline.specs.Strokes.{move as the_move, move_along as the_move_along, lines as the_lines, lines_in_turn as the_lines_in_turn, curves as the_curves, curves_along as the_curves_along, curves_level as the_curves_level, curves_in_turn as the_curves_in_turn, curves_then_line as the_curves_then_line, lines_then_curve as the_lines_then_curve};
 
 use crate::operands::{by, vector, wide};
-use crate::operators::{Strokes, curve, curve_along, curve_in_turn, first_aside, line_in_turn};
+use crate::operators::{curve, curve_along, curve_in_turn, first_aside, line_in_turn};
 use crate::pen::Pen;
 use crate::sink::Sink;
-use crate::stroke::Axis;
+use crate::stroke::{Axis, Strokes};
 use postscript_base::Error;
 use postscript_type2::{Operand, Operator};
 

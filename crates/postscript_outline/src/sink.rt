@@ -1,18 +1,16 @@
 //! Sinks, which are given the segments of an outline.
 ghost use Rattle.std.specs.Prelude.{◌≡◌, ◌∷◌, ◌++◌, [], OnOk, IfErr};
-ghost use Rattle.postscript_outline.specs.Drawing.{IsFront};
-ghost use Rattle.postscript_outline.specs.declared.pen.Segment.TheVariants as pieces;
+ghost use Rattle.postscript_outline.specs.declared.segment.Segment.TheVariants as pieces;
 
-use crate::outline::Outline;
-use crate::pen::Segment;
 use crate::point::Point;
+use crate::segment::Segment;
 use postscript_base::Result;
 
 /// What is given the segments of an outline, one call each, in their order.
 pub trait Sink {
     ghost use Rattle.std.specs.Prelude.{List};
     ghost use Rattle.postscript_base.specs.declared.error.Error.{Error};
-    ghost use Rattle.postscript_outline.specs.declared.pen.Segment.{Segment};
+    ghost use Rattle.postscript_outline.specs.declared.segment.Segment.{Segment};
 
     /// The segments that it has been given.
     ghost given: { Self → List Segment };
@@ -58,21 +56,6 @@ impl Segment {
     }
 }
 
-impl Outline {
-    /// Gives the segments to a sink, in their order.
-    ///
-    /// Refused: with what the sink refuses one of them with.
-    pub fn give<S: Sink>(&self, sink: &mut S) -> Result<()>
-        ensures given { OnOk result (S.given sink.new ≡ S.given sink.old ++ self.now.segments.items) }
-        ensures refused { IfErr result (λ e. S.refuses sink.new e × IsFront (S.given sink.new) (S.given sink.old ++ self.now.segments.items)) }
-    {
-        for segment in &self.segments {
-            segment.give(sink)?;
-        }
-        Ok(())
-    }
-}
-
 impl Sink for Vec<Segment> {
     ghost use Rattle.std.specs.Prelude.{◌≡◌};
     ghost use Rattle.postscript_base.specs.declared.error.Error.TheVariants as errors;
@@ -102,39 +85,6 @@ impl Sink for Vec<Segment> {
     #[inline(always)]
     fn close(&mut self) -> Result<()> {
         self.push(Segment::Close)?;
-        Ok(())
-    }
-}
-
-impl Sink for Outline {
-    ghost use Rattle.std.specs.Prelude.{◌≡◌};
-    ghost use Rattle.postscript_base.specs.declared.error.Error.TheVariants as errors;
-
-    ghost given = { λ outline. outline.segments.items };
-
-    ghost refuses = { λ _ e. e ≡ errors.Memory };
-
-    #[inline(always)]
-    fn move_to(&mut self, to: Point) -> Result<()> {
-        self.segments.push(Segment::MoveTo(to))?;
-        Ok(())
-    }
-
-    #[inline(always)]
-    fn line_to(&mut self, to: Point) -> Result<()> {
-        self.segments.push(Segment::LineTo(to))?;
-        Ok(())
-    }
-
-    #[inline(always)]
-    fn curve_to(&mut self, first: Point, second: Point, to: Point) -> Result<()> {
-        self.segments.push(Segment::CurveTo(first, second, to))?;
-        Ok(())
-    }
-
-    #[inline(always)]
-    fn close(&mut self) -> Result<()> {
-        self.segments.push(Segment::Close)?;
         Ok(())
     }
 }

@@ -10,14 +10,15 @@ ghost use Rattle.postscript_type2.specs.Program.Programs.{ended};
 ghost use Rattle.postscript_type2.specs.Program.Routines.{subroutines};
 
 use crate::outline::Outline;
-use crate::pen::{Pen, Segment};
+use crate::pen::Pen;
+use crate::segment::Segment;
 use postscript_base::Result;
 use postscript_type2::{Operand, Program};
 use std::alloc::Global;
 
 /// What takes in the segments of an outline, one after another, and keeps of them what it will: a count, or bounds.
 pub trait Tally {
-    ghost use Rattle.postscript_outline.specs.declared.pen.Segment.{Segment};
+    ghost use Rattle.postscript_outline.specs.declared.segment.Segment.{Segment};
 
     /// What it is after one more segment.
     ghost after: { Self → Segment → Self };

@@ -6,8 +6,8 @@ ghost use Rattle.postscript_outline.specs.Tight.{IsTightBoundsOf, Surrounds, aft
 use crate::bounds::{Bounds, lower, upper};
 use crate::curve::extent;
 use crate::outline::Outline;
-use crate::pen::Segment;
 use crate::point::Point;
+use crate::segment::Segment;
 
 impl Outline {
     /// The smallest rectangle round the outline's lines and curves, in whole 65536ths of a unit, or a 65536th more: it meets

@@ -13,8 +13,8 @@ use Rattle.postscript_type2.specs.Program.Evaluation.{with_phrase, with_answer, 
 use Rattle.postscript_type2.specs.Program.Parsing.{Complete, NoPhrase, phrase, fronted}
 use Rattle.postscript_type2.specs.Program.Routines.{Lists}
 use Rattle.postscript_type2.specs.Program.Runs.{Answer, Said, UsedUp, Finished, Fault}
-use Rattle.postscript_type2.specs.Program.Still.{still, next_still, are_used_up}
-use Rattle.postscript_type2.proofs.Still.{still_end}
+use Rattle.postscript_type2.specs.Program.Remaining.{still, next_still, are_used_up}
+use Rattle.postscript_type2.proofs.Remains.{still_end}
 use Rattle.postscript_type2.proofs.Strides.{still_step-at, stride-is, stop-is}
 
 -- A phrase was read off the front of these bytes into this stack and operator, and this rest is behind it.

@@ -7,7 +7,7 @@ pub mod Places
 pub mod Bytes
 pub mod Pieces
 pub mod Fronts
-pub mod Still
+pub mod Remains
 pub mod Strides
 pub mod Arms
 pub mod Taken

@@ -20,7 +20,7 @@ use Rattle.postscript_type2.specs.Program.OperatorRules.{IsHeld, HasResult, abs,
 use Rattle.postscript_type2.specs.Program.Routines.{Lists}
 use Rattle.postscript_type2.specs.Program.Stacks.{IsRolled, one_to_one, two_to_one, choice, removal, exchange, distance, copy, roll, roll_by, rolled as rolled_of, rolled_top}
 use Rattle.postscript_type2.specs.Program.Storage.{stored_at, storing, fetching}
-use Rattle.postscript_type2.specs.Program.Works.{after, ◌>>=◌, given, whole_operand, operand, operand_below, push}
+use Rattle.postscript_type2.specs.Program.StackWork.{after, ◌>>=◌, given, whole_operand, operand, operand_below, push}
 use Rattle.postscript_type2.proofs.RollingLaws.{rolled-law}
 use Rattle.postscript_type2.proofs.StackEnds.{get-seam, Ending, nothing, last, ending, one-last, two-lasts, popped, whole-popped, two-last, below-past, choice-last, removal-last, exchange-last, below-there}
 use Rattle.postscript_type2.proofs.Greatest.{greatest-is, greatest-none}

@@ -8,7 +8,7 @@ use Rattle.std.specs.Option.{ok_or}
 use Rattle.postscript_base.specs.Refusal.{Refusal, expected_operand, expected_integer, expected_more_operands}
 use Rattle.postscript_type2.specs.Number.{whole, to_int}
 use Rattle.postscript_type2.specs.Program.Stacks.{one_to_one, two_to_one, choice, removal, exchange}
-use Rattle.postscript_type2.specs.Program.Works.{Work, after, ◌>>=◌, given, pop, operand, whole_operand, operand_below, push}
+use Rattle.postscript_type2.specs.Program.StackWork.{Work, after, ◌>>=◌, given, pop, operand, whole_operand, operand_below, push}
 use Rattle.postscript_type2.proofs.Wholes.{to_int-whole}
 
 -- the item behind a front

@@ -1,5 +1,5 @@
 //! Fonts written: of all glyphs, and of some.
-use crate::checks::{bytes_of, holds, is_text};
+use crate::checks::{bytes_of, holds, holds_at, is_text};
 use crate::views::rows::{CID, PLAIN, SELECTIONS};
 use crate::views::{codes_of, joined, told};
 use postscript_view::FontView;
@@ -75,6 +75,32 @@ fn codes_written(rt: HostRuntime) {
     let cut = subset(alloc, bytes.as_slice(), &[3]).expect(&rt, "a subset");
     let text = codes_of(&rt, alloc, cut.as_slice());
     is_text(&rt, text.as_str(), " 66:1", "a subset");
+}
+
+/// A font has these strings alone, and this name of its last glyph.
+fn is_named<R: Abort>(rt: &R, alloc: Global, bytes: &[u8], strings: &[&[u8]], name: &[u8]) {
+    let font = FontView::read(alloc, bytes).expect(rt, "a font");
+    let set = font.char_set().expect(rt, "a char set");
+    holds(rt, font.strings.len() == strings.len(), "so many strings");
+    for (i, string) in strings.iter().enumerate() {
+        holds_at(rt, font.strings.get(i) == Some(*string), "string", i);
+    }
+    let last = font.char_strings.len().saturating_sub(1);
+    holds(rt, font.name(&set, last) == Some(name), "the last name");
+}
+
+/// Strings that no glyph and no operator names are left out, where numbers are not kept; the others keep their order.
+#[test]
+fn strings_cut(rt: HostRuntime) {
+    let alloc = rt.alloc();
+    let bytes = joined(&rt, alloc, PLAIN, "00 02 4142");
+    is_named(&rt, alloc, bytes.as_slice(), &[b"alpha", b"beta"], b"beta");
+    let cut = subset(alloc, bytes.as_slice(), &[4]).expect(&rt, "a subset");
+    is_named(&rt, alloc, cut.as_slice(), &[b"beta"], b"beta");
+    let cut = subset(alloc, bytes.as_slice(), &[3]).expect(&rt, "a subset");
+    is_named(&rt, alloc, cut.as_slice(), &[], b"B");
+    let kept = subset_keeping(alloc, bytes.as_slice(), &[4]).expect(&rt, "a subset");
+    is_named(&rt, alloc, kept.as_slice(), &[b"alpha", b"beta"], b"beta");
 }
 
 #[test]

@@ -11,3 +11,4 @@ pub mod Encoded
 pub mod Making
 pub mod Marks
 pub mod Renamed
+mod StringRows

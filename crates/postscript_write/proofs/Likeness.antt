@@ -9,7 +9,7 @@ use Rattle.postscript_base.specs.declared.compact1.operator.Operator.TheVariants
 use Rattle.postscript_view.specs.Advances.{advance_of}
 use Rattle.postscript_view.specs.Naming.{Names}
 use Rattle.postscript_view.specs.Order as order
-use Rattle.postscript_view.specs.Shown.{part_shown, parts_shown}
+use Rattle.postscript_view.specs.Value.{part_shown, parts_shown}
 use Rattle.postscript_view.specs.declared.advance.Advance.TheVariants.{Default, Nominal}
 use Rattle.postscript_view.specs.declared.char_set.CharSetView.{CharSetView}
 use Rattle.postscript_view.specs.declared.part.Part.{Part}

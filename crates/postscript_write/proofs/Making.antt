@@ -14,13 +14,13 @@ use Rattle.postscript_view.specs.Glyphs.{HasPartNumber}
 use Rattle.postscript_view.specs.Naming.{Names}
 use Rattle.postscript_view.specs.Order.{View, Part, view}
 use Rattle.postscript_view.specs.Select.{IsSelected}
-use Rattle.postscript_view.specs.Shown.{view_shown, part_shown, parts_shown}
+use Rattle.postscript_view.specs.Value.{view_shown, part_shown, parts_shown}
 use Rattle.postscript_view.specs.declared.char_set.CharSetView.{CharSetView}
 use Rattle.postscript_view.specs.declared.font.FontView.{FontView}
 use Rattle.postscript_write.specs.Fonts.{IsMade}
 use Rattle.postscript_write.specs.Glyphs.{AreCodesOf, AreNumbersOf, HasPartFor, IsCodeFor, Sources, run_in}
 use Rattle.postscript_write.specs.Parts.{SameParts}
-use Rattle.postscript_write.specs.Refusals.{AreSound, FontRefusedBy, IsFaultless, IsFirstPast, IsRefusedBy, IsSubsetRefusedBy}
+use Rattle.postscript_write.specs.Refusals.{AreSound, FontRefusedBy, IsFaultless, IsRefusedBy, IsSubsetRefusedBy}
 use Rattle.postscript_write.specs.Steps.{IsLate, IsNotChosen, IsNotOpened, RefusedBy, RefusedFor}
 use Rattle.postscript_write.specs.declared.error.Error.{Error}
 use Rattle.postscript_write.specs.declared.error.Error.TheVariants.{Refused, Glyph, SeveralFonts, MissingGlyph, MissingPart, MissingName, NoGlyphs, TooLarge, NotReadBack}

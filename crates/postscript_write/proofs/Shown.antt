@@ -5,7 +5,7 @@ use Rattle.std.proofs.lemmas.Option.{slice_get-map}
 use Rattle.postscript_type2.specs.Program.Inlining.{KeepsMeaning}
 use Rattle.postscript_type2.specs.Program.Routines.{Lists}
 use Rattle.postscript_type2.specs.Program.Runs.{Run}
-use Rattle.postscript_view.specs.Shown.{view_shown, part_shown}
+use Rattle.postscript_view.specs.Value.{view_shown, part_shown}
 use Rattle.postscript_view.specs.declared.font.FontView.{FontView}
 use Rattle.postscript_view.specs.declared.part.Part.{Part}
 use Rattle.postscript_write.specs.Glyphs.{DrawsAs}

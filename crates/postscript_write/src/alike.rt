@@ -1,7 +1,7 @@
 //! Parts, names and codes of a font that is read back, compared with those that it was made of.
 ghost use Rattle.std.specs.Prelude.{◌≡◌, ◌<◌, ℕ, IsTrue, None, length, option_map, slice_index_or};
 ghost use Rattle.postscript_items.specs.Lent.{items_of};
-ghost use Rattle.postscript_view.specs.Shown.{part_shown, parts_shown, view_shown};
+ghost use Rattle.postscript_view.specs.Value.{part_shown, parts_shown, view_shown};
 ghost use Rattle.postscript_write.specs.Glyphs.{HasPartFor};
 ghost use Rattle.postscript_write.specs.Naming.{SameCodes, SameEncoding, SameName, SameNames};
 ghost use Rattle.postscript_write.specs.Parts.{SameFont, SamePart, SameParts};

@@ -2,7 +2,7 @@
 ghost use Rattle.std.specs.Prelude.{◌≡◌, [], true, false, Err, length, IfOk, IfErr, OnOk};
 ghost use Rattle.postscript_base.specs.Tape.Outcome.{Got};
 ghost use Rattle.postscript_view.specs.Order.{View, fonts as the_fonts, view as the_view};
-ghost use Rattle.postscript_view.specs.Shown.{view_shown};
+ghost use Rattle.postscript_view.specs.Value.{view_shown};
 ghost use Rattle.postscript_write.specs.Refusals.{IsRefusedBy, IsSubsetRefusedBy};
 ghost use Rattle.postscript_write.specs.Sources.{AreThere, IsWritten, chosen as the_chosen, every as the_every, keeping as the_keeping};
 ghost use Rattle.postscript_write.specs.Steps.{IsNotOpened};

@@ -3,7 +3,7 @@ ghost use Rattle.std.specs.Prelude.{◌≡◌, ◌≢◌, ◌⊎◌, ◌<◌, �
 ghost use Rattle.postscript_base.specs.declared.error.Error.TheVariants as causes;
 ghost use Rattle.postscript_type2.specs.Program.Routines.{texts};
 ghost use Rattle.postscript_write.specs.declared.error.Error.TheVariants as errors;
-ghost use Rattle.postscript_view.specs.Shown.{view_shown};
+ghost use Rattle.postscript_view.specs.Value.{view_shown};
 ghost use Rattle.postscript_items.specs.Lent.{items_of};
 ghost use Rattle.postscript_write.specs.Glyphs.{AreCodesOf, AreGlyphs, AreNumbersOf, HasPartFor, IsCodeFor, IsCodeOf, IsGlyph};
 ghost use Rattle.postscript_view.specs.Glyphs.{HasPartNumber};

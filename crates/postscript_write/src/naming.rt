@@ -1,7 +1,7 @@
 //! Strings of a font, and what names them (Technical Note 5176, sections 9, 10 and 13).
 ghost use Rattle.std.specs.Prelude.{◌≡◌, IsTrue, option_map};
 ghost use Rattle.postscript_items.specs.Lent.{items_of};
-ghost use Rattle.postscript_view.specs.Shown.{view_shown};
+ghost use Rattle.postscript_view.specs.Value.{view_shown};
 ghost use Rattle.postscript_write.specs.Strings.{identifier_in as the_identifier, own_named as the_own_named, own_string as the_own_string, NameSame, NamesSame, SameString, SameText, SameTexts};
 
 use crate::kept::NAMED;

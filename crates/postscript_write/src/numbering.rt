@@ -3,7 +3,7 @@ ghost use Rattle.std.specs.Prelude.{◌≡◌, ℕ, IfErr, Some, length};
 ghost use Rattle.postscript_items.specs.Lent.{items_of};
 ghost use Rattle.postscript_view.specs.CharSets.{IsCharSetOf};
 ghost use Rattle.postscript_view.specs.Naming.{Names};
-ghost use Rattle.postscript_view.specs.Shown.{view_shown};
+ghost use Rattle.postscript_view.specs.Value.{view_shown};
 ghost use Rattle.postscript_write.specs.Refusals.{FontRefusedBy};
 ghost use Rattle.postscript_write.specs.Steps.{IsLate};
 ghost use Rattle.postscript_write.specs.declared.error.Error.TheVariants as errors;

@@ -6,7 +6,7 @@ ghost use Rattle.postscript_view.specs.CharSets.{IsCharSetOf};
 ghost use Rattle.postscript_view.specs.Encodings.{IsEncodingOf};
 ghost use Rattle.postscript_view.specs.Order.{View, view as the_view};
 ghost use Rattle.postscript_items.specs.Lent.{items_of};
-ghost use Rattle.postscript_view.specs.Shown.{view_shown};
+ghost use Rattle.postscript_view.specs.Value.{view_shown};
 ghost use Rattle.postscript_write.specs.Fonts.{IsFontOf, Repeats};
 ghost use Rattle.postscript_write.specs.Glyphs.{AreCodesOf, AreNumbersOf};
 ghost use Rattle.postscript_write.specs.Refusals.{FontRefusedBy};

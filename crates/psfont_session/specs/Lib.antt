@@ -7,5 +7,5 @@ pub mod Piece
 pub mod Session
 pub mod Summary
 pub mod Texts
-pub mod Told
+pub mod Output
 pub mod Words

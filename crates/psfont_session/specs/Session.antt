@@ -10,7 +10,7 @@ use Rattle.psfont_session.specs.Command.{name_of}
 use Rattle.psfont_session.specs.Line.{word_of, argument_of, IsBad}
 use Rattle.psfont_session.specs.Loaded.{Loaded, put, Loads}
 use Rattle.psfont_session.specs.Texts.{loaded_line}
-use Rattle.psfont_session.specs.Told.{RunTold, FlatTold, FontTold}
+use Rattle.psfont_session.specs.Output.{RunTold, FlatTold, FontTold}
 
 -- what a line does to what is loaded, and what is written on it
 pub record LineTold (line : List ℕ) (old : Loaded) (before : Option (List ℕ)) (new : Loaded) (after : Option (List ℕ)) : Type 0 where

@@ -3,7 +3,7 @@ use Rattle.std.specs.Prelude.{ℕ, List, [], ◌∷◌, ◌++◌, if◌then◌el
 use Rattle.std.specs.Char.{is_ascii_control}
 use Rattle.std.specs.Fmt.{decimal}
 use Rattle.postscript.specs.FontSet.Font.{Font}
-use Rattle.postscript.specs.FontSet.Shown.{font_shown}
+use Rattle.postscript.specs.FontSet.Value.{font_shown}
 use Rattle.postscript_base.specs.declared.compact1.header.Header.{Header}
 use Rattle.postscript_base.specs.declared.error.Error.{Error}
 use Rattle.postscript_compact1.specs.declared.char_set.CharSet.{CharSet}

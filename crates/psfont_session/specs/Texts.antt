@@ -3,7 +3,7 @@ use Rattle.std.specs.Prelude.{ℕ, ℤ, List, ◌++◌, flat_map, codes, length,
 use Rattle.std.specs.Fmt.{decimal}
 use Rattle.hex.specs.Hex.{encode_lower}
 use Rattle.postscript.specs.Error.{code}
-use Rattle.postscript.specs.Program.Whole.{operation_of}
+use Rattle.postscript.specs.Program.RunAnswers.{operation_of}
 use Rattle.postscript_base.specs.declared.error.Error.{Error}
 use Rattle.postscript_type2.specs.Operation.Operators.{name_of}
 use Rattle.postscript_type2.specs.Operation.Texts.{text}

@@ -8,13 +8,13 @@ ghost use Rattle.psfont_session.specs.Command.{name_of as command_name};
 ghost use Rattle.psfont_session.specs.Line.{word_of, argument_of, IsBad};
 ghost use Rattle.psfont_session.specs.Loaded.{put, Loads};
 ghost use Rattle.psfont_session.specs.Texts.{operation_line, operand_text, fault_line, end_line, width_line, answers_text, flat_line, loaded_line};
-ghost use Rattle.psfont_session.specs.Told.{RunTold, FlatTold, FontTold};
+ghost use Rattle.psfont_session.specs.Output.{RunTold, FlatTold, FontTold};
 ghost use Rattle.psfont_session.specs.Manner.{reading_of};
 ghost use Rattle.psfont_session.specs.declared.command.Command.TheVariants as commands;
 ghost use Rattle.psfont_session.specs.declared.command.Manner.{Manner};
-ghost use Rattle.postscript.specs.FontSet.Shown.{font_shown};
+ghost use Rattle.postscript.specs.FontSet.Value.{font_shown};
 ghost use Rattle.postscript.specs.Tape.Outcome.{Answers as Answered};
-ghost use Rattle.postscript.specs.Program.Whole.{operation_of};
+ghost use Rattle.postscript.specs.Program.RunAnswers.{operation_of};
 
 use crate::command::{Command, Manner, Place, split};
 use crate::routines::Routines;

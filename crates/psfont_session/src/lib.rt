@@ -5,7 +5,7 @@
 ghost use Rattle.std.specs.Prelude.{◌≡◌, ℕ, List, OnOk, [], ◌≤◌, ◌↔◌, ◌∷◌, map, string_bytes, IfOk, IsOk};
 ghost use Rattle.postscript.specs.Error.{IsListed};
 ghost use Rattle.std.specs.Io.KnownBytes.{Appends, Consumes, Keeps};
-ghost use Rattle.postscript.specs.FontSet.Shown.{font_shown};
+ghost use Rattle.postscript.specs.FontSet.Value.{font_shown};
 ghost use Rattle.psfont_session.specs.Summary.{font_text};
 ghost use Rattle.psfont_session.specs.Look.{Looked, Goes};
 ghost use Rattle.psfont_session.specs.Session.{LineTold, Session};

@@ -9,7 +9,7 @@ ghost use Rattle.postscript.specs.Program.Inlining.{KeepsMeaning};
 ghost use Rattle.postscript.specs.Program.Meaning.{IsRunOf};
 ghost use Rattle.postscript.specs.Program.Routines.{Lists};
 ghost use Rattle.postscript.specs.Program.Runs.{Run, fault_of};
-ghost use Rattle.postscript.specs.Program.Whole.{Tells};
+ghost use Rattle.postscript.specs.Program.RunAnswers.{Tells};
 ghost use Rattle.psfont_session.specs.Loaded.{Loaded, put, lists_of};
 
 use crate::command::Place;

@@ -3,7 +3,7 @@ ghost use Rattle.std.specs.Prelude.{[], ◌∷◌, ◌++◌, map, flat_map, code
 ghost use Rattle.std.specs.Io.KnownBytes.{Appends};
 ghost use Rattle.postscript.specs.Error.{IsListed};
 ghost use Rattle.postscript.specs.Tape.{Reads};
-ghost use Rattle.postscript.specs.FontSet.Shown.{font_shown};
+ghost use Rattle.postscript.specs.FontSet.Value.{font_shown};
 ghost use Rattle.psfont_session.specs.Manner.{reading_of};
 ghost use Rattle.psfont_session.specs.Summary.{header_line, field_text, names_text, name_line, shown_byte, sets_text, counts_text, line_at, lines_below, count_line, tables_text, dictionaries_text, font_text};
 

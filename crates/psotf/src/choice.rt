@@ -1,10 +1,10 @@
 //! Which glyphs of a face are kept, and which of its characters.
-use crate::characters::{by_glyph, of_glyph};
+use crate::characters::{Mapped, by_glyph, of_glyph};
 use crate::face::Face;
 use crate::failure::Failure;
 use crate::map::Pair;
 use clap::ArgMatches;
-use std::alloc::Global;
+use std::alloc::{AllocError, Global};
 
 /// Glyphs, and characters with their glyphs.
 #[derive(Drop)]
@@ -91,17 +91,10 @@ impl Choice {
         Ok(())
     }
 
-    /// Adds the characters that the glyphs have.
-    fn put_chars(&mut self, alloc: Global, face: &Face<'_>) -> Result<(), Failure> {
-        let all = by_glyph(alloc, &face.map)?;
+    /// Adds the characters of the glyphs, by a list of all.
+    fn put_chars(&mut self, all: &[Mapped]) -> Result<(), AllocError> {
         for glyph in &self.glyphs {
-            let gid = u16::try_from(*glyph).unwrap_or(u16::MAX);
-            for mapped in of_glyph(all.as_slice(), gid) {
-                self.pairs.push(Pair {
-                    char: mapped.char,
-                    glyph: u32::from(gid),
-                })?;
-            }
+            put_chars_of(&mut self.pairs, all, *glyph)?;
         }
         Ok(())
     }
@@ -121,7 +114,9 @@ impl Choice {
         }
         let list = words.get_str("gids").unwrap_or("");
         self.put_gids(list, face.font.char_strings.len())?;
-        self.put_chars(alloc, face)
+        let all = by_glyph(alloc, &face.map)?;
+        self.put_chars(&all)?;
+        Ok(())
     }
 
     /// What words name, with `.notdef`: glyphs and characters that rise. Words that name nothing are refused.
@@ -141,6 +136,18 @@ impl Choice {
         choice.pairs.dedup_by_key(|pair: &mut Pair| pair.char);
         Ok(choice)
     }
+}
+
+/// Adds the characters of a glyph, by a list of all.
+fn put_chars_of(pairs: &mut Vec<Pair>, all: &[Mapped], glyph: usize) -> Result<(), AllocError> {
+    let gid = u16::try_from(glyph).unwrap_or(u16::MAX);
+    for mapped in of_glyph(all, gid) {
+        pairs.push(Pair {
+            char: mapped.char,
+            glyph: u32::from(gid),
+        })?;
+    }
+    Ok(())
 }
 
 /// A character by its number in hex.

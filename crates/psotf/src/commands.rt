@@ -1,5 +1,5 @@
 //! The words of the program.
-use clap::{Arg, ArgAction, Command, value_parser};
+use clap::{Arg, ArgAction, ArgGroup, Command, value_parser};
 use std::alloc::{AllocError, Global};
 
 /// Calls of the program.
@@ -13,182 +13,191 @@ const EXAMPLES: &str = "Examples:
   psotf subset Font.otf --text Hello -o Hello.otf
   psotf subset Font.otf --unicodes 20-7e,U+20AC --retain-gids -o Small.otf";
 
-/// A subcommand over a face of a file.
-fn over_face<'a>(alloc: Global, name: &'a str, about: &'a str) -> Result<Command<'a>, AllocError> {
-    let file = Arg::new(alloc, "FILE")
-        .required(true)
-        .help("An OpenType file or collection");
-    let face = Arg::new(alloc, "face")
-        .long("face")
-        .value_name("N")
-        .value_parser(value_parser!(u16))
-        .default_value("0")
-        .help("The face of a collection, from 0 on");
-    Command::new(alloc, name).about(about).arg(file)?.arg(face)
+/// A word behind a subcommand.
+#[derive(Clone, Copy)]
+enum Word {
+    /// A file to read: its name, and what it is.
+    File(&'static str, &'static str),
+    /// Of a name, without a value, and what it asks for.
+    Flag(&'static str, &'static str),
+    /// Of a name, with a value that is called so, and what it asks for.
+    Text(&'static str, &'static str, &'static str),
+    /// Of a name, with a number, and what it asks for.
+    Number(&'static str, &'static str),
+    /// Of a name, with a number, the one that is taken where it is left out, and what it asks for.
+    Given(&'static str, &'static str, &'static str),
+    /// The file to write, which may be left out, or has to be named, and what it is.
+    Out(bool, &'static str),
 }
 
-/// A flag for output as JSON.
-fn json<'a>(alloc: Global) -> Arg<'a> {
-    Arg::new(alloc, "json")
-        .long("json")
-        .action(ArgAction::SetTrue)
-        .help("Write JSON")
+/// A subcommand: its name, what it does, the words of which one has to be given, under a name of theirs, and the others.
+struct Subcommand {
+    name: &'static str,
+    about: &'static str,
+    group: &'static str,
+    one_of: &'static [Word],
+    others: &'static [Word],
 }
 
-/// Where a picture goes.
-fn out<'a>(alloc: Global) -> Arg<'a> {
-    Arg::new(alloc, "out")
-        .short('o')
-        .value_name("OUT")
-        .help("Where to write it, by default standard output")
-}
+/// The face of a file, which each subcommand is about.
+const FACE: &[Word] = &[
+    Word::File("FILE", "An OpenType file or collection"),
+    Word::Given("face", "0", "The face of a collection, from 0 on"),
+];
 
-fn inspect<'a>(alloc: Global) -> Result<Command<'a>, AllocError> {
-    over_face(alloc, "inspect", "What a face holds")?.arg(json(alloc))
-}
+const SUBCOMMANDS: &[Subcommand] = &[
+    Subcommand {
+        name: "inspect",
+        about: "What a face holds",
+        group: "",
+        one_of: &[],
+        others: &[Word::Flag("json", "Write JSON")],
+    },
+    Subcommand {
+        name: "glyph",
+        about: "Glyphs: names, characters, advances, outlines",
+        group: "which",
+        one_of: &[
+            Word::Number("gid", "The glyph of this number"),
+            Word::Text("char", "C", "The glyph of this character"),
+            Word::Text("name", "NAME", "The glyph of this name"),
+            Word::Flag("all", "Each glyph"),
+        ],
+        others: &[Word::Flag("json", "Write JSON")],
+    },
+    Subcommand {
+        name: "svg",
+        about: "A glyph or a line of text as a picture",
+        group: "what",
+        one_of: &[
+            Word::Text("text", "TEXT", "A line of text"),
+            Word::Number("gid", "The glyph of this number"),
+        ],
+        others: &[Word::Out(false, "Where to write it, by default standard output")],
+    },
+    Subcommand {
+        name: "sheet",
+        about: "A picture of the glyphs, each in a cell with its number and name",
+        group: "",
+        one_of: &[],
+        others: &[
+            Word::Given("from", "0", "The first glyph"),
+            Word::Given("count", "65535", "How many glyphs at most"),
+            Word::Out(false, "Where to write it, by default standard output"),
+        ],
+    },
+    Subcommand {
+        name: "flat",
+        about: "A file of the face whose char strings call no subroutines",
+        group: "",
+        one_of: &[],
+        others: &[Word::Out(true, "Where to write it")],
+    },
+    Subcommand {
+        name: "subset",
+        about: "A file of some glyphs: tables of layout and signatures are left out",
+        group: "kept",
+        one_of: &[
+            Word::Text("text", "TEXT", "The glyphs of these characters"),
+            Word::Text(
+                "gids",
+                "LIST",
+                "The glyphs of these numbers, as 1,7-12, and their characters",
+            ),
+            Word::Text(
+                "unicodes",
+                "LIST",
+                "The glyphs of these characters, as 41,U+42,61-7a",
+            ),
+        ],
+        others: &[
+            Word::Flag(
+                "retain-gids",
+                "Keep the numbers of glyphs; others are empty",
+            ),
+            Word::Out(true, "Where to write it"),
+        ],
+    },
+];
 
-fn glyph<'a>(alloc: Global) -> Result<Command<'a>, AllocError> {
-    let gid = Arg::new(alloc, "gid")
-        .long("gid")
-        .value_name("N")
-        .value_parser(value_parser!(u16))
-        .help("The glyph of this number")
-        .group("which")?;
-    let char = Arg::new(alloc, "char")
-        .long("char")
-        .value_name("C")
-        .help("The glyph of this character")
-        .group("which")?;
-    let name = Arg::new(alloc, "name")
-        .long("name")
-        .value_name("NAME")
-        .help("The glyph of this name")
-        .group("which")?;
-    let all = Arg::new(alloc, "all")
-        .long("all")
-        .action(ArgAction::SetTrue)
-        .help("Each glyph")
-        .group("which")?;
-    over_face(
-        alloc,
-        "glyph",
-        "Glyphs: names, characters, advances, outlines",
-    )?
-    .arg(gid)?
-    .arg(char)?
-    .arg(name)?
-    .arg(all)?
-    .group(clap::ArgGroup::new(alloc, "which").required(true))?
-    .arg(json(alloc))
-}
-
-fn svg<'a>(alloc: Global) -> Result<Command<'a>, AllocError> {
-    let text = Arg::new(alloc, "text")
-        .long("text")
-        .value_name("TEXT")
-        .help("A line of text")
-        .group("what")?;
-    let gid = Arg::new(alloc, "gid")
-        .long("gid")
-        .value_name("N")
-        .value_parser(value_parser!(u16))
-        .help("The glyph of this number")
-        .group("what")?;
-    over_face(alloc, "svg", "A glyph or a line of text as a picture")?
-        .arg(text)?
-        .arg(gid)?
-        .group(clap::ArgGroup::new(alloc, "what").required(true))?
-        .arg(out(alloc))
-}
-
-fn specimen<'a>(alloc: Global) -> Result<Command<'a>, AllocError> {
-    let from = Arg::new(alloc, "from")
-        .long("from")
-        .value_name("N")
-        .value_parser(value_parser!(u16))
-        .default_value("0")
-        .help("The first glyph");
-    let count = Arg::new(alloc, "count")
-        .long("count")
-        .value_name("N")
-        .value_parser(value_parser!(u16))
-        .default_value("65535")
-        .help("How many glyphs at most");
-    over_face(
-        alloc,
-        "sheet",
-        "A picture of the glyphs, each in a cell with its number and name",
-    )?
-    .arg(from)?
-    .arg(count)?
-    .arg(out(alloc))
-}
-
-fn flat<'a>(alloc: Global) -> Result<Command<'a>, AllocError> {
-    over_face(
-        alloc,
-        "flat",
-        "A file of the face whose char strings call no subroutines",
-    )?
-    .arg(out(alloc).required(true))
-}
-
-/// The words that name glyphs of a subset.
-fn chosen<'a>(
-    alloc: Global,
-    name: &'a str,
-    value: &'a str,
-    help: &'a str,
-) -> Result<Arg<'a>, AllocError> {
+/// A word with a number.
+fn number<'a>(alloc: Global, name: &'a str, help: &'a str) -> Arg<'a> {
     Arg::new(alloc, name)
         .long(name)
-        .value_name(value)
+        .value_name("N")
+        .value_parser(value_parser!(u16))
         .help(help)
-        .group("kept")
 }
 
-fn subset<'a>(alloc: Global) -> Result<Command<'a>, AllocError> {
-    let text = chosen(alloc, "text", "TEXT", "The glyphs of these characters")?;
-    let gids = chosen(
-        alloc,
-        "gids",
-        "LIST",
-        "The glyphs of these numbers, as 1,7-12, and their characters",
-    )?;
-    let unicodes = chosen(
-        alloc,
-        "unicodes",
-        "LIST",
-        "The glyphs of these characters, as 41,U+42,61-7a",
-    )?;
-    let retain = Arg::new(alloc, "retain-gids")
-        .long("retain-gids")
-        .action(ArgAction::SetTrue)
-        .help("Keep the numbers of glyphs; others are empty");
-    over_face(
-        alloc,
-        "subset",
-        "A file of some glyphs: tables of layout and signatures are left out",
-    )?
-    .arg(text)?
-    .arg(gids)?
-    .arg(unicodes)?
-    .group(clap::ArgGroup::new(alloc, "kept").required(true))?
-    .arg(retain)?
-    .arg(out(alloc).required(true))
+/// A word as an argument.
+fn arg<'a>(alloc: Global, word: Word) -> Arg<'a> {
+    match word {
+        Word::File(name, help) => Arg::new(alloc, name).required(true).help(help),
+        Word::Flag(name, help) => Arg::new(alloc, name)
+            .long(name)
+            .action(ArgAction::SetTrue)
+            .help(help),
+        Word::Text(name, value, help) => Arg::new(alloc, name)
+            .long(name)
+            .value_name(value)
+            .help(help),
+        Word::Number(name, help) => number(alloc, name, help),
+        Word::Given(name, value, help) => number(alloc, name, help).default_value(value),
+        Word::Out(is_required, help) => Arg::new(alloc, "out")
+            .short('o')
+            .value_name("OUT")
+            .required(is_required)
+            .help(help),
+    }
+}
+
+/// A command with more words.
+fn with_words<'a>(
+    alloc: Global,
+    command: Command<'a>,
+    words: &[Word],
+) -> Result<Command<'a>, AllocError> {
+    let mut command = command;
+    for word in words {
+        command = command.arg(arg(alloc, *word))?;
+    }
+    Ok(command)
+}
+
+/// A command with words of which one has to be given.
+fn with_one_of<'a>(
+    alloc: Global,
+    command: Command<'a>,
+    group: &'a str,
+    words: &[Word],
+) -> Result<Command<'a>, AllocError> {
+    let mut command = command;
+    for word in words {
+        command = command.arg(arg(alloc, *word).group(group)?)?;
+    }
+    command.group(ArgGroup::new(alloc, group).required(true))
+}
+
+/// A subcommand as a command.
+fn command_of<'a>(alloc: Global, one: &Subcommand) -> Result<Command<'a>, AllocError> {
+    let plain = Command::new(alloc, one.name).about(one.about);
+    let command = with_words(alloc, plain, FACE)?;
+    if one.one_of.is_empty() {
+        return with_words(alloc, command, one.others);
+    }
+    let command = with_one_of(alloc, command, one.group, one.one_of)?;
+    with_words(alloc, command, one.others)
 }
 
 /// The program's command.
 pub fn psotf<'a>(alloc: Global) -> Result<Command<'a>, AllocError> {
-    Command::new(alloc, "psotf")
+    let mut command = Command::new(alloc, "psotf")
         .version("0.1.0")
         .about("Fonts with a table CFF in OpenType files")
         .after_help(EXAMPLES)
-        .subcommand_required(true)
-        .subcommand(inspect(alloc)?)?
-        .subcommand(glyph(alloc)?)?
-        .subcommand(svg(alloc)?)?
-        .subcommand(specimen(alloc)?)?
-        .subcommand(flat(alloc)?)?
-        .subcommand(subset(alloc)?)
+        .subcommand_required(true);
+    for one in SUBCOMMANDS {
+        command = command.subcommand(command_of(alloc, one)?)?;
+    }
+    Ok(command)
 }

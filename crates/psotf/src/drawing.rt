@@ -1,23 +1,10 @@
 //! Drawings of glyphs.
 use crate::face::Face;
-use crate::refused::rule_of;
+use crate::failure::Refusal;
 use postscript_accent::{Error as Undrawn, outline_of};
-use postscript_base::Error as Fault;
 use postscript_outline::Outline;
 use postscript_view::{Advance, Glyph};
 use std::alloc::Global;
-use thiserror::Error;
-
-/// Why a glyph is refused.
-#[derive(Debug, Drop, Error)]
-pub enum Refusal {
-    #[error("FDSelect gives it no font dictionary")]
-    NoPart,
-    #[error("{} (refusal {}): {}", .0, .0.code(), rule_of(.0.code()))]
-    Run(#[from] Fault),
-    #[error("{0}: endchar over four operands names a base and an accent (Technical Note 5177, appendix C)")]
-    Accent(Undrawn),
-}
 
 /// Why a glyph is refused.
 fn refusal_of(error: Undrawn) -> Refusal {
@@ -37,10 +24,8 @@ pub fn draw<'f, 'l>(
     let Some(glyph) = face.font.glyph(usize::from(gid)) else {
         return Err(Refusal::NoPart);
     };
-    match outline_of(alloc, &face.font, usize::from(gid)) {
-        Ok(outline) => Ok((glyph, outline)),
-        Err(error) => Err(refusal_of(error)),
-    }
+    let outline = outline_of(alloc, &face.font, usize::from(gid)).map_err(refusal_of)?;
+    Ok((glyph, outline))
 }
 
 /// The width of a glyph by its program in 65536ths of a unit: told there, and added to the nominal one, or else the default one.

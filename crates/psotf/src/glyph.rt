@@ -1,8 +1,8 @@
 //! What a glyph is.
 use crate::characters::{Mapped, by_glyph, of_glyph};
-use crate::drawing::{Refusal, count, draw, width_of};
+use crate::drawing::{count, draw, width_of};
 use crate::face::Face;
-use crate::failure::Failure;
+use crate::failure::{Failure, Refusal};
 use crate::progress::Progress;
 use crate::sheet::Sheet;
 use clap::ArgMatches;

@@ -140,42 +140,88 @@ fn refusal(sheet: &mut Sheet, key: &str, refusal: &Option<Error>) -> Result<(), 
     }
 }
 
-/// Writes what the table `CFF ` holds.
-fn font(rt: &HostRuntime, sheet: &mut Sheet, face: &Face<'_>) -> Result<(), Failure> {
-    sheet.json.key("cff")?;
-    sheet.json.begin_object()?;
+/// How many font dictionaries a CID-keyed font has; 0 of another.
+fn dictionary_count(face: &Face<'_>) -> u64 {
+    if face.font.is_cid_keyed() {
+        face.font.parts.len() as u64
+    } else {
+        0
+    }
+}
+
+/// Writes numbers of what the table `CFF ` holds.
+fn counts(sheet: &mut Sheet, face: &Face<'_>, hinted: u64) -> Result<(), AllocError> {
+    let counts = [
+        ("fds", dictionary_count(face)),
+        ("glyphs", face.font.char_strings.len() as u64),
+        ("hinted", hinted),
+        ("strings", face.font.strings.len() as u64),
+        (
+            "global_subroutines",
+            face.font.global_subroutines.len() as u64,
+        ),
+    ];
+    for (key, count) in &counts {
+        sheet.number(*key, *count)?;
+    }
+    Ok(())
+}
+
+/// Writes what the font is called, and by what its glyphs are.
+fn keys(alloc: Global, sheet: &mut Sheet, face: &Face<'_>) -> Result<(), AllocError> {
     sheet.json.key("name")?;
     match face.font.names.get(0) {
-        Some(name) => sheet.bytes(rt.alloc(), name)?,
+        Some(name) => sheet.bytes(alloc, name)?,
         None => sheet.json.null()?,
     }
     sheet.json.key("is_cid")?;
     sheet.json.boolean(face.font.is_cid_keyed())?;
-    let fds = if face.font.is_cid_keyed() {
-        face.font.parts.len()
-    } else {
-        0
-    };
-    sheet.number("fds", fds as u64)?;
-    sheet.number("glyphs", face.font.char_strings.len() as u64)?;
-    sheet.number("hinted", hinted(rt, face)?)?;
-    sheet.number("strings", face.font.strings.len() as u64)?;
     sheet.json.key("encoding")?;
     sheet.json.string(encoding(face))?;
     sheet.json.key("char_set")?;
     match char_set(face) {
-        Some(name) => sheet.json.string(name)?,
-        None => sheet.json.null()?,
+        Some(name) => sheet.json.string(name),
+        None => sheet.json.null(),
     }
-    let globals = face.font.global_subroutines.len();
-    sheet.number("global_subroutines", globals as u64)?;
+}
+
+/// Writes why each reading of the whole font refuses it.
+fn readings(alloc: Global, sheet: &mut Sheet, cff: &[u8]) -> Result<(), AllocError> {
+    let refusals = refusals_of(alloc, cff);
+    refusal(sheet, "strict", &refusals.strict)?;
+    refusal(sheet, "lenient", &refusals.lenient)
+}
+
+/// Writes what the table `CFF ` holds.
+fn font(rt: &HostRuntime, sheet: &mut Sheet, face: &Face<'_>) -> Result<(), Failure> {
+    let hinted = hinted(rt, face)?;
+    sheet.json.key("cff")?;
+    sheet.json.begin_object()?;
+    keys(rt.alloc(), sheet, face)?;
+    counts(sheet, face, hinted)?;
     sheet.json.key("top")?;
     dictionaries::write(sheet, &face.font.dictionary, top_codes(face))?;
     parts(sheet, face)?;
-    let refusals = refusals_of(rt.alloc(), face.cff);
-    refusal(sheet, "strict", &refusals.strict)?;
-    refusal(sheet, "lenient", &refusals.lenient)?;
+    readings(rt.alloc(), sheet, face.cff)?;
     sheet.json.end_object()?;
+    Ok(())
+}
+
+/// Writes the names and the numbers.
+fn head(sheet: &mut Sheet, face: &Face<'_>) -> Result<(), AllocError> {
+    let (family, style) = names(face);
+    sheet.name("family", family)?;
+    sheet.name("style", style)?;
+    sheet.name("version", version(face))?;
+    let counts = [
+        ("faces", face.faces as u64),
+        ("units_per_em", u64::from(face.units)),
+        ("glyphs", u64::from(face.glyphs)),
+        ("characters", count(&face.map)),
+    ];
+    for (key, count) in &counts {
+        sheet.number(*key, *count)?;
+    }
     Ok(())
 }
 
@@ -183,14 +229,7 @@ fn font(rt: &HostRuntime, sheet: &mut Sheet, face: &Face<'_>) -> Result<(), Fail
 fn object<W: Write>(rt: &HostRuntime, face: &Face<'_>, out: &mut W) -> Result<(), Failure> {
     let mut sheet = Sheet::new(rt.alloc());
     sheet.json.begin_object()?;
-    let (family, style) = names(face);
-    sheet.name("family", family)?;
-    sheet.name("style", style)?;
-    sheet.name("version", version(face))?;
-    sheet.number("faces", face.faces as u64)?;
-    sheet.number("units_per_em", u64::from(face.units))?;
-    sheet.number("glyphs", u64::from(face.glyphs))?;
-    sheet.number("characters", count(&face.map))?;
+    head(&mut sheet, face)?;
     font(rt, &mut sheet, face)?;
     sheet.json.end_object()?;
     let _ = sheet.end(out)?;
@@ -208,19 +247,47 @@ fn text_of(alloc: Global, name: Option<Name<'_>>) -> Result<String, AllocError> 
     Ok(text)
 }
 
-/// Writes lines of the names and the numbers.
-fn lines<W: Write>(rt: &HostRuntime, face: &Face<'_>, out: &mut W) -> Result<(), Failure> {
-    let name = String::from_utf8_lossy(rt.alloc(), face.font.names.get(0).unwrap_or(&[]))?;
+/// Writes a line of a name.
+fn name_line<W: Write>(
+    alloc: Global,
+    label: &str,
+    name: Option<Name<'_>>,
+    out: &mut W,
+) -> Result<(), Failure> {
+    writeln!(out, "{label}: {}", text_of(alloc, name)?)?;
+    Ok(())
+}
+
+/// Writes lines of the names.
+fn name_lines<W: Write>(alloc: Global, face: &Face<'_>, out: &mut W) -> Result<(), Failure> {
     let (family, style) = names(face);
-    writeln!(out, "family: {}", text_of(rt.alloc(), family)?)?;
-    writeln!(out, "style: {}", text_of(rt.alloc(), style)?)?;
-    writeln!(out, "version: {}", text_of(rt.alloc(), version(face))?)?;
+    name_line(alloc, "family", family, out)?;
+    name_line(alloc, "style", style, out)?;
+    name_line(alloc, "version", version(face), out)?;
+    let name = String::from_utf8_lossy(alloc, face.font.names.get(0).unwrap_or(&[]))?;
     writeln!(out, "name: {name}")?;
-    writeln!(out, "faces: {}", face.faces)?;
-    writeln!(out, "units per em: {}", face.units)?;
-    writeln!(out, "glyphs: {}", face.glyphs)?;
-    writeln!(out, "glyphs with hints: {}", hinted(rt, face)?)?;
-    writeln!(out, "characters: {}", count(&face.map))?;
+    Ok(())
+}
+
+/// Writes lines of the numbers.
+fn count_lines<W: Write>(face: &Face<'_>, hinted: u64, out: &mut W) -> Result<(), Failure> {
+    let counts = [
+        ("faces", face.faces as u64),
+        ("units per em", u64::from(face.units)),
+        ("glyphs", u64::from(face.glyphs)),
+        ("glyphs with hints", hinted),
+        ("characters", count(&face.map)),
+    ];
+    for (label, count) in &counts {
+        writeln!(out, "{label}: {count}")?;
+    }
+    Ok(())
+}
+
+/// Writes lines of all that is told.
+fn lines<W: Write>(rt: &HostRuntime, face: &Face<'_>, out: &mut W) -> Result<(), Failure> {
+    name_lines(rt.alloc(), face, out)?;
+    count_lines(face, hinted(rt, face)?, out)?;
     font_lines(rt.alloc(), face, out)?;
     part_lines(rt.alloc(), face, out)?;
     refusal_lines(rt.alloc(), face, out)

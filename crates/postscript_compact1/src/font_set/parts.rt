@@ -5,7 +5,7 @@ ghost use Rattle.postscript_base.specs.Tape.{Reads};
 ghost use Rattle.postscript_base.specs.Tape.Outcome.{Answers, same};
 ghost use Rattle.postscript_compact1.specs.FontSet.Order.{encoding as the_encoding, char_strings as the_char_strings, char_set as the_char_set, char_set_offset as the_char_set_offset, own_char_set as the_own_char_set, glyphs as the_glyphs, locals as the_locals, own_locals as the_own_locals, own_subroutines as the_own_subroutines, private as the_private, subroutines as the_subroutines, part, parts};
 ghost use Rattle.postscript_compact1.specs.FontSet.Font.{columns, more};
-ghost use Rattle.postscript_compact1.specs.FontSet.Shown.{part_shown, parts_shown};
+ghost use Rattle.postscript_compact1.specs.FontSet.Value.{part_shown, parts_shown};
 
 use super::manner::Manner;
 use super::operands::{bounds, first, place_at, type_two};

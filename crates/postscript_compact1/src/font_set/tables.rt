@@ -3,7 +3,7 @@ ghost use Rattle.std.specs.Prelude.{[], ◌∷◌, map, string_bytes};
 ghost use Rattle.postscript_base.specs.Error.{IsListed};
 ghost use Rattle.postscript_base.specs.Tape.{Reads};
 ghost use Rattle.postscript_compact1.specs.FontSet.Order.{names as the_names, dictionaries as the_dictionaries, tables, behind};
-ghost use Rattle.postscript_compact1.specs.FontSet.Shown.{tables_shown};
+ghost use Rattle.postscript_compact1.specs.FontSet.Value.{tables_shown};
 
 use crate::index::{Dictionaries, Names, Strings, Subroutines};
 use postscript_base::compact1::{Header, Operations};

@@ -10,7 +10,7 @@ use Rattle.postscript_type2.specs.Operation.Lengths.{exactly, some, groups_and, 
 use Rattle.postscript_type2.specs.Program.Routines.{Lists}
 use Rattle.postscript_type2.specs.Program.Stacks.{one_to_one, two_to_one, choice, removal, exchange, duplication, copy, roll}
 use Rattle.postscript_type2.specs.Program.Storage.{storing, fetching}
-use Rattle.postscript_type2.specs.Program.Works.{Work}
+use Rattle.postscript_type2.specs.Program.StackWork.{Work}
 
 -- The kinds of operators. takes: how many operands one that clears may take.
 pub data Kind : Type 0 where

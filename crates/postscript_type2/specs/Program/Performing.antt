@@ -5,7 +5,7 @@ use Rattle.postscript_type2.specs.declared.refused.Refused.TheVariants.{Memory}
 use Rattle.postscript_base.specs.Refusal.{Refusal}
 use Rattle.postscript_type2.specs.Refused.{reason}
 use Rattle.postscript_type2.specs.Operation.Kinds.{Kind, Draws, Works}
-use Rattle.postscript_type2.specs.Program.Works.{Work}
+use Rattle.postscript_type2.specs.Program.StackWork.{Work}
 
 -- From the old stack to the new one the code does a work and gives its value, or it refuses what the work refuses.
 -- Want of memory may come in place of either.

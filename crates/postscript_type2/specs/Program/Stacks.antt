@@ -2,7 +2,7 @@
 use Rattle.std.specs.Int.{int_rem_euclid}
 use Rattle.std.specs.Prelude.{◌≡◌, ℕ, suc, ◌-◌, ◌<◌, ℤ, pos, negsuc, ◌+ℤ◌, nat_abs, int_le, nat_lt, List, [], ◌∷◌, ◌++◌, length, take, drop, slice_get, slice_set, Result, Ok, Err, if◌then◌else◌}
 use Rattle.postscript_base.specs.Refusal.{Refusal, expected_more_operands, invalid_operand}
-use Rattle.postscript_type2.specs.Program.Works.{Work, ◌>>=◌, ◌>>◌, given, operand, whole_operand, operand_below, push}
+use Rattle.postscript_type2.specs.Program.StackWork.{Work, ◌>>=◌, ◌>>◌, given, operand, whole_operand, operand_below, push}
 
 -- a number for a number
 abbrev pub one_to_one : (ℤ → Result ℤ Refusal) → Work (Unit {0})

@@ -3,7 +3,7 @@
 use Rattle.std.specs.Option.{ok_or}
 use Rattle.std.specs.Prelude.{ℤ, nat_abs, List, slice_set, Result, Ok}
 use Rattle.postscript_base.specs.Refusal.{Refusal, invalid_operand}
-use Rattle.postscript_type2.specs.Program.Works.{Work, ◌>>=◌, given, operand, whole_operand, at, push}
+use Rattle.postscript_type2.specs.Program.StackWork.{Work, ◌>>=◌, given, operand, whole_operand, at, push}
 
 -- the stored number that a number names: a run has 32, so from 0 to 31
 abbrev pub stored_at : (stored : List ℤ) → ℤ → Result ℤ Refusal

@@ -2,8 +2,8 @@ use Rattle.std.proofs.Common.{◌<◌, ℕ, List, length, pos, slice_index_or, i
 use Rattle.std.proofs.lemmas.List.{get_or_default}
 use Rattle.std.specs.Prelude.{Any}
 use Rattle.postscript_outline.specs.Drawing.{point}
-use Rattle.postscript_outline.specs.declared.pen.Segment.{Segment}
-use Rattle.postscript_outline.specs.declared.pen.Segment.TheVariants.{MoveTo}
+use Rattle.postscript_outline.specs.declared.segment.Segment.{Segment}
+use Rattle.postscript_outline.specs.declared.segment.Segment.TheVariants.{MoveTo}
 use Rattle.postscript_accent.specs.Moving.{LeavesRange}
 use Rattle.postscript_accent.proofs.moving.put_moved.Goals as goal
 

@@ -2,7 +2,7 @@ use Rattle.std.proofs.Common.{◌≡◌, ℕ, List, Some, ltb-true, sym, ap, ◌
 use Rattle.std.specs.Option.{option_copied}
 use Rattle.postscript_base.specs.Compact1.Dictionary.{Dictionary}
 use Rattle.postscript_compact1.specs.Index.{Index}
-use Rattle.postscript_compact1.specs.FontSet.Shown.{font_shown}
+use Rattle.postscript_compact1.specs.FontSet.Value.{font_shown}
 use Rattle.postscript_type2.specs.Program.Evaluation.{run_of}
 use Rattle.postscript_type2.specs.Program.Routines.{subroutines}
 use Rattle.postscript_examples.specs.Advances.{HasGlyph}

@@ -1,6 +1,6 @@
 use Rattle.std.proofs.Common.{◌≡◌, Some, inl, inr, ltb-true, slice_get, ap, sym, ◌∙◌}
 use Rattle.postscript_compact1.specs.Index.{Index}
-use Rattle.postscript_compact1.specs.FontSet.Shown.{font_shown}
+use Rattle.postscript_compact1.specs.FontSet.Value.{font_shown}
 use Rattle.postscript_type2.specs.Program.Routines.{subroutines, texts}
 use Rattle.postscript_examples.specs.Glyphs.{first_refused_by, lists, HasGlyphs}
 use Rattle.postscript_examples.proofs.FontLists.{items_at, by_items, refused_alike, there}

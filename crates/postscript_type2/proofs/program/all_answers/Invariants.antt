@@ -1,6 +1,6 @@
 use Rattle.std.proofs.Common.{◌≡◌, ◌++◌, length, map}
 use Rattle.postscript_type2.specs.Program.Runs.{operation, last_width}
-use Rattle.postscript_type2.specs.Program.Whole.{operation_of}
+use Rattle.postscript_type2.specs.Program.RunAnswers.{operation_of}
 use Rattle.postscript_type2.proofs.program.all_answers.Given as goal
 
 -- the operations so far and those that are left are all of them

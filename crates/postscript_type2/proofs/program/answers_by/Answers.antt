@@ -1,7 +1,7 @@
 use Rattle.std.proofs.Common.{◌≡◌, subst, MatchResult}
 use Rattle.postscript_base.specs.declared.error.Error.TheVariants.{Memory}
 use Rattle.postscript_type2.specs.Program.Evaluation.{run_of}
-use Rattle.postscript_type2.specs.Program.Whole.{Tells, TellsPending}
+use Rattle.postscript_type2.specs.Program.RunAnswers.{Tells, TellsPending}
 use Rattle.postscript_type2.specs.Program.Routines.{lent}
 use Rattle.postscript_type2.specs.Program.Working.{routines_of}
 use Rattle.postscript_type2.proofs.Telling.{tells-whole, tells-meant, tells-listed}

@@ -1,6 +1,6 @@
 use Rattle.std.proofs.Common.{ℕ, ◌<◌, None, get_or}
 use Rattle.std.specs.Prelude.{option_map}
-use Rattle.postscript_view.specs.Shown.{view_shown}
+use Rattle.postscript_view.specs.Value.{view_shown}
 use Rattle.postscript_write.specs.Glyphs.{HasPartFor}
 use Rattle.postscript_write.proofs.alike.same_numbers.Given as goal
 

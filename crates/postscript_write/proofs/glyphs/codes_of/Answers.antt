@@ -1,6 +1,6 @@
-use Rattle.std.proofs.Common.{refl, ap, ◌∙◌, ◌<◌, None, List, ℕ, length, length-append, get_or, arith}
+use Rattle.std.proofs.Common.{ap, ◌∙◌, ◌<◌, None, List, ℕ, length, length-append, get_or, arith}
 use Rattle.postscript_type2.specs.Program.Routines.{texts}
-use Rattle.postscript_view.specs.Shown.{view_shown}
+use Rattle.postscript_view.specs.Value.{view_shown}
 use Rattle.postscript_write.specs.Glyphs.{IsCodeFor}
 use Rattle.postscript_write.proofs.Agree.{text_more}
 use Rattle.postscript_write.proofs.Making.{refused_by}

@@ -1,6 +1,6 @@
 use Rattle.std.proofs.Common.{◌≡◌, ℕ, ◌<◌, [], get_or, length, None}
 use Rattle.postscript_type2.specs.Program.Routines.{texts}
-use Rattle.postscript_view.specs.Shown.{view_shown}
+use Rattle.postscript_view.specs.Value.{view_shown}
 use Rattle.postscript_write.specs.Glyphs.{IsCodeFor}
 use Rattle.postscript_write.proofs.glyphs.codes_of.Given as goal
 

@@ -1,6 +1,6 @@
 use Rattle.std.proofs.Common.{ℕ, ◌<◌, get_or}
 use Rattle.postscript_base.specs.declared.compact1.operator.Operator.{Operator}
-use Rattle.postscript_view.specs.Shown.{view_shown}
+use Rattle.postscript_view.specs.Value.{view_shown}
 use Rattle.postscript_write.specs.Strings.{NamesSame}
 use Rattle.postscript_write.specs.declared.kept.TheConstants.{NAMED}
 use Rattle.postscript_write.proofs.naming.name_same.Given as goal

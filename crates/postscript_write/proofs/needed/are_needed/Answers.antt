@@ -1,5 +1,5 @@
 use Rattle.std.proofs.Common.{◌≡◌, ◌∙◌, sym, ap, subst, length, arith}
-use Rattle.postscript_view.specs.Shown.{view_shown}
+use Rattle.postscript_view.specs.Value.{view_shown}
 use Rattle.postscript_write.proofs.Marks.{none_needed, written_over}
 use Rattle.postscript_write.specs.Strings.{AreNeededMarks}
 use Rattle.postscript_write.proofs.needed.are_needed.Goals as goal

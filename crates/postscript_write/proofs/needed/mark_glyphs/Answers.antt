@@ -1,7 +1,7 @@
 use Rattle.std.proofs.Common.{◌<◌, inr, length, subst, sym, arith}
 use Rattle.postscript_items.specs.Lent.{items_of}
 use Rattle.postscript_view.specs.Naming.{Names}
-use Rattle.postscript_view.specs.Shown.{view_shown}
+use Rattle.postscript_view.specs.Value.{view_shown}
 use Rattle.postscript_write.specs.Strings.{AreNeededMarks}
 use Rattle.postscript_write.proofs.needed.mark_glyphs.Goals as goal
 use Rattle.postscript_write.proofs.needed.mark_glyphs.Goals.{in-Some, in_default}

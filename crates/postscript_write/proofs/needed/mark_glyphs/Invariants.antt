@@ -1,4 +1,4 @@
-use Rattle.postscript_view.specs.Shown.{view_shown}
+use Rattle.postscript_view.specs.Value.{view_shown}
 use Rattle.postscript_write.specs.Strings.{AreNeededMarks}
 use Rattle.postscript_write.proofs.needed.mark_glyphs.Given as goal
 

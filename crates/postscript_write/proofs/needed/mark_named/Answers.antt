@@ -1,7 +1,7 @@
 use Rattle.std.proofs.Common.{◌∙◌, ap, inl, subst, sym}
 use Rattle.std.specs.Prelude.{Some}
 use Rattle.std.proofs.lemmas.List.{get_or_default}
-use Rattle.postscript_view.specs.Shown.{view_shown}
+use Rattle.postscript_view.specs.Value.{view_shown}
 use Rattle.postscript_write.specs.Strings.{AreNeededMarks}
 use Rattle.postscript_write.specs.declared.kept.TheConstants.{NAMED}
 use Rattle.postscript_write.proofs.needed.mark_named.Goals as goal

@@ -1,7 +1,7 @@
 use Rattle.std.proofs.Common.{List, ℕ, subst, inl, inr}
 use Rattle.std.proofs.lemmas.Result.{err_from_is_err_and}
 use Rattle.postscript_type2.specs.Program.Routines.{texts}
-use Rattle.postscript_view.specs.Shown.{view_shown}
+use Rattle.postscript_view.specs.Value.{view_shown}
 use Rattle.postscript_write.specs.Glyphs.{AreCodesOf}
 use Rattle.postscript_write.proofs.Making.{if_err, late_refused}
 use Rattle.postscript_write.proofs.whole.font_of.Goals as goal

@@ -1,7 +1,7 @@
 use Rattle.std.proofs.Common.{◌≡◌, ℕ, List, subst}
 use Rattle.postscript_base.specs.Tape.Outcome.{Got}
 use Rattle.postscript_view.specs.Order.{view}
-use Rattle.postscript_view.specs.Shown.{view_shown}
+use Rattle.postscript_view.specs.Value.{view_shown}
 use Rattle.postscript_write.specs.Fonts.{IsFontOf}
 use Rattle.postscript_write.proofs.whole.put_together.Goals as goal
 

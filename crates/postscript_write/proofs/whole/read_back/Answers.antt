@@ -4,7 +4,7 @@ use Rattle.std.proofs.lemmas.Option.{slice_get-get_or}
 use Rattle.postscript_items.specs.Lent.{items_of}
 use Rattle.postscript_type2.specs.Program.Routines.{texts}
 use Rattle.postscript_view.specs.CharSets.{IsCharSetOf}
-use Rattle.postscript_view.specs.Shown.{view_shown}
+use Rattle.postscript_view.specs.Value.{view_shown}
 use Rattle.postscript_write.specs.Glyphs.{HasPartFor}
 use Rattle.postscript_write.specs.Naming.{KeepsCodes}
 use Rattle.postscript_write.specs.Strings.{SameStrings}

@@ -1,5 +1,5 @@
 use Rattle.std.proofs.Common.{List, subst}
-use Rattle.postscript_view.specs.Shown.{parts_shown}
+use Rattle.postscript_view.specs.Value.{parts_shown}
 use Rattle.postscript_view.specs.declared.part.Part.{Part}
 use Rattle.postscript_write.specs.Parts.{SameParts}
 use Rattle.postscript_write.proofs.whole.says_same.Goals as goal

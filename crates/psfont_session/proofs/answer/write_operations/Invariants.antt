@@ -1,6 +1,6 @@
 use Rattle.std.proofs.Common.{take, flat_map}
 use Rattle.std.specs.Io.KnownBytes.{Appends}
-use Rattle.postscript.specs.Program.Whole.{operation_of}
+use Rattle.postscript.specs.Program.RunAnswers.{operation_of}
 use Rattle.psfont_session.specs.Texts.{operation_line}
 use Rattle.psfont_session.proofs.answer.write_operations.Given as goal
 

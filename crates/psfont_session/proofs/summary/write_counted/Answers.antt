@@ -1,5 +1,5 @@
 use Rattle.std.proofs.Common.{codes}
-use Rattle.postscript.specs.FontSet.Shown.{font_shown}
+use Rattle.postscript.specs.FontSet.Value.{font_shown}
 use Rattle.psfont_session.specs.Summary.{count_line, lines_below}
 use Rattle.psfont_session.proofs.Writing.{so, both}
 use Rattle.psfont_session.proofs.summary.write_counted.Goals as goal

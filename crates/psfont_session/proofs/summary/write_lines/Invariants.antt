@@ -1,5 +1,5 @@
 use Rattle.std.specs.Io.KnownBytes.{Appends}
-use Rattle.postscript.specs.FontSet.Shown.{font_shown}
+use Rattle.postscript.specs.FontSet.Value.{font_shown}
 use Rattle.psfont_session.specs.Summary.{lines_below}
 use Rattle.psfont_session.proofs.summary.write_lines.Given as goal
 

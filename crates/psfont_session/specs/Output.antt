@@ -2,13 +2,13 @@
 use Rattle.std.specs.Prelude.{◌≡◌, ◌⊎◌, ℕ, List, Option, Some, None, Result, MatchResult, codes}
 use Rattle.std.specs.Io.KnownBytes.{Appends}
 use Rattle.hex.specs.Hex.{decode_of}
-use Rattle.postscript.specs.FontSet.Shown.{font_shown}
+use Rattle.postscript.specs.FontSet.Value.{font_shown}
 use Rattle.postscript.specs.Refusal.{refusal_of}
 use Rattle.postscript.specs.Tape.Outcome.{Answers as Answered}
 use Rattle.postscript.specs.Program.Evaluation.{run_of}
 use Rattle.postscript.specs.Program.Flat.{flat_text}
 use Rattle.postscript.specs.Program.Runs.{Run, fault_of}
-use Rattle.postscript.specs.Program.Whole.{Tells}
+use Rattle.postscript.specs.Program.RunAnswers.{Tells}
 use Rattle.postscript_base.specs.declared.error.Error.{Error}
 use Rattle.postscript_base.specs.declared.error.Error.TheVariants as errors
 use Rattle.postscript_type2.specs.declared.program.Answers.{Answers}
