@@ -13,7 +13,7 @@ trap 'rm -r "$copy"' EXIT
 cp -R "$top/crates" "$top/crates.txt" "$top/HANDLES" "$copy"
 for crate in "$@"; do
     [ -d "$top/tools/edits/$crate" ] || { echo "there is no folder tools/edits/$crate" >&2; exit 2; }
-    rm -r "$copy/crates/$crate/must-fail"
+    rm -rf "$copy/crates/$crate/must-fail"
     cp -R "$top/tools/edits/$crate" "$copy/crates/$crate/must-fail"
 done
 cd "$copy" && rt must-fail "$@"

@@ -13,7 +13,7 @@ use Rattle.postscript_base.specs.Numbers.{slice, number as unsigned, two_sided, 
 use Rattle.postscript_base.specs.Compact1.Decimal.{Decimal}
 use Rattle.postscript_base.specs.Compact1.Number.{begun, number, whole}
 use Rattle.postscript_base.specs.Compact1.Reals.{Real, ended_by, is_in_text, nibbles, real, real_of, text_of_real, valued}
-use Rattle.postscript_base.specs.Compact1.Operation.{begins_operand, known, operator_begun, step}
+use Rattle.postscript_base.specs.Compact1.Operation.{begins_operand, operator_begun, step}
 use Rattle.postscript_base.specs.Compact1.Operators.{operator_of, operators}
 use Rattle.postscript_base.specs.Compact1.DictionaryLaw.{begins, is_cut, is_cut_operand, is_open, operator, BadAt, RefusedBy}
 use Rattle.postscript_base.specs.declared.compact1.operator.Operator.{Operator}
@@ -30,22 +30,15 @@ wants Past = false
 wants_after : {A B : Type 0} (o : Outcome A) (f : A → ℕ → Outcome B) → ((value : A) (next : ℕ) → wants (f value next) ≡ false) → wants (after o f) ≡ wants o
 wants_after o f h = grind arith
 
-wants_if : {A : Type 0} (b : Bool) (x y : Reading A) (bytes : List ℕ) (place : ℕ) (s t : Bool) → wants (x bytes place) ≡ s → wants (y bytes place) ≡ t → wants ((if b then x else y) bytes place) ≡ (if b then s else t)
-wants_if b x y bytes place s t h g = grind arith
-
 wants_number : (size : ℕ) (bytes : List ℕ) (place : ℕ) → wants (unsigned size bytes place) ≡ nat_lt (length (drop place bytes)) size
 unfolding unsigned slice
 wants_number size bytes place = wants_after (slice size bytes place) _ (λ value next. refl) ∙ rw (length-drop place bytes) (grind (arith, nat_tests))
-
-wants_of : {A : Type 0} (size : ℕ) (f : ℕ → A) (bytes : List ℕ) (place : ℕ) → wants ((unsigned size >>= λ n. pure (f n)) bytes place) ≡ nat_lt (length (drop place bytes)) size
-wants_of size f bytes place = wants_after (unsigned size bytes place) _ (λ value next. refl) ∙ wants_number size bytes place
 
 wants_ended : (all rest text : List ℕ) (next : ℕ) → drop (prefix_len is_in_text all) all ≡ rest → wants (ended_by rest text next) ≡ is_open all
 wants_ended all rest text next e = by rest (sym (length-drop (prefix_len is_in_text all) all) ∙ ap length e)
   where
     by : (rest : List ℕ) → length all - prefix_len is_in_text all ≡ length rest → wants (ended_by rest text next) ≡ is_open all
-    by [] left = let within = prefix_len-le-length is_in_text all in grind (arith, nat_tests)
-    by (nibble ∷ rest) left = grind (arith, nat_tests)
+    by rest left = grind (arith, prefix_len-le-length, nat_tests)
 
 wants_text : (bytes : List ℕ) (place : ℕ) → wants (text_of_real bytes place) ≡ is_open (nibbles (drop place bytes))
 unfolding text_of_real
@@ -53,6 +46,12 @@ wants_text bytes place = grind (arith, wants_ended)
 
 wants_valued : (o : Option Real) (bytes : List ℕ) (place : ℕ) → wants (valued o bytes place) ≡ false
 wants_valued o bytes place = grind arith
+
+wants_if : {A : Type 0} (b : Bool) (x y : Reading A) (bytes : List ℕ) (place : ℕ) (s t : Bool) → wants (x bytes place) ≡ s → wants (y bytes place) ≡ t → wants ((if b then x else y) bytes place) ≡ (if b then s else t)
+wants_if b x y bytes place s t h g = grind arith
+
+wants_of : {A : Type 0} (size : ℕ) (f : ℕ → A) (bytes : List ℕ) (place : ℕ) → wants ((unsigned size >>= λ n. pure (f n)) bytes place) ≡ nat_lt (length (drop place bytes)) size
+wants_of size f bytes place = wants_after (unsigned size bytes place) _ (λ value next. refl) ∙ wants_number size bytes place
 
 wants_real : (bytes : List ℕ) (place : ℕ) → wants (real bytes place) ≡ is_open (nibbles (drop place bytes))
 unfolding real
@@ -69,10 +68,6 @@ wants_begun first bytes place =
     (wants_if (nat_lt first 0xff) _ _ bytes place _ _ (wants_of 1 (λ n. whole (below first n)) bytes place) refl))))))
     ∙ grind (arith, nat_tests)
 
--- another first byte begins no operand
-begins_none : (first : ℕ) (bytes : List ℕ) (place : ℕ) → begins_operand first ≡ false → begun first bytes place ≡ Fault malformed_number
-begins_none first bytes place h = grind (arith, nat_tests)
-
 -- no operator has the code of an operand's first byte
 no_operand : List (ℕ × Operator) → Bool
 no_operand [] = true
@@ -86,15 +81,6 @@ no_entry n (entry ∷ entries) p h = let rest = no_entry n entries in grind (ari
 unknown : (first : ℕ) → begins_operand first ≡ true → operator_of first ≡ None
 unfolding operator_of no_operand
 unknown first h = no_entry first operators refl h
-
-operator_none : (first : ℕ) (bytes : List ℕ) (place : ℕ) → begins_operand first ≡ true → operator_begun first bytes place ≡ Fault unknown_operator
-operator_none first bytes place h = grind (arith, nat_tests, unknown)
-
-wants_known : (o : Option Operator) (bytes : List ℕ) (place : ℕ) → wants (known o bytes place) ≡ false
-wants_known o bytes place = grind arith
-
-wants_operator : (first : ℕ) (bytes : List ℕ) (place : ℕ) → wants (operator_begun first bytes place) ≡ ((first == 0x0c) && nat_lt (length (drop place bytes)) 1)
-wants_operator first bytes place = grind (arith, wants_after, wants_known, wants_number)
 
 abbrev pub found_operand : List Decimal → Decimal → ℕ → Outcome Found
 found_operand operands operand next = Got (None, operands ++ operand ∷ []) next
@@ -117,7 +103,7 @@ cut_operator : (first : ℕ) (rest : List ℕ) → begins_operand first ≡ fals
 cut_operator first rest h = grind (arith, nat_tests)
 
 at_byte : (bytes rest : List ℕ) (place first : ℕ) → first ∷ rest ≡ drop place bytes → Stands bytes place
-unfolding step number
+unfolding step number real
 at_byte bytes rest place first e = by (begins_operand first) refl
   where
     got : unsigned 1 bytes place ≡ Got first (place + 1)
@@ -135,10 +121,10 @@ at_byte bytes rest place first e = by (begins_operand first) refl
     by : (b : Bool) → begins_operand first ≡ b → Stands bytes place
     by true h = a_number (ap begins (sym e) ∙ h) (λ operands. rw (got, h) refl)
         (ap wants number_is ∙ wants_begun first bytes (place + 1) ∙ ap (is_cut_operand first) there ∙ cut_operand first rest h ∙ ap is_cut e)
-        (operator_is ∙ operator_none first bytes (place + 1) h)
+        (operator_is ∙ (grind (arith, nat_tests, unknown)))
     by false h = an_operator malformed_number (ap begins (sym e) ∙ h) (λ operands. rw (got, h) refl)
-        (ap wants operator_is ∙ wants_operator first bytes (place + 1) ∙ ap (λ rest. (first == 0x0c) && nat_lt (length rest) 1) there ∙ cut_operator first rest h ∙ ap is_cut e)
-        (number_is ∙ begins_none first bytes (place + 1) h)
+        (ap wants operator_is ∙ (grind (arith, wants_after, wants_number)) ∙ ap (λ rest. (first == 0x0c) && nat_lt (length rest) 1) there ∙ cut_operator first rest h ∙ ap is_cut e)
+        (number_is ∙ (grind (arith, nat_tests)))
 
 pub stands : (bytes : List ℕ) (place : ℕ) → Stands bytes place
 unfolding step number
@@ -196,12 +182,7 @@ step_is front bytes place = by (stands bytes place)
     never e = subst (Goes {A = Found} (place + 1) (length bytes)) e (step_goes front bytes place)
 
     by : Stands bytes place → IsStep front bytes place (step front bytes place)
-    by (a_number b s w n) = subst (IsStep front bytes place) (sym (s front)) (go (number bytes place) refl)
-      where
-        go : (o : Outcome Decimal) → number bytes place ≡ o → IsStep front bytes place (after o (found_operand front))
-        go (Got operand next) e = (operand, refl, e)
-        go (Fault refusal) e = subst (λ b. RefusedBy b bytes place refusal) (sym b) e
-        go Past e = never (s front ∙ ap (λ o. after o (found_operand front)) e)
+    by (a_number b s w n) = grind (arith, never)
     by (an_operator other b s w n) = subst (IsStep front bytes place) (sym (s front)) (go (operator bytes place) refl)
       where
         go : (o : Outcome Operator) → operator bytes place ≡ o → IsStep front bytes place (after o (found_operator front))

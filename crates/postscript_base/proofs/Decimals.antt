@@ -28,9 +28,6 @@ tens_few n r k e p lt =
 neg_times : (n b : ℕ) → neg_ℤ (pos n) *ℤ pos b ≡ neg_ℤ (pos (n * b))
 neg_times n b = grind arith
 
-times_assoc : (m : ℤ) (a b : ℕ) → (m *ℤ pos a) *ℤ pos b ≡ m *ℤ pos (a * b)
-times_assoc m a b = grind (arith, mul_assoc, neg_times)
-
 cancel : (a b k : ℕ) → 0 < k → a * k ≡ b * k → a ≡ b
 cancel a b k p e = sym (mul-div_cancel a p) ∙ ap (λ n. n / k) e ∙ mul-div_cancel b p
 
@@ -43,14 +40,11 @@ neg_is a b e = omega (arith, ints)
 pos_is : (a b : ℕ) → pos a ≡ pos b → a ≡ b
 pos_is a b e = cc
 
-pub times_cancel : (m n : ℤ) (k : ℕ) → 0 < k → m *ℤ pos k ≡ n *ℤ pos k → m ≡ n
-times_cancel m n k p e = grind (arith, cancel, pos_is, mul-pos, opposite, neg_is)
-
 pub scaled-scaled : (m : ℤ) (a b : ℕ) → scaled (scaled m a) b ≡ scaled m (a + b)
-scaled-scaled m a b = times_assoc m (10 ^ a) (10 ^ b) ∙ ap (λ n. m *ℤ pos n) (sym (pow-add 10 a b))
+scaled-scaled m a b = grind (arith, mul_assoc, neg_times, pow-add)
 
 pub scaled_cancel : (m n : ℤ) (k : ℕ) → scaled m k ≡ scaled n k → m ≡ n
-scaled_cancel m n k e = times_cancel m n (10 ^ k) (tens_pos k) e
+scaled_cancel m n k e = grind (arith, cancel, pos_is, mul-pos, opposite, neg_is, tens_pos)
 
 -- the same number at one lower exponent
 pub record Meets (m e m' e' : ℤ) (i j : ℕ) : Type 0 where
@@ -61,10 +55,7 @@ pub IsSameValue-meets : (m e m' e' : ℤ) → IsSameValue m e m' e' → Meets m 
 IsSameValue-meets m e m' e' h = record { place = omega (arith, ints, clamps); value = h }
 
 above : (m e m' e' : ℤ) (i j t : ℕ) → Meets m e m' e' (i + t) (j + t) → Meets m e m' e' i j
-above m e m' e' i j t h = record {
-  place = let p = h.place in omega (arith, ints);
-  value = scaled_cancel (scaled m i) (scaled m' j) t (scaled-scaled m i t ∙ h.value ∙ sym (scaled-scaled m' j t));
-}
+above m e m' e' i j t h = record { place = let p = h.place in omega (arith, ints); value = scaled_cancel (scaled m i) (scaled m' j) t (scaled-scaled m i t ∙ h.value ∙ sym (scaled-scaled m' j t)) }
 
 pub meets-IsSameValue : (m e m' e' : ℤ) (i j : ℕ) → Meets m e m' e' i j → IsSameValue m e m' e'
 meets-IsSameValue m e m' e' i j h =

@@ -29,11 +29,8 @@ get_fold : (d : Dictionary) (os : List Operation) (q : Operator) → get (fold p
 get_fold d [] q = refl
 get_fold d (o ∷ os) q = get_fold (put d o) os q ∙ ap (option_or (last_of os q)) (get-insert operators_total d o.0 o.1 q) ∙ choose (last_of os q) (eq_by_cmp operator_cmp q o.0) o.1 (get d q)
 
-or_none : (x : Option (List Decimal)) → option_or x None ≡ x
-or_none x = grind arith
-
 pub get_last : (os : List Operation) (q : Operator) → get (dictionary_of os) q ≡ last_of os q
-get_last os q = get_fold empty os q ∙ ap (option_or (last_of os q)) (get-empty operator_cmp q) ∙ or_none (last_of os q)
+get_last os q = get_fold empty os q ∙ ap (option_or (last_of os q)) (get-empty operator_cmp q) ∙ (grind arith)
 
 abbrev following : List ℕ → ℕ → Operation → ℕ → Outcome (List Operation)
 following bytes most o next = after (to_end_from operation most bytes next) (λ rest next. Got (o ∷ rest) next)
@@ -42,9 +39,6 @@ following bytes most o next = after (to_end_from operation most bytes next) (λ 
 stepped : (most : ℕ) (bytes : List ℕ) (place : ℕ) (o : Outcome Operation) → operation bytes place ≡ o → to_end_from operation (suc most) bytes place ≡ unless_end o (Got [] (length bytes)) (following bytes most)
 unfolding to_end_from
 stepped most bytes place o e = ap (λ o. unless_end o (Got [] (length bytes)) (following bytes most)) e
-
-regroup : (o : Operation) (os : List Operation) (rest : Outcome (List Operation)) → after (with_front os rest) (λ rest next. Got (o ∷ rest) next) ≡ with_front (o ∷ os) rest
-regroup o os rest = grind arith
 
 -- with steps enough, operations that stand there come first
 all_taken : (most : ℕ) (bytes : List ℕ) (place : ℕ) (os : List Operation) (next : ℕ) → OperationsAt bytes place os next → length bytes - place < most
@@ -57,7 +51,7 @@ all_taken (suc most) bytes place (o ∷ os) next h few =
     let up = moved.0 in
     let within = moved.1 in
     let rest = all_taken most bytes h.0 os next h.2 (omega arith) in
-    (rest.0, stepped most bytes place _ one ∙ ap (λ all. after all (λ rest next. Got (o ∷ rest) next)) rest.1 ∙ regroup o os (to_end_from operation (suc rest.0) bytes next))
+    (rest.0, stepped most bytes place _ one ∙ ap (λ all. after all (λ rest next. Got (o ∷ rest) next)) rest.1 ∙ (grind arith))
 
 -- behind operations, what ends them decides
 decides : (bytes : List ℕ) (place : ℕ) (os : List Operation) (next : ℕ) (one : Outcome Operation) (end_of : Outcome (List Operation)) → OperationsAt bytes place os next → operation bytes next ≡ one
@@ -119,12 +113,12 @@ Is bytes place (Got map next) = IsDictionary bytes place map × (next ≡ length
 Is bytes place (Fault refusal) = IsRefused bytes place refusal
 Is bytes place Past = ⊥
 
+refusals_known : (refusal : Refusal) → IsOneOf known_refusals (number_of refusal) → is_end refusal ≡ false → (refusal ≡ malformed_number) ⊎ ((refusal ≡ out_of_range_number) ⊎ (refusal ≡ unknown_operator))
+refusals_known refusal one other = grind arith
+
 dictionary_is : (bytes : List ℕ) (place : ℕ) → Is bytes place (dictionary bytes place)
 unfolding dictionary to_end
 dictionary_is bytes place = grind (arith, run_is, all, get_last)
-
-refusals_known : (refusal : Refusal) → IsOneOf known_refusals (number_of refusal) → is_end refusal ≡ false → (refusal ≡ malformed_number) ⊎ ((refusal ≡ out_of_range_number) ⊎ (refusal ≡ unknown_operator))
-refusals_known refusal one other = grind arith
 
 refused_only : (bytes : List ℕ) (place : ℕ) (refusal : Refusal) → dictionary bytes place ≡ Fault refusal → IsRefused bytes place refusal
 refused_only bytes place refusal e = subst (Is bytes place) e (dictionary_is bytes place)

@@ -39,12 +39,9 @@ items o = option_map (λ v. v.items) o
 at : ℕ → Operator
 at n = (get_or operators n (0, Version)).1
 
-at_place : (a : Operator) → at (place_of a) ≡ a
-unfolding at
-at_place a = grind arith
-
 pub exact : IsAntisymmetric operator_cmp
-exact a b h = sym (at_place a) ∙ ap at (exact_unsigned (place_of a) (place_of b) h) ∙ at_place b
+unfolding at
+exact a b h = grind (arith, exact_unsigned)
 
 equal : (o : Ordering) → is_eq o ≡ true → o ≡ Equal
 equal o f = grind arith
@@ -91,6 +88,4 @@ clone_listed C is m n same each h = same_map operators_total exact _ _ (λ q.
     ∙ sym (get_listed m.entries q))
   where
     go : (x y : Option (Vec Decimal Global)) → MatchOption x (y ≡ None) (λ v. IsSomeAnd y (λ w. AllZip is v.items w.items × (vec_len w ≡ vec_len v))) → items y ≡ items x
-    go None y p = rw p refl
-    go (Some v) None p = absurd p
-    go (Some v) (Some w) p = ap Some (same_from_all_zip is v.items w.items p.0 each)
+    go x y p = grind (arith, same_from_all_zip)

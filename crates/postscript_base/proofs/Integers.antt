@@ -35,15 +35,6 @@ is_made size f bytes place operand next e = grind (arith, length-take, length-dr
 abbrev of_small : ℕ → Decimal
 of_small first = whole (small first)
 
-small_is : (first : ℕ) (bytes : List ℕ) (place : ℕ) → 0x20 ≤ first → first < 0xf7 → begun first bytes place ≡ Got (whole (small first)) place
-small_is first bytes place low high = grind (arith, nat_tests)
-
-above_is : (first : ℕ) (bytes : List ℕ) (place : ℕ) → 0xf7 ≤ first → first < 0xfb → begun first bytes place ≡ made 1 (λ second. whole (above first second)) bytes place
-above_is first bytes place low high = grind (arith, nat_tests)
-
-below_is : (first : ℕ) (bytes : List ℕ) (place : ℕ) → 0xfb ≤ first → first < 0xff → begun first bytes place ≡ made 1 (λ second. whole (below first second)) bytes place
-below_is first bytes place low high = grind (arith, nat_tests)
-
 -- the first byte of a spelling, and those behind it
 record Front (bytes : List ℕ) (place first : ℕ) (xs : List ℕ) : Type 0 where
   pub is : number bytes place ≡ begun first bytes (place + 1)
@@ -62,17 +53,18 @@ front bytes place first xs stands = by (drop place bytes) refl stands
         record { is = ap (λ o. after o (λ first at. begun first bytes at)) (byte_at bytes rest place b e) ∙ ap (λ b. begun b bytes (place + 1)) one; rest = ap (take (length xs)) there ∙ others }
 
 all : (bytes : List ℕ) (place : ℕ) (spelling : List ℕ) (value : ℤ) → IsInteger spelling value → StandAt bytes place spelling → number bytes place ≡ Got (whole value) (place + length spelling)
-all bytes place spelling value (spellings.small first low high) stands = let f = front bytes place first [] stands in f.is ∙ small_is first bytes (place + 1) low high
+unfolding unsigned slice number
+all bytes place spelling value (spellings.small first low high) stands = grind (arith, drop-drop, byte_at, nat_tests)
 all bytes place spelling value (spellings.positive first second low high) stands =
     let f = front bytes place first (second ∷ []) stands in
     let n : big_endian (second ∷ []) ≡ second = omega arith in
     let at : place + 1 + 1 ≡ place + 2 = omega arith in
-    f.is ∙ above_is first bytes (place + 1) low high ∙ made_at 1 (λ second. whole (above first second)) bytes (second ∷ []) (place + 1) refl (omega arith) f.rest ∙ ap (λ s. Got (whole (above first s)) (place + 1 + 1)) n ∙ ap (Got (whole (above first second))) at
+    f.is ∙ (grind (arith, nat_tests)) ∙ made_at 1 (λ second. whole (above first second)) bytes (second ∷ []) (place + 1) refl (omega arith) f.rest ∙ ap (λ s. Got (whole (above first s)) (place + 1 + 1)) n ∙ ap (Got (whole (above first second))) at
 all bytes place spelling value (spellings.negative first second low high) stands =
     let f = front bytes place first (second ∷ []) stands in
     let n : big_endian (second ∷ []) ≡ second = omega arith in
     let at : place + 1 + 1 ≡ place + 2 = omega arith in
-    f.is ∙ below_is first bytes (place + 1) low high ∙ made_at 1 (λ second. whole (below first second)) bytes (second ∷ []) (place + 1) refl (omega arith) f.rest ∙ ap (λ s. Got (whole (below first s)) (place + 1 + 1)) n ∙ ap (Got (whole (below first second))) at
+    f.is ∙ (grind (arith, nat_tests)) ∙ made_at 1 (λ second. whole (below first second)) bytes (second ∷ []) (place + 1) refl (omega arith) f.rest ∙ ap (λ s. Got (whole (below first s)) (place + 1 + 1)) n ∙ ap (Got (whole (below first second))) at
 all bytes place spelling value (spellings.of_two_bytes a b) stands =
     let f = front bytes place 0x1c (a ∷ b ∷ []) stands in
     let at : place + 1 + 2 ≡ place + 3 = omega arith in

@@ -1,6 +1,6 @@
 -- Texts of reals, nibble by nibble.
 use Rattle.std.proofs.lemmas.List.{append-nil, drop-drop}
-use Rattle.std.proofs.Common.{◌≡◌, ◌≢◌, refl, sym, ap, subst, ◌∙◌, ℕ, suc, ◌+◌, ◌-◌, ◌/◌, ◌%◌, Bool, true, false, List, [], ◌∷◌, ◌++◌, length, take, drop, ◌==◌, Option, Some, None, append_assoc, length-drop, arith, if◌then◌else◌}
+use Rattle.std.proofs.Common.{◌≡◌, ◌≢◌, refl, sym, ap, ◌∙◌, ℕ, suc, ◌+◌, ◌-◌, ◌/◌, ◌%◌, Bool, true, false, List, [], ◌∷◌, ◌++◌, length, take, drop, ◌==◌, Option, Some, None, append_assoc, length-drop, arith, if◌then◌else◌}
 use Rattle.std.specs.Prelude.{flat_map}
 use Rattle.std.specs.List.{prefix_len}
 use Rattle.std.proofs.lemmas.Grind.{common_steps}
@@ -11,7 +11,7 @@ use Rattle.postscript_base.specs.declared.error.Error.TheVariants.{Memory}
 use Rattle.postscript_base.proofs.Outcomes.{refused_after}
 use Rattle.postscript_base.specs.Tape.Outcome.{Outcome, Got, Fault, after, end, RefusedAs}
 use Rattle.postscript_base.specs.Numbers.{slice, number}
-use Rattle.postscript_base.specs.Compact1.Nibbles.{one_byte, one_nibble, step, step_of, then_low}
+use Rattle.postscript_base.specs.Compact1.Nibbles.{one_byte, one_nibble, step, then_low}
 use Rattle.postscript_base.specs.Compact1.Reals.{ended_by, is_in_text, nibbles, symbols, text_of_real}
 
 abbrev stepped : Option (Bool × List ℕ) → ℕ → (List ℕ → Outcome (List ℕ)) → Outcome (List ℕ)
@@ -40,30 +40,15 @@ byte_none bytes place e = let long : length bytes - place ≡ 0 = sym (length-dr
 abbrev go_on : List ℕ → Bool × List ℕ → ℕ → Outcome (List ℕ)
 go_on bytes r next = if r.0 then Got r.1 next else text_behind r.1 (drop next bytes) next
 
-step_behind : (o : Option (Bool × List ℕ)) (bytes xs : List ℕ) (next : ℕ) → xs ≡ drop next bytes →
-    stepped o next (λ more. text_behind more xs next) ≡ after (step_of o bytes next) (go_on bytes)
-step_behind o bytes xs next e = grind arith
-
 steps_by : (text bytes xs : List ℕ) (place : ℕ) → xs ≡ drop place bytes → text_behind text xs place ≡ after (step text bytes place) (go_on bytes)
 unfolding step text_behind
 steps_by text bytes [] place e = rw (byte_none bytes place e) refl
 steps_by text bytes (b ∷ xs) place e =
     let there : xs ≡ drop (place + 1) bytes = ap (drop 1) e ∙ drop-drop 1 place bytes in
-    rw (byte_at bytes xs place b e) (step_behind (one_byte text b) bytes xs (place + 1) there)
+    rw (byte_at bytes xs place b e) (grind arith)
 
 text_steps : (text bytes : List ℕ) (place : ℕ) → text_behind text (drop place bytes) place ≡ after (step text bytes place) (go_on bytes)
 text_steps text bytes place = steps_by text bytes (drop place bytes) place refl
-
-text_more : (text bytes : List ℕ) (place : ℕ) (more : List ℕ) (next : ℕ) → step text bytes place ≡ Got (false, more) next →
-    text_behind text (drop place bytes) place ≡ text_behind more (drop next bytes) next
-text_more text bytes place more next e = text_steps text bytes place ∙ ap (λ o. after o (go_on bytes)) e
-
-text_ends : (text bytes : List ℕ) (place : ℕ) (whole : List ℕ) (next : ℕ) → step text bytes place ≡ Got (true, whole) next →
-    text_behind text (drop place bytes) place ≡ Got whole next
-text_ends text bytes place whole next e = text_steps text bytes place ∙ ap (λ o. after o (go_on bytes)) e
-
-text_refused : (text bytes : List ℕ) (place : ℕ) (e : Error) → RefusedAs e (step text bytes place) → RefusedAs e (text_behind text (drop place bytes) place)
-text_refused text bytes place e h = subst (RefusedAs e) (sym (text_steps text bytes place)) (refused_after _ _ e h)
 
 at_once : (text : List ℕ) (high low : ℕ) (rest : List ℕ) (place : ℕ) (more : List ℕ → Outcome (List ℕ)) → is_in_text high ≡ false →
     stepped (then_low (one_nibble text high) low) (place + 1) more ≡ finished text (high ∷ low ∷ rest) place
@@ -74,12 +59,7 @@ within high stays = (grind (arith, nat_tests), grind (arith, nat_tests))
 
 in_low : (text : List ℕ) (high low : ℕ) (rest : List ℕ) (place : ℕ) (more : List ℕ → Outcome (List ℕ)) → is_in_text high ≡ true → is_in_text low ≡ false →
     stepped (then_low (one_nibble text high) low) (place + 1) more ≡ finished text (high ∷ low ∷ rest) place
-in_low text high low rest place more stays stops = by (low == 15) refl (low == 13) refl
-  where
-    by : (e : Bool) → (low == 15) ≡ e → (d : Bool) → (low == 13) ≡ d → stepped (then_low (one_nibble text high) low) (place + 1) more ≡ finished text (high ∷ low ∷ rest) place
-    by true e d f = let w = within high stays in rw (stays, stops, w.0, w.1, e) (ap (λ all. Got (text ++ all) (place + 1)) (sym (append-nil (symbols high))))
-    by false e true f = let w = within high stays in rw (stays, stops, w.0, w.1, e, f) refl
-    by false e false f = absurd (grind (arith, nat_tests))
+in_low text high low rest place more stays stops = grind (arith, within, append-nil, nat_tests)
 
 later : (text : List ℕ) (high low : ℕ) (rest : List ℕ) (place : ℕ) → is_in_text high ≡ true → is_in_text low ≡ true →
     finished ((text ++ symbols high) ++ symbols low) rest (place + 1) ≡ finished text (high ∷ low ∷ rest) place
@@ -99,12 +79,7 @@ text_by text (b ∷ xs) place = by (is_in_text (b / 16)) refl (is_in_text (b % 1
   where
     by : (h : Bool) → is_in_text (b / 16) ≡ h → (l : Bool) → is_in_text (b % 16) ≡ l → ((more : List ℕ) → text_behind more xs (place + 1) ≡ finished more (nibbles xs) (place + 1)) →
         stepped (one_byte text b) (place + 1) (λ more. text_behind more xs (place + 1)) ≡ finished text (b / 16 ∷ b % 16 ∷ nibbles xs) place
-    by false stops l e rest = at_once text (b / 16) (b % 16) (nibbles xs) place (λ more. text_behind more xs (place + 1)) stops
-    by true stays false stops rest = in_low text (b / 16) (b % 16) (nibbles xs) place (λ more. text_behind more xs (place + 1)) stays stops
-    by true stays true stays_low rest =
-        let high = within (b / 16) stays in
-        let low = within (b % 16) stays_low in
-        rw (high.0, high.1, low.0, low.1) (rest ((text ++ symbols (b / 16)) ++ symbols (b % 16))) ∙ later text (b / 16) (b % 16) (nibbles xs) place stays stays_low
+    by h stops l e rest = grind (arith, at_once, in_low, within, later)
 
 pub text_is : (text bytes : List ℕ) (place : ℕ) → text ≡ [] → text_of_real bytes place ≡ text_behind text (drop place bytes) place
 unfolding text_of_real
@@ -113,15 +88,15 @@ text_is text bytes place none = sym (text_by [] (drop place bytes) place) ∙ ap
 -- what a loop over the bytes of a text has read so far, by the outcome of the whole text
 pub goes_on : (whole : Outcome (List ℕ)) (text here bytes : List ℕ) (place : ℕ) (ended : Bool) (more : List ℕ) (next : ℕ) → whole ≡ text_behind text (drop place bytes) place → here ≡ bytes →
     ended ≡ false → step text here place ≡ Got (ended, more) next → whole ≡ text_behind more (drop next bytes) next
-goes_on whole text here bytes place ended more next so_far same test e = grind (arith, text_more)
+goes_on whole text here bytes place ended more next so_far same test e = grind (arith, text_steps)
 
 pub ends : (whole : Outcome (List ℕ)) (text here bytes : List ℕ) (place : ℕ) (ended : Bool) (more : List ℕ) (next : ℕ) → whole ≡ text_behind text (drop place bytes) place → here ≡ bytes →
     ended ≡ true → step text here place ≡ Got (ended, more) next → whole ≡ Got more next
-ends whole text here bytes place ended more next so_far same test e = grind (arith, text_ends)
+ends whole text here bytes place ended more next so_far same test e = grind (arith, text_steps)
 
 pub refused : (whole : Outcome (List ℕ)) (text here bytes : List ℕ) (place : ℕ) (e : Error) → whole ≡ text_behind text (drop place bytes) place → here ≡ bytes →
     (e ≢ Memory → RefusedAs e (step text here place)) → e ≢ Memory → RefusedAs e whole
-refused whole text here bytes place e so_far same h other = subst (RefusedAs e) (sym so_far) (text_refused text bytes place e (subst (λ bs. RefusedAs e (step text bs place)) same (h other)))
+refused whole text here bytes place e so_far same h other = grind (arith, text_steps, refused_after)
 
 pub byte_front : (bytes : List ℕ) (place b next : ℕ) → number 1 bytes place ≡ Got b next → take 1 (drop place bytes) ≡ b ∷ []
 byte_front bytes place b next e = grind (arith, byte_none, byte_at)

@@ -7,10 +7,10 @@ use Rattle.postscript_base.specs.Refusal.{number_of}
 use Rattle.postscript_base.specs.Tape.Outcome.{Outcome, Got, Fault, Past, Reading, after, ◌>>=◌, pure}
 use Rattle.postscript_base.specs.Tape.Onward.{MovesOn, TakesBytes}
 use Rattle.postscript_base.specs.Tape.At.{NeedsBytes}
-use Rattle.postscript_base.specs.Numbers.{big_endian, slice, number, two_sided, above, below}
+use Rattle.postscript_base.specs.Numbers.{slice, number, two_sided, above, below}
 use Rattle.postscript_base.specs.Compact1.Decimal.{Decimal}
 use Rattle.postscript_base.specs.Compact1.Number.{begun, number as dict_number, whole}
-use Rattle.postscript_base.specs.Compact1.Reals.{Real, ended_by, nibbles, real, real_of, text_of_real, valued}
+use Rattle.postscript_base.specs.Compact1.Reals.{Real, nibbles, real, real_of, text_of_real, valued}
 
 -- the refusals of numbers and operations
 abbrev pub known_refusals : List ℕ
@@ -31,13 +31,9 @@ goes_later o least next size h g = grind arith
 pub goes_after : {A B : Type 0} (o : Outcome A) (f : A → ℕ → Outcome B) (least size : ℕ) → Goes least size o → ((value : A) (next : ℕ) → next ≤ size → Goes next size (f value next)) → Goes least size (after o f)
 goes_after o f least size h each = grind arith
 
-pub slice_goes : (count : ℕ) (bytes : List ℕ) (place : ℕ) → 0 < count → Goes (place + count) (length bytes) (slice count bytes place)
-unfolding slice
-slice_goes count bytes place some = grind arith
-
 pub number_goes : (size : ℕ) (bytes : List ℕ) (place : ℕ) → 0 < size → Goes (place + size) (length bytes) (number size bytes place)
-unfolding number
-number_goes size bytes place some = goes_after (slice size bytes place) _ (place + size) (length bytes) (slice_goes size bytes place some) (λ value next within. (omega arith, within))
+unfolding number slice
+number_goes size bytes place some = goes_after (slice size bytes place) _ (place + size) (length bytes) (grind arith) (λ value next within. (omega arith, within))
 
 pub number_takes : (size : ℕ) → 0 < size → TakesBytes (number size)
 number_takes size some bytes place = goes_moves (number size bytes place) place (length bytes) (goes_later (number size bytes place) (place + 1) (place + size) (length bytes) (omega arith) (number_goes size bytes place some))
@@ -46,12 +42,9 @@ length-nibbles : (bytes : List ℕ) → length (nibbles bytes) ≡ 2 * length by
 length-nibbles [] = refl
 length-nibbles (b ∷ bytes) = let e : length (nibbles bytes) ≡ 2 * length bytes = length-nibbles bytes in omega arith
 
-ended_goes : (rest text : List ℕ) (least next size : ℕ) → least ≤ next → (0 < length rest → next ≤ size) → Goes least size (ended_by rest text next)
-ended_goes rest text least next size h within = grind arith
-
 text_goes : (bytes : List ℕ) (place : ℕ) → Goes place (length bytes) (text_of_real bytes place)
 unfolding text_of_real
-text_goes bytes place = grind (arith, nat_tests, common_steps, ended_goes, length-drop, length-nibbles)
+text_goes bytes place = grind (arith, nat_tests, common_steps, length-drop, length-nibbles)
 
 valued_goes : (o : Option Real) (bytes : List ℕ) (place : ℕ) → place ≤ length bytes → Goes place (length bytes) (valued o bytes place)
 valued_goes o bytes place h = grind arith
@@ -93,8 +86,9 @@ pub needs_after : {A B : Type 0} (one : Reading A) (f : A → Reading B) → Nee
 needs_after one f needs bytes place past = ap (λ o. after o (λ value next. f value bytes next)) (needs bytes place past)
 
 pub number_needs : (size : ℕ) → 0 < size → NeedsBytes (number size)
-unfolding number
-number_needs size some = needs_after (slice size) (λ bytes. pure (big_endian bytes)) (slice_needs size some)
+unfolding number slice
+number_needs size some = grind (arith, needs_after, nat_tests)
 
 pub slice_takes : (size : ℕ) → 0 < size → TakesBytes (slice size)
-slice_takes size some bytes place = goes_moves (slice size bytes place) place (length bytes) (goes_later (slice size bytes place) (place + 1) (place + size) (length bytes) (omega arith) (slice_goes size bytes place some))
+unfolding slice
+slice_takes size some bytes place = goes_moves (slice size bytes place) place (length bytes) (goes_later (slice size bytes place) (place + 1) (place + size) (length bytes) (omega arith) (grind arith))

@@ -25,10 +25,7 @@ strips (suc digits) n p h = strips_by (n % 10 == 0) refl (λ last. strips digits
         let r = more zero_last in
         let found = without_zeros digits (n / 10) in
         let tens : n ≡ n / 10 * 10 = omega arith in
-        record {
-          whole = tens ∙ ap (λ k. k * 10) r.whole ∙ mul_assoc found.0 (10 ^ found.1) 10 ∙ ap (λ k. found.0 * k) (sym (pow-suc 10 found.1));
-          last = r.last;
-        }
+        record { whole = tens ∙ ap (λ k. k * 10) r.whole ∙ mul_assoc found.0 (10 ^ found.1) 10 ∙ ap (λ k. found.0 * k) (sym (pow-suc 10 found.1)); last = r.last }
     strips_by false t more = record { whole = omega arith; last = eqb-false _ _ t }
 
 -- what is left to find: an operand of the value, or that there is none
@@ -62,15 +59,11 @@ canonical_form m e = elim (eqb_tells (unsigned_abs m) 0) [
       let not_zero = t.1 in
       let found = without_zeros n n in
       let r = strips n n (⊎_elim (λ l. l) (λ l. absurd (not_zero l)) (above n)) (omega arith) in
-      rw t.0 (record {
-        form = stripped_canonical m (int_lt m (pos 0)) n found.0 found.1 _ r.whole r.last;
-        value = stripped_same m e (int_lt m (pos 0)) n found.0 found.1 _ refl refl r.whole refl;
-      })
+      rw t.0 (record { form = stripped_canonical m (int_lt m (pos 0)) n found.0 found.1 _ r.whole r.last; value = stripped_same m e (int_lt m (pos 0)) n found.0 found.1 _ refl refl r.whole refl })
 ]
   where
     above : (n : ℕ) → (0 < n) ⊎ (n ≡ 0)
-    above zero = inr refl
-    above (suc n) = inl (omega arith)
+    above n = grind arith
 
 range_tells : (d : Decimal) → ((is_in_range d ≡ true) × (unsigned_abs d.mantissa < 10 ^ 18) × (negsuc 999 ≤ℤ d.exponent) × (d.exponent ≤ℤ pos 1000)) ⊎ ((is_in_range d ≡ false) × (HasOperand d → ⊥))
 range_tells d = grind arith
@@ -81,10 +74,7 @@ operand_found m e =
     let d = canonical m e in
     let is = canonical_form m e in
     elim (range_tells d) [
-      | inl t ↦ rw t.0 (record {
-        some = (record { canonical = is.form; few_digits = t.1; low = t.2; high = t.3 }, is.value);
-        none = tt;
-      })
+      | inl t ↦ rw t.0 (record { some = (record { canonical = is.form; few_digits = t.1; low = t.2; high = t.3 }, is.value); none = tt })
       | inr t ↦ rw t.0 (record {
         some = tt;
         none = λ n f operand same.
@@ -121,8 +111,7 @@ far_out m k some far h =
     omega (arith, ints)
   where
     positive : (n : ℕ) → n ≢ 0 → 1 ≤ n
-    positive zero p = absurd (p refl)
-    positive (suc n) p = omega arith
+    positive n p = grind arith
 
 not_zero : (d : Decimal) → HasOperand d → d.exponent ≢ pos 0 → unsigned_abs d.mantissa ≢ 0
 not_zero d operand p = λ h. p (operand.canonical.zero_alone (zero_abs d.mantissa h))
@@ -133,17 +122,11 @@ i32_below d low = elim (i32_tells d) [ inl t ↦ let k = t.1 in absurd (omega (a
 pub i32_above : (d : Decimal) → HasOperand d → pos 9 <ℤ d.exponent → to_i32 d ≡ None
 i32_above d operand high = grind (arith, i32_tells, far_out, not_zero, ints)
 
-pub i32_none : (d : Decimal) → (IsOf32Bits (raised d) → ⊥) → to_i32 d ≡ None
-i32_none d out = elim (i32_tells d) [ inl t ↦ absurd (out t.2) | inr t ↦ t.0 ]
-
 pub i32_some : (d : Decimal) → pos 0 ≤ℤ d.exponent → IsOf32Bits (raised d) → to_i32 d ≡ Some (raised d)
 i32_some d low h = elim (i32_tells d) [ inl t ↦ t.0 | inr t ↦ absurd (t.1 low h) ]
 
 scaled_none : (v : ℤ) → scaled v 0 ≡ v
 scaled_none v = grind arith
-
-pub whole_same : (d : Decimal) → pos 0 ≤ℤ d.exponent → IsSameValue d.mantissa d.exponent (raised d) (pos 0)
-whole_same d low = meets-IsSameValue d.mantissa d.exponent (raised d) (pos 0) (unsigned_abs d.exponent) 0 (record { place = omega (arith, ints); value = sym (scaled_none (raised d)) })
 
 same_whole : (d : Decimal) (v : ℤ) → pos 0 ≤ℤ d.exponent → IsSameValue d.mantissa d.exponent v (pos 0) → raised d ≡ v
 same_whole d v low h = grind (arith, ints, clamps, scaled_none)
@@ -158,12 +141,6 @@ no_whole d v operand low h =
     let zero_mantissa = operand.canonical.no_last_zero (rw size (last_zero (unsigned_abs v) (unsigned_abs d.exponent - 1))) in
     let zero_exponent = operand.canonical.zero_alone zero_mantissa in
     omega (arith, ints)
-
-pub none_whole : (d : Decimal) (v : ℤ) → HasOperand d → to_i32 d ≡ None → IsOf32Bits v → IsSameValue d.mantissa d.exponent v (pos 0) → ⊥
-none_whole d v operand e h same = by_lt_z d.exponent (pos 0) (λ low. no_whole d v operand low same) (λ low.
-    let is : to_i32 d ≡ Some (raised d) = i32_some d low (rw (same_whole d v low same) h) in
-    let both : None ≡ Some (raised d) = sym e ∙ is in
-    cc)
 
 pub scaled_at : (m n : ℤ) (a b : ℕ) → m ≡ n → a ≡ b → scaled m a ≡ scaled n b
 scaled_at m n a b p q = rw (p, q) refl
@@ -203,13 +180,13 @@ whole_operand n small =
 
 -- what a test of the exponent and of the value finds
 pub finds_whole : (r : Option ℤ) (d : Decimal) → HasOperand d → pos 0 ≤ℤ d.exponent → IfSome r (λ v. (v ≡ raised d) × IsOf32Bits v) → IfNone r (IsOf32Bits (raised d) → ⊥) → r ≡ to_i32 d
-finds_whole r d operand low p q = grind (arith, i32_some, i32_none)
+finds_whole r d operand low p q = grind (arith, i32_some, i32_tells)
 
 pub whole_if_some : (r : Option ℤ) (d : Decimal) → r ≡ to_i32 d → IfSome r (λ v. IsSameValue d.mantissa d.exponent v (pos 0))
-whole_if_some r d e = grind (arith, i32_tells, whole_same)
+whole_if_some r d e = grind (arith, i32_tells, meets-IsSameValue, ints, scaled_none)
 
 pub none_if_none : (r : Option ℤ) (d : Decimal) → HasOperand d → r ≡ to_i32 d → IfNone r ((v : ℤ) → negsuc (2 ^ 31 - 1) ≤ℤ v → v ≤ℤ pos (2 ^ 31 - 1) → IsSameValue d.mantissa d.exponent v (pos 0) → ⊥)
-none_if_none r d operand e = grind (arith, none_whole)
+none_if_none r d operand e = grind (arith, by_lt_z, no_whole, i32_some, same_whole)
 
 -- the operand of a value is found exactly where there is one
 pub finds_operands : FindsOperands

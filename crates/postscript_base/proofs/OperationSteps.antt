@@ -1,4 +1,5 @@
 -- The steps of an operation.
+use Rattle.std.proofs.lemmas.Bool.Decides.{nat_tests}
 use Rattle.std.proofs.Common.{◌≡◌, refl, sym, ap, subst, ◌∙◌, ℕ, zero, suc, ◌+◌, ◌-◌, ◌≤◌, List, [], ◌∷◌, ◌++◌, length, Option, Some, None, arith, inl, if◌then◌else◌}
 use Rattle.postscript_base.specs.Tape.Outcome.{Outcome, Got, Reading, RefusedAs, after, ◌>>=◌, pure}
 use Rattle.postscript_base.specs.Tape.Onward.{TakesBytes}
@@ -13,9 +14,6 @@ use Rattle.postscript_base.proofs.Outcomes.{refused_after}
 known_goes : (o : Option Operator) (bytes : List ℕ) (place : ℕ) → place ≤ length bytes → Goes place (length bytes) (known o bytes place)
 known_goes o bytes place h = grind arith
 
-operator_goes : (first : ℕ) (bytes : List ℕ) (place : ℕ) → place ≤ length bytes → Goes place (length bytes) (operator_begun first bytes place)
-operator_goes first bytes place h = grind (arith, goes_later, byte_then_goes, known_goes)
-
 abbrev pub Found : Type 0
 Found = Option Operator × List Decimal
 
@@ -25,7 +23,7 @@ behind operands first = if begins_operand first then (begun first >>= λ operand
     else (operator_begun first >>= λ operator. pure (Some operator, operands))
 
 behind_goes : (operands : List Decimal) (first : ℕ) (bytes : List ℕ) (place : ℕ) → place ≤ length bytes → Goes place (length bytes) (behind operands first bytes place)
-behind_goes operands first bytes place h = grind (arith, goes_after, begun_goes, operator_goes)
+behind_goes operands first bytes place h = grind (arith, nat_tests, goes_after, begun_goes, goes_later, byte_then_goes, known_goes)
 
 pub step_goes : (operands : List Decimal) (bytes : List ℕ) (place : ℕ) → Goes (place + 1) (length bytes) (step operands bytes place)
 unfolding step
@@ -56,12 +54,9 @@ pub starts : (operands : List Decimal) (bytes : List ℕ) (place : ℕ) → oper
 unfolding operation
 starts operands bytes place none = record { steps = length bytes; enough = omega arith; same = ap (λ none. operation_from (suc (length bytes)) none bytes place) none }
 
-one_step : (most : ℕ) (operands : List Decimal) (bytes : List ℕ) (place : ℕ) → operation_from (suc most) operands bytes place ≡ after (step operands bytes place) (λ found next. ended_or found.0 found.1 (operation_from most) bytes next)
-unfolding operation_from
-one_step most operands bytes place = refl
-
 pub stepped : (most : ℕ) (operands : List Decimal) (bytes : List ℕ) (place : ℕ) (o : Outcome Found) → step operands bytes place ≡ o → operation_from (suc most) operands bytes place ≡ after o (λ found next. ended_or found.0 found.1 (operation_from most) bytes next)
-stepped most operands bytes place o e = one_step most operands bytes place ∙ ap (λ o. after o (λ found next. ended_or found.0 found.1 (operation_from most) bytes next)) e
+unfolding operation_from
+stepped most operands bytes place o e = refl ∙ ap (λ o. after o (λ found next. ended_or found.0 found.1 (operation_from most) bytes next)) e
 
 pub goes_on : (bytes : List ℕ) (start : ℕ) (operands more : List Decimal) (place next : ℕ) → step operands bytes place ≡ Got (None, more) next → IsWithin bytes start operands place → IsWithin bytes start more next
 goes_on bytes start operands more place next e h = go h.steps h.enough h.same
@@ -80,4 +75,5 @@ pub ends : (bytes : List ℕ) (start : ℕ) (operands more : List Decimal) (plac
 ends bytes start operands more place next operator e h = sym h.same ∙ stepped h.steps operands bytes place _ e
 
 pub refused : (bytes : List ℕ) (start : ℕ) (operands : List Decimal) (place : ℕ) (e : Error) → RefusedAs e (step operands bytes place) → IsWithin bytes start operands place → RefusedAs e (operation bytes start)
-refused bytes start operands place e refusal h = subst (RefusedAs e) h.same (subst (RefusedAs e) (sym (one_step h.steps operands bytes place)) (refused_after _ _ e refusal))
+unfolding operation_from
+refused bytes start operands place e refusal h = subst (RefusedAs e) h.same (subst (RefusedAs e) (sym (refl)) (refused_after _ _ e refusal))

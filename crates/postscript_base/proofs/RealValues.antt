@@ -1,5 +1,5 @@
 -- The operand of a real's digits.
-use Rattle.std.proofs.Common.{◌≡◌, ◌≢◌, ◌⊎◌, ℕ, ◌+◌, ◌*◌, ◌%◌, ◌^◌, ◌<◌, ◌≤◌, min, Bool, refl, sym, ap, ◌∙◌, ⊎_elim, arith, inl, inr, ℤ, pos, negsuc, ◌+ℤ◌, ◌-ℤ◌, ◌≤ℤ◌, Option, Some, None}
+use Rattle.std.proofs.Common.{◌≡◌, ◌≢◌, ◌⊎◌, ℕ, ◌+◌, ◌*◌, ◌%◌, ◌^◌, ◌<◌, ◌≤◌, min, Bool, refl, sym, ap, ◌∙◌, ⊎_elim, arith, inl, inr, ℤ, pos, ◌+ℤ◌, ◌-ℤ◌, Option, Some, None}
 use Rattle.std.specs.Prelude.{IfSome, IfNone}
 use Rattle.std.specs.Int.RustNames.{unsigned_abs}
 use Rattle.std.proofs.lemmas.Bool.{cases_lt}
@@ -43,14 +43,11 @@ pub record Reaches (down : Bool) (zeros places power far : ℕ) (x : ℤ) : Type
 exact : (down : Bool) (zeros places power far : ℕ) (x : ℤ) → Reaches down zeros places power far x → far ≡ power → x ≡ (signed down power -ℤ pos places) +ℤ pos zeros
 exact down zeros places power far x h e = h.computed ∙ rw e (omega (arith, ints))
 
-apart : (down : Bool) (zeros places far : ℕ) (x : ℤ) → zeros < 2 ^ 64 → places < 2 ^ 64 → 2 ^ 70 ≤ far → x ≡ (pos zeros -ℤ pos places) +ℤ signed down far → negsuc 999 ≤ℤ x → x ≤ℤ pos 1000 → ⊥
-apart down zeros places far x p q h e low high = grind (arith, ints)
-
 pub real_some : (r : Option Decimal) (b down : Bool) (n front zeros places power far : ℕ) (x : ℤ) → IfSome r (λ o. (o.mantissa ≡ signed b front) × (o.exponent ≡ x)) → IfSome r HasOperand → n ≡ front * 10 ^ zeros → Reaches down zeros places power far x → IfSome r (λ o. IsSameValue o.mantissa o.exponent (signed b n) (signed down power -ℤ pos places))
 real_some None b down n front zeros places power far x p operand whole h = tt
 real_some (Some o) b down n front zeros places power far x p operand whole h = ⊎_elim
     (λ (e : far ≡ power). rw p.0 (front_same b n front zeros _ o.exponent whole (p.1 ∙ exact down zeros places power far x h e)))
-    (λ (e : (2 ^ 70 ≤ far) × (2 ^ 70 ≤ power)). absurd (apart down zeros places far o.exponent h.few h.few_places e.0 (p.1 ∙ h.computed) operand.low operand.high))
+    (λ (e : (2 ^ 70 ≤ far) × (2 ^ 70 ≤ power)). absurd (grind (arith, ints)))
     (limited far power h.near)
 
 pub real_none : (r : Option Decimal) (b down : Bool) (n front zeros places power far : ℕ) (x : ℤ) → IfNone r (IsOperand (signed b front) x → ⊥) → n ≡ front * 10 ^ zeros → front % 10 ≢ 0 → Reaches down zeros places power far x → IfNone r ((d : Decimal) → HasOperand d → IsSameValue d.mantissa d.exponent (signed b n) (signed down power -ℤ pos places) → ⊥)
@@ -59,7 +56,7 @@ real_none None b down n front zeros places power far x p whole last h = λ d ope
     let one = only_front b n front zeros (signed down power -ℤ pos places) d whole last operand same in
     ⊎_elim
     (λ (e : far ≡ power). p (rw (exact down zeros places power far x h e, ← one.0, ← one.1) operand))
-    (λ (e : (2 ^ 70 ≤ far) × (2 ^ 70 ≤ power)). apart down zeros places power d.exponent h.few h.few_places e.1 (one.1 ∙ omega (arith, ints)) operand.low operand.high)
+    (λ (e : (2 ^ 70 ≤ far) × (2 ^ 70 ≤ power)). (grind (arith, ints)))
     (limited far power h.near)
 
 -- one digit more of a limited number

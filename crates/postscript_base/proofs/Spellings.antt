@@ -19,14 +19,11 @@ all_pass (d ∷ ds) h = rw (lt-ltb d 10 (h zero (omega arith)), all_pass ds (λ 
 abbrev EndsDigits : List ℕ → Type 0
 EndsDigits rest = prefix_len is_digit rest ≡ 0
 
-front_len : (ds rest : List ℕ) → IsDigits ds → EndsDigits rest → prefix_len is_digit (ds ++ rest) ≡ length ds
-front_len ds rest h stop = prefix_len-append is_digit ds rest ∙ rw (all_pass ds h, stop, eq-eqb (length ds) (length ds) refl) (omega arith)
-
 front_digits : (ds rest : List ℕ) → IsDigits ds → EndsDigits rest → digits_of (ds ++ rest) ≡ ds
-front_digits ds rest h stop = ap (λ n. take n (ds ++ rest)) (front_len ds rest h stop) ∙ take-append_seam ds rest
+front_digits ds rest h stop = ap (λ n. take n (ds ++ rest)) (prefix_len-append is_digit ds rest ∙ rw (all_pass ds h, stop, eq-eqb (length ds) (length ds) refl) (omega arith)) ∙ take-append_seam ds rest
 
 behind_digits : (ds rest : List ℕ) → IsDigits ds → EndsDigits rest → after_digits (ds ++ rest) ≡ rest
-behind_digits ds rest h stop = ap (λ n. drop n (ds ++ rest)) (front_len ds rest h stop) ∙ drop-append_seam ds rest
+behind_digits ds rest h stop = ap (λ n. drop n (ds ++ rest)) (prefix_len-append is_digit ds rest ∙ rw (all_pass ds h, stop, eq-eqb (length ds) (length ds) refl) (omega arith)) ∙ drop-append_seam ds rest
 
 -- a minus in front is read as one where the rest does not begin with a minus
 abbrev NoMinus : List ℕ → Type 0
@@ -38,23 +35,14 @@ signs negative rest h = grind arith
 digit_first : (d : ℕ) (ds : List ℕ) → d < 10 → NoMinus (d ∷ ds)
 digit_first d ds lt = let no : (d == 14) ≡ false = grind (arith, nat_tests) in rw no refl
 
-exponents_end : (exponent : Option (Bool × List ℕ)) → EndsDigits (exponent_symbols exponent)
-exponents_end exponent = grind arith
-
 fractions_end : (fraction : Option (List ℕ)) (exponent : Option (Bool × List ℕ)) → EndsDigits (fraction_symbols fraction ++ exponent_symbols exponent)
 fractions_end fraction exponent = grind arith
 
-no_fraction : (exponent : Option (Bool × List ℕ)) → fraction_at (exponent_symbols exponent) ≡ (None, exponent_symbols exponent)
-no_fraction exponent = grind arith
-
 fractions : (fraction : Option (List ℕ)) (exponent : Option (Bool × List ℕ)) → IsDigits (fraction_digits fraction) → fraction_at (fraction_symbols fraction ++ exponent_symbols exponent) ≡ (fraction, exponent_symbols exponent)
-fractions fraction exponent h = grind (arith, no_fraction, front_digits, exponents_end, behind_digits)
-
-digits_of_exponent : (down : Bool) (ds : List ℕ) → IsDigits ds → 0 < length ds → after_sign (minus down ++ ds) ≡ (down, ds)
-digits_of_exponent down ds h some = grind arith
+fractions fraction exponent h = grind (arith, front_digits, behind_digits)
 
 exponents : (exponent : Option (Bool × List ℕ)) → IfSome exponent (λ p. IsDigits p.1 × (0 < length p.1)) → exponent_at (exponent_symbols exponent) ≡ Some exponent
-exponents exponent h = grind (arith, digits_of_exponent, all_pass, lt-ltb, eq-eqb)
+exponents exponent h = grind (arith, all_pass, lt-ltb, eq-eqb)
 
 unsigned : (r : Real) → IsReal r → NoMinus (r.whole ++ (fraction_symbols r.fraction ++ exponent_symbols r.exponent))
 unsigned r h = by r.whole r.fraction h.whole h.some
@@ -74,12 +62,6 @@ sign_back text = grind arith
 
 digits_back : (text : List ℕ) → digits_of text ++ after_digits text ≡ text
 digits_back text = take-append-drop (prefix_len is_digit text) text
-
-fraction_back : (text : List ℕ) → fraction_symbols (fraction_at text).0 ++ (fraction_at text).1 ≡ text
-fraction_back text = grind (arith, nat_tests, digits_back)
-
-digits_of_fraction : (text : List ℕ) → IsDigits (fraction_digits (fraction_at text).0)
-digits_of_fraction text = grind (arith, digits_are)
 
 -- an exponent that is read is all of what stands there
 pub record IsExponentOf (text : List ℕ) (exponent : Option (Bool × List ℕ)) : Type 0 where
@@ -109,8 +91,8 @@ unfolding real_of
 alone text r e =
     let s = after_sign text in
     let behind = after_digits s.1 in
-    let found = joined_back text s.0 (digits_of s.1) (fraction_at behind).0 (fraction_at behind).1 (exponent_at (fraction_at behind).1) r (digits_are s.1) (digits_of_fraction behind) refl e in
-    (found.0, found.1 ∙ ap (λ all. minus s.0 ++ (digits_of s.1 ++ all)) (fraction_back behind) ∙ ap (λ all. minus s.0 ++ all) (digits_back s.1) ∙ sign_back text)
+    let found = joined_back text s.0 (digits_of s.1) (fraction_at behind).0 (fraction_at behind).1 (exponent_at (fraction_at behind).1) r (digits_are s.1) (grind (arith, digits_are)) refl e in
+    (found.0, found.1 ∙ ap (λ all. minus s.0 ++ (digits_of s.1 ++ all)) (grind (arith, nat_tests, digits_back)) ∙ ap (λ all. minus s.0 ++ all) (digits_back s.1) ∙ sign_back text)
 
 pub reads_spellings : ReadsSpellings
 reads_spellings = record { spelled = spelled; alone = alone }

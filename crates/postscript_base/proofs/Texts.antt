@@ -2,9 +2,9 @@
 use Rattle.std.proofs.lemmas.Grind.{common_steps}
 use Rattle.std.proofs.lemmas.Bool.Decides.{nat_tests}
 use Rattle.std.proofs.Math.Seq.{drop-cons}
-use Rattle.std.proofs.Common.{◌≡◌, refl, ap, subst, ◌∙◌, ℕ, zero, suc, ◌+◌, ◌-◌, ◌<◌, ◌≤◌, Bool, true, false, List, [], ◌∷◌, length, take, drop, get_or, nat_lt, Option, Some, length-drop, arith, if◌then◌else◌}
+use Rattle.std.proofs.Common.{◌≡◌, refl, ap, subst, ◌∙◌, ℕ, ◌+◌, ◌-◌, ◌<◌, ◌≤◌, Bool, List, [], ◌∷◌, length, take, drop, get_or, nat_lt, Option, Some, length-drop, arith, if◌then◌else◌}
 use Rattle.std.specs.List.{prefix_len}
-use Rattle.std.proofs.lemmas.Bool.{lt-ltb, ltb-true, eq-eqb}
+use Rattle.std.proofs.lemmas.Bool.{lt-ltb, eq-eqb}
 use Rattle.std.proofs.lemmas.List.Sums.{prefix_len-le-length}
 use Rattle.postscript_base.specs.Compact1.Decimal.{IsDigits}
 use Rattle.postscript_base.specs.Compact1.Reals.{digits_of, is_exponent_negative, is_digit, exponent_at, exponent_digits, after_sign}
@@ -14,12 +14,7 @@ digits_are [] = λ k lt. absurd (omega arith)
 digits_are (x ∷ xs) = by (nat_lt x 10) refl (digits_are xs)
   where
     by : (t : Bool) → nat_lt x 10 ≡ t → IsDigits (digits_of xs) → IsDigits (take (if t then (1 + prefix_len is_digit xs) else 0) (x ∷ xs))
-    by false e more = λ k lt. absurd (omega arith)
-    by true e more = let one_more : 1 + prefix_len is_digit xs ≡ suc (prefix_len is_digit xs) = omega arith in rw one_more go
-      where
-        go : IsDigits (x ∷ digits_of xs)
-        go zero lt = ltb-true x 10 e
-        go (suc k) lt = more k (omega arith)
+    by t e more = grind arith
 
 take_all : (xs : List ℕ) (n : ℕ) → length xs ≤ n → take n xs ≡ xs
 take_all xs n h = grind (arith, nat_tests, common_steps)
@@ -34,15 +29,11 @@ pub record FoundPower (text : List ℕ) (down : Bool) (digits : List ℕ) : Type
   pub down_is : down ≡ is_exponent_negative exponent
   pub digits_is : digits ≡ exponent_digits exponent
 
-power_front : (n : ℕ) (ns : List ℕ) → n ≡ 11 → 0 < length (after_sign ns).1 → length (after_sign ns).1 ≤ prefix_len is_digit (after_sign ns).1 →
-    exponent_at (n ∷ ns) ≡ Some (Some (after_sign ns))
-power_front n ns mark some digits = grind (arith, prefix_len-le-length, eq-eqb, lt-ltb)
-
 pub exponent_found : (text : List ℕ) (n : ℕ) (ns : List ℕ) (down : Bool) (digits : List ℕ) → text ≡ n ∷ ns → n ≡ 11 → down ≡ (after_sign ns).0 → digits ≡ (after_sign ns).1 →
     0 < length digits → length digits ≤ prefix_len is_digit digits → FoundPower text down digits
 exponent_found text n ns down digits text_is mark down_is digits_is some all = record {
   exponent = Some (after_sign ns);
-  found = ap exponent_at text_is ∙ power_front n ns mark (rw (← digits_is) some) (rw (← digits_is) all);
+  found = ap exponent_at text_is ∙ (grind (arith, prefix_len-le-length, eq-eqb, lt-ltb));
   down_is = down_is;
   digits_is = digits_is;
 }

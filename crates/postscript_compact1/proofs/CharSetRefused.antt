@@ -1,5 +1,5 @@
 -- A char set is refused where none stands, and for what the bytes are not.
-use Rattle.std.proofs.Common.{◌≡◌, ◌≢◌, ◌⊎◌, inl, inr, refl, sym, ap, subst, ◌∙◌, ℕ, zero, suc, ◌+◌, ◌-◌, ◌<◌, ◌≤◌, Bool, true, false, ◌==◌, nat_lt, List, [], ◌∷◌, length, arith, if◌then◌else◌}
+use Rattle.std.proofs.Common.{◌≡◌, ◌≢◌, ◌⊎◌, inl, inr, refl, sym, ap, subst, ◌∙◌, ℕ, zero, suc, ◌+◌, ◌-◌, ◌<◌, ◌≤◌, Bool, true, false, ◌==◌, List, [], ◌∷◌, length, arith, if◌then◌else◌}
 use Rattle.std.specs.Prelude.{sum_by}
 use Rattle.std.proofs.lemmas.Bool.Decides.{nat_tests}
 use Rattle.std.proofs.lemmas.List.Sums.{sum_by-cons}
@@ -9,7 +9,7 @@ use Rattle.postscript_base.specs.Tape.Loops.{many, until, until_from}
 use Rattle.postscript_base.specs.Tape.Onward.{MovesOn, TakesBytes}
 use Rattle.postscript_base.specs.Tape.Outcome.{Outcome, Got, Fault, Past, Reading, after, fault}
 use Rattle.postscript_base.proofs.Onward.{number_takes}
-use Rattle.postscript_compact1.specs.CharSets.{char_set, char_set_0, char_set_of, covered, covered_1, covered_2, covering, glyphs_of_1, glyphs_of_2, if_any, listed, none_wanting, range_1, range_2, ranges, uncovered}
+use Rattle.postscript_compact1.specs.CharSets.{char_set, char_set_0, char_set_of, covered, covered_1, covered_2, covering, glyphs_of_1, glyphs_of_2, if_any, listed, none_wanting, range_1, range_2, uncovered}
 use Rattle.postscript_compact1.specs.CharSets.Formats.{Listed, Covered}
 use Rattle.postscript_compact1.specs.CharSetLaw.{BehindFormat, CutFormat, CutIdentifier, CutRange, NoCharSet, NoCharSet0, NoCharSet1, NoCharSet2, NoCover, NoFormat, NoGlyphs, NoneToName, NoRanges1, NoRanges2, NoRangesOf, OtherFormat, WrongFormat, ReadsCharSets, StandAt, TooManyGlyphs, ListsGlyphs, CoversGlyphs1, CoversGlyphs2, IsCharSet}
 use Rattle.postscript_compact1.specs.declared.char_set.CharSet.{CharSet}
@@ -58,19 +58,15 @@ module _ {A : Type 0} (size : A → ℕ) (one : Reading A) (takes : TakesBytes o
   abbrev pub StopsBehind : ℕ → List ℕ → ℕ → Refusal → Type 0
   StopsBehind wanting bytes place refusal = (values : List A) × (next : ℕ) × StandAt one bytes place values next × (sum_by size values < wanting) × StopsAt (wanting - sum_by size values) bytes next refusal
 
-  covering_fails : (wanting : ℕ) (bytes : List ℕ) (place : ℕ) → Fails (StopsAt wanting bytes place) (covering size one wanting bytes place)
-  unfolding covering
-  covering_fails wanting bytes place = grind arith
-
   pub until_fails : (most wanting : ℕ) (bytes : List ℕ) (place : ℕ) → length bytes - place < most → Fails (StopsBehind wanting bytes place) (all_until size one most wanting bytes place)
-  unfolding until_from
+  unfolding until_from covering
   until_fails zero wanting bytes place few = absurd (omega arith)
   until_fails (suc most) wanting bytes place few = by (none_wanting wanting) refl (λ less at fewer. until_fails most less bytes at fewer)
     where
       by : (b : Bool) → none_wanting wanting ≡ b → ((less at : ℕ) → length bytes - at < most → Fails (StopsBehind less bytes at) (all_until size one most less bytes at))
           → Fails (StopsBehind wanting bytes place) (if b then Got [] place else after (covering size one wanting bytes place) (λ value at. after (all_until size one most (uncovered size wanting value) bytes at) (λ values next. Got (value ∷ values) next)))
       by true e later = tt
-      by false e later = fails_after (covering size one wanting bytes place) _ _ _ (covering_fails wanting bytes place)
+      by false e later = fails_after (covering size one wanting bytes place) _ _ _ (grind arith)
           (λ refusal h. let all : wanting ≡ wanting - 0 = omega arith in ([], place, refl, grind (arith, nat_tests), subst (λ left. StopsAt left bytes place refusal) all h))
           (λ value at g.
           let first = subst (Gives (λ value next. (one bytes place ≡ Got value next) × (size value ≤ wanting))) g (covering_gives size one wanting bytes place) in
@@ -85,19 +81,11 @@ module _ {A : Type 0} (size : A → ℕ) (one : Reading A) (takes : TakesBytes o
           let left : (wanting - size value) - sum_by size h.0 ≡ wanting - sum_by size (value ∷ h.0) = omega arith in
           (value ∷ h.0, h.1, (at, first.0, h.2), omega arith, subst (λ left. StopsAt left bytes h.1 refusal) left h.4)) (λ values next e. tt))
 
-  covering_stops : (wanting : ℕ) (bytes : List ℕ) (place : ℕ) (refusal : Refusal) → StopsAt wanting bytes place refusal → covering size one wanting bytes place ≡ Fault refusal
-  unfolding covering
-  covering_stops wanting bytes place refusal h0 = grind arith
-
   pub until_stops : (most wanting : ℕ) (bytes : List ℕ) (place : ℕ) (values : List A) (next : ℕ) (refusal : Refusal) → StandAt one bytes place values next → sum_by size values < wanting
       → StopsAt (wanting - sum_by size values) bytes next refusal → length bytes - place < most → all_until size one most wanting bytes place ≡ Fault refusal
-  unfolding until_from
+  unfolding until_from covering
   until_stops zero wanting bytes place values next refusal h fewer stop few = absurd (omega arith)
-  until_stops (suc most) wanting bytes place [] next refusal h fewer stop few =
-      let more : none_wanting wanting ≡ false = grind (arith, nat_tests) in
-      let all : wanting - 0 ≡ wanting = omega arith in
-      let here : StopsAt wanting bytes place refusal = subst (λ at. StopsAt wanting bytes at refusal) h (subst (λ left. StopsAt left bytes next refusal) all stop) in
-      rw (more, covering_stops wanting bytes place refusal here) refl
+  until_stops (suc most) wanting bytes place [] next refusal h fewer stop few = grind (arith, nat_tests, all)
   until_stops (suc most) wanting bytes place (value ∷ values) next refusal h fewer stop few =
       let moved : (place < h.0) × (h.0 ≤ length bytes) = subst (MovesOn place (length bytes)) h.1 (takes bytes place) in
       let up = moved.0 in
@@ -114,10 +102,6 @@ module _ {A : Type 0} (size : A → ℕ) (one : Reading A) (takes : TakesBytes o
 -- what refuses behind the byte of the format
 abbrev NoneOr : ℕ → (Refusal → Type 0) → Refusal → Type 0
 NoneOr glyphs Q refusal = ((glyphs ≡ 0) × (refusal ≡ malformed_char_set)) ⊎ Q refusal
-
-listed_fails : (glyphs : ℕ) (bytes : List ℕ) (place : ℕ) → Fails (NoneOr glyphs (CutBehind (number 2) (glyphs - 1) bytes place)) (listed glyphs bytes place)
-unfolding listed
-listed_fails glyphs bytes place = grind (arith, is_format, fails_after, many_fails, number_takes)
 
 no_list : (bytes : List ℕ) (place glyphs format behind : ℕ) → number 1 bytes place ≡ Got format behind → format ≡ 0 → (refusal : Refusal) → NoneOr glyphs (CutBehind (number 2) (glyphs - 1) bytes behind) refusal → NoCharSet bytes place glyphs refusal
 no_list bytes place glyphs format behind e is refusal (inl h) = NoGlyphs format behind e (omega arith) h.0 h.1
@@ -157,12 +141,12 @@ module _ {A : Type 0} (format : ℕ) (size : A → ℕ) (one : Reading A) (takes
   covered_refused glyphs bytes place refusal (TooManyGlyphs behind values next last end e h fewer got more is) = (behind, e, covered_stops glyphs bytes behind values next refusal h fewer (inr (last, end, got, omega arith, is)))
 
 any_fails : (glyphs : ℕ) (bytes : List ℕ) (place : ℕ) → Fails (NoCharSet bytes place glyphs) (char_set glyphs bytes place)
-unfolding char_set
+unfolding char_set listed
 any_fails glyphs bytes place = fails_after (number 1 bytes place) _ _ _ (moves_fails (number 1 bytes place) place (length bytes) (number_takes 1 (omega arith) bytes place)) (λ refusal e. NoFormat e) (λ format behind e. by format behind e (format == 0) (format == 1) (format == 2) refl refl refl)
   where
     by : (format behind : ℕ) → number 1 bytes place ≡ Got format behind → (zeroth first second : Bool) → (format == 0) ≡ zeroth → (format == 1) ≡ first → (format == 2) ≡ second
         → Fails {A = CharSet} (NoCharSet bytes place glyphs) ((if zeroth then (λ bytes place. after (listed glyphs bytes place) (λ set next. Got (Format0 set) next)) else if first then (λ bytes place. after (covered_1 glyphs bytes place) (λ set next. Got (Format1 set) next)) else if second then (λ bytes place. after (covered_2 glyphs bytes place) (λ set next. Got (Format2 set) next)) else fault unknown_char_set_format) bytes behind)
-    by format behind e true first second is other others = fails_after (listed glyphs bytes behind) _ _ _ (listed_fails glyphs bytes behind) (no_list bytes place glyphs format behind e (is_format format 0 is)) (λ set next g. tt)
+    by format behind e true first second is other others = fails_after (listed glyphs bytes behind) _ _ _ (grind (arith, is_format, fails_after, many_fails, number_takes)) (no_list bytes place glyphs format behind e (is_format format 0 is)) (λ set next g. tt)
     by format behind e false true second other is others =
         let first = is_format format 1 is in
         fails_after (covered_1 glyphs bytes behind) _ _ _ (covered_fails 1 glyphs_of_1 range_1 range_1_takes glyphs bytes behind)
@@ -195,16 +179,10 @@ refused glyphs bytes place refusal (OtherFormat format behind e greater is) = gr
 
 -- ---- char sets of one format
 fails_more : {A : Type 0} (o : Outcome A) (P Q : Refusal → Type 0) → ((refusal : Refusal) → P refusal → Q refusal) → Fails P o → Fails Q o
-fails_more (Got value next) P Q more h = tt
-fails_more (Fault refusal) P Q more h = more refusal h
-fails_more Past P Q more h = h
+fails_more o P Q more h = grind arith
 
 other_format : (first format : ℕ) → first ≢ format → (first == format) ≡ false
-other_format first format other = by (first == format) refl
-  where
-    by : (b : Bool) → (first == format) ≡ b → b ≡ false
-    by true e = absurd (other (is_format first format e))
-    by false e = refl
+other_format first format other = grind arith
 
 wrong_format : (first format : ℕ) → (first == format) ≡ false → first ≢ format
 wrong_format first format e is = absurd (grind (arith, nat_tests))
@@ -214,19 +192,16 @@ not_listed bytes place glyphs format behind e is refusal (inl h) = NoneToName be
 not_listed bytes place glyphs format behind e is refusal (inr h) = let fewer = h.3 in BehindFormat (behind, h.0, h.1, e ∙ ap (λ format. Got format behind) is, h.2, omega arith, h.4)
 
 fails_0 : (glyphs : ℕ) (bytes : List ℕ) (place : ℕ) → Fails (NoCharSet0 bytes place glyphs) (char_set_0 glyphs bytes place)
-unfolding char_set_0
+unfolding char_set_0 listed
 fails_0 glyphs bytes place = fails_after (number 1 bytes place) _ _ _ (moves_fails (number 1 bytes place) place (length bytes) (number_takes 1 (omega arith) bytes place)) (λ refusal e. CutFormat e) (λ format behind e. by format behind e (format == 0) refl)
   where
     by : (format behind : ℕ) → number 1 bytes place ≡ Got format behind → (b : Bool) → (format == 0) ≡ b → Fails {A = Listed} (NoCharSet0 bytes place glyphs) ((if b then listed glyphs else fault malformed_char_set) bytes behind)
-    by format behind e true is = fails_more (listed glyphs bytes behind) _ _ (not_listed bytes place glyphs format behind e (is_format format 0 is)) (listed_fails glyphs bytes behind)
+    by format behind e true is = fails_more (listed glyphs bytes behind) _ _ (not_listed bytes place glyphs format behind e (is_format format 0 is)) (grind (arith, is_format, fails_after, many_fails, number_takes))
     by format behind e false is = WrongFormat format behind e (wrong_format format 0 is) refl
 
 refused_0 : (glyphs : ℕ) (bytes : List ℕ) (place : ℕ) (refusal : Refusal) → NoCharSet0 bytes place glyphs refusal → char_set_0 glyphs bytes place ≡ Fault refusal
 unfolding char_set_0
-refused_0 glyphs bytes place refusal (CutFormat e) = rw e refl
-refused_0 glyphs bytes place refusal (WrongFormat first behind e other is) = rw (e, other_format first 0 other) (ap Fault (sym is))
-refused_0 glyphs bytes place refusal (NoneToName behind e none is) = rw (e, listed_none glyphs bytes behind none) (ap Fault (sym is))
-refused_0 glyphs bytes place refusal (BehindFormat h) = rw (h.3, listed_cut glyphs bytes h.0 h.1 h.2 refusal h.4 h.5 h.6) refl
+refused_0 glyphs bytes place refusal h0 = grind (arith, other_format, listed_none, listed_cut)
 
 module _ {A : Type 0} (format : ℕ) (size : A → ℕ) (one : Reading A) (takes : TakesBytes one) where
   fails_of : (glyphs : ℕ) (bytes : List ℕ) (place : ℕ) → Fails (NoRangesOf format size one bytes place glyphs) (char_set_of format size one glyphs bytes place)

@@ -1,5 +1,5 @@
 -- The parts of a font are read exactly where they stand.
-use Rattle.std.proofs.Common.{◌≡◌, ◌⊎◌, inl, inr, ℕ, zero, suc, ◌+◌, ◌-◌, ◌<◌, Bool, true, false, ℤ, pos, ◌+ℤ◌, List, [], ◌∷◌, length, map, nat_lt, ◌==◌, if◌then◌else◌, refl, sym, ap, ◌∙◌, subst, arith}
+use Rattle.std.proofs.Common.{◌≡◌, ◌⊎◌, inl, inr, ℕ, zero, suc, ◌+◌, ◌-◌, ◌<◌, ◌≤◌, Bool, true, false, pos, ◌+ℤ◌, List, [], ◌∷◌, length, map, nat_lt, ◌==◌, if◌then◌else◌, refl, sym, ap, ◌∙◌, subst, arith}
 use Rattle.std.proofs.lemmas.Int.{ints}
 use Rattle.std.proofs.lemmas.Bool.Decides.{nat_tests}
 use Rattle.postscript_base.specs.Numbers.{slice}
@@ -15,15 +15,14 @@ use Rattle.postscript_compact1.specs.Index.{Index, index, empty}
 use Rattle.postscript_compact1.specs.IndexLaw.{IsIndex}
 use Rattle.postscript_compact1.specs.Kinds.{map_of, maps_of}
 use Rattle.postscript_compact1.specs.Texts.{text}
-use Rattle.postscript_compact1.specs.CharSets.{char_set as the_set}
 use Rattle.postscript_compact1.specs.CharSetLaw.{IsCharSet}
 use Rattle.postscript_compact1.specs.declared.char_set.CharSet.{CharSet}
 use Rattle.postscript_compact1.specs.declared.encoding.Encoding.{Encoding}
 use Rattle.postscript_compact1.specs.declared.font_set.manner.Manner.{Manner}
 use Rattle.postscript_compact1.specs.declared.font_set.manner.Manner.TheVariants.{Strict, Lenient}
-use Rattle.postscript_compact1.specs.FontSet.Operands.{goes_without, first, size_of, in_range}
+use Rattle.postscript_compact1.specs.FontSet.Operands.{goes_without, in_range}
 use Rattle.postscript_compact1.specs.FontSet.Font.{Part, Tables, Font, columns, font_of}
-use Rattle.postscript_compact1.specs.FontSet.Order.{encoding_of, encoding, char_strings, own_char_set, char_set_of, char_set_offset, char_set, glyphs, private, subroutines, own_subroutines, own_locals, locals, part, names, dictionaries, tables, behind, parts, font_by, font, lenient_font}
+use Rattle.postscript_compact1.specs.FontSet.Order.{encoding, char_strings, own_char_set, char_set_of, char_set_offset, char_set, glyphs, private, subroutines, own_subroutines, own_locals, locals, part, names, dictionaries, tables, behind, parts, font_by, font, lenient_font}
 use Rattle.postscript_compact1.specs.FontSet.Layout.{HasFirst, IsSlice, IsPlace, HasEncoding, HasCharStrings, HasCharSet, Is_0, Is_1, Is_2, Own, HasPrivate, HasSubroutines, IsLacking, HasLocals, WithBoth, WithoutSubrs, WithoutPrivate, IsPart, AreParts, AreTables, IsFontBy, IsFont, IsLenientFont, ReadsLayout, ReadsLeniently}
 use Rattle.postscript_compact1.proofs.CharSetIs.{char_set_needs}
 use Rattle.postscript_compact1.proofs.CharSetRefused.{reads_char_sets}
@@ -73,12 +72,9 @@ unfolding encoding
 encoding_is m e bytes place (inl h) = rw (first_is m operators.Encoding (pos 0) bytes place h.0, h.1) refl
 encoding_is m e bytes place (inr h) = rw (first_is m operators.Encoding (pos 1) bytes place h.0, h.1) refl
 
-encoding_of_has : (m : Dictionary) (z : ℤ) (x : Encoding) (bytes : List ℕ) (place next : ℕ) → HasFirst m operators.Encoding z → encoding_of z bytes place ≡ Got x next → HasEncoding m x × (place ≡ next)
-encoding_of_has m z x bytes place next h e = grind arith
-
 pub encoding_has : (m : Dictionary) (x : Encoding) (bytes : List ℕ) (place next : ℕ) → encoding m bytes place ≡ Got x next → HasEncoding m x × (place ≡ next)
 unfolding encoding
-encoding_has m x bytes place next e = grind (arith, accepted, first_has, encoding_of_has)
+encoding_has m x bytes place next e = grind (arith, accepted, first_has)
 
 -- ---- char strings
 pub char_strings_is : (start : ℕ) (m : Dictionary) (bytes : List ℕ) (i : Index) (place next : ℕ) → HasCharStrings bytes start m i next → char_strings start m bytes place ≡ Got i next
@@ -94,15 +90,15 @@ char_strings_has start m bytes i place next e = grind (arith, accepted, placed_h
 -- ---- char sets
 own_is : (start glyphs offset : ℕ) (bytes : List ℕ) (set : CharSet) (place next : ℕ) → IsPlace (start + offset) → IsCharSet bytes (start + offset) glyphs set next → own_char_set start glyphs offset bytes place ≡ Got set next
 unfolding own_char_set
-own_is start glyphs offset bytes set place next fits h =
-    rw (in_range_is (start + offset) bytes place fits) (at_is (start + offset) (the_set glyphs) bytes place set next (char_set_needs glyphs) (reads_char_sets.all glyphs bytes (start + offset) set next h))
+own_is start glyphs offset bytes set place next fits h = grind (arith, in_range_is, at_is, char_set_needs, reads_char_sets)
 
 own_has : (start glyphs offset : ℕ) (bytes : List ℕ) (set : CharSet) (place next : ℕ) → own_char_set start glyphs offset bytes place ≡ Got set next → IsPlace (start + offset) × IsCharSet bytes (start + offset) glyphs set next
 unfolding own_char_set
-own_has start glyphs offset bytes set place next e =
-    let h = accepted (Step (in_range (start + offset)) (λ there. Last (at there (the_set glyphs)))) bytes place set next e in
-    let r = in_range_has (start + offset) h.0 bytes place h.1 h.2 in
-    (r.1, subst (λ k. IsCharSet bytes k glyphs set next) (sym r.0) (reads_char_sets.only glyphs bytes h.0 set next (at_has h.0 (the_set glyphs) bytes h.1 set next h.3)))
+own_has start glyphs offset bytes set place next e = grind (arith, accepted, in_range_has, reads_char_sets, at_has)
+
+-- an offset from 3 on names none of the three sets
+pub from_3 : (n : ℕ) → 3 ≤ n → ((n == 0) ≡ false) × ((n == 1) ≡ false) × ((n == 2) ≡ false)
+from_3 n far = grind (arith, nat_tests)
 
 -- behind it the tape stands anywhere
 pub char_set_is : (start glyphs : ℕ) (m : Dictionary) (bytes : List ℕ) (set : CharSet) (place : ℕ) → HasCharSet bytes start glyphs m set → (next : ℕ) × (char_set start glyphs m bytes place ≡ Got set next)
@@ -111,33 +107,21 @@ char_set_is start glyphs m bytes set place (Is_0 h is) = (place, rw (first_is m 
 char_set_is start glyphs m bytes set place (Is_1 h is) = (place, rw (first_is m operators.CharSet (pos 1) bytes place h, is) refl)
 char_set_is start glyphs m bytes set place (Is_2 h is) = (place, rw (first_is m operators.CharSet (pos 2) bytes place h, is) refl)
 char_set_is start glyphs m bytes set place (Own offset next h far fits stands) =
-    let a : (offset == 0) ≡ false = grind (arith, nat_tests) in
-    let b : (offset == 1) ≡ false = grind (arith, nat_tests) in
-    let c : (offset == 2) ≡ false = grind (arith, nat_tests) in
-    (next, rw (first_is m operators.CharSet (pos offset) bytes place h, a, b, c) (own_is start glyphs offset bytes set place next fits stands))
+    let t = from_3 offset far in (next, rw (first_is m operators.CharSet (pos offset) bytes place h, t.0, t.1, t.2) (own_is start glyphs offset bytes set place next fits stands))
 
 pub char_set_has : (start glyphs : ℕ) (m : Dictionary) (bytes : List ℕ) (set : CharSet) (place next : ℕ) → char_set start glyphs m bytes place ≡ Got set next → HasCharSet bytes start glyphs m set
 unfolding char_set char_set_offset
 char_set_has start glyphs m bytes set place next e =
-    let h = accepted (Step (first m operators.CharSet) (λ z. Last (size_of z))) bytes place o.0 o.1 o.2 in
-    let one = first_has m operators.CharSet h.0 bytes place h.1 h.2 in
-    let size = size_has h.0 o.0 bytes h.1 o.1 h.3 in
-    by o.0 o.1 (subst (HasFirst m operators.CharSet) size.0 one.0) o.3
+    let o = accepted (Step (char_set_offset m) (λ offset. Last (char_set_of start glyphs offset))) bytes place set next e in
+    let one : HasFirst m operators.CharSet (pos o.0) = (let is = o.2 in grind (arith, accepted, size_has, first_has)) in
+    by o.0 o.1 one o.3
   where
-    o : (offset : ℕ) × (at : ℕ) × (char_set_offset m bytes place ≡ Got offset at) × (char_set_of start glyphs offset bytes at ≡ Got set next)
-    o = accepted (Step (char_set_offset m) (λ offset. Last (char_set_of start glyphs offset))) bytes place set next e
-
     by : (n from : ℕ) → HasFirst m operators.CharSet (pos n) → char_set_of start glyphs n bytes from ≡ Got set next → HasCharSet bytes start glyphs m set
     by zero from h e = Is_0 h (sym (got _ _ _ _ e).0)
     by (suc zero) from h e = Is_1 h (sym (got _ _ _ _ e).0)
     by (suc (suc zero)) from h e = Is_2 h (sym (got _ _ _ _ e).0)
     by (suc (suc (suc n))) from h e =
-        let k = suc (suc (suc n)) in
-        let no_0 : (k == 0) ≡ false = grind (arith, nat_tests) in
-        let no_1 : (k == 1) ≡ false = grind (arith, nat_tests) in
-        let no_2 : (k == 2) ≡ false = grind (arith, nat_tests) in
-        let own = own_has start glyphs k bytes set from next (rw (no_0, no_1, no_2) at e) in
-        Own k next h (omega arith) own.0 own.1
+        let t = from_3 (suc (suc (suc n))) (omega arith) in let own = own_has start glyphs (suc (suc (suc n))) bytes set from next (rw (t.0, t.1, t.2) at e) in Own (suc (suc (suc n))) next h (omega arith) own.0 own.1
 
 -- ---- the local subroutines
 pub subroutines_is : (start base : ℕ) (local : Dictionary) (bytes : List ℕ) (s : Index) (place next : ℕ) → HasSubroutines bytes start base local s next → subroutines start base local bytes place ≡ Got s next
@@ -145,67 +129,30 @@ unfolding subroutines
 subroutines_is start base local bytes s place next h =
     rw (placed_is start base local operators.Subrs h.0 h.1 bytes place h.2 h.3 h.4) (index_at_is (start + h.1) bytes place s next h.5)
 
-pub subroutines_has : (start base : ℕ) (local : Dictionary) (bytes : List ℕ) (s : Index) (place next : ℕ) → subroutines start base local bytes place ≡ Got s next → HasSubroutines bytes start base local s next
-unfolding subroutines
-subroutines_has start base local bytes s place next e = grind (arith, accepted, placed_has, index_at_has)
-
--- the local subroutines, where they may be lacking
-own_subroutines_have : (manner : Manner) (start base : ℕ) (local : Dictionary) (bytes : List ℕ) (s : Index) (place next : ℕ) → own_subroutines manner start base local bytes place ≡ Got s next
-    → HasSubroutines bytes start base local s next ⊎ (IsLacking manner (first_of (look local operators.Subrs)) × (s ≡ empty))
-unfolding own_subroutines
-own_subroutines_have manner start base local bytes s place next e = by (goes_without manner (first_of (look local operators.Subrs))) refl e
-  where
-    by : (b : Bool) → goes_without manner (first_of (look local operators.Subrs)) ≡ b → (if b then pure empty else subroutines start base local) bytes place ≡ Got s next
-        → HasSubroutines bytes start base local s next ⊎ (IsLacking manner (first_of (look local operators.Subrs)) × (s ≡ empty))
-    by true t e = inr (lacking_has manner (first_of (look local operators.Subrs)) t, sym (got _ _ _ _ e).0)
-    by false t e = inl (subroutines_has start base local bytes s place next e)
-
 -- ---- the next place, which a lenient reading leaves open
 abbrev IsNext : Manner → ℕ → ℕ → Type 0
 IsNext Strict next to = next ≡ to
 IsNext Lenient next to = Unit {0}
 
-is_next : (manner : Manner) (next : ℕ) → IsNext manner next next
-is_next manner next = grind arith
-
-is_open : (manner : Manner) (next to : ℕ) → manner ≡ Lenient → IsNext manner next to
-is_open manner next to is = grind arith
-
 -- ---- a font that lacks nothing is one that may lack something
-no_lack : {C : Type 0} → Strict ≡ Lenient → C
-no_lack is = absurd (cc)
-
 wider_locals : (bytes : List ℕ) (start : ℕ) (m local : Dictionary) (s : Index) (next : ℕ) → HasLocals Strict bytes start m local s next → HasLocals Lenient bytes start m local s next
 wider_locals bytes start m local s next (WithBoth offset private stands) = WithBoth offset private stands
-wider_locals bytes start m local s next (WithoutSubrs offset private lacking none) = no_lack lacking.0
-wider_locals bytes start m local s next (WithoutPrivate lacking no_operations none) = no_lack lacking.0
+wider_locals bytes start m local s next (WithoutSubrs offset private lacking none) = grind arith
+wider_locals bytes start m local s next (WithoutPrivate lacking no_operations none) = grind arith
 
 wider_parts : (bytes : List ℕ) (start : ℕ) (ms : List Dictionary) (ps : List Part) (place next : ℕ) → AreParts Strict bytes start ms ps place next → AreParts Lenient bytes start ms ps place next
 wider_parts bytes start [] [] place next h = h
 wider_parts bytes start [] (p ∷ ps) place next h = absurd h
 wider_parts bytes start (m ∷ ms) [] place next h = absurd h
 wider_parts bytes start (m ∷ ms) (p ∷ ps) place next h =
-    let one : IsPart Lenient bytes start m p h.0 = record {
-      char_strings_next = h.1.char_strings_next;
-      encoding = h.1.encoding;
-      char_strings = h.1.char_strings;
-      char_set = h.1.char_set;
-      locals = wider_locals bytes start m p.local_dictionary p.local_subroutines h.0 h.1.locals;
-    } in
-    (h.0, one, wider_parts bytes start ms ps h.0 next h.2)
-
-wider_font : (bytes : List ℕ) (start : ℕ) (f : Font) (next : ℕ) → IsFont bytes start f next → IsFontBy Lenient bytes start f next
-wider_font bytes start f next h = grind (arith, wider_parts)
+    let locals = wider_locals bytes start m p.local_dictionary p.local_subroutines h.0 h.1.locals in
+    (h.0, record { char_strings_next = h.1.char_strings_next; encoding = h.1.encoding; char_strings = h.1.char_strings; char_set = h.1.char_set; locals = locals }, wider_parts bytes start ms ps h.0 next h.2)
 
 -- ---- dictionaries, the readings of which are what the law says
 module _ (d : ReadsDictionaries) where
   pub map_is : (held : List ℕ) (m : Dictionary) (bytes : List ℕ) (place : ℕ) → IsDictionary held 0 m → map_of held bytes place ≡ Got m place
   unfolding map_of
   map_is held m bytes place h = rw (d.all held 0 m h) refl
-
-  pub map_has : (held : List ℕ) (m : Dictionary) (bytes : List ℕ) (place next : ℕ) → map_of held bytes place ≡ Got m next → IsDictionary held 0 m × (place ≡ next)
-  unfolding map_of
-  map_has held m bytes place next e = grind arith
 
   -- ---- the private dictionary
   pub private_is : (start offset : ℕ) (m local : Dictionary) (bytes : List ℕ) (place : ℕ) → HasPrivate bytes start m offset local → (next : ℕ) × (private start m bytes place ≡ Got (offset, local) next)
@@ -215,8 +162,8 @@ module _ (d : ReadsDictionaries) where
       (s.0, rw (bounds_is start m h.0 offset bytes place h.2 h.3, s.1, map_is h.1 local bytes s.0 h.5) refl)
 
   pub private_has : (start : ℕ) (m : Dictionary) (offset : ℕ) (local : Dictionary) (bytes : List ℕ) (place next : ℕ) → private start m bytes place ≡ Got (offset, local) next → HasPrivate bytes start m offset local
-  unfolding private
-  private_has start m offset local bytes place next e = grind (arith, bounds_has, slice_has, map_has)
+  unfolding private map_of
+  private_has start m offset local bytes place next e = grind (arith, bounds_has, slice_has)
 
   -- ---- the private dictionary and the local subroutines
   locals_are : (manner : Manner) (bytes : List ℕ) (start : ℕ) (m local : Dictionary) (s : Index) (place next : ℕ) → HasLocals manner bytes start m local s next → (to : ℕ) × (locals manner start m bytes place ≡ Got (local, s) to) × IsNext manner next to
@@ -225,15 +172,15 @@ module _ (d : ReadsDictionaries) where
       let p = private_is start offset m local bytes place private in
       let a = there_is manner (first_two_of (look m operators.Private)) _ private.2.2 in
       let b = there_is manner (first_of (look local operators.Subrs)) _ stands.2.1 in
-      (next, rw (a, p.1, b, subroutines_is start offset local bytes s p.0 next stands) refl, is_next manner next)
+      (next, rw (a, p.1, b, subroutines_is start offset local bytes s p.0 next stands) refl, (grind arith))
   locals_are manner bytes start m local s place next (WithoutSubrs offset private lacking none) =
       let p = private_is start offset m local bytes place private in
       let a = there_is manner (first_two_of (look m operators.Private)) _ private.2.2 in
       let b = lacking_is manner (first_of (look local operators.Subrs)) lacking in
-      (p.0, rw (a, p.1, b, none) refl, is_open manner next p.0 lacking.0)
+      (p.0, rw (a, p.1, b, none) refl, (grind arith))
   locals_are manner bytes start m local s place next (WithoutPrivate lacking no_operations none) =
       let a = lacking_is manner (first_two_of (look m operators.Private)) lacking in
-      (place, rw (a, no_operations, none) refl, is_open manner next place lacking.0)
+      (place, rw (a, no_operations, none) refl, (grind arith))
 
   -- ---- a part
   pub part_is : (manner : Manner) (bytes : List ℕ) (start : ℕ) (m : Dictionary) (p : Part) (place next : ℕ) → IsPart manner bytes start m p next → (to : ℕ) × (part manner start m bytes place ≡ Got p to) × IsNext manner next to
@@ -242,12 +189,7 @@ module _ (d : ReadsDictionaries) where
       let set = char_set_is start (length p.char_strings.items) m bytes p.char_set h.char_strings_next h.char_set in
       let l = locals_are manner bytes start m p.local_dictionary p.local_subroutines set.0 next h.locals in
       let whole : part manner start m bytes place ≡ Got p l.0 =
-      rw (
-        encoding_is m p.encoding bytes place h.encoding,
-        char_strings_is start m bytes p.char_strings place h.char_strings_next h.char_strings,
-        set.1,
-        l.1,
-      ) refl in
+      rw (encoding_is m p.encoding bytes place h.encoding, char_strings_is start m bytes p.char_strings place h.char_strings_next h.char_strings, set.1, l.1) refl in
       (l.0, whole, l.2)
 
   pub glyphs_have : (bytes : List ℕ) (start : ℕ) (m : Dictionary) (i : Index) (s : CharSet) (place next : ℕ) → glyphs start m bytes place ≡ Got (i, s) next → (at : ℕ) × HasCharStrings bytes start m i at × HasCharSet bytes start (length i.items) m s
@@ -255,9 +197,9 @@ module _ (d : ReadsDictionaries) where
   glyphs_have bytes start m i s place next e = grind (arith, char_strings_has, char_set_has)
 
   own_locals_have : (manner : Manner) (bytes : List ℕ) (start : ℕ) (m : Dictionary) (l : Dictionary × Index) (place next : ℕ) → own_locals manner start m bytes place ≡ Got l next → HasLocals manner bytes start m l.0 l.1 next
-  unfolding own_locals
+  unfolding own_locals own_subroutines subroutines
   own_locals_have manner bytes start m l place next e =
-      subst (λ k. HasLocals manner bytes start m l.0 l.1 k) h.3.3.1 (subst (λ (k : Dictionary × Index). HasLocals manner bytes start m k.0 k.1 h.3.1) h.3.3.0 (by (own_subroutines_have manner start h.0.0 h.0.1 bytes h.3.0 h.1 h.3.1 h.3.2)))
+      subst (λ k. HasLocals manner bytes start m l.0 l.1 k) h.3.3.1 (subst (λ (k : Dictionary × Index). HasLocals manner bytes start m k.0 k.1 h.3.1) h.3.3.0 (by (grind (arith, lacking_has, got, accepted, placed_has, index_at_has))))
     where
       h : (p : ℕ × Dictionary) × (at : ℕ) × (private start m bytes place ≡ Got p at) × ((s : Index) × (to : ℕ) × (own_subroutines manner start p.0 p.1 bytes at ≡ Got s to) × (((p.1, s) ≡ l) × (to ≡ next)))
       h = accepted (Step (private start m) (λ p. Step (own_subroutines manner start p.0 p.1) (λ s. Done (p.1, s)))) bytes place l next e
@@ -271,9 +213,7 @@ module _ (d : ReadsDictionaries) where
   locals_have manner bytes start m l place next e = by (goes_without manner (first_two_of (look m operators.Private))) refl e
     where
       by : (b : Bool) → goes_without manner (first_two_of (look m operators.Private)) ≡ b → (if b then pure (dictionary_of [], empty) else own_locals manner start m) bytes place ≡ Got l next → HasLocals manner bytes start m l.0 l.1 next
-      by true t e =
-          let same : (dictionary_of [], empty) ≡ l = (got _ _ _ _ e).0 in
-          WithoutPrivate (lacking_has manner (first_two_of (look m operators.Private)) t) (sym (ap (λ k. k.0) same)) (sym (ap (λ k. k.1) same))
+      by true t e = grind arith
       by false t e = own_locals_have manner bytes start m l place next e
 
   pub part_has : (manner : Manner) (bytes : List ℕ) (start : ℕ) (m : Dictionary) (p : Part) (place next : ℕ) → part manner start m bytes place ≡ Got p next → IsPart manner bytes start m p next
@@ -283,13 +223,7 @@ module _ (d : ReadsDictionaries) where
       let g = glyphs_have bytes start m h.3.0.0 h.3.0.1 h.1 h.3.1 h.3.2 in
       let l = locals_have manner bytes start m h.3.3.0 h.3.1 h.3.3.1 h.3.3.2 in
       let q : Part = record { encoding = h.0; char_strings = h.3.0.0; char_set = h.3.0.1; local_dictionary = h.3.3.0.0; local_subroutines = h.3.3.0.1 } in
-      let whole : IsPart manner bytes start m q h.3.3.1 = record {
-        char_strings_next = g.0;
-        encoding = (encoding_has m h.0 bytes place h.1 h.2).0;
-        char_strings = g.1;
-        char_set = g.2;
-        locals = l;
-      } in
+      let whole : IsPart manner bytes start m q h.3.3.1 = record { char_strings_next = g.0; encoding = (encoding_has m h.0 bytes place h.1 h.2).0; char_strings = g.1; char_set = g.2; locals = l } in
       let end = h.3.3.3 in
       subst (λ k. IsPart manner bytes start m p k) end.1 (subst (λ k. IsPart manner bytes start m k h.3.3.1) end.0 whole)
 
@@ -358,7 +292,7 @@ module _ (d : ReadsDictionaries) where
   font_by_is : (manner : Manner) (bytes : List ℕ) (start : ℕ) (f : Font) (next : ℕ) → IsFontBy manner bytes start f next → (to : ℕ) × (font_by manner bytes start ≡ Got f to) × IsNext manner next to
   unfolding font_by behind parts
   font_by_is manner bytes start f next h =
-      let ps = parts_are manner bytes start h.tables.dictionaries h.parts h.behind next h.are_parts h.behind (is_next manner h.behind) in
+      let ps = parts_are manner bytes start h.tables.dictionaries h.parts h.behind next h.are_parts h.behind (grind arith) in
       let whole : font_by manner bytes start ≡ Got f ps.0 =
       rw (
         h.header,
@@ -413,5 +347,5 @@ module _ (d : ReadsDictionaries) where
   reads_leniently = record {
     both_ways = λ bytes start f. (λ h. lenient_has bytes start f h.0 h.1, lenient_is bytes start f);
     alone = λ bytes start f g a b. let x = lenient_is bytes start f a in let y = lenient_is bytes start g b in (got f g x.0 y.0 (sym x.1 ∙ y.1)).0;
-    wider = λ bytes start f next h. (next, wider_font bytes start f next h);
+    wider = λ bytes start f next h. (next, (grind (arith, wider_parts)));
   }

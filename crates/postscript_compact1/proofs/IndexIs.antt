@@ -1,5 +1,5 @@
 -- An INDEX is read exactly where one stands.
-use Rattle.std.proofs.Common.{◌≡◌, pos, refl, sym, ap, subst, ◌∙◌, ℕ, zero, suc, ◌+◌, ◌-◌, ◌*◌, ◌≤◌, ◌<◌, Bool, true, false, ◌||◌, ◌==◌, nat_lt, if◌then◌else◌, Option, Some, None, List, [], ◌∷◌, length, take, drop, map, length-take, length-drop, ◌⊎◌, inl, inr, arith}
+use Rattle.std.proofs.Common.{◌≡◌, pos, refl, sym, ap, subst, ℕ, zero, suc, ◌+◌, ◌-◌, ◌*◌, ◌≤◌, ◌<◌, Bool, true, false, ◌||◌, ◌==◌, nat_lt, if◌then◌else◌, Option, Some, None, List, [], ◌∷◌, length, take, drop, map, length-take, length-drop, ◌⊎◌, inl, inr, arith}
 use Rattle.std.proofs.lemmas.Bool.Decides.{nat_tests}
 use Rattle.postscript_base.specs.Compact1.Offset.{offset, rises, rising, behind}
 use Rattle.postscript_base.specs.Numbers.{number, slice}
@@ -67,13 +67,10 @@ unfolding rising offset
 is_rising size last bytes place = by ((size == 0) || nat_lt 4 size) refl
   where
     tested : (n next : ℕ) (b : Bool) → rises last n ≡ b → IsSize size → NumberAt bytes place size n × (next ≡ place + size) → IsRising size last bytes place ((if b then pure n else fault malformed_index) bytes next)
-    tested n next true e sized h = (sized, h, e)
-    tested n next false e sized h = inr (inr refl)
+    tested n next b e sized h = grind arith
 
     read : (o : Outcome ℕ) → IsSize size → IsNumber size bytes place o → IsRising size last bytes place (after o (λ n next. (if rises last n then pure n else fault malformed_index) bytes next))
-    read (Got n next) sized h = tested n next (rises last n) refl sized h
-    read (Fault refusal) sized h = h
-    read Past sized h = h
+    read o sized h = grind arith
 
     by : (b : Bool) → ((size == 0) || nat_lt 4 size) ≡ b → IsRising size last bytes place (after ((if b then fault malformed_offset else number size) bytes place) (λ n next. (if rises last n then pure n else fault malformed_index) bytes next))
     by true e = inr (inl refl)
@@ -105,17 +102,11 @@ is_chain zero size last bytes place = (refl, tt, nothing_follows last, omega ari
 is_chain (suc count) size last bytes place = by (rising (size, last) bytes place) (is_rising size last bytes place) (λ n at. is_chain count size (Some n) bytes at)
   where
     rest : (n at : ℕ) (o : Outcome (List ℕ)) → IsRising size last bytes place (Got n at) → IsChain count size (Some n) bytes at o → IsChain (suc count) size last bytes place (after o (λ values next. Got (n ∷ values) next))
-    rest n at (Got os next) h g =
-        let here : OffsetsAt bytes (place + size) size os = subst (λ p. OffsetsAt bytes p size os) h.1.1 g.1 in
-        (ap suc g.0, (h.1.0, here), follows_on last n os h.2 g.2, g.3 ∙ ap (λ p. p + count * size) h.1.1 ∙ (omega arith), λ _. h.0)
-    rest n at (Fault refusal) h g = g
-    rest n at Past h g = g
+    rest n at o h g = grind arith
 
     by : (o : Outcome ℕ) → IsRising size last bytes place o → ((n at : ℕ) → IsChain count size (Some n) bytes at (chain rising behind (size, Some n) count bytes at))
         → IsChain (suc count) size last bytes place (after o (λ n at. after (chain rising behind (size, Some n) count bytes at) (λ values next. Got (n ∷ values) next)))
-    by (Got n at) h later = rest n at (chain rising behind (size, Some n) count bytes at) h (later n at)
-    by (Fault refusal) h later = h
-    by Past h later = h
+    by o h later = grind arith
 
 pub up_by : (last : Option ℕ) (n : ℕ) (os : List ℕ) → Follows last (n ∷ os) → (rises last n ≡ true) × RisesFrom n os
 up_by last n os h = grind arith
@@ -141,30 +132,18 @@ is_items before low (high ∷ os) bytes place up at =
     by (slice (high - low) bytes place) (is_slice (high - low) bytes place (omega arith)) (λ next e. is_items before high os bytes next up.1 e)
   where
     rest : (item : List ℕ) (next : ℕ) (o : Outcome (List (List ℕ))) → IsSlice (high - low) bytes place (Got item next) → IsItems before high os bytes o → IsItems before low (high ∷ os) bytes (after o (λ items last. Got (item ∷ items) last))
-    rest item next (Got items last) h g =
-        let more = up.0 in
-        let within = h.0 in
-        ((omega arith, h.1 ∙ ap (λ p. take (high - low) (drop p bytes)) at, g.0), g.1)
-    rest item next (Fault refusal) h g = g
-    rest item next Past h g = g
+    rest item next o h g = grind arith
 
     by : (o : Outcome (List ℕ)) → IsSlice (high - low) bytes place o → ((next : ℕ) → next ≡ before + high → IsItems before high os bytes (each slice (lengths_from high os) bytes next))
         → IsItems before low (high ∷ os) bytes (after o (λ item next. after (each slice (lengths_from high os) bytes next) (λ items last. Got (item ∷ items) last)))
-    by (Got item next) h later = let more = up.0 in let behind = h.2 in rest item next (each slice (lengths_from high os) bytes next) h (later next (omega arith))
-    by (Fault refusal) h later = h
-    by Past h later = h
+    by o h later = grind arith
 
 items_got : (before low : ℕ) (os bytes : List ℕ) (items : List (List ℕ)) (place : ℕ) → RisesFrom low os → ItemsFrom bytes before low os items → place ≡ before + low → each slice (lengths_from low os) bytes place ≡ Got items (before + last_of low os)
 unfolding each
 items_got before low [] bytes [] place up h at = ap (λ p. Got [] p) at
 items_got before low [] bytes (item ∷ items) place up h at = absurd h
 items_got before low (high ∷ os) bytes [] place up h at = absurd h
-items_got before low (high ∷ os) bytes (item ∷ items) place up h at =
-    let more = up.0 in
-    let within = h.0 in
-    let one = slice_got (high - low) bytes place (omega arith) in
-    let rest = items_got before high os bytes items (place + (high - low)) up.1 h.2 (omega arith) in
-    rw (one, rest) (ap (λ item. Got (item ∷ items) (before + last_of high os)) (ap (λ p. take (high - low) (drop p bytes)) at ∙ sym h.1))
+items_got before low (high ∷ os) bytes (item ∷ items) place up h at = grind (arith, slice_got, items_got before high os bytes items)
 
 abbrev pub Is : List ℕ → ℕ → Outcome Index → Type 0
 Is bytes place (Got i next) = IsIndex bytes place i next
@@ -181,23 +160,7 @@ module _ (bytes : List ℕ) (place count : ℕ) where
     where
       found : (size mid first : ℕ) (rest : List ℕ) (begin : ℕ) (o : Outcome (List (List ℕ))) → IsNumber 1 bytes at (Got size mid) → IsChain (count + 1) size None bytes mid (Got (first ∷ rest) begin) → IsItems (place + 2 + (count + 1) * size) first rest bytes o
           → Is bytes place (after o (λ items next. Got (made size (first ∷ rest) items) next))
-      found size mid first rest begin (Got items next) h g f =
-          let sized = g.4 (omega arith) in
-          let begins : mid ≡ place + 3 = h.1 ∙ (omega arith) in
-          inr (record {
-            some = some;
-            count = counted;
-            size = subst (λ p. NumberAt bytes p 1 size) behind_count h.0;
-            least = sized.0;
-            most = sized.1;
-            many = g.0;
-            offsets = subst (λ p. OffsetsAt bytes p size (first ∷ rest)) begins g.1;
-            rise = g.2;
-            items = f.0;
-            behind = f.1;
-          })
-      found size mid first rest begin (Fault refusal) h g f = f
-      found size mid first rest begin Past h g f = f
+      found size mid first rest begin o h g f = grind arith
 
       itemed : (size mid : ℕ) (os : List ℕ) (begin : ℕ) → IsNumber 1 bytes at (Got size mid) → IsChain (count + 1) size None bytes mid (Got os begin) → Is bytes place (after (each slice (lengths os) bytes begin) (λ items next. Got (made size os items) next))
       itemed size mid [] begin h g = let none = g.0 in absurd (omega arith)
@@ -209,15 +172,11 @@ module _ (bytes : List ℕ) (place count : ℕ) where
 
       off : (size mid : ℕ) (o : Outcome (List ℕ)) → IsNumber 1 bytes at (Got size mid) → IsChain (count + 1) size None bytes mid o
           → Is bytes place (after o (λ os begin. after (each slice (lengths os) bytes begin) (λ items next. Got (made size os items) next)))
-      off size mid (Got os begin) h g = itemed size mid os begin h g
-      off size mid (Fault refusal) h g = g
-      off size mid Past h g = g
+      off size mid o h g = grind (arith, itemed)
 
       sized : (o : Outcome ℕ) → IsNumber 1 bytes at o
           → Is bytes place (after o (λ size mid. after (chain rising behind (size, None) (count + 1) bytes mid) (λ os begin. after (each slice (lengths os) bytes begin) (λ items next. Got (made size os items) next))))
-      sized (Got size mid) h = off size mid (chain rising behind (size, None) (count + 1) bytes mid) h (is_chain (count + 1) size None bytes mid)
-      sized (Fault refusal) h = h
-      sized Past h = h
+      sized o h = grind (arith, is_chain, off)
 
   offsets_got : (size : ℕ) (os : List ℕ) → IsSize size → length os ≡ count + 1 → OffsetsAt bytes (place + 3) size os → Follows None os → offsets size (count + 1) bytes (place + 2 + 1) ≡ Got os (place + 3 + (count + 1) * size)
   unfolding offsets
@@ -247,15 +206,7 @@ measured : (before low : ℕ) (os bytes : List ℕ) (items : List (List ℕ)) �
 measured before low [] bytes [] up h = (refl, refl, λ within. within, omega arith)
 measured before low [] bytes (item ∷ items) up h = absurd h
 measured before low (high ∷ os) bytes [] up h = absurd h
-measured before low (high ∷ os) bytes (item ∷ items) up h =
-    let more = up.0 in
-    let within = h.0 in
-    let rest = measured before high os bytes items up.1 h.2 in
-    let left = length-drop (before + low) bytes in
-    let taken = length-take (high - low) (drop (before + low) bytes) in
-    let long : length item ≡ high - low = ap length h.1 ∙ grind (arith) in
-    let later = rest.3 in
-    (ap suc rest.0, rw (long, rest.1) refl, λ _. rest.2 within, omega arith)
+measured before low (high ∷ os) bytes (item ∷ items) up h = grind (arith, length-drop, length-take, measured before high os bytes items up.1 h.2)
 
 pub whole : (bytes : List ℕ) (place : ℕ) (i : Index) (next : ℕ) → IsIndex bytes place i next → IsWhole i
 whole bytes place i next h0 = grind (arith, measured)
@@ -268,12 +219,7 @@ moves bytes place i next (inr f) = by i.offsets i.items f.many f.rise f.items f.
     by [] items many up h behind = absurd up
     by (first ∷ []) items many up h behind = let some = f.some in absurd (omega arith)
     by (first ∷ high ∷ rest) [] many up h behind = absurd h
-    by (first ∷ high ∷ rest) (item ∷ items) many up h behind =
-        let m = measured (before_data place i) high rest bytes items up.1.1 h.2 in
-        let within = m.2 h.0 in
-        let least = m.3 in
-        let more = up.1.0 in
-        (omega arith, omega arith)
+    by (first ∷ high ∷ rest) (item ∷ items) many up h behind = grind (arith, measured)
 
 pub takes : TakesBytes index
 takes bytes place = by (index bytes place) (is_index bytes place)
@@ -295,9 +241,3 @@ char_strings_need = needs
 -- what is read behind a count is whole, and so is an INDEX without items
 pub empty_whole : IsWhole empty
 empty_whole = inl refl
-
-pub read_whole : (bytes : List ℕ) (place count at next : ℕ) (i : Index) → number 2 bytes place ≡ Got count at → 0 < count → filled count bytes at ≡ Got i next → IsWhole i
-unfolding index
-read_whole bytes place count at next i counted some e =
-    let more : (count == 0) ≡ false = grind (arith, nat_tests) in
-    whole bytes place i next (only bytes place i next (rw (counted, more) e))

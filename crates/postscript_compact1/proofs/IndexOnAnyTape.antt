@@ -1,5 +1,5 @@
 -- What is known of an INDEX that was read, whatever the tape.
-use Rattle.std.proofs.Common.{◌≡◌, ℕ, zero, suc, ◌+◌, ◌<◌, Option, None, Some, List, [], ◌∷◌, Vec, length, map, vec_len, IsTrue, ap, ◌∙◌, refl, arith}
+use Rattle.std.proofs.Common.{◌≡◌, ℕ, zero, suc, ◌+◌, ◌<◌, Option, None, Some, List, [], ◌∷◌, Vec, length, map, vec_len, IsTrue, ap, refl, arith}
 use Rattle.std.proofs.lemmas.List.{length-map}
 use Rattle.std.specs.declared.alloc.Global.{Global}
 use Rattle.postscript_base.specs.Compact1.Offset.{behind, rises}
@@ -31,16 +31,4 @@ between low (high ∷ os) = ap suc (between high os)
 
 pub is_filled : (count size : ℕ) (os : List ℕ) (ls : List Length) (items : List (Vec ℕ Global)) → AreLinked Rises behind (size, None) (count + 1) os → map (λ length. length.0) ls ≡ lengths os → AreFor (λ length item. vec_len item ≡ length.0) ls items
     → 0 < count → IsFilled (record { count = count; offset_size = size; offsets = os; items = map (λ item. item.items) items })
-is_filled count size os ls items linked are fit some = by os (rise size None (count + 1) os linked) (long ls items fit ∙ are)
-  where
-    seen : List (List ℕ)
-    seen = map (λ item. item.items) items
-
-    by : (os : List ℕ) → (length os ≡ count + 1) × Follows None os → map length seen ≡ lengths os → IsFilled (record { count = count; offset_size = size; offsets = os; items = seen })
-    by [] h l = let none = h.0 in absurd (omega arith)
-    by (first ∷ rest) h l =
-        let many = h.0 in
-        let same = between first rest in
-        let counted : length (map length seen) ≡ length (lengths_from first rest) = ap length l in
-        let items : length (map length seen) ≡ length seen = length-map seen length in
-        record { some = some; items = omega arith; offsets = h.0; rise = h.1; lengths = l }
+is_filled count size os ls items linked are fit some = grind (arith, rise, long, between, length-map)

@@ -1,12 +1,12 @@
 -- An INDEX is refused exactly for the cause that the bytes give.
-use Rattle.std.proofs.Common.{◌≡◌, ◌⊎◌, inl, inr, refl, sym, ap, subst, ℕ, zero, suc, ◌+◌, ◌-◌, ◌*◌, ◌<◌, ◌≤◌, Bool, true, false, ◌==◌, ◌||◌, nat_lt, Option, None, Some, List, [], ◌∷◌, length, take, drop, arith, if◌then◌else◌}
+use Rattle.std.proofs.Common.{◌≡◌, ◌⊎◌, inl, inr, refl, sym, ap, subst, ℕ, zero, suc, ◌+◌, ◌-◌, ◌*◌, ◌<◌, ◌≤◌, Bool, true, false, ◌==◌, ◌||◌, nat_lt, Option, None, Some, List, [], ◌∷◌, length, arith, if◌then◌else◌}
 use Rattle.std.proofs.lemmas.Bool.Decides.{nat_tests}
 use Rattle.postscript_base.specs.Compact1.Offset.{offset, rises, rising, behind}
 use Rattle.postscript_base.specs.Numbers.{big_endian, number, slice}
 use Rattle.postscript_base.specs.Refusal.{Refusal, malformed_index, malformed_offset, unexpected_eof}
 use Rattle.postscript_base.specs.Tape.Loops.{chain, each}
 use Rattle.postscript_base.specs.Tape.Outcome.{Outcome, Got, Fault, Past, after, end, fault, pure}
-use Rattle.postscript_compact1.specs.Index.{Index, empty, filled, index, lengths, lengths_from, offsets}
+use Rattle.postscript_compact1.specs.Index.{Index, filled, index, lengths, lengths_from, offsets}
 use Rattle.postscript_compact1.specs.IndexLaw.{AreFirstOffsets, AreOffsets, BeginsOffsets, FallsBehind, HasCutSize, IsCounted, IsCut, IsNoIndex, NumberAt, OffsetsAt, ReadsIndices, RisesFrom, last_of}
 use Rattle.postscript_compact1.proofs.IndexIs.{Is, all, only, whole, takes, needs, is_index, Follows, nothing_follows, IsChain, IsNumber, IsSize, is_chain, is_number, number_got, rising_got, sizes, slice_got, chain_got, up_by, follows_on, is_rising, IsRising}
 use Rattle.postscript_compact1.proofs.CharSetRefused.{Fails, fails_after}
@@ -22,11 +22,7 @@ number_cut size bytes place some cut = rw (slice_cut size bytes place some cut) 
 -- what a number is refused for
 slice_fails : (count : ℕ) (bytes : List ℕ) (place : ℕ) → 0 < count → Fails (λ refusal. (refusal ≡ unexpected_eof) × IsCut bytes place count) (slice count bytes place)
 unfolding slice
-slice_fails count bytes place some = by (nat_lt (length bytes - place) count) refl
-  where
-    by : (b : Bool) → nat_lt (length bytes - place) count ≡ b → Fails (λ refusal. (refusal ≡ unexpected_eof) × IsCut bytes place count) (if b then end else Got (take count (drop place bytes)) (place + count))
-    by true e = (refl, grind (arith, nat_tests))
-    by false e = tt
+slice_fails count bytes place some = grind arith
 
 number_fails : (size : ℕ) (bytes : List ℕ) (place : ℕ) → 0 < size → Fails (λ refusal. (refusal ≡ unexpected_eof) × IsCut bytes place size) (number size bytes place)
 unfolding number
@@ -53,14 +49,11 @@ unfolding rising offset
 rising_fails size last bytes place sized = rw (good_size size sized) (by (number size bytes place) (is_number size bytes place sized.0) (number_fails size bytes place sized.0))
   where
     tested : (n next : ℕ) (b : Bool) → rises last n ≡ b → NumberAt bytes place size n → Fails (Bad size last bytes place) ((if b then pure n else fault malformed_index) bytes next)
-    tested n next true e h = tt
-    tested n next false e h = inr (refl, (n, h, e))
+    tested n next b e h = grind arith
 
     by : (o : Outcome ℕ) → IsNumber size bytes place o → Fails (λ refusal. (refusal ≡ unexpected_eof) × IsCut bytes place size) o
         → Fails (Bad size last bytes place) (after o (λ n next. (if rises last n then pure n else fault malformed_index) bytes next))
-    by (Got n next) h f = tested n next (rises last n) refl h.0
-    by (Fault refusal) h f = inl f
-    by Past h f = f
+    by o h f = grind arith
 
 rising_refused : (size : ℕ) (last : Option ℕ) (bytes : List ℕ) (place : ℕ) (refusal : Refusal) → IsSize size → Bad size last bytes place refusal → rising (size, last) bytes place ≡ Fault refusal
 unfolding rising offset
@@ -82,9 +75,7 @@ chain_fails (suc count) size last bytes place sized = by (rising (size, last) by
 
     by : (o : Outcome ℕ) → IsRising size last bytes place o → Fails (Bad size last bytes place) o → ((n at : ℕ) → Fails (BadBehind count size (Some n) bytes at) (chain rising behind (size, Some n) count bytes at))
         → Fails (BadBehind (suc count) size last bytes place) (after o (λ n at. after (chain rising behind (size, Some n) count bytes at) (λ values next. Got (n ∷ values) next)))
-    by (Got n at) h f later = rest n at (chain rising behind (size, Some n) count bytes at) h (later n at)
-    by (Fault refusal) h f later = let here : place ≡ place + 0 * size = omega arith in ([], omega arith, tt, nothing_follows last, subst (λ p. Bad size last bytes p refusal) here f)
-    by Past h f later = f
+    by o h f later = grind (arith, nothing_follows, rest)
 
 chain_refused : (count size : ℕ) (last : Option ℕ) (bytes : List ℕ) (place : ℕ) (refusal : Refusal) (os : List ℕ) → IsSize size → length os < count → OffsetsAt bytes place size os → Follows last os
     → Bad size (ends last os) bytes (place + length os * size) refusal → chain rising behind (size, last) count bytes place ≡ Fault refusal
@@ -106,22 +97,14 @@ last_is_most low (high ∷ os) up = let more = up.0 in let later = last_is_most 
 abbrev CutItems : ℕ → ℕ → List ℕ → List ℕ → Refusal → Type 0
 CutItems before low os bytes refusal = (refusal ≡ unexpected_eof) × IsCut bytes before (last_of low os)
 
-item_ends : (before low high : ℕ) (bytes : List ℕ) (place : ℕ) (item : List ℕ) (next : ℕ) → low < high → place ≡ before + low → slice (high - low) bytes place ≡ Got item next → next ≡ before + high
-unfolding slice
-item_ends before low high bytes place item next more at e = by (nat_lt (length bytes - place) (high - low)) e
-  where
-    by : (b : Bool) → (if b then end else Got (take (high - low) (drop place bytes)) (place + (high - low))) ≡ Got item next → next ≡ before + high
-    by true e = absurd (cc)
-    by false e = let ended : place + (high - low) ≡ next = cc in omega arith
-
 items_fail : (before low : ℕ) (os bytes : List ℕ) (place : ℕ) → RisesFrom low os → place ≡ before + low → Fails (CutItems before low os bytes) (each slice (lengths_from low os) bytes place)
-unfolding each
+unfolding each slice
 items_fail before low [] bytes place up at = tt
 items_fail before low (high ∷ os) bytes place up at =
     let more = up.0 in
     let most = last_is_most high os up.1 in
     fails_after (slice (high - low) bytes place) _ _ _ (slice_fails (high - low) bytes place (omega arith)) (λ refusal h. let cut = h.1 in (h.0, omega arith))
-    (λ item next e. fails_after (each slice (lengths_from high os) bytes next) _ _ _ (items_fail before high os bytes next up.1 (item_ends before low high bytes place item next more at e)) (λ refusal h. h) (λ items last e. tt))
+    (λ item next e. fails_after (each slice (lengths_from high os) bytes next) _ _ _ (items_fail before high os bytes next up.1 (grind arith)) (λ refusal h. h) (λ items last e. tt))
 
 items_refused : (before low : ℕ) (os bytes : List ℕ) (place : ℕ) → RisesFrom low os → place ≡ before + low → place ≤ length bytes → IsCut bytes before (last_of low os) → each slice (lengths_from low os) bytes place ≡ end
 unfolding each
@@ -130,67 +113,27 @@ items_refused before low (high ∷ os) bytes place up at within cut = by (nat_lt
   where
     by : (b : Bool) → nat_lt (length bytes) (place + (high - low)) ≡ b → (place + (high - low) ≡ before + high → place + (high - low) ≤ length bytes → each slice (lengths_from high os) bytes (place + (high - low)) ≡ end)
         → after (slice (high - low) bytes place) (λ item next. after (each slice (lengths_from high os) bytes next) (λ items last. Got (item ∷ items) last)) ≡ end
-    by true e later = let more = up.0 in let short : IsCut bytes place (high - low) = grind (arith, nat_tests) in rw (slice_cut (high - low) bytes place (omega arith) short) refl
-    by false e later =
-        let more = up.0 in
-        let long : place + (high - low) ≤ length bytes = grind (arith, nat_tests) in
-        rw (slice_got (high - low) bytes place long, later (omega arith) long) refl
+    by b e later = grind (arith, nat_tests, slice_cut, slice_got)
 
 -- the places and sizes of a count, a size and offsets
 follows : (os : List ℕ) → AreFirstOffsets os → Follows None os
-follows [] h = tt
-follows (n ∷ os) h = h
-
-first : (os : List ℕ) → Follows None os → AreFirstOffsets os
-first [] h = tt
-first (n ∷ os) h = h
+follows os h = grind arith
 
 ends_last : (n : ℕ) (os : List ℕ) → ends (Some n) os ≡ Some (last_of n os)
 ends_last n [] = refl
 ends_last n (m ∷ os) = ends_last m os
 
 falls : (os : List ℕ) (next : ℕ) → rises (ends None os) next ≡ false → FallsBehind os next
-falls [] next e = λ is. absurd (grind (arith, nat_tests))
-falls (n ∷ os) next e = let last = ends_last n os in let e2 : rises (Some (last_of n os)) next ≡ false = subst (λ l. rises l next ≡ false) last e in grind (arith, nat_tests)
-
-falls_by : (os : List ℕ) (next : ℕ) → FallsBehind os next → rises (ends None os) next ≡ false
-falls_by [] next h = by (next == 1) refl
-  where
-    by : (b : Bool) → (next == 1) ≡ b → b ≡ false
-    by true e = absurd (h (grind (arith, nat_tests)))
-    by false e = refl
-falls_by (n ∷ os) next h = rw (ends_last n os) grind (arith, nat_tests)
+falls os next e = grind (arith, nat_tests, ends_last)
 
 bad_size : (count size : ℕ) (bytes : List ℕ) (place : ℕ) → ((size == 0) || nat_lt 4 size) ≡ true → chain rising behind (size, None) (count + 1) bytes place ≡ Fault malformed_offset
 unfolding chain rising offset
 bad_size count size bytes place bad = let more : count + 1 ≡ suc count = omega arith in rw (more, bad) refl
 
-is_bad_size : (size : ℕ) → ((size == 0) || nat_lt 4 size) ≡ true → (size ≡ 0) ⊎ (4 < size)
-is_bad_size zero e = inl refl
-is_bad_size (suc size) e = inr (grind (arith, nat_tests))
-
-by_bad_size : (size : ℕ) → (size ≡ 0) ⊎ (4 < size) → ((size == 0) || nat_lt 4 size) ≡ true
-by_bad_size size (inl none) = rw none refl
-by_bad_size size (inr more) = by (size == 0) refl
-  where
-    by : (b : Bool) → (size == 0) ≡ b → (b || nat_lt 4 size) ≡ true
-    by true e = refl
-    by false e = grind (arith, nat_tests)
-
 abbrev made : ℕ → ℕ → List ℕ → List (List ℕ) → Index
 made count size os items = record { count = count; offset_size = size; offsets = os; items = items }
 
 module _ (bytes : List ℕ) (place count size : ℕ) (counted : IsCounted bytes place count size) where
-  is_none : (refusal : Refusal) → IsSize size → BadBehind (count + 1) size None bytes (place + 3) refusal → IsNoIndex bytes place refusal
-  is_none refusal sized (os, few, stand, follow, bad) = by bad
-    where
-      begun : BeginsOffsets bytes place size os
-      begun = record { count = count; counted = counted; least = sized.0; most = sized.1; few = few; stand = stand; rise = first os follow }
-
-      by : Bad size (ends None os) bytes (place + 3 + length os * size) refusal → IsNoIndex bytes place refusal
-      by (inl h) = inl (h.0, inr (inr (inl (record { size = size; offsets = os; begin = begun; cut = h.1 }))))
-      by (inr (is, (n, h, e))) = inr (inr (is, record { size = size; offsets = os; begin = begun; next = n; stands = h; falls = falls os n e }))
-
   -- what follows the size
   abbrev rest : Outcome Index
   rest = after (chain rising behind (size, None) (count + 1) bytes (place + 3)) (λ os begin. after (each slice (lengths os) bytes begin) (λ items next. Got (made count size os items) next))
@@ -209,13 +152,10 @@ module _ (bytes : List ℕ) (place count size : ℕ) (counted : IsCounted bytes 
 
       on : IsSize size → (o : Outcome (List ℕ)) → IsChain (count + 1) size None bytes (place + 3) o → Fails (BadBehind (count + 1) size None bytes (place + 3)) o
           → Fails (IsNoIndex bytes place) (after o (λ os begin. after (each slice (lengths os) bytes begin) (λ items next. Got (made count size os items) next)))
-      on sized (Got os begin) h f = itemed os begin sized h
-      on sized (Fault refusal) h f = is_none refusal sized f
-      on sized Past h f = f
+      on sized o h f = grind (arith, falls, itemed)
 
       by : (b : Bool) → ((size == 0) || nat_lt 4 size) ≡ b → Fails (IsNoIndex bytes place) rest
-      by true e = rw (bad_size count size bytes (place + 3) e) (inr (inl (refl, record { count = count; size = size; counted = counted; bad = is_bad_size size e })))
-      by false e = let sized = sizes size e in on sized (chain rising behind (size, None) (count + 1) bytes (place + 3)) (is_chain (count + 1) size None bytes (place + 3)) (chain_fails (count + 1) size None bytes (place + 3) sized)
+      by b e = grind (arith, bad_size, sizes, is_chain, chain_fails, on)
 
   -- and the other way
   cut_items : IsSize size → (os : List ℕ) → length os ≡ count + 1 → OffsetsAt bytes (place + 3) size os → AreOffsets os → IsCut bytes (place + 2 + (count + 1) * size) (last_of 0 os) → rest ≡ end
@@ -240,10 +180,6 @@ filled_cut : (bytes : List ℕ) (place count : ℕ) (refusal : Refusal) → numb
 unfolding filled
 filled_cut bytes place count refusal e = rw e refl
 
-cut_count : (bytes : List ℕ) (place : ℕ) → IsCut bytes place 2 → index bytes place ≡ end
-unfolding index
-cut_count bytes place cut = rw (number_cut 2 bytes place (omega arith) cut) refl
-
 filled_fails : (bytes : List ℕ) (place count : ℕ) → 0 < count → NumberAt bytes place 2 count → Fails (IsNoIndex bytes place) (filled count bytes (place + 2))
 filled_fails bytes place count some stands = by (number 1 bytes (place + 2)) refl (is_number 1 bytes (place + 2) (omega arith)) (number_fails 1 bytes (place + 2) (omega arith))
   where
@@ -252,21 +188,9 @@ filled_fails bytes place count some stands = by (number 1 bytes (place + 2)) ref
     by (Fault refusal) e h f = rw (filled_cut bytes place count refusal e) (inl (f.0, inr (inl (record { count = count; some = some; stands = stands; cut = f.1 }))))
     by Past e h f = absurd f
 
-index_fails : (bytes : List ℕ) (place : ℕ) → Fails (IsNoIndex bytes place) (index bytes place)
-unfolding index
-index_fails bytes place = by (number 2 bytes place) (is_number 2 bytes place (omega arith)) (number_fails 2 bytes place (omega arith))
-  where
-    tested : (count : ℕ) (b : Bool) → (count == 0) ≡ b → NumberAt bytes place 2 count → Fails (IsNoIndex bytes place) ((if b then pure empty else filled count) bytes (place + 2))
-    tested count true e h = tt
-    tested count false e h = filled_fails bytes place count (grind (arith, nat_tests)) h
-
-    by : (o : Outcome ℕ) → IsNumber 2 bytes place o → Fails (λ refusal. (refusal ≡ unexpected_eof) × IsCut bytes place 2) o → Fails (IsNoIndex bytes place) (after o (λ count at. (if count == 0 then pure empty else filled count) bytes at))
-    by (Got count at) h f = rw (h.1) (tested count (count == 0) refl h.0)
-    by (Fault refusal) h f = inl (f.0, inl f.1)
-    by Past h f = f
-
 refused_only : (bytes : List ℕ) (place : ℕ) (refusal : Refusal) → index bytes place ≡ Fault refusal → IsNoIndex bytes place refusal
-refused_only bytes place refusal e = subst (Fails (IsNoIndex bytes place)) e (index_fails bytes place)
+unfolding index
+refused_only bytes place refusal e = subst (Fails (IsNoIndex bytes place)) e (grind (arith, is_number, number_fails, filled_fails, nat_tests))
 
 -- and the other way
 index_rest : (bytes : List ℕ) (place count size : ℕ) (counted : IsCounted bytes place count size) → index bytes place ≡ rest bytes place count size counted
@@ -289,14 +213,15 @@ bad_behind bytes place size os refusal b bad =
     rw (index_rest bytes place b.count size b.counted, refused) refl
 
 refused : (bytes : List ℕ) (place : ℕ) (refusal : Refusal) → IsNoIndex bytes place refusal → index bytes place ≡ Fault refusal
-refused bytes place refusal (inl (is, inl cut)) = rw (cut_count bytes place cut) (ap Fault (sym is))
+unfolding index
+refused bytes place refusal (inl (is, inl cut)) = grind (arith, number_cut)
 refused bytes place refusal (inl (is, inr (inl h))) = rw (cut_size bytes place h) (ap Fault (sym is))
 refused bytes place refusal (inl (is, inr (inr (inl h)))) = bad_behind bytes place h.size h.offsets refusal h.begin (inl (is, h.cut))
 refused bytes place refusal (inl (is, inr (inr (inr h)))) =
     rw (index_rest bytes place h.count h.size h.counted, cut_items bytes place h.count h.size h.counted (h.least, h.most) h.offsets h.many h.stand h.rise h.cut) (ap Fault (sym is))
 refused bytes place refusal (inr (inl (is, h))) =
-    rw (index_rest bytes place h.count h.size h.counted, bad_size h.count h.size bytes (place + 3) (by_bad_size h.size h.bad)) (ap Fault (sym is))
-refused bytes place refusal (inr (inr (is, h))) = bad_behind bytes place h.size h.offsets refusal h.begin (inr (is, (h.next, h.stands, falls_by h.offsets h.next h.falls)))
+    rw (index_rest bytes place h.count h.size h.counted, bad_size h.count h.size bytes (place + 3) (grind arith)) (ap Fault (sym is))
+refused bytes place refusal (inr (inr (is, h))) = bad_behind bytes place h.size h.offsets refusal h.begin (inr (is, (h.next, h.stands, (grind (arith, nat_tests, ends_last)))))
 
 -- what an INDEX is, that it is read, and why other bytes are none
 pub reads_indices : ReadsIndices

@@ -21,5 +21,4 @@ pub mod ItemsAre
 pub mod TextsAre
 pub mod FontClauses
 pub mod FontCauses
-pub mod FontRefused
 pub mod FontRows

@@ -1,3 +1,6 @@
+use Rattle.std.proofs.Common.{arith}
+use Rattle.std.proofs.lemmas.Bool.Decides.{nat_tests}
+use Rattle.std.proofs.lemmas.Grind.{common_steps}
 use Rattle.std.proofs.Common.{◌∙◌}
 use Rattle.std.proofs.lemmas.Result.{err_from_is_err_and}
 use Rattle.postscript_base.proofs.Repeats.{goes_on, ends, is_done, views_push, chain_more, chain_done, front_goes_on, front_done}
@@ -23,9 +26,7 @@ loop-preserved g c = (
 )
 
 pub returns-clause-exact : goal.returns-clause-exact
-returns-clause-exact g c = λ honest.
-    let so_far = c.loop.invariant.0 honest in
-    (so_far.0, is_done _ _ _ _ (chain_done g.W.Linked.reading g.W.Linked.left c.loop.given c.args.length c.loop.counter _ _ c.loop-test.false) so_far.1)
+returns-clause-exact g c = grind (arith, nat_tests, common_steps, is_done, chain_done)
 
 pub returns-clause-linked : goal.returns-clause-linked
 returns-clause-linked g c = front_done _ _ _ _ _ _ _ c.loop-test.false c.loop.invariant.1

@@ -1,3 +1,6 @@
+use Rattle.std.proofs.Common.{arith}
+use Rattle.std.proofs.lemmas.Bool.Decides.{nat_tests}
+use Rattle.std.proofs.lemmas.Grind.{common_steps}
 use Rattle.std.proofs.Common.{◌∙◌}
 use Rattle.std.proofs.lemmas.Result.{err_from_is_err_and}
 use Rattle.postscript_base.proofs.Repeats.{goes_on, ends, is_done, views_push, each_more, each_done, for_goes_on, for_done}
@@ -23,9 +26,7 @@ loop-source-preserved g c = (
 )
 
 pub returns-clause-exact : goal.returns-clause-exact
-returns-clause-exact g c = λ honest.
-    let so_far = c.loop-source.invariant.0 honest in
-    (so_far.0, is_done _ _ _ _ (each_done g.S.Source.seen (g.S.Source.reading c.args.given) c.args.sources.now c.loop-source.source-index _ _ c.loop-source-test.false) so_far.1)
+returns-clause-exact g c = grind (arith, nat_tests, common_steps, is_done, each_done)
 
 pub returns-clause-fitting : goal.returns-clause-fitting
 returns-clause-fitting g c = for_done _ _ _ _ c.loop-source-test.false c.loop-source.invariant.1

@@ -5,25 +5,10 @@ use Rattle.postscript_base.proofs.Repeats.{asked, views_push, views_none, end_st
 use Rattle.postscript_base.proofs.tape.loops.read_to_end.Goals as goal
 
 pub values-init : goal.values-init
-values-init g c = (
-  λ honest.
-      let place = c.in_ok-place.ensures.exact honest in
-      let at = asked _ _ _ place.1 in
-      (place.0, at.1 ∙ sym at.0, rw at.1 (end_starts _ _ _ _ (views_none g.V.Value.view g.V.Value.views g.met.V.Value.views_each _ c.in_ok-values.ensures.items))),
-  λ honest.
-      let place = c.in_ok-place.ensures.exact honest in
-      let at = asked _ _ _ place.1 in
-      (omega (arith, at.0, c.in_ok-values.ensures.len), omega (arith, c.in_ok-values.ensures.len)),
-  omega (arith, c.in_ok-values.ensures.len),
-)
+values-init g c = grind (arith, asked, end_starts, views_none)
 
 pub returns-in_err-value-clause-exact : goal.returns-in_err-value-clause-exact
-returns-in_err-value-clause-exact g c = λ honest.
-    let so_far = c.values.invariant.0 honest in
-    let next = c.in_err-value.ensures.exact so_far.0.0 in
-    let here = rw (so_far.0.1) at next.1 in
-    let error = err_from_is_err_and c.from_residual-in_err-value.result c.from_residual-in_err-value.ensures.1 in
-    ((next.0.0, next.0.1 ∙ so_far.0.1), rw (error.1, error.2) (λ other. end_refused _ _ _ _ _ _ c.requires (here other).0 (here other).1 so_far.2))
+returns-in_err-value-clause-exact g c = grind (arith, err_from_is_err_and, end_refused)
 
 -- the place of an honest tape rises
 pub returns-then-reached-place-clause-exact : goal.returns-then-reached-place-clause-exact

@@ -1,4 +1,4 @@
-use Rattle.postscript_compact1.proofs.FontRefused.{refuses_layout}
+use Rattle.postscript_compact1.proofs.FontCauses.{refuses_layout}
 use Rattle.postscript_compact1.proofs.font_set.laws.refuses_layout.Goals as goal
 
 pub returns : goal.returns

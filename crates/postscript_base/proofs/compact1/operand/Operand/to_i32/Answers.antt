@@ -9,8 +9,7 @@ use Rattle.postscript_base.proofs.compact1.operand.Operand.to_i32.Goals as goal
 use Rattle.postscript_base.proofs.compact1.operand.Operand.to_i32.Goals.{then-exponent-lt0-via-then-exponent-lt0, then-exponent-lt0-via-else-exponent-lt0+then-exponent-gt9}
 
 pub returns-then-exponent-lt0-clause-exact : goal.returns-then-exponent-lt0-clause-exact
-returns-then-exponent-lt0-clause-exact c =
-    grind (arith, then-exponent-lt0-via-then-exponent-lt0, i32_below, ints, to_z-of_z, then-exponent-lt0-via-else-exponent-lt0+then-exponent-gt9, i32_above)
+returns-then-exponent-lt0-clause-exact c = grind (arith, then-exponent-lt0-via-then-exponent-lt0, i32_below, ints, to_z-of_z, then-exponent-lt0-via-else-exponent-lt0+then-exponent-gt9, i32_above)
 
 pub returns-then-exponent-lt0-clause-none : goal.returns-then-exponent-lt0-clause-none
 returns-then-exponent-lt0-clause-none c = none_if_none _ c.args.self.now c.mantissa-mantissa.ensures.operand (returns-then-exponent-lt0-clause-exact c)

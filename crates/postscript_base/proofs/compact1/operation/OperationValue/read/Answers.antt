@@ -16,11 +16,7 @@ returns-in_err-operator-clause-exact g c = λ honest.
     ((step.0.0, step.0.1 ∙ so_far.0.1), rw (error.1, error.2) (λ other. refused _ _ _ _ _ (here other) so_far.1))
 
 pub returns-in-Some-clause-exact : goal.returns-in-Some-clause-exact
-returns-in-Some-clause-exact g c = λ honest.
-    let so_far = c.operands.invariant honest in
-    let step = c.in_ok-operator.ensures.exact so_far.0.0 in
-    let here = rw (so_far.0.1, c.in-Some.is) at step.1 in
-    ((step.0.0, step.0.1 ∙ so_far.0.1), ends _ _ _ _ _ _ _ here so_far.1)
+returns-in-Some-clause-exact g c = grind (arith, ends)
 
 pub operands-preserved : goal.operands-preserved
 operands-preserved g c = grind (arith, goes_on)

@@ -5,18 +5,16 @@ use Rattle.postscript_base.proofs.Zeros.{as_short, long_more, short_zero, short_
 use Rattle.postscript_base.proofs.compact1.significant.Significant.push.Goals as goal
 
 kept_long : (b : Bool) (m z n k : ℕ) → b ≡ true → (IsLong n → IsLong k) → Keeps b m z n → Keeps b m z k
-kept_long true m z n k e f h = f h
-kept_long false m z n k e f h = absurd cc
+kept_long b m z n k e f h = grind arith
 
 to_short : (b : Bool) (m z n : ℕ) → b ≡ false → IsShort m z n → Keeps b m z n
-to_short true m z n e h = absurd cc
-to_short false m z n e h = h
+to_short b m z n e h = grind arith
 
 pub returns-then-self-clause-keeps : goal.returns-then-self-clause-keeps
-returns-then-self-clause-keeps c = λ n h. let s = c.args.self in kept_long s.is_long s.mantissa s.zeros n _ c.if-self.true (long_more n c.args.digit c.requires.digit) h
+returns-then-self-clause-keeps c = grind (arith, long_more)
 
 pub returns-else-self-eq0-clause-keeps : goal.returns-else-self-eq0-clause-keeps
-returns-else-self-eq0-clause-keeps c = grind (arith, to_short, short_zero, as_short)
+returns-else-self-eq0-clause-keeps c = grind (arith, short_zero, as_short)
 
 pub returns-then-self-eq0-clause-keeps : goal.returns-then-self-eq0-clause-keeps
 returns-then-self-eq0-clause-keeps c = grind arith
