@@ -1,7 +1,7 @@
 -- What one phrase comes to, by the move of its operator.
 use Rattle.std.proofs.lemmas.List.{drop-drop}
 use Rattle.std.proofs.lemmas.Bool.{eqb-false}
-use Rattle.std.proofs.Common.{eqb-true, ◌≢◌, ◌==◌, ◌≡◌, ap, sym, subst, ◌∙◌, ◌⊎◌, inl, inr, ℕ, zero, suc, ◌+◌, ◌-◌, ◌<◌, Bool, true, false, List, [], ◌∷◌, take, drop, length, ℤ, Option, if◌then◌else◌, length-drop, arith}
+use Rattle.std.proofs.Common.{◌≢◌, ◌==◌, ◌≡◌, ap, sym, subst, ◌∙◌, ◌⊎◌, inl, inr, ℕ, suc, ◌+◌, ◌-◌, ◌<◌, Bool, true, false, List, [], ◌∷◌, take, drop, length, ℤ, Option, if◌then◌else◌, length-drop, arith}
 use Rattle.std.proofs.lemmas.Grind.{common_steps}
 use Rattle.postscript_type2.specs.declared.refused.Refused.{Refused}
 use Rattle.postscript_type2.specs.declared.refused.Refused.TheVariants.{Memory}
@@ -14,8 +14,9 @@ use Rattle.postscript_type2.specs.Program.Parsing.{Complete, NoPhrase, phrase, f
 use Rattle.postscript_type2.specs.Program.Routines.{Lists}
 use Rattle.postscript_type2.specs.Program.Runs.{Answer, Said, UsedUp, Finished, Fault}
 use Rattle.postscript_type2.specs.Program.Remaining.{still, next_still, are_used_up}
+use Rattle.postscript_type2.specs.Program.Working.{after_move}
 use Rattle.postscript_type2.proofs.Remains.{still_end}
-use Rattle.postscript_type2.proofs.Strides.{still_step-at, stride-is, stop-is}
+use Rattle.postscript_type2.proofs.Strides.{still_step-at, stride-is}
 
 -- A phrase was read off the front of these bytes into this stack and operator, and this rest is behind it.
 pub record IsRead (bytes rest : List ℕ) (st : State) (ys : List ℤ) (op : Operator) (more : ℕ) : Type 0 where
@@ -23,18 +24,17 @@ pub record IsRead (bytes rest : List ℕ) (st : State) (ys : List ℤ) (op : Ope
   pub spelled : fronted st.stack 0 (phrase bytes) ≡ Complete ys op more
   pub behind : rest ≡ drop (more + 1) bytes
 
+-- what a slice's is_empty answers of its length
+pub some-of : (n : ℕ) → false ≡ (n == 0) → 0 < n
+some-of n h = let e : n ≢ 0 = λ z. eqb-false n 0 (sym h) z in omega arith
+
+pub is-read : {bytes rest left : List ℕ} {st : State} {ys : List ℤ} {op : Operator} {more : ℕ} → left ≡ bytes → false ≡ (length left == 0) →
+    fronted st.stack 0 (phrase bytes) ≡ Complete ys op more → rest ≡ drop (more + 1) bytes → IsRead bytes rest st ys op more
+is-read {bytes} {rest} {left} same h spelled behind = record { some = subst (λ xs. 0 < length xs) same (some-of (length left) h); spelled = spelled; behind = behind }
+
 -- a front that is what a rest lacks
 pub front-of : (bytes rest front : List ℕ) (k : ℕ) → rest ≡ drop k bytes → front ≡ take (length bytes - length rest) bytes → front ≡ take k bytes
-front-of bytes rest front k behind is =
-    is ∙ ap (λ r. take (length bytes - length r) bytes) behind ∙ front-by bytes k
-  where
-    front-by : (xs : List ℕ) (n : ℕ) → take (length xs - length (drop n xs)) xs ≡ take n xs
-    front-by [] n = grind (arith, common_steps)
-    front-by (x ∷ xs) zero = ap (λ m. take m (x ∷ xs)) (let none : length (x ∷ xs) - length (x ∷ xs) ≡ 0 = omega arith in none)
-    front-by (x ∷ xs) (suc n) =
-        let fewer : length (drop n xs) ≡ length xs - n = length-drop n xs in
-        let one_more : length (x ∷ xs) - length (drop n xs) ≡ suc (length xs - length (drop n xs)) = omega (arith, fewer) in
-        ap (λ m. take m (x ∷ xs)) one_more ∙ ap (λ front'. x ∷ front') (front-by xs n)
+front-of bytes rest front k behind is = grind (arith, common_steps, length-drop)
 
 -- what is still answered, by the operator's move
 stepped : (lists : Lists) (left : ℕ) (cs : List (List ℕ)) (bytes rest : List ℕ) (st : State) (ys : List ℤ) (op : Operator) (more : ℕ) (move : Move) →
@@ -46,29 +46,31 @@ stepped lists left cs bytes rest st ys op more move read does =
     let strides : stride lists bytes st ≡ moved op more bytes (stacked ys st) (effect lists op (drop (more + 1) bytes) (stacked ys st)) =
     subst (λ n. stride lists bytes st ≡ moved op n bytes (stacked ys st) (effect lists op (drop (n + 1) bytes) (stacked ys st))) whole
     (stride-is lists bytes 0 st ys op more read.spelled) in
-    still_step-at lists left bytes cs st read.some
-    ∙ ap (next_still lists left (λ k. drop (k + 1) bytes) cs) (strides ∙ ap (moved op more bytes (stacked ys st)) acts)
+    still_step-at lists left bytes cs st read.some ∙ ap (next_still lists left (λ k. drop (k + 1) bytes) cs) (strides ∙ ap (moved op more bytes (stacked ys st)) acts)
 
 -- a phrase with this front
 abbrev with : Operator → List ℕ → Said
 with op front = record { operator = op; bytes = front }
 
 -- a stack and stored numbers are left
-pub kept : (lists : Lists) (left : ℕ) (cs : List (List ℕ)) (bytes rest front : List ℕ) (st : State) (ys : List ℤ) (op : Operator) (more : ℕ) (now : State) →
-    IsRead bytes rest st ys op more → effect lists op rest (stacked ys st) ≡ Keeps now.stack now.stored → now ≡ holding now.stack now.stored st → front ≡ take (more + 1) bytes →
-    still lists left bytes cs st ≡ with_phrase (with op front) (still lists left rest cs now)
-kept lists left cs bytes rest front st ys op more now read does is there =
-    stepped lists left cs bytes rest st ys op more (Keeps now.stack now.stored) read does
-    ∙ ap (λ after. with_phrase (said op more bytes) (still lists left after cs (holding now.stack now.stored st))) (sym read.behind)
-    ∙ ap (λ s. with_phrase (said op more bytes) (still lists left rest cs s)) (sym is)
-    ∙ ap (λ front'. with_phrase (with op front') (still lists left rest cs now)) (sym there)
+pub kept : (lists : Lists) (left : ℕ) (cs : List (List ℕ)) {bytes rest front : List ℕ} {st now : State} {ys : List ℤ} {op : Operator} {more : ℕ} →
+    IsRead bytes rest st ys op more → effect lists op rest (stacked ys st) ≡ Keeps now.stack now.stored → now ≡ after_move (effect lists op rest (stacked ys st)) (stacked ys st) →
+    front ≡ take (length bytes - length rest) bytes → (still lists left bytes cs st ≡ with_phrase (with op front) (still lists left rest cs now)) × (now.width ≡ st.width)
+kept lists left cs {bytes} {rest} {front} {st} {now} {ys} {op} {more} read does after is_front =
+    let is : now ≡ holding now.stack now.stored st = after ∙ ap (λ move. after_move move (stacked ys st)) does in (
+      stepped lists left cs bytes rest st ys op more (Keeps now.stack now.stored) read does
+          ∙ ap (λ after. with_phrase (said op more bytes) (still lists left after cs (holding now.stack now.stored st))) (sym read.behind)
+          ∙ ap (λ s. with_phrase (said op more bytes) (still lists left rest cs s)) (sym is)
+          ∙ ap (λ front'. with_phrase (with op front') (still lists left rest cs now)) (sym (front-of bytes rest front (more + 1) read.behind is_front)),
+      ap (λ (s : State). s.width) is,
+    )
 
 -- an operation is answered, and the bytes of its mask are passed
-pub answered : (lists : Lists) (left : ℕ) (cs : List (List ℕ)) (bytes rest behind front : List ℕ) (st : State) (ys : List ℤ) (op : Operator) (more mask : ℕ) (taken : List ℤ) (now : State) (width : Option ℤ) →
+pub answered : (lists : Lists) (left : ℕ) (cs : List (List ℕ)) {bytes rest behind front : List ℕ} {st : State} {ys : List ℤ} {op : Operator} {more mask : ℕ} {taken : List ℤ} {now : State} {width : Option ℤ} →
     IsRead bytes rest st ys op more → effect lists op rest (stacked ys st) ≡ Clears taken now.stems width mask → now ≡ cleared now.stems width st → behind ≡ drop mask rest →
     front ≡ take (length bytes - length behind) bytes →
     still lists left bytes cs st ≡ with_phrase (with op front) (with_answer (record { operator = op; operands = taken; width = width }) (still lists left behind cs now))
-answered lists left cs bytes rest behind front st ys op more mask taken now width read does is past is_front =
+answered lists left cs {bytes} {rest} {behind} {front} {st} {ys} {op} {more} {mask} {taken} {now} {width} read does is past is_front =
     let step = stepped lists left cs bytes rest st ys op more (Clears taken now.stems width mask) read does in
     let answer : Answer = record { operator = op; operands = taken; width = width } in
     let there : behind ≡ drop (more + mask + 1) bytes =
@@ -78,31 +80,39 @@ answered lists left cs bytes rest behind front st ys op more mask taken now widt
     ∙ ap (λ front'. with_phrase (with op front') (with_answer answer (still lists left behind cs now))) (sym (front-of bytes behind front (more + mask + 1) there is_front))
 
 -- a subroutine is entered
-pub entered : (lists : Lists) (left left' : ℕ) (cs cs' : List (List ℕ)) (bytes rest front : List ℕ) (st : State) (ys : List ℤ) (op : Operator) (more : ℕ) (code routine : List ℕ) (now : State) →
-    IsRead bytes rest st ys op more → effect lists op rest (stacked ys st) ≡ Calls code now.stack → now ≡ stacked now.stack st → left ≡ suc left' → cs' ≡ rest ∷ cs → routine ≡ code →
-    front ≡ take (more + 1) bytes → still lists left bytes cs st ≡ with_phrase (with op front) (still lists left' routine cs' now)
-entered lists left left' cs cs' bytes rest front st ys op more code routine now read does is one_less pushed entry there =
-    rw (one_less, pushed, entry, there)
-    (stepped lists (suc left') cs bytes rest st ys op more (Calls code now.stack) read does
-    ∙ ap (λ after. with_phrase (said op more bytes) (still lists left' code (after ∷ cs) (stacked now.stack st))) (sym read.behind)
-    ∙ ap (λ s. with_phrase (said op more bytes) (still lists left' code (rest ∷ cs) s)) (sym is))
+pub entered : (lists : Lists) {left left' : ℕ} {cs cs' : List (List ℕ)} {bytes rest front code routine : List ℕ} {st now : State} {ys : List ℤ} {op : Operator} {more : ℕ} →
+    IsRead bytes rest st ys op more → effect lists op rest (stacked ys st) ≡ Calls code now.stack → now ≡ after_move (effect lists op rest (stacked ys st)) (stacked ys st) →
+    left ≡ suc left' → cs' ≡ rest ∷ cs → routine ≡ code → front ≡ take (length bytes - length rest) bytes →
+    (still lists left bytes cs st ≡ with_phrase (with op front) (still lists left' routine cs' now)) × (now.width ≡ st.width)
+entered lists {left} {left'} {cs} {cs'} {bytes} {rest} {front} {code} {routine} {st} {now} {ys} {op} {more} read does after one_less pushed entry is_front =
+    let is : now ≡ stacked now.stack st = after ∙ ap (λ move. after_move move (stacked ys st)) does in (
+      rw (one_less, pushed, entry, front-of bytes rest front (more + 1) read.behind is_front)
+          (stepped lists (suc left') cs bytes rest st ys op more (Calls code now.stack) read does
+          ∙ ap (λ after. with_phrase (said op more bytes) (still lists left' code (after ∷ cs) (stacked now.stack st))) (sym read.behind)
+          ∙ ap (λ s. with_phrase (said op more bytes) (still lists left' code (rest ∷ cs) s)) (sym is)),
+      ap (λ (s : State). s.width) is,
+    )
 
 -- an eleventh call
-pub too-deep-call : (lists : Lists) (cs : List (List ℕ)) (bytes rest : List ℕ) (st : State) (ys : List ℤ) (op : Operator) (more : ℕ) (routine : List ℕ) (stack : List ℤ) →
-    IsRead bytes rest st ys op more → effect lists op rest (stacked ys st) ≡ Calls routine stack →
-    ((still lists 0 bytes cs st).answers ≡ []) × ((still lists 0 bytes cs st).end ≡ Fault too_deep)
-too-deep-call lists cs bytes rest st ys op more routine stack read does =
-    let step = stepped lists 0 cs bytes rest st ys op more (Calls routine stack) read does in
-    (ap (λ run. run.answers) step, ap (λ run. run.end) step)
+pub too-deep-call : (lists : Lists) (cs : List (List ℕ)) {bytes rest routine : List ℕ} {st now : State} {ys : List ℤ} {op : Operator} {more : ℕ} →
+    IsRead bytes rest st ys op more → effect lists op rest (stacked ys st) ≡ Calls routine now.stack → now ≡ after_move (effect lists op rest (stacked ys st)) (stacked ys st) →
+    (((still lists 0 bytes cs st).answers ≡ []) × ((still lists 0 bytes cs st).end ≡ Fault too_deep)) × (now.width ≡ st.width)
+too-deep-call lists cs {bytes} {rest} {routine} {st} {now} {ys} {op} {more} read does after =
+    let step = stepped lists 0 cs bytes rest st ys op more (Calls routine now.stack) read does in
+    ((ap (λ run. run.answers) step, ap (λ run. run.end) step), ap (λ (s : State). s.width) (after ∙ ap (λ move. after_move move (stacked ys st)) does))
 
 -- a subroutine returns to its caller, and the outermost code to none
-pub returned : (lists : Lists) (left left' : ℕ) (caller : List ℕ) (cs cs' : List (List ℕ)) (bytes rest front : List ℕ) (st : State) (ys : List ℤ) (op : Operator) (more : ℕ) (now : State) →
-    IsRead bytes rest st ys op more → effect lists op rest (stacked ys st) ≡ Returns → now ≡ stacked ys st → left' ≡ suc left → cs ≡ caller ∷ cs' → front ≡ take (more + 1) bytes →
-    still lists left bytes cs st ≡ with_phrase (with op front) (still lists left' caller cs' now)
-returned lists left left' caller cs cs' bytes rest front st ys op more now read does is one_more popped there =
-    rw (one_more, popped, there)
-    (stepped lists left (caller ∷ cs') bytes rest st ys op more Returns read does
-    ∙ ap (λ s. with_phrase (said op more bytes) (still lists (suc left) caller cs' s)) (sym is))
+pub returned : (lists : Lists) {left left' : ℕ} {cs cs' : List (List ℕ)} {bytes rest front caller : List ℕ} {st now : State} {ys : List ℤ} {op : Operator} {more : ℕ} →
+    IsRead bytes rest st ys op more → effect lists op rest (stacked ys st) ≡ Returns → now ≡ after_move (effect lists op rest (stacked ys st)) (stacked ys st) →
+    left' ≡ suc left → cs ≡ caller ∷ cs' → front ≡ take (length bytes - length rest) bytes →
+    (still lists left bytes cs st ≡ with_phrase (with op front) (still lists left' caller cs' now)) × (now.width ≡ st.width)
+returned lists {left} {left'} {cs} {cs'} {bytes} {rest} {front} {caller} {st} {now} {ys} {op} {more} read does after one_more popped is_front =
+    let is : now ≡ stacked ys st = after ∙ ap (λ move. after_move move (stacked ys st)) does in (
+      rw (one_more, popped, front-of bytes rest front (more + 1) read.behind is_front)
+          (stepped lists left (caller ∷ cs') bytes rest st ys op more Returns read does
+          ∙ ap (λ s. with_phrase (said op more bytes) (still lists (suc left) caller cs' s)) (sym is)),
+      ap (λ (s : State). s.width) is,
+    )
 
 pub no-caller : (lists : Lists) (left : ℕ) (bytes rest : List ℕ) (st : State) (ys : List ℤ) (op : Operator) (more : ℕ) →
     IsRead bytes rest st ys op more → effect lists op rest (stacked ys st) ≡ Returns →
@@ -115,60 +125,42 @@ no-caller lists left bytes rest st ys op more read does =
 ended : (lists : Lists) (left : ℕ) (cs : List (List ℕ)) (bytes rest : List ℕ) (st : State) (ys : List ℤ) (op : Operator) (more : ℕ) (width : Option ℤ) (used_up : Bool) →
     IsRead bytes rest st ys op more → effect lists op rest (stacked ys st) ≡ Ends width → used_up ≡ are_used_up rest cs →
     still lists left bytes cs st ≡ with_phrase (said op more bytes) (at_end (if used_up then Finished width else Fault trailing_data))
-ended lists left cs bytes rest st ys op more width used_up read does is =
-    stepped lists left cs bytes rest st ys op more (Ends width) read does
+ended lists left cs bytes rest st ys op more width used_up read does is = stepped lists left cs bytes rest st ys op more (Ends width) read does
     ∙ ap (λ after. with_phrase (said op more bytes) (at_end (if are_used_up after cs then Finished width else Fault trailing_data))) (sym read.behind)
     ∙ ap (λ b. with_phrase (said op more bytes) (at_end (if b then Finished width else Fault trailing_data))) (sym is)
 
-pub finished : (lists : Lists) (left : ℕ) (cs : List (List ℕ)) (bytes rest front : List ℕ) (st : State) (ys : List ℤ) (op : Operator) (more : ℕ) (width : Option ℤ) →
-    IsRead bytes rest st ys op more → effect lists op rest (stacked ys st) ≡ Ends width → true ≡ are_used_up rest cs → front ≡ take (more + 1) bytes →
+pub finished : (lists : Lists) (left : ℕ) (cs : List (List ℕ)) {bytes rest front : List ℕ} {st : State} {ys : List ℤ} {op : Operator} {more : ℕ} {width : Option ℤ} →
+    IsRead bytes rest st ys op more → effect lists op rest (stacked ys st) ≡ Ends width → true ≡ are_used_up rest cs → front ≡ take (length bytes - length rest) bytes →
     still lists left bytes cs st ≡ with_phrase (with op front) (at_end (Finished width))
-finished lists left cs bytes rest front st ys op more width read does is there =
-    ended lists left cs bytes rest st ys op more width true read does is ∙ ap (λ front'. with_phrase (with op front') (at_end (Finished width))) (sym there)
+finished lists left cs {bytes} {rest} {front} {st} {ys} {op} {more} {width} read does is is_front = ended lists left cs bytes rest st ys op more width true read does is
+    ∙ ap (λ front'. with_phrase (with op front') (at_end (Finished width))) (sym (front-of bytes rest front (more + 1) read.behind is_front))
 
-pub trailing : (lists : Lists) (left : ℕ) (cs : List (List ℕ)) (bytes rest : List ℕ) (st : State) (ys : List ℤ) (op : Operator) (more : ℕ) (width : Option ℤ) →
-    IsRead bytes rest st ys op more → effect lists op rest (stacked ys st) ≡ Ends width → false ≡ are_used_up rest cs →
-    ((still lists left bytes cs st).answers ≡ []) × ((still lists left bytes cs st).end ≡ Fault trailing_data)
-trailing lists left cs bytes rest st ys op more width read does is =
+pub trailing : (lists : Lists) (left : ℕ) (cs : List (List ℕ)) {bytes rest : List ℕ} {st now : State} {ys : List ℤ} {op : Operator} {more : ℕ} {width : Option ℤ} →
+    IsRead bytes rest st ys op more → effect lists op rest (stacked ys st) ≡ Ends width → now ≡ after_move (effect lists op rest (stacked ys st)) (stacked ys st) → false ≡ are_used_up rest cs →
+    (((still lists left bytes cs st).answers ≡ []) × ((still lists left bytes cs st).end ≡ Fault trailing_data)) × (now.width ≡ st.width)
+trailing lists left cs {bytes} {rest} {st} {now} {ys} {op} {more} {width} read does after is =
     let step = ended lists left cs bytes rest st ys op more width false read does is in
-    (ap (λ run. run.answers) step, ap (λ run. run.end) step)
-
--- a refusal of the operator
-pub refused : (lists : Lists) (left : ℕ) (cs : List (List ℕ)) (bytes rest : List ℕ) (st : State) (ys : List ℤ) (op : Operator) (more : ℕ) (e : Refusal) →
-    IsRead bytes rest st ys op more → effect lists op rest (stacked ys st) ≡ Refuses e →
-    ((still lists left bytes cs st).answers ≡ []) × ((still lists left bytes cs st).end ≡ Fault e)
-refused lists left cs bytes rest st ys op more e read does =
-    let step = stepped lists left cs bytes rest st ys op more (Refuses e) read does in
-    (ap (λ run. run.answers) step, ap (λ run. run.end) step)
+    ((ap (λ run. run.answers) step, ap (λ run. run.end) step), ap (λ (s : State). s.width) (after ∙ ap (λ move. after_move move (stacked ys st)) does))
 
 -- a refusal of the phrase
 unread : (lists : Lists) (left : ℕ) (cs : List (List ℕ)) (bytes : List ℕ) (st : State) (e : Refusal) → 0 < length bytes → phrase bytes ≡ NoPhrase e →
     ((still lists left bytes cs st).answers ≡ []) × ((still lists left bytes cs st).end ≡ Fault e)
-unread lists left cs bytes st e some bad =
-    let step = still_step-at lists left bytes cs st some ∙ ap (next_still lists left (λ k. drop (k + 1) bytes) cs) (stop-is lists bytes st e bad) in
-    (ap (λ run. run.answers) step, ap (λ run. run.end) step)
+unread lists left cs bytes st e some bad = grind (arith, still_step-at)
 
 -- the same, where want of memory may come in place of a refusal
-pub refused-or-memory : (lists : Lists) (left : ℕ) (cs : List (List ℕ)) (bytes rest : List ℕ) (st : State) (ys : List ℤ) (op : Operator) (more : ℕ) (e : Refused) →
+pub refused-or-memory : (lists : Lists) (left : ℕ) (cs : List (List ℕ)) {bytes rest : List ℕ} {st : State} {ys : List ℤ} {op : Operator} {more : ℕ} {e : Refused} →
     IsRead bytes rest st ys op more → (e ≡ Memory) ⊎ (effect lists op rest (stacked ys st) ≡ Refuses (reason e)) →
     (e ≡ Memory) ⊎ (((still lists left bytes cs st).answers ≡ []) × ((still lists left bytes cs st).end ≡ Fault (reason e)))
-refused-or-memory lists left cs bytes rest st ys op more e read (inl memory) = inl memory
-refused-or-memory lists left cs bytes rest st ys op more e read (inr does) = inr (refused lists left cs bytes rest st ys op more (reason e) read does)
+refused-or-memory lists left cs read (inl memory) = inl memory
+refused-or-memory lists left cs {bytes} {rest} {st} {ys} {op} {more} {e} read (inr does) =
+    let step = stepped lists left cs bytes rest st ys op more (Refuses (reason e)) read does in
+    inr (ap (λ run. run.answers) step, ap (λ run. run.end) step)
 
 pub unread-or-memory : (lists : Lists) (left : ℕ) (cs : List (List ℕ)) (bytes : List ℕ) (st : State) (e : Refused) → 0 < length bytes →
-    (e ≡ Memory) ⊎ (phrase bytes ≡ NoPhrase (reason e)) →
-    (e ≡ Memory) ⊎ (((still lists left bytes cs st).answers ≡ []) × ((still lists left bytes cs st).end ≡ Fault (reason e)))
-unread-or-memory lists left cs bytes st e some (inl memory) = inl memory
-unread-or-memory lists left cs bytes st e some (inr bad) = inr (unread lists left cs bytes st (reason e) some bad)
+    (e ≡ Memory) ⊎ (phrase bytes ≡ NoPhrase (reason e)) → (e ≡ Memory) ⊎ (((still lists left bytes cs st).answers ≡ []) × ((still lists left bytes cs st).end ≡ Fault (reason e)))
+unread-or-memory lists left cs bytes st e some h1 = grind (arith, unread)
 
 -- a routine that is used up ends the run
 pub used-up : (lists : Lists) (left : ℕ) (cs : List (List ℕ)) (bytes : List ℕ) (st : State) → length bytes ≡ 0 → still lists left bytes cs st ≡ at_end UsedUp
 used-up lists left cs [] st is = still_end lists left cs st
 used-up lists left cs (b ∷ r) st is = absurd (omega arith)
-
--- what a slice's is_empty answers of its length
-pub some-of : (n : ℕ) → false ≡ (n == 0) → 0 < n
-some-of n h = let e : n ≢ 0 = λ z. eqb-false n 0 (sym h) z in omega arith
-
-pub none-of : (n : ℕ) → true ≡ (n == 0) → n ≡ 0
-none-of n h = eqb-true n 0 (sym h)

@@ -3,10 +3,10 @@ use Rattle.std.proofs.Math.Seq.{take-append-add, drop-append-add}
 use Rattle.std.proofs.Common.{◌≡◌, refl, ap, sym, ◌∙◌, ℕ, zero, suc, ◌+◌, ◌<◌, false, List, [], ◌∷◌, ◌++◌, take, drop, length, length-append, append_assoc, ℤ, arith}
 use Rattle.postscript_base.specs.Refusal.{too_deep, return_without_caller}
 use Rattle.postscript_type2.specs.declared.operation.Operator.{Operator}
-use Rattle.postscript_type2.specs.Program.Effects.{State, Move, Keeps, Clears, Calls, Returns, Ends, Refuses, effect, pushed, stacked, holding, cleared}
+use Rattle.postscript_type2.specs.Program.Effects.{State, Move, Keeps, Clears, Calls, Returns, Ends, Refuses, pushed, stacked, holding, cleared, effect}
 use Rattle.postscript_type2.specs.Program.Evaluation.{with_phrase, with_answer, at_end, moved, stride_by, mean}
 use Rattle.postscript_type2.specs.Program.Inlined.{put_before, text}
-use Rattle.postscript_type2.specs.Program.Parsing.{Phrase, Complete, NoPhrase, phrase, fronted}
+use Rattle.postscript_type2.specs.Program.Parsing.{Phrase, phrase, fronted, Complete, NoPhrase}
 use Rattle.postscript_type2.specs.Program.Routines.{Lists}
 use Rattle.postscript_type2.specs.Program.Runs.{Answer, Said, by, End, Finished, Fault, Run}
 use Rattle.postscript_type2.specs.Program.Remaining.{still, next_still}
@@ -22,9 +22,7 @@ fronting front run = record { answers = run.answers; trace = put_before front ru
 
 -- what stands past a front and so many bytes
 past : (P : List ℕ → List ℕ → Run) (front x : List ℕ) (i k : ℕ) → i ≡ length front + k → P (take i (front ++ x)) (drop i (front ++ x)) ≡ P (front ++ take k x) (drop k x)
-past P front x i k is =
-    ap (λ i. P (take i (front ++ x)) (drop i (front ++ x))) is
-    ∙ ap (λ t. P t (drop (length front + k) (front ++ x))) (take-append-add front x k) ∙ ap (P (front ++ take k x)) (drop-append-add front x k)
+past P front x i k is = grind (arith, take-append-add, drop-append-add)
 
 moved-past : (other : Lists) (left : ℕ) (front x : List ℕ) (op : Operator) (more : ℕ) (st : State) (move : Move) →
     next_still other left (λ k. drop (k + 1) (front ++ x)) [] (moved op (length front + more) (front ++ x) st move)
@@ -40,8 +38,7 @@ moved-past other (suc left) front x op more st (Calls routine stack) =
     past (λ t d. with_phrase (by op t) (still other left routine (d ∷ []) (stacked stack st))) front x (length front + more + 1) (more + 1) (omega arith)
 moved-past other left front x op more st Returns =
     past (λ t d. with_phrase (by op t) (at_end (Fault return_without_caller))) front x (length front + more + 1) (more + 1) (omega arith)
-moved-past other left front x op more st (Ends width) =
-    past (λ t d. with_phrase (by op t) (at_end (Finished width))) front x (length front + more + 1) (more + 1) (omega arith)
+moved-past other left front x op more st (Ends width) = past (λ t d. with_phrase (by op t) (at_end (Finished width))) front x (length front + more + 1) (more + 1) (omega arith)
 moved-past other left front x op more st (Refuses e) = refl
 
 -- the state with numbers of both on its stack
@@ -62,10 +59,8 @@ phrase-past other left front x numbers st (Complete more op n) =
 -- Before bytes that are not empty numbers do what they do on the stack, and are told with the first phrase.
 pub carried : (other : Lists) (left : ℕ) (front : List ℕ) (numbers : List ℤ) → Fronts front numbers → (x : List ℕ) → 0 < length x → (st : State) →
     mean other left false (front ++ x) st ≡ fronting front (mean other left false x (pushed numbers st))
-carried other left front numbers fronts x h st =
-    still_step-at other left (front ++ x) [] st (let l = length-append front x in omega (arith, l))
-    ∙ ap (λ p. next_still other left (λ k. drop (k + 1) (front ++ x)) [] (stride_by other (front ++ x) st p)) (fronts x)
-    ∙ phrase-past other left front x numbers st (phrase x)
+carried other left front numbers fronts x h st = still_step-at other left (front ++ x) [] st (let l = length-append front x in omega (arith, l))
+    ∙ ap (λ p. next_still other left (λ k. drop (k + 1) (front ++ x)) [] (stride_by other (front ++ x) st p)) (fronts x) ∙ phrase-past other left front x numbers st (phrase x)
     ∙ sym (ap (fronting front) (still_step-at other left x [] (pushed numbers st) h))
 
 -- so before phrases whose text has a run of them

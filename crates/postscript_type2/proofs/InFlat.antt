@@ -70,8 +70,7 @@ phrase-in : (other : Lists) (left : ℕ) (bytes : List ℕ) (st : State) (ns : L
 phrase-in other left bytes st ns op more move own reads does long = by_move move own long step
   where
     step : (x : List ℕ) → mean other left false (bytes ++ x) st ≡ next_still other left (λ k. drop (k + 1) (bytes ++ x)) [] (moved op more (bytes ++ x) (pushed ns st) move)
-    step x =
-        still_step-at other left (bytes ++ x) [] st (let l = length-append bytes x in omega (arith, long))
+    step x = still_step-at other left (bytes ++ x) [] st (let l = length-append bytes x in omega (arith, long))
         ∙ ap (λ p. next_still other left (λ k. drop (k + 1) (bytes ++ x)) [] (stride_by other (bytes ++ x) st p)) (reads x)
         ∙ ap (λ m. next_still other left (λ k. drop (k + 1) (bytes ++ x)) [] (moved op more (bytes ++ x) (pushed ns st) m)) (does x)
 
@@ -109,10 +108,8 @@ own-in other left b r st ns op more l move own flat room does =
     long = length-take-le (extent more move + 1) (b ∷ r) (let e = extent-is more move in omega arith)
 
     parts : (x : List ℕ) → bytes ++ x ≡ take (suc more) (b ∷ r) ++ (mask ++ x)
-    parts x =
-        ap (λ k. take k (b ∷ r) ++ x) (let e : extent more move + 1 ≡ more + 1 + mask_of move = let f = extent-is more move in omega arith in e)
-        ∙ ap (λ t. t ++ x) (take-add (more + 1) (mask_of move) (b ∷ r))
-        ∙ append_assoc (take (more + 1) (b ∷ r)) mask x ∙ ap (λ k. take k (b ∷ r) ++ (mask ++ x)) (add-one more)
+    parts x = ap (λ k. take k (b ∷ r) ++ x) (let e : extent more move + 1 ≡ more + 1 + mask_of move = let f = extent-is more move in omega arith in e)
+        ∙ ap (λ t. t ++ x) (take-add (more + 1) (mask_of move) (b ∷ r)) ∙ append_assoc (take (more + 1) (b ∷ r)) mask x ∙ ap (λ k. take k (b ∷ r) ++ (mask ++ x)) (add-one more)
 
     enough : (x : List ℕ) → mask_of move ≤ length (drop (more + 1) (bytes ++ x))
     enough x = omega (arith, length-drop (more + 1) (bytes ++ x), length-append bytes x, long, extent-is more move)

@@ -1,17 +1,17 @@
 -- One phrase of a run, in inlined code.
-use Rattle.std.proofs.Common.{◌≡◌, refl, ap, sym, subst, ◌∙◌, ℕ, ◌+◌, ◌<◌, ◌^◌, Bool, true, false, List, [], ◌∷◌, ◌++◌, take, drop, length, append_assoc, nat_lt, ℤ, Option, Some, None, Result, Ok, Err, if◌then◌else◌, arith}
+use Rattle.postscript_type2.specs.Program.Stacks.{removal}
+use Rattle.std.proofs.Common.{◌≡◌, refl, ap, sym, subst, ◌∙◌, ℕ, ◌+◌, Bool, true, false, List, [], ◌∷◌, ◌++◌, take, drop, length, nat_lt, ℤ, Option, Some, None, Result, Ok, Err, if◌then◌else◌, arith, append_assoc}
 use Rattle.std.proofs.lemmas.List.{length-take-le}
-use Rattle.postscript_base.specs.Refusal.{Refusal, unexpected_eof, too_many_stems}
+use Rattle.postscript_base.specs.Refusal.{Refusal, unexpected_eof}
 use Rattle.postscript_type2.specs.declared.operation.Operator.{Operator}
 use Rattle.postscript_type2.specs.Operation.Kinds.{Kind, Draws, DeclaresStems, Masks, Works, Stores, CallsFrom, GoesBack, EndsGlyph, IsRefused, kind, taken}
-use Rattle.postscript_type2.specs.Program.Effects.{State, Move, Keeps, Clears, Calls, Returns, Ends, Refuses, clearing, work_move, store_move, end_move, stems_after, with_stems, mask_len, mask_clearing, subroutine, call_move, effect_of, pushed, stacked, holding, cleared}
-use Rattle.postscript_type2.specs.Program.Evaluation.{with_answer, with_any_answer, at_end, Stride, On, Into, Back, Over, Faults, said, moved, stride_by, stride, mean}
+use Rattle.postscript_type2.specs.Program.Effects.{State, Move, Keeps, Clears, Calls, Returns, Ends, Refuses, clearing, work_move, store_move, end_move, stems_after, with_stems, mask_len, mask_clearing, subroutine, call_move, effect_of, pushed, stacked, holding}
+use Rattle.postscript_type2.specs.Program.Evaluation.{with_any_answer, at_end, Stride, On, Into, Back, Over, Faults, said, moved, stride_by, stride, mean}
 use Rattle.postscript_type2.specs.Program.Flat.{without_operator, dropping, flat_of, flat_said}
 use Rattle.postscript_type2.specs.Program.Inlined.{before_last, Piece, Stands, Leaves, call_piece, piece_of, piece}
-use Rattle.postscript_type2.specs.Program.Parsing.{Phrase, Complete, NoPhrase, phrase, fronted}
+use Rattle.postscript_type2.specs.Program.Parsing.{Phrase, Complete, NoPhrase, phrase}
 use Rattle.postscript_type2.specs.Program.Routines.{Lists}
 use Rattle.postscript_type2.specs.Program.Runs.{by, Finished, Run}
-use Rattle.postscript_type2.specs.Program.Stacks.{removal}
 use Rattle.postscript_type2.proofs.Carried.{Fronts}
 use Rattle.postscript_type2.proofs.InFlat.{Tells, InFlat, IsOwn, flat-own, numbers-of, dropped, removal-top, clearing-bare, stems-bare, work-bare, store-bare, in-flat}
 use Rattle.postscript_type2.proofs.LastNumbers.{Last, last-number}
@@ -30,38 +30,21 @@ InInlined other left st (Back said st') = InPiece other left st st' (piece said)
 InInlined other left st (Over said width more) = (piece said ≡ Stands said) × Tells other left st said (λ x. at_end (Finished width))
 InInlined other left st (Faults e) = Unit {0}
 
--- an operator that stands in inlined code as it is
-piece-own : (op : Operator) (bytes : List ℕ) (k : Kind) → kind op ≡ k → stands_flat k ≡ true → piece (by op bytes) ≡ Stands (by op bytes)
-piece-own op bytes k is own = ap (λ k. piece_of k op bytes) is ∙ by_kind k own
-  where
-    by_kind : (k : Kind) → stands_flat k ≡ true → piece_of k op bytes ≡ Stands (by op bytes)
-    by_kind (CallsFrom routines) own = absurd (cc)
-    by_kind GoesBack own = absurd (cc)
-    by_kind k own = refl
-
 own-tells : (other : Lists) (left : ℕ) (st : State) (op : Operator) (bytes : List ℕ) (k : Kind) → kind op ≡ k → stands_flat k ≡ true → (go : List ℕ → Run) →
     Tells other left st (flat_said (by op bytes)) go → (piece (by op bytes) ≡ Stands (by op bytes)) × Tells other left st (by op bytes) go
-own-tells other left st op bytes k is own go flat = (piece-own op bytes k is own, subst (λ s. Tells other left st s go) (flat-own op bytes k is own) flat)
+own-tells other left st op bytes k is own go flat = grind (arith, flat-own)
 
 own-in : (other : Lists) (left : ℕ) (bytes : List ℕ) (st st' : State) (op : Operator) (more : ℕ) (k : Kind) → kind op ≡ k → stands_flat k ≡ true → (move : Move) → IsOwn move →
     InFlat other left st (moved op more bytes st' move) → InInlined other left st (moved op more bytes st' move)
 own-in other left bytes st st' op more k is own (Keeps stack stored) o flat = own-tells other left st op (take (more + 1) bytes) k is own (λ x. mean other left false x (holding stack stored st')) flat
-own-in other left bytes st st' op more k is own (Clears taken stems width mask) o flat =
-    own-tells other left st op (take (more + mask + 1) bytes) k is own
-    (λ x. with_answer (record { operator = op; operands = taken; width = width }) (mean other left false x (cleared stems width st'))) flat
+own-in other left bytes st st' op more k is own (Clears taken stems width mask) o flat = grind (arith, own-tells)
 own-in other left bytes st st' op more k is own (Calls routine stack) o flat = absurd o
 own-in other left bytes st st' op more k is own Returns o flat = absurd o
 own-in other left bytes st st' op more k is own (Ends width) o flat = own-tells other left st op (take (more + 1) bytes) k is own (λ x. at_end (Finished width)) flat
 own-in other left bytes st st' op more k is own (Refuses e) o flat = tt
 
 mask-own : (st : State) (stems : ℕ) (short : Bool) (o : Option ℕ) → IsOwn (with_stems stems (if short then Refuses unexpected_eof else mask_clearing st stems o))
-mask-own st stems short o = by_room (nat_lt stems (2 ^ 32)) short o
-  where
-    by_room : (room short : Bool) (o : Option ℕ) → IsOwn (if room then (if short then Refuses unexpected_eof else mask_clearing st stems o) else Refuses too_many_stems)
-    by_room false short o = tt
-    by_room true true o = tt
-    by_room true false None = tt
-    by_room true false (Some n) = tt
+mask-own st stems short o = grind arith
 
 -- a call leaves what stood beneath its number
 beneath : (routines : List (List ℕ)) (stack before : List ℤ) (number : ℤ) (done : List ℕ × List ℤ) → subroutine routines (stack ++ (before ++ number ∷ [])) ≡ Ok done → done.1 ≡ stack ++ before
@@ -99,13 +82,7 @@ call-in other left b r st ns op more l reads routines is lists (Ok done) does fl
 
 return-in : (other : Lists) (left : ℕ) (b : ℕ) (r : List ℕ) (st : State) (ns : List ℤ) (op : Operator) (more : ℕ) → IsLocal 0 (b ∷ r) ns op more → kind op ≡ GoesBack →
     InInlined other left st (Back (said op more (b ∷ r)) (pushed ns st))
-return-in other left b r st ns op more l is =
-    let numbers : List ℕ = take more (b ∷ r) in
-    let long : length numbers ≡ more = let h : more < length (b ∷ r) = l.room in length-take-le more (b ∷ r) (omega arith) in
-    let there : piece (said op more (b ∷ r)) ≡ Leaves numbers =
-    ap (λ k. piece_of k op (take (more + 1) (b ∷ r))) is ∙ ap Leaves (numbers-of more (b ∷ r) l.room) in
-    let fronts : Fronts numbers ns = subst (λ n. (y : List ℕ) → phrase (numbers ++ y) ≡ fronted ns n (phrase y)) (sym long) (l.fronts (ap stands_flat is)) in
-    subst (InPiece other left st (pushed ns st)) (sym there) (ns, fronts, refl)
+return-in other left b r st ns op more l is = grind (arith, length-take-le, numbers-of, stands_flat)
 
 -- one phrase
 pub in-inlined : (lists other : Lists) (left : ℕ) (b : ℕ) (r : List ℕ) (st : State) → InInlined other left st (stride lists (b ∷ r) st)

@@ -1,12 +1,12 @@
 -- Inlined code beside flat code, and the operators of inlined code.
 use Rattle.std.proofs.lemmas.List.Elements.{All-head, All-tail}
-use Rattle.std.proofs.Common.{◌≡◌, refl, ap, sym, subst, ◌∙◌, ℕ, zero, suc, ◌+◌, ◌-◌, ◌<◌, ◌≤◌, cond, List, [], ◌∷◌, ◌++◌, take, length, length-append, ℤ, Option, Some, None, option_map, Result, Ok, Err, IfOk, OnOk, All, arith}
+use Rattle.std.proofs.Common.{◌≡◌, refl, ap, sym, subst, ◌∙◌, ℕ, zero, suc, ◌+◌, ◌-◌, ◌<◌, ◌≤◌, cond, List, [], ◌∷◌, take, length, length-append, ℤ, Option, Some, None, Result, Ok, Err, IfOk, OnOk, All, arith}
 use Rattle.std.specs.List.{filter}
 use Rattle.postscript_type2.specs.declared.operation.Operator.{Operator}
-use Rattle.postscript_type2.specs.Operation.Kinds.{Kind, CallsFrom, GoesBack, kind}
+use Rattle.postscript_type2.specs.Operation.Kinds.{Kind, kind}
 use Rattle.postscript_type2.specs.Program.Evaluation.{run_of}
 use Rattle.postscript_type2.specs.Program.Flat.{without_operator, flat_of, flat_bytes, flat_text}
-use Rattle.postscript_type2.specs.Program.Inlined.{behind_first, unless_last, before_last_past, before_last, call_piece, piece_of, put_before, pieced, inlined, text, inlined_text, InlinedIsNoLonger, SpellsItsNumber, operators, AddsNoOperator}
+use Rattle.postscript_type2.specs.Program.Inlined.{behind_first, unless_last, before_last_past, before_last, piece_of, pieced, inlined, text, inlined_text, InlinedIsNoLonger, SpellsItsNumber, operators, AddsNoOperator}
 use Rattle.postscript_type2.specs.Program.Inlining.{is_flat_kind, is_flat}
 use Rattle.postscript_type2.specs.Program.Phrases as spellings
 use Rattle.postscript_type2.specs.Program.Phrases.{IsNumber, IsPhrase}
@@ -21,35 +21,12 @@ IsWithin n (Some front) = length front ≤ n
 
 within-past : (k : ℕ) (r : List ℕ) → IsWithin (length r) (before_last_past k r)
 within-past k [] = tt
-within-past (suc k) (b ∷ r) = by_front (before_last_past k r) (within-past k r)
-  where
-    by_front : (o : Option (List ℕ)) → IsWithin (length r) o → IsWithin (length (b ∷ r)) (option_map (λ front. b ∷ front) o)
-    by_front None h = tt
-    by_front (Some front) h = omega arith
-within-past zero (b ∷ r) = by_front (before_last_past (behind_first b) r) (within-past (behind_first b) r)
-  where
-    by_front : (o : Option (List ℕ)) → IsWithin (length r) o → length (unless_last b o) ≤ length (b ∷ r)
-    by_front None h = omega arith
-    by_front (Some front) h = omega arith
-
-put-length : (front : List ℕ) (phrases : List Said) → length (text (put_before front phrases)) ≤ length front + length (text phrases)
-put-length front [] = omega arith
-put-length front (said ∷ phrases) =
-    omega (arith, length-append (front ++ said.bytes) (text phrases), length-append front said.bytes, length-append said.bytes (text phrases))
+within-past (suc k) (b ∷ r) = grind (arith, within-past k r)
+within-past zero (b ∷ r) = grind (arith, within-past (behind_first b) r)
 
 pieced-length : (op : Operator) (bytes : List ℕ) (k : Kind) (phrases : List Said) →
     length (text (pieced (piece_of k op bytes) phrases)) ≤ length (flat_of k op bytes).bytes + length (text phrases)
-pieced-length op bytes (CallsFrom routines) phrases = by_last (before_last numbers) (within-past 0 numbers)
-  where
-    numbers : List ℕ
-    numbers = without_operator bytes
-
-    by_last : (o : Option (List ℕ)) → IsWithin (length numbers) o → length (text (pieced (call_piece o) phrases)) ≤ length (numbers ++ 0x0c ∷ 0x12 ∷ []) + length (text phrases)
-    by_last None h = omega (arith, length-append numbers (0x0c ∷ 0x12 ∷ []))
-    by_last (Some front) h = omega (arith, put-length front phrases, length-append numbers (0x0c ∷ 0x12 ∷ []))
-pieced-length op bytes GoesBack phrases =
-    omega (arith, put-length (without_operator bytes) phrases, length-append (without_operator bytes ++ 0x8b ∷ []) (0x0c ∷ 0x12 ∷ []), length-append (without_operator bytes) (0x8b ∷ []))
-pieced-length op bytes k phrases = omega (arith, length-append bytes (text phrases))
+pieced-length op bytes k phrases = grind (arith, within-past, length-append)
 
 pub no-longer : InlinedIsNoLonger
 no-longer [] = omega arith
@@ -58,17 +35,12 @@ no-longer (said ∷ trace) =
 
 -- a phrase has more bytes than numbers
 number-some : (number : List ℕ) (x : ℤ) → IsNumber number x → 0 < length number
-number-some number x (spellings.of_two_bytes a b) = omega arith
-number-some number x (spellings.small first low high) = omega arith
-number-some number x (spellings.positive first second low high) = omega arith
-number-some number x (spellings.negative first second low high) = omega arith
-number-some number x (spellings.of_bits first a b c d low) = omega arith
+number-some number x h0 = grind arith
 
 phrase-long : (bytes : List ℕ) (numbers : List ℤ) (op : Operator) → IsPhrase bytes numbers op → length numbers < length bytes
 phrase-long bytes numbers op (spellings.operator code op' short is) = omega arith
 phrase-long bytes numbers op (spellings.escaped_operator second op' is) = omega arith
-phrase-long bytes numbers op (spellings.after_number number more x xs op' n p) =
-    omega (arith, number-some number x n, phrase-long more xs op' p, length-append number more)
+phrase-long bytes numbers op (spellings.after_number number more x xs op' n p) = grind (arith, number-some, length-append, phrase-long more xs op' p, length-append number more)
 
 -- so one with a number has a last one
 some-last : (bytes : List ℕ) → 1 < length bytes → (front : List ℕ) × (before_last (without_operator bytes) ≡ Some front)
@@ -78,24 +50,13 @@ some-last (b ∷ c ∷ r) h =
     let n : length (b ∷ c ∷ r) - 1 ≡ suc (length r) = omega arith in
     (unless_last b (before_last_past (behind_first b) (take (length r) (c ∷ r))), ap (λ k. before_last (take k (b ∷ c ∷ r))) n)
 
-put-operators : (front : List ℕ) (phrases : List Said) → operators (put_before front phrases) ≡ operators phrases
-put-operators front [] = refl
-put-operators front (said ∷ phrases) = refl
-
 pieced-operators : (op : Operator) (bytes : List ℕ) (k : Kind) → kind op ≡ k → SpellsItsNumber (by op bytes) → (phrases : List Said) →
     operators (pieced (piece_of k op bytes) phrases) ≡ cond (is_flat_kind k) (op ∷ operators phrases) (operators phrases)
-pieced-operators op bytes (CallsFrom routines) is spells phrases =
-    let spelled = spells routines is in
-    let some : 1 < length bytes = omega (arith, phrase-long bytes (spelled.0 ++ spelled.1 ∷ []) op spelled.2, length-append spelled.0 (spelled.1 ∷ [])) in
-    let last = some-last bytes some in
-    ap (λ o. operators (pieced (call_piece o) phrases)) last.1 ∙ put-operators last.0 phrases
-pieced-operators op bytes GoesBack is spells phrases = put-operators (without_operator bytes) phrases
-pieced-operators op bytes k is spells phrases = refl
+pieced-operators op bytes k is spells phrases = grind (arith, phrase-long, length-append, some-last)
 
 inlined-operators : (trace : List Said) → All SpellsItsNumber trace → operators (inlined trace) ≡ filter is_flat (operators trace)
 inlined-operators [] spells = refl
-inlined-operators (said ∷ trace) spells =
-    pieced-operators said.operator said.bytes (kind said.operator) refl (All-head SpellsItsNumber said trace spells) (inlined trace)
+inlined-operators (said ∷ trace) spells = pieced-operators said.operator said.bytes (kind said.operator) refl (All-head SpellsItsNumber said trace spells) (inlined trace)
     ∙ ap (λ ops. cond (is_flat said.operator) (said.operator ∷ ops) ops) (inlined-operators trace (All-tail SpellsItsNumber said trace spells))
 
 pub adds-none : (lists : Lists) (code : List ℕ) → fault_of (run_of lists code).end ≡ None →
@@ -108,8 +69,3 @@ pub adds-result : {V E : Type 0} (items : V → List ℕ) (lists : Lists) (code 
     IfOk r (λ v. (other : Lists) → AddsNoOperator other (items v) (run_of lists code))
 adds-result items lists code (Ok v) none is = λ other. subst (λ bytes. AddsNoOperator other bytes (run_of lists code)) (sym is) (adds-none lists code none other)
 adds-result items lists code (Err e) none is = tt
-
-pub shorter-result : {V E : Type 0} (items : V → List ℕ) (lists : Lists) (code : List ℕ) (r : Result V E) →
-    IfOk r (λ v. items v ≡ inlined_text (run_of lists code).trace) → IfOk r (λ v. length (items v) ≤ length (flat_text (run_of lists code).trace))
-shorter-result items lists code (Ok v) is = subst (λ bytes. length bytes ≤ length (flat_text (run_of lists code).trace)) (sym is) (no-longer (run_of lists code).trace)
-shorter-result items lists code (Err e) is = tt

@@ -1,18 +1,19 @@
 -- Inlined code means what the run meant.
+use Rattle.std.proofs.Common.{arith, rules, ◌≡◌, refl, ap, sym, subst, ◌∙◌, ℕ, zero, suc, Bool, true, false, List, [], ◌∷◌, ◌++◌, drop, Option, Some, None, Result, Ok, Err, IfOk, OnOk}
+use Rattle.std.proofs.lemmas.Grind.{common_steps}
+use Rattle.std.proofs.lemmas.Bool.Decides.{nat_tests}
 use Rattle.std.proofs.lemmas.List.{append-nil}
 use Rattle.std.proofs.lemmas.List.Elements.{All-nil, All-cons, All-head, All-tail}
-use Rattle.std.proofs.Common.{◌≡◌, refl, ap, sym, subst, ◌∙◌, ℕ, zero, suc, Bool, true, false, ◌&&◌, not, List, [], ◌∷◌, ◌++◌, drop, append_assoc, Option, Some, None, Result, Ok, Err, IfOk, OnOk, if◌then◌else◌}
 use Rattle.std.specs.List.{AllPass}
-use Rattle.postscript_base.specs.Refusal.{trailing_data}
 use Rattle.postscript_type2.specs.declared.operation.Operator.{Operator}
-use Rattle.postscript_type2.specs.Operation.Kinds.{Kind, CallsFrom, GoesBack, kind}
+use Rattle.postscript_type2.specs.Operation.Kinds.{Kind, kind, CallsFrom, GoesBack}
 use Rattle.postscript_type2.specs.Program.Effects.{State, start}
-use Rattle.postscript_type2.specs.Program.Evaluation.{at_end, with_phrase, with_any_answer, followed, is_empty, after_call, Stride, On, Into, Back, Over, Faults, stride, Callee, paced, routine, callee, mean, run_of}
-use Rattle.postscript_type2.specs.Program.Flat.{without_operator, dropping, flat_of, flat_text}
-use Rattle.postscript_type2.specs.Program.Inlined.{before_last, Piece, Stands, Leaves, call_piece, piece_of, piece, put_before, pieced, inlined_onto, inlined, text, inlined_text, InlinedTextKeepsMeaning, InlinedRunIsInlined}
+use Rattle.postscript_type2.specs.Program.Evaluation.{at_end, with_phrase, with_any_answer, followed, after_call, Stride, On, Into, Back, Over, Faults, stride, Callee, paced, routine, callee, mean, run_of}
+use Rattle.postscript_type2.specs.Program.Flat.{flat_of, flat_text, without_operator, dropping}
+use Rattle.postscript_type2.specs.Program.Inlined.{Piece, Stands, Leaves, piece_of, piece, put_before, pieced, inlined_onto, inlined, text, inlined_text, InlinedTextKeepsMeaning, InlinedRunIsInlined, before_last, call_piece}
 use Rattle.postscript_type2.specs.Program.Inlining.{is_flat_kind, is_flat, KeepsMeaning}
 use Rattle.postscript_type2.specs.Program.Routines.{Lists}
-use Rattle.postscript_type2.specs.Program.Runs.{Answer, Said, by, End, UsedUp, Returned, Finished, Fault, Run, fault_of, width_of}
+use Rattle.postscript_type2.specs.Program.Runs.{Answer, Said, by, End, UsedUp, Returned, Finished, Fault, Run, fault_of}
 use Rattle.postscript_type2.proofs.Carried.{carried-text}
 use Rattle.postscript_type2.proofs.InInlined.{InPiece, InInlined, in-inlined}
 use Rattle.postscript_type2.proofs.Inlining.{followed-ends, flat_end, flat-fault, flat-width}
@@ -67,39 +68,13 @@ inline-own : (other : Lists) (left : ℕ) (st : State) (said : Said) (answer : O
     ((x : List ℕ) → mean other left false (said.bytes ++ x) st ≡ with_phrase said (with_any_answer answer (go x))) →
     ((next : List Said) → MayFollow other left run.end next → go (text (inlined_onto run.trace next)) ≡ joined run next (onward other left run.end next)) →
     Inlines other left st (with_phrase said (with_any_answer answer run))
-inline-own other left st said None run go is tells ih next m =
-    let phrases : List Said = inlined_onto run.trace next in
-    let after : Run = onward other left run.end next in
-    subst (λ p. mean other left false (text (pieced p phrases)) st ≡ record { answers = run.answers ++ after.answers; trace = pieced p phrases; end = after.end }) (sym is)
-    (tells (text phrases) ∙ ap (with_phrase said) (ih next m))
-inline-own other left st said (Some answer) run go is tells ih next m =
-    let phrases : List Said = inlined_onto run.trace next in
-    let after : Run = onward other left run.end next in
-    subst (λ p. mean other left false (text (pieced p phrases)) st ≡ record { answers = answer ∷ (run.answers ++ after.answers); trace = pieced p phrases; end = after.end }) (sym is)
-    (tells (text phrases) ∙ ap (λ r. with_phrase said (with_any_answer (Some answer) r)) (ih next m))
+inline-own other left st said answer run go is tells ih = grind arith
 
 -- a call's run, and what comes of its end
 inline-followed : (other : Lists) (left : ℕ) (inner : Bool) (after : List ℕ) (st : State) (go : State → Run) → ((st' : State) → Inlines other left st' (go st')) →
     (a : List Answer) (t : List Said) (e : End) → Inlines other left st (record { answers = a; trace = t; end = e }) →
     Inlines other left st (followed (record { answers = a; trace = t; end = e }) (after_call inner after go))
-inline-followed other left inner after st go next a t UsedUp ih = subst (Inlines other left st) (sym (followed-ends a t UsedUp UsedUp)) ih
-inline-followed other left inner after st go next a t (Fault e) ih = λ n m. absurd m
-inline-followed other left inner after st go next a t (Finished width) ih = by_finish (inner && not (is_empty after))
-  where
-    by_finish : (bad : Bool) → Inlines other left st (followed (record { answers = a; trace = t; end = Finished width }) (λ e. at_end (if bad then Fault trailing_data else Finished width)))
-    by_finish true = λ n m. absurd m
-    by_finish false = subst (Inlines other left st) (sym (followed-ends a t (Finished width) (Finished width))) ih
-inline-followed other left inner after st go next a t (Returned st') ih = λ n m.
-    let phrases : List Said = inlined_onto (go st').trace n in
-    let last : Run = onward other left (go st').end n in
-    let behind : mean other left false (text phrases) st' ≡ joined (go st') n last = next st' n m in
-    let parts : inlined_onto (t ++ (go st').trace) n ≡ inlined_onto t phrases = onto-append t (go st').trace n in
-    let told : List Answer → List Said → Run = λ answers trace. record { answers = answers; trace = trace; end = last.end } in
-    ap (λ p. mean other left false (text p) st) parts
-    ∙ ih phrases (ap (λ r. r.trace) behind)
-    ∙ ap (λ r. record { answers = a ++ r.answers; trace = inlined_onto t phrases; end = r.end }) behind
-    ∙ ap (λ answers. told answers (inlined_onto t phrases)) (sym (append_assoc a (go st').answers last.answers))
-    ∙ ap (told ((a ++ (go st').answers) ++ last.answers)) (sym parts)
+inline-followed other left inner after st go next a t e ih = grind (arith, nat_tests, common_steps, followed-ends, onto-append)
 
 inline-by : (other : Lists) (left : ℕ) (callee : Callee) → AllInline other left callee → (inner : Bool) (r : List ℕ) (st : State)
     (go : ℕ → State → Run) → ((more : ℕ) (st' : State) → Inlines other left st' (go more st')) → (s : Stride) → InInlined other left st s →
@@ -109,16 +84,10 @@ inline-by other left None subs inner r st go next (Into said sub st' more) means
 inline-by other left (Some run) subs inner r st go next (Into said sub st' more) means =
     inline-told other left st st' said (followed (run sub st') (after_call inner (drop more r) (go more))) means
     (inline-followed other left inner (drop more r) st' (go more) (next more) (run sub st').answers (run sub st').trace (run sub st').end (subs sub st'))
-inline-by other left callee subs true r st go next (Back said st') means =
-    inline-told other left st st' said (at_end (Returned st')) means
+inline-by other left callee subs true r st go next (Back said st') means = inline-told other left st st' said (at_end (Returned st')) means
     (λ n m. ap (λ t. record { answers = (mean other left false (text n) st').answers; trace = t; end = (mean other left false (text n) st').end }) m)
 inline-by other left callee subs false r st go next (Back said st') means = λ n m. absurd m
-inline-by other left callee subs inner r st go next (Over said width more) means = over-by (inner && not (is_empty (drop more r)))
-  where
-    over-by : (bad : Bool) → Inlines other left st (with_phrase said (at_end (if bad then Fault trailing_data else Finished width)))
-    over-by true = λ n m. absurd m
-    over-by false = inline-own other left st said None (at_end (Finished width)) (λ x. at_end (Finished width)) means.0 means.1
-        (λ n m. ap (λ t. record { answers = []; trace = t; end = Finished width }) (sym m))
+inline-by other left callee subs inner r st go next (Over said width more) means = grind (arith, inline-own, inline-told, inline-followed)
 inline-by other left callee subs inner r st go next (Faults e) means = λ n m. absurd m
 
 inline-routine : (lists other : Lists) (left : ℕ) (callee : Callee) → AllInline other left callee → (inner : Bool) (k : ℕ) (r : List ℕ) (st : State) →
@@ -136,9 +105,7 @@ inline-callee lists other left (suc nested) = λ sub st. inline-routine lists ot
 
 -- an operator that stands as it is
 flat-bytes-own : (op : Operator) (bytes : List ℕ) (k : Kind) → is_flat_kind k ≡ true → flat_of k op bytes ≡ by op bytes
-flat-bytes-own op bytes (CallsFrom routines) own = absurd (cc)
-flat-bytes-own op bytes GoesBack own = absurd (cc)
-flat-bytes-own op bytes k own = refl
+flat-bytes-own op bytes k own = grind arith
 
 own-text : (phrases : List Said) → AllPass (λ said. is_flat said.operator) phrases → flat_text phrases ≡ text phrases
 own-text [] own = refl
@@ -149,8 +116,7 @@ own-text (said ∷ phrases) own =
 -- inlined code has no calls and no returns
 put-flat : (front : List ℕ) (phrases : List Said) → AllPass (λ said. is_flat said.operator) phrases → AllPass (λ said. is_flat said.operator) (put_before front phrases)
 put-flat front [] own = own
-put-flat front (said ∷ phrases) own =
-    All-cons (λ x. is_flat x.operator ≡ true) (by said.operator (front ++ said.bytes)) phrases
+put-flat front (said ∷ phrases) own = All-cons (λ x. is_flat x.operator ≡ true) (by said.operator (front ++ said.bytes)) phrases
     (All-head (λ x. is_flat x.operator ≡ true) said phrases own) (All-tail (λ x. is_flat x.operator ≡ true) said phrases own)
 
 pieced-flat : (op : Operator) (bytes : List ℕ) (k : Kind) → kind op ≡ k → (phrases : List Said) → AllPass (λ said. is_flat said.operator) phrases →
@@ -170,17 +136,12 @@ all-flat (said ∷ trace) = pieced-flat said.operator said.bytes (kind said.oper
 -- with nothing behind it
 inlined-alone : (other : Lists) (left : ℕ) (st : State) (a : List Answer) (t : List Said) (end : End) → Inlines other left st (record { answers = a; trace = t; end = end }) →
     fault_of end ≡ None → mean other left false (inlined_text t) st ≡ record { answers = a; trace = inlined t; end = flat_end end }
-inlined-alone other left st a t UsedUp means none = means [] refl ∙ ap (λ answers. record { answers = answers; trace = inlined t; end = UsedUp }) (append-nil a)
-inlined-alone other left st a t (Returned st') means none = means [] refl ∙ ap (λ answers. record { answers = answers; trace = inlined t; end = UsedUp }) (append-nil a)
-inlined-alone other left st a t (Finished width) means none = means [] refl ∙ ap (λ answers. record { answers = answers; trace = inlined t; end = Finished width }) (append-nil a)
-inlined-alone other left st a t (Fault e) means none = absurd (cc)
+inlined-alone other left st a t end means h1 = grind (arith, append-nil)
 
 -- the run of the inlined text of a faultless run, over any lists
-pub run-is : (lists : Lists) (code : List ℕ) → fault_of (run_of lists code).end ≡ None → (other : Lists) →
-    run_of other (inlined_text (run_of lists code).trace)
+pub run-is : (lists : Lists) (code : List ℕ) → fault_of (run_of lists code).end ≡ None → (other : Lists) → run_of other (inlined_text (run_of lists code).trace)
     ≡ record { answers = (run_of lists code).answers; trace = inlined (run_of lists code).trace; end = flat_end (run_of lists code).end }
-run-is lists code none other =
-    of_run (run_of lists code) (inline-routine lists other 10 (callee lists 10) (inline-callee lists other 10 10) false 0 code start) none
+run-is lists code none other = of_run (run_of lists code) (inline-routine lists other 10 (callee lists 10) (inline-callee lists other 10 10) false 0 code start) none
   where
     of_run : (run : Run) → Inlines other 10 start run → fault_of run.end ≡ None →
         run_of other (inlined_text run.trace) ≡ record { answers = run.answers; trace = inlined run.trace; end = flat_end run.end }
@@ -189,17 +150,7 @@ run-is lists code none other =
 -- It keeps its meaning.
 pub keeps_meaning : (lists : Lists) (code : List ℕ) → fault_of (run_of lists code).end ≡ None →
     (other : Lists) → KeepsMeaning other (inlined_text (run_of lists code).trace) (run_of lists code)
-keeps_meaning lists code none other = of_run (run_of lists code) (run-is lists code none other) none
-  where
-    of_run : (run : Run) → run_of other (inlined_text run.trace) ≡ record { answers = run.answers; trace = inlined run.trace; end = flat_end run.end } →
-        fault_of run.end ≡ None → KeepsMeaning other (inlined_text run.trace) run
-    of_run run same none = record {
-      answers = ap (λ r. r.answers) same;
-      width = ap width_of same ∙ flat-width run.answers run.end;
-      faultless = ap (λ r. fault_of r.end) same ∙ flat-fault run.end ∙ none;
-      no_calls = subst (λ r. AllPass (λ said. is_flat said.operator) r.trace) (sym same) (all-flat run.trace);
-      own_text = ap (λ r. flat_text r.trace) same ∙ own-text (inlined run.trace) (all-flat run.trace);
-    }
+keeps_meaning lists code h0 other = search (rules, run-is, flat_end, flat-width, flat-fault, all-flat, own-text)
 
 pub law : InlinedTextKeepsMeaning
 law lists other code none = keeps_meaning lists code none other

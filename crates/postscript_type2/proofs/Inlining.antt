@@ -1,15 +1,14 @@
 -- Flat code means what the run meant.
 use Rattle.std.proofs.lemmas.Grind.{common_steps}
 use Rattle.std.proofs.lemmas.Bool.Decides.{nat_tests}
-use Rattle.std.proofs.Common.{arith}
+use Rattle.std.proofs.Common.{arith, ◌≡◌, refl, ap, sym, subst, ◌∙◌, ℕ, zero, suc, Bool, true, false, List, [], ◌∷◌, ◌++◌, map, Some, None, Result, Ok, Err, IfOk, OnOk}
 use Rattle.std.proofs.lemmas.List.{map-append, append-nil}
 use Rattle.std.proofs.lemmas.List.Concat.{flat_map-append}
 use Rattle.std.proofs.lemmas.List.Elements.{All-nil, All-cons}
-use Rattle.std.proofs.Common.{◌≡◌, refl, ap, sym, subst, ◌∙◌, ℕ, zero, suc, Bool, true, false, List, [], ◌∷◌, ◌++◌, map, Some, None, Result, Ok, Err, IfOk, OnOk}
 use Rattle.std.specs.List.{AllPass}
 use Rattle.postscript_type2.specs.declared.operation.Operator.{Operator}
 use Rattle.postscript_type2.specs.Program.Effects.{State, start}
-use Rattle.postscript_type2.specs.Program.Evaluation.{at_end, with_phrase, followed, after_call, Stride, stride, Callee, paced, routine, callee, mean, run_of}
+use Rattle.postscript_type2.specs.Program.Evaluation.{at_end, followed, Stride, stride, Callee, paced, routine, callee, mean, run_of, with_phrase, after_call}
 use Rattle.postscript_type2.specs.Program.Flat.{flat_by, flat_said, flat_bytes, flat_text}
 use Rattle.postscript_type2.specs.Program.Inlining.{is_flat, KeepsMeaning, FlatTextKeepsMeaning}
 use Rattle.postscript_type2.specs.Program.Routines.{Lists}
@@ -122,8 +121,7 @@ flat-alone other left st a t end flat none = ap (λ bytes. mean other left false
 -- The flat text of a faultless run keeps its meaning over any lists.
 pub keeps_meaning : (lists : Lists) (code : List ℕ) → fault_of (run_of lists code).end ≡ None →
     (other : Lists) → KeepsMeaning other (flat_text (run_of lists code).trace) (run_of lists code)
-keeps_meaning lists code none other =
-    of_run (run_of lists code) (inline-routine lists other 10 (callee lists 10) (inline-callee lists other 10 10) false 0 code start) none
+keeps_meaning lists code none other = of_run (run_of lists code) (inline-routine lists other 10 (callee lists 10) (inline-callee lists other 10 10) false 0 code start) none
   where
     of_run : (run : Run) → Inlines other 10 start run → fault_of run.end ≡ None → KeepsMeaning other (flat_text run.trace) run
     of_run run flat none =

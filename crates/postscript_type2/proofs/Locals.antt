@@ -1,7 +1,7 @@
 -- A phrase depends on its own bytes alone.
 use Rattle.std.proofs.lemmas.Bool.Decides.{nat_tests}
 use Rattle.std.proofs.lemmas.List.{take-append-le, take-take}
-use Rattle.std.proofs.Common.{◌≡◌, refl, ap, ◌∙◌, ℕ, zero, suc, ◌+◌, ◌<◌, ◌≤◌, ◌==◌, Bool, true, false, List, [], ◌∷◌, ◌++◌, take, length, length-take, length-append, nat_lt, Option, ℤ, pos, ◌-ℤ◌, if◌then◌else◌, arith, sym, ◌&&◌, ◌||◌, Some}
+use Rattle.std.proofs.Common.{◌≡◌, refl, ap, ◌∙◌, ℕ, zero, suc, ◌+◌, ◌<◌, ◌≤◌, ◌==◌, Bool, true, false, List, [], ◌∷◌, ◌++◌, take, length, length-take, length-append, nat_lt, Option, ℤ, pos, ◌-ℤ◌, if◌then◌else◌, arith, ◌&&◌, ◌||◌, Some}
 use Rattle.postscript_base.specs.Numbers.{slice, number, big_endian, two_sided, above, below}
 use Rattle.postscript_base.specs.Tape.Outcome.{Outcome, Got, Reading, ◌>>=◌, pure, fault}
 use Rattle.postscript_base.specs.Refusal.{malformed_number}
@@ -33,8 +33,7 @@ number-prompt size = mapped-prompt (slice size) big_endian (slice-prompt size)
 
 -- what a first byte begins
 pub spelled-prompt : (first : ℕ) → IsPrompt (spelled first)
-spelled-prompt first =
-    if-prompt (first == 0x1c) _ _ (mapped-prompt (number 2) (λ n. whole (two_sided 0x8000 n)) (number-prompt 2))
+spelled-prompt first = if-prompt (first == 0x1c) _ _ (mapped-prompt (number 2) (λ n. whole (two_sided 0x8000 n)) (number-prompt 2))
     (if-prompt (nat_lt first 0x20) (fault malformed_number) _ (λ r y m x next is within. is)
     (if-prompt (nat_lt first 0xf7) (pure (whole (pos first -ℤ pos 139))) _ (λ r y m x next is within. is)
     (if-prompt (nat_lt first 0xfb) _ _ (mapped-prompt (number 1) (λ second. whole (above first second)) (number-prompt 1))
@@ -53,36 +52,23 @@ all_short [] = true
 all_short (entry ∷ entries) = (stands_flat (kind entry.1) || nat_lt entry.0 0x0c00) && all_short entries
 
 long-entry : (flat short more : Bool) → (flat || short) && more ≡ true → short ≡ false → flat ≡ true
-long-entry true short more h is = refl
-long-entry false true more h is = absurd (cc)
-long-entry false false more h is = absurd (cc)
+long-entry flat short more h is = grind arith
 
 long-later : (flat short more : Bool) → (flat || short) && more ≡ true → more ≡ true
-long-later true short more h = h
-long-later false true more h = h
-long-later false false more h = absurd (cc)
+long-later flat short more h = grind arith
 
 long-in : (entries : List (ℕ × Operator)) (code : ℕ) (op : Operator) → all_short entries ≡ true → 0x0c00 ≤ code → lookup entries code ≡ Some op → stands_flat (kind op) ≡ true
 unfolding all_short
 long-in [] code op t h e = absurd (cc)
 long-in (entry ∷ entries) code op t h e =
-    by_match (long-in entries code op (long-later (stands_flat (kind entry.1)) (nat_lt entry.0 0x0c00) (all_short entries) t) h) (entry.0 == code) refl e
-  where
-    by_match : (lookup entries code ≡ Some op → stands_flat (kind op) ≡ true) → (here : Bool) → (entry.0 == code) ≡ here →
-        (if here then Some entry.1 else lookup entries code) ≡ Some op → stands_flat (kind op) ≡ true
-    by_match later true is e =
-        let long : nat_lt entry.0 0x0c00 ≡ false = grind (arith, nat_tests) in
-        let same : entry.1 ≡ op = cc in
-        sym (ap (λ o. stands_flat (kind o)) same) ∙ long-entry (stands_flat (kind entry.1)) (nat_lt entry.0 0x0c00) (all_short entries) t long
-    by_match later false is e = later e
+    grind (arith, long-later, all_short, nat_tests, long-entry, long-in entries code op (long-later (stands_flat (kind entry.1)) (nat_lt entry.0 0x0c00) (all_short entries) t) h)
 
 pub long-flat : (second : ℕ) (op : Operator) → operator_of (0x0c00 + second) ≡ Some op → stands_flat (kind op) ≡ true
 unfolding all_short
 long-flat second op e = long-in operators (0x0c00 + second) op refl (omega arith) e
 
 pub with-fronted : (x : ℤ) (numbers : List ℤ) (m : ℕ) (p : Phrase) → with_number x (fronted numbers m p) ≡ fronted (x ∷ numbers) (suc m) p
-with-fronted x numbers m (Complete ns op n) = let e : suc (m + n) ≡ suc m + n = omega arith in ap (Complete (x ∷ (numbers ++ ns)) op) e
-with-fronted x numbers m (NoPhrase e) = refl
+with-fronted x numbers m p = grind arith
 
 -- A phrase past the first k of these bytes: it has passed them; its last byte is one of the bytes; and, whatever follows,
 -- its bytes are the phrase, and those before an operator of one byte are the phrase's numbers.
@@ -108,8 +94,7 @@ more-number b r x j t e (Complete numbers op more) l = record {
       number-first b (take (suc more) r ++ y) x j t (spelled-prompt b r y (suc more) x j e (let h : j ≤ more = l.passes in omega arith))
       ∙ ap (with_number x) (l.stands y);
   fronts = λ short y.
-      number-first b (take more r ++ y) x j t (spelled-prompt b r y more x j e l.passes)
-      ∙ ap (with_number x) (l.fronts short y) ∙ with-fronted x numbers more (phrase y);
+      number-first b (take more r ++ y) x j t (spelled-prompt b r y more x j e l.passes) ∙ ap (with_number x) (l.fronts short y) ∙ with-fronted x numbers more (phrase y);
 }
 
 number-by : (b : ℕ) (r : List ℕ) → is_number b ≡ true → ((j : ℕ) → Local j r (phrase_after j r)) → (o : Outcome ℤ) → spelled b r 0 ≡ o →

@@ -1,7 +1,6 @@
 -- Numbers are read exactly where they are spelled.
-use Rattle.std.proofs.lemmas.Bool.Decides.{nat_tests}
 use Rattle.std.proofs.lemmas.List.{drop-drop, take-append-drop, length-take-le}
-use Rattle.std.proofs.Common.{◌≡◌, refl, ap, sym, subst, ◌∙◌, ℕ, suc, ◌+◌, ◌-◌, ◌⊎◌, inl, inr, ℤ, Bool, true, false, nat_lt, ◌==◌, List, [], ◌∷◌, ◌++◌, length, length-drop, take, drop, arith}
+use Rattle.std.proofs.Common.{◌≡◌, refl, ap, sym, subst, ◌∙◌, ℕ, suc, ◌+◌, ◌-◌, ◌⊎◌, inl, inr, ℤ, Bool, true, false, List, [], ◌∷◌, ◌++◌, length, length-drop, take, drop, arith}
 use Rattle.postscript_base.specs.Numbers.{big_endian}
 use Rattle.postscript_base.specs.Tape.Outcome.{Got, Fault, after, end}
 use Rattle.postscript_base.specs.Refusal.{malformed_number, unexpected_eof}
@@ -9,7 +8,7 @@ use Rattle.postscript_type2.specs.Number.{number, spelled}
 use Rattle.postscript_type2.specs.Program.Parsing.{is_number}
 use Rattle.postscript_type2.specs.Program.Phrases.{IsNumber, IsNumberAt, ReadsNumbers}
 use Rattle.postscript_type2.proofs.Places.{later, spelled-local}
-use Rattle.postscript_type2.proofs.PhraseLaws.{reads-number, form, Stands, IsCut, number-at, neither}
+use Rattle.postscript_type2.proofs.PhraseLaws.{reads-number, form, Stands, IsCut, number-at}
 use Rattle.postscript_type2.proofs.Slices.{at-place, past-end}
 
 -- the first byte, and what stands behind it
@@ -37,12 +36,7 @@ all bytes place bits next h =
 
 -- no number begins with the byte
 no-number : (b : ℕ) (r : List ℕ) → is_number b ≡ false → spelled b r 0 ≡ Fault malformed_number
-no-number b r h =
-    let apart = neither (b == 0x1c) (nat_lt 0x1f b) h in
-    let other = apart.0 in
-    let low = apart.1 in
-    let short : nat_lt b 0x20 ≡ true = grind (arith, nat_tests) in
-    rw (other, short) refl
+no-number b r h = grind arith
 
 only : (bytes : List ℕ) (place : ℕ) (bits : ℤ) (next : ℕ) → number bytes place ≡ Got bits next → IsNumberAt bytes place bits next
 unfolding number

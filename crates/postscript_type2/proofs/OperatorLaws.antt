@@ -1,11 +1,12 @@
 -- What operators do by the table is what is computed.
+use Rattle.std.proofs.lemmas.Grind.{common_steps}
 use Rattle.std.proofs.lemmas.Bool.{cases_lt}
 use Rattle.std.proofs.lemmas.Bool.Decides.{nat_tests}
 use Rattle.std.proofs.lemmas.Int.{ints, by_lt_z}
 use Rattle.std.proofs.lemmas.List.{take-append-drop, length-drop, length-take-le}
 use Rattle.std.proofs.lemmas.Option.{slice_get-get_or, slice_get_past}
 use Rattle.std.proofs.Math.Seq.{take-append_seam, drop-append_seam}
-use Rattle.std.proofs.Common.{◌≡◌, ◌≢◌, refl, ap, sym, subst, ◌∙◌, ◌⊎◌, inl, inr, ℕ, zero, suc, ◌+◌, ◌-◌, ◌*◌, ◌/◌, ◌%◌, ◌^◌, ◌<◌, ◌≤◌, ℤ, pos, negsuc, neg_ℤ, nat_abs, ◌+ℤ◌, ◌-ℤ◌, ◌*ℤ◌, int_lt, int_le, nat_lt, ◌==◌, ◌&&◌, ◌||◌, not, Bool, true, false, IsTrue, List, [], ◌∷◌, ◌++◌, length, length-append, append_assoc, append-nil, take, drop as drop_of, slice_get, slice_set, get_or, Option, Some, None, Result, Ok, Err, if◌then◌else◌, arith}
+use Rattle.std.proofs.Common.{◌≡◌, ◌≢◌, refl, ap, sym, subst, ◌∙◌, ◌⊎◌, inl, inr, ℕ, zero, suc, ◌+◌, ◌-◌, ◌*◌, ◌/◌, ◌%◌, ◌^◌, ◌<◌, ◌≤◌, ℤ, pos, negsuc, neg_ℤ, nat_abs, ◌+ℤ◌, ◌-ℤ◌, ◌*ℤ◌, nat_lt, ◌==◌, ◌&&◌, ◌||◌, not, Bool, true, false, IsTrue, List, [], ◌∷◌, ◌++◌, length, length-append, append_assoc, append-nil, take, drop as drop_of, slice_get, slice_set, get_or, Option, Some, None, Result, Ok, Err, if◌then◌else◌, arith}
 use Rattle.std.specs.Option.{ok_or}
 use Rattle.std.specs.Ordering.{int_eq}
 use Rattle.postscript_base.specs.Refusal.{Refusal, OfPart, unexpected_eof, malformed_operands, expected_operand, expected_integer, expected_more_operands, invalid_operand, missing_subroutine, overflow, zero_divisor, negative_root, too_many_stems}
@@ -14,11 +15,11 @@ use Rattle.postscript_type2.specs.declared.operation.Operator.TheVariants.{HintM
 use Rattle.postscript_type2.specs.Number.{whole, to_int}
 use Rattle.postscript_type2.specs.Operation.Kinds.{Kind, Draws, DeclaresStems, Masks, Works, Stores, CallsFrom, GoesBack, EndsGlyph, IsRefused, kind, lengths, taken as taken_of}
 use Rattle.postscript_type2.specs.Operation.Lengths.{exactly, greatest}
-use Rattle.postscript_type2.specs.Program.Effects.{State, Move, Keeps, Clears, Calls, Returns, Ends, Refuses, stacked, settled, last_of, clearing, stems_after, with_stems, mask_len, implied, mask_clearing, work_move, store_move, named, subroutine, call_move, effect_of, effect}
-use Rattle.postscript_type2.specs.Program.FixedPoint.{cut, fit, whole_root, absolute_value, opposite, root, sum, difference, product, quotient, truth, is_true, both, either, denial, same_bits}
+use Rattle.postscript_type2.specs.Program.Effects.{State, Move, Keeps, Clears, Calls, Returns, Ends, Refuses, stacked, settled, last_of, clearing, stems_after, with_stems, mask_len, implied, mask_clearing, work_move, store_move, named, effect_of, effect}
+use Rattle.postscript_type2.specs.Program.FixedPoint.{cut, fit, absolute_value, opposite, root, sum, difference, product, quotient, truth, is_true, both, either, denial, same_bits}
 use Rattle.postscript_type2.specs.Program.OperatorRules.{IsHeld, HasResult, abs, neg, add, sub, mul, div, Leaves, result, sqrt, and, or, negated, eq, if_not_above, if_above, drop, exch, dup, index, roll as rolls, Makes, stored_stay, put, get, pops, NamesByTop, index_names, roll_names, put_names, get_names, HasNoWholeTop, empty, fraction, NamesNone, below_zero, past_last, IsRefusedOn, too_few, zero_divisor_on_top, root_of_negative, past_range, nothing_to_double, no_whole_top, index_too_deep, no_whole_span, span_below_zero, span_too_long, nothing_to_put, put_nowhere, get_nowhere, TakesMost, TakesNone, IsSettled, settled_before, operand_beneath, nothing_beneath, StemsAfter, in_pairs, TakesAtEnd, last_four, fewer, Does, makes, refused, without_meaning, draws, draws_none, declares, declares_none, declares_too_many, masks, masks_cut, masks_too_many, calls, calls_no_number, calls_nothing, returns, ends, OperatorsDoSo}
 use Rattle.postscript_type2.specs.Program.Routines.{Lists}
-use Rattle.postscript_type2.specs.Program.Stacks.{IsRolled, one_to_one, two_to_one, choice, removal, exchange, distance, copy, roll, roll_by, rolled as rolled_of, rolled_top}
+use Rattle.postscript_type2.specs.Program.Stacks.{IsRolled, distance, copy, roll, roll_by, rolled as rolled_of, rolled_top}
 use Rattle.postscript_type2.specs.Program.Storage.{stored_at, storing, fetching}
 use Rattle.postscript_type2.specs.Program.StackWork.{after, ◌>>=◌, given, whole_operand, operand, operand_below, push}
 use Rattle.postscript_type2.proofs.RollingLaws.{rolled-law}
@@ -30,27 +31,13 @@ use Rattle.postscript_type2.proofs.Wholes.{to_int-whole}
 
 -- numbers that 32 bits hold, and others
 fit-held : (x : ℤ) → IsHeld x → fit x ≡ Ok x
-fit-held (pos n) h = let high = h.high in let low = h.low in grind (arith, nat_tests, ints)
-fit-held (negsuc n) h = let low = h.low in grind (arith, nat_tests, ints)
+fit-held x h = grind arith
 
 is-held : (x : ℤ) → (IsHeld x) ⊎ ((IsHeld x → ⊥) × (fit x ≡ Err overflow))
-is-held (pos n) = by_size (cases_lt n 2147483648)
-  where
-    by_size : (n < 2147483648) ⊎ (2147483648 ≤ n) → (IsHeld (pos n)) ⊎ ((IsHeld (pos n) → ⊥) × (fit (pos n) ≡ Err overflow))
-    by_size (inl low) = inl (record { low = omega (arith, ints); high = omega (arith, ints) })
-    by_size (inr high) = inr (λ h. let most = h.high in omega (arith, ints), grind (arith, nat_tests))
-is-held (negsuc n) = by_size (cases_lt n 2147483648)
-  where
-    by_size : (n < 2147483648) ⊎ (2147483648 ≤ n) → (IsHeld (negsuc n)) ⊎ ((IsHeld (negsuc n) → ⊥) × (fit (negsuc n) ≡ Err overflow))
-    by_size (inl low) = inl (record { low = omega (arith, ints); high = omega (arith, ints) })
-    by_size (inr high) = inr (λ h. let least = h.low in omega (arith, ints), grind (arith, nat_tests))
+is-held x = grind arith
 
 fit-past : (x : ℤ) → (IsHeld x → ⊥) → fit x ≡ Err overflow
-fit-past x other = by_size (is-held x)
-  where
-    by_size : (IsHeld x) ⊎ ((IsHeld x → ⊥) × (fit x ≡ Err overflow)) → fit x ≡ Err overflow
-    by_size (inl held) = absurd (other held)
-    by_size (inr h) = h.1
+fit-past x other = grind arith
 
 -- whole numbers, and fractions
 is-whole : (x : ℤ) → ((n : ℤ) × (x ≡ whole n)) ⊎ (to_int x ≡ None)
@@ -70,41 +57,24 @@ is-whole (negsuc b) = by_rest (cases_lt 0 (suc b % 65536))
 no-fraction : (x : ℤ) → to_int x ≡ None → (n : ℤ) → x ≢ whole n
 no-fraction x none n e = let is : to_int x ≡ Some n = ap to_int e ∙ to_int-whole n in cc
 
-fraction-int : (x : ℤ) → ((n : ℤ) → x ≢ whole n) → to_int x ≡ None
-fraction-int x other = by_kind (is-whole x)
-  where
-    by_kind : ((n : ℤ) × (x ≡ whole n)) ⊎ (to_int x ≡ None) → to_int x ≡ None
-    by_kind (inl there) = absurd (other there.0 there.1)
-    by_kind (inr none) = none
-
 no-whole : (stack : List ℤ) → HasNoWholeTop stack → whole_operand stack ≡ Err expected_integer
-no-whole _ empty = refl
-no-whole _ (fraction beneath x other) =
-    popped expected_integer beneath x (λ bits. given (ok_or (to_int bits) expected_integer)) ∙ ap (λ o. given (ok_or o expected_integer) beneath) (fraction-int x other)
+no-whole stack h0 = grind (arith, popped, is-whole)
 
 -- what is pushed, where it can be
 given-pushed : (r : Result ℤ Refusal) (x : ℤ) (beneath : List ℤ) → r ≡ Ok x → (given r >>= push) beneath ≡ Ok (tt, beneath ++ x ∷ [])
 given-pushed r x beneath e = ap (λ r. (given r >>= push) beneath) e
-
-given-refused : (r : Result ℤ Refusal) (e : Refusal) (beneath : List ℤ) → r ≡ Err e → (given r >>= push) beneath ≡ Err e
-given-refused r e beneath is = ap (λ r. (given r >>= push) beneath) is
 
 -- copies and rolls
 index-on : (stored beneath : List ℤ) (x : ℤ) (above : List ℤ) (i : ℤ) → distance i ≡ length above →
     work_move stored (copy (beneath ++ (x ∷ (above ++ whole i ∷ [])))) ≡ Keeps (beneath ++ (x ∷ (above ++ x ∷ []))) stored
 index-on stored beneath x above i far =
     let split : (y : ℤ) → beneath ++ (x ∷ (above ++ y ∷ [])) ≡ (beneath ++ x ∷ above) ++ y ∷ [] = λ y. sym (append_assoc beneath (x ∷ above) (y ∷ [])) in
-    ap (λ stack. work_move stored (copy stack)) (split (whole i))
-    ∙ ap (work_move stored) (whole-popped (beneath ++ x ∷ above) i (λ i. operand_below (distance i) >>= push))
-    ∙ ap (λ k. work_move stored ((operand_below k >>= push) (beneath ++ x ∷ above))) far
-    ∙ ap (λ r. work_move stored (after r push)) (below-there beneath x above)
+    ap (λ stack. work_move stored (copy stack)) (split (whole i)) ∙ ap (work_move stored) (whole-popped (beneath ++ x ∷ above) i (λ i. operand_below (distance i) >>= push))
+    ∙ ap (λ k. work_move stored ((operand_below k >>= push) (beneath ++ x ∷ above))) far ∙ ap (λ r. work_move stored (after r push)) (below-there beneath x above)
     ∙ ap (λ stack. Keeps stack stored) (sym (split x))
 
 roll-last : (beneath : List ℤ) (span shift : ℤ) → roll (beneath ++ (whole span ∷ whole shift ∷ [])) ≡ roll_by shift span beneath
-roll-last beneath span shift =
-    ap roll (two-last beneath (whole span) (whole shift))
-    ∙ whole-popped (beneath ++ whole span ∷ []) shift (λ shift. whole_operand >>= λ span. roll_by shift span)
-    ∙ whole-popped beneath span (λ span. roll_by shift span)
+roll-last beneath span shift = grind (arith, two-last, whole-popped)
 
 roll-on : (stored beneath : List ℤ) (shift : ℤ) (items rolled : List ℤ) → IsRolled shift items rolled →
     work_move stored (roll (beneath ++ (items ++ (whole (pos (length items)) ∷ whole shift ∷ [])))) ≡ Keeps (beneath ++ rolled) stored
@@ -121,12 +91,10 @@ roll-on stored beneath shift items rolled is =
     ∙ ap (λ t. work_move stored (if t then Err expected_more_operands else Ok (tt, rolled_top shift (length items) (beneath ++ items)))) test
     ∙ ap (λ k. Keeps (take k (beneath ++ items) ++ rolled_of shift (drop_of k (beneath ++ items))) stored) far
     ∙ ap (λ front. Keeps (front ++ rolled_of shift (drop_of (length beneath) (beneath ++ items))) stored) (take-append_seam beneath items)
-    ∙ ap (λ back. Keeps (beneath ++ rolled_of shift back) stored) (drop-append_seam beneath items)
-    ∙ ap (λ top. Keeps (beneath ++ top) stored) (sym turned)
+    ∙ ap (λ back. Keeps (beneath ++ rolled_of shift back) stored) (drop-append_seam beneath items) ∙ ap (λ top. Keeps (beneath ++ top) stored) (sym turned)
 
 not-zero : (b : ℤ) → b ≢ pos 0 → int_eq b (pos 0) ≡ false
-not-zero (pos n) some = let other : n ≢ 0 = λ e. some (ap pos e) in grind (arith, nat_tests)
-not-zero (negsuc n) some = refl
+not-zero b some = grind arith
 
 -- an operator on a stack
 abbrev on : Lists → Operator → (behind : List ℕ) → State → (stack : List ℤ) → Move
@@ -140,32 +108,21 @@ result-on lists op behind st beneath _ _ r (neg a) e = ap (work_move st.stored) 
 result-on lists op behind st beneath _ _ r (add a b) e = ap (work_move st.stored) (two-lasts sum beneath a b ∙ ap (λ r. (given r >>= push) beneath) e)
 result-on lists op behind st beneath _ _ r (sub a b) e = ap (work_move st.stored) (two-lasts difference beneath a b ∙ ap (λ r. (given r >>= push) beneath) e)
 result-on lists op behind st beneath _ _ r (mul a b) e = ap (work_move st.stored) (two-lasts product beneath a b ∙ ap (λ r. (given r >>= push) beneath) e)
-result-on lists op behind st beneath _ _ r (div a b some) e =
-    let test : int_eq b (pos 0) ≡ false = not-zero b some in
-    ap (work_move st.stored)
-    (two-lasts quotient beneath a b ∙ ap (λ t. (given (if t then Err zero_divisor else fit (cut (a *ℤ pos 65536) b)) >>= push) beneath) test
-    ∙ ap (λ r. (given r >>= push) beneath) e)
+result-on lists op behind st beneath _ _ r (div a b some) e = grind (arith, one-last, two-lasts, not-zero)
 
 leaves-on : (lists : Lists) (op : Operator) (behind : List ℕ) (st : State) (beneath taken left : List ℤ) → Leaves op taken left →
     on lists op behind st (beneath ++ taken) ≡ Keeps (beneath ++ left) st.stored
 leaves-on lists _ behind st beneath _ _ (result op taken x is held) = result-on lists op behind st beneath taken x (Ok x) is (fit-held x held)
-leaves-on lists op behind st beneath _ _ (sqrt a r low high) =
-    let test : int_lt (pos a) (pos 0) ≡ false = grind (arith, nat_tests) in
-    ap (work_move st.stored) (one-last root beneath (pos a) ∙ given-pushed (root (pos a)) (pos r) beneath (ap (λ t. if t then Err negative_root else Ok (pos (whole_root (a * 65536)))) test ∙ ap (λ r. Ok (pos r)) (whole_root-is (a * 65536) r low high)))
+leaves-on lists op behind st beneath _ _ (sqrt a r low high) = grind (arith, one-last, given-pushed, whole_root-is)
 leaves-on lists op behind st beneath _ _ (and a b) = ap (work_move st.stored) (two-lasts both beneath a b)
 leaves-on lists op behind st beneath _ _ (or a b) = ap (work_move st.stored) (two-lasts either beneath a b)
 leaves-on lists op behind st beneath _ _ (negated a) = ap (work_move st.stored) (one-last denial beneath a)
 leaves-on lists op behind st beneath _ _ (eq a b) = ap (work_move st.stored) (two-lasts same_bits beneath a b)
-leaves-on lists op behind st beneath _ _ (if_not_above p q v w below) =
-    let test : int_le v w ≡ true = grind (arith, nat_tests, ints) in
-    ap (work_move st.stored) (choice-last beneath p q v w ∙ ap (λ t. Ok (tt, beneath ++ (if t then p else q) ∷ [])) test)
-leaves-on lists op behind st beneath _ _ (if_above p q v w above) =
-    let test : int_le v w ≡ false = grind (arith, nat_tests, ints) in
-    ap (work_move st.stored) (choice-last beneath p q v w ∙ ap (λ t. Ok (tt, beneath ++ (if t then p else q) ∷ [])) test)
+leaves-on lists op behind st beneath _ _ (if_not_above p q v w below) = grind (arith, nat_tests, ints, choice-last)
+leaves-on lists op behind st beneath _ _ (if_above p q v w above) = grind (arith, nat_tests, ints, choice-last)
 leaves-on lists op behind st beneath _ _ (drop a) = ap (work_move st.stored) (removal-last beneath a) ∙ ap (λ stack. Keeps stack st.stored) (sym (append-nil beneath))
 leaves-on lists op behind st beneath _ _ (exch a b) = ap (work_move st.stored) (exchange-last beneath a b)
-leaves-on lists op behind st beneath _ _ (dup a) =
-    ap (λ r. work_move st.stored (after r push)) (below-there beneath a []) ∙ ap (λ stack. Keeps stack st.stored) (append_assoc beneath (a ∷ []) (a ∷ []))
+leaves-on lists op behind st beneath _ _ (dup a) = grind (arith, nat_tests, common_steps, below-there)
 leaves-on lists op behind st beneath _ _ (index x above i far) = index-on st.stored beneath x above i far
 leaves-on lists op behind st beneath _ _ (rolls shift items rolled is) = roll-on st.stored beneath shift items rolled is
 
@@ -174,14 +131,10 @@ stored-there : (stored : List ℤ) (i : ℕ) (x : ℤ) → slice_get stored i �
 stored-there stored i x there = ap (λ o. ok_or o invalid_operand) there
 
 stored-nowhere : (stored : List ℤ) (i : ℤ) → NamesNone stored i → stored_at stored i ≡ Err invalid_operand
-stored-nowhere stored _ (below_zero n) = refl
-stored-nowhere stored _ (past_last n h) = ap (λ o. ok_or o invalid_operand) (slice_get_past stored n h)
+stored-nowhere stored i h0 = grind (arith, slice_get_past)
 
 put-last : (stored beneath : List ℤ) (a i : ℤ) → storing stored (beneath ++ (a ∷ whole i ∷ [])) ≡ after (given (stored_at stored i) beneath) (λ _. given (Ok (slice_set stored (nat_abs i) a)))
-put-last stored beneath a i =
-    ap (storing stored) (two-last beneath a (whole i))
-    ∙ whole-popped (beneath ++ a ∷ []) i (λ i. operand >>= λ a. given (stored_at stored i) >>= λ _. given (Ok (slice_set stored (nat_abs i) a)))
-    ∙ popped expected_operand beneath a (λ a. given (stored_at stored i) >>= λ _. given (Ok (slice_set stored (nat_abs i) a)))
+put-last stored beneath a i = grind (arith, two-last, whole-popped, popped)
 
 get-last : (stored beneath : List ℤ) (i : ℤ) → fetching stored (beneath ++ whole i ∷ []) ≡ after (given (stored_at stored i) beneath) (λ x. push x >>= λ _. given (Ok stored))
 get-last stored beneath i = whole-popped beneath i (λ i. given (stored_at stored i) >>= λ x. push x >>= λ _. given (Ok stored))
@@ -189,56 +142,15 @@ get-last stored beneath i = whole-popped beneath i (λ i. given (stored_at store
 makes-on : (lists : Lists) (op : Operator) (behind : List ℕ) (st : State) (beneath taken left new : List ℤ) → Makes st.stored op taken left new →
     on lists op behind st (beneath ++ taken) ≡ Keeps (beneath ++ left) new
 makes-on lists _ behind st beneath _ _ _ (stored_stay op taken left is) = leaves-on lists op behind st beneath taken left is
-makes-on lists op behind st beneath _ _ _ (put a i h) =
-    ap store_move
+makes-on lists op behind st beneath _ _ _ (put a i h) = ap store_move
     (put-last st.stored beneath a (pos i)
     ∙ ap (λ r. after (given r beneath) (λ _. given (Ok (slice_set st.stored i a)))) (stored-there st.stored i (get_or st.stored i a) (slice_get-get_or st.stored i a h)))
     ∙ ap (λ stack. Keeps stack (slice_set st.stored i a)) (sym (append-nil beneath))
 makes-on lists op behind st beneath _ _ _ (get i x h) =
     ap store_move (get-last st.stored beneath (pos i) ∙ ap (λ r. after (given r beneath) (λ x. push x >>= λ _. given (Ok st.stored))) (stored-there st.stored i x h))
 
--- fewer operands than an operator pops
-few-one : (f : ℤ → Result ℤ Refusal) (stack : List ℤ) → length stack < 1 → one_to_one f stack ≡ Err expected_operand
-few-one f [] h = refl
-few-one f (a ∷ s) h = absurd (omega arith)
-
-few-two : (f : ℤ → ℤ → Result ℤ Refusal) (stack : List ℤ) → length stack < 2 → two_to_one f stack ≡ Err expected_operand
-few-two f [] h = refl
-few-two f (a ∷ []) h = refl
-few-two f (a ∷ b ∷ s) h = absurd (omega arith)
-
-few-four : (stack : List ℤ) → length stack < 4 → choice stack ≡ Err expected_operand
-few-four [] h = refl
-few-four (a ∷ []) h = refl
-few-four (a ∷ b ∷ []) h = refl
-few-four (a ∷ b ∷ c ∷ []) h = refl
-few-four (a ∷ b ∷ c ∷ d ∷ s) h = absurd (omega arith)
-
-few-drop : (stack : List ℤ) → length stack < 1 → removal stack ≡ Err expected_operand
-few-drop [] h = refl
-few-drop (a ∷ s) h = absurd (omega arith)
-
-few-exch : (stack : List ℤ) → length stack < 2 → exchange stack ≡ Err expected_operand
-few-exch [] h = refl
-few-exch (a ∷ []) h = refl
-few-exch (a ∷ b ∷ s) h = absurd (omega arith)
-
 few-on : (lists : Lists) (op : Operator) (behind : List ℕ) (st : State) (stack : List ℤ) → length stack < pops op → on lists op behind st stack ≡ Refuses expected_operand
-few-on lists Abs behind st stack h = ap (work_move st.stored) (few-one absolute_value stack h)
-few-on lists Neg behind st stack h = ap (work_move st.stored) (few-one opposite stack h)
-few-on lists Sqrt behind st stack h = ap (work_move st.stored) (few-one root stack h)
-few-on lists Not behind st stack h = ap (work_move st.stored) (few-one denial stack h)
-few-on lists Drop behind st stack h = ap (work_move st.stored) (few-drop stack h)
-few-on lists Add behind st stack h = ap (work_move st.stored) (few-two sum stack h)
-few-on lists Sub behind st stack h = ap (work_move st.stored) (few-two difference stack h)
-few-on lists Mul behind st stack h = ap (work_move st.stored) (few-two product stack h)
-few-on lists Div behind st stack h = ap (work_move st.stored) (few-two quotient stack h)
-few-on lists And behind st stack h = ap (work_move st.stored) (few-two both stack h)
-few-on lists Or behind st stack h = ap (work_move st.stored) (few-two either stack h)
-few-on lists Eq behind st stack h = ap (work_move st.stored) (few-two same_bits stack h)
-few-on lists Exch behind st stack h = ap (work_move st.stored) (few-exch stack h)
-few-on lists IfElse behind st stack h = ap (work_move st.stored) (few-four stack h)
-few-on lists op behind st stack h = absurd (omega arith)
+few-on lists op behind st stack h = grind (arith, nat_tests, common_steps)
 
 refused-on : (lists : Lists) (op : Operator) (behind : List ℕ) (st : State) (stack : List ℤ) (e : Refusal) → IsRefusedOn st.stored op stack e →
     on lists op behind st stack ≡ Refuses e
@@ -249,27 +161,21 @@ refused-on lists _ behind st _ _ (past_range op beneath taken x is other) = resu
 refused-on lists op behind st _ _ nothing_to_double = refl
 refused-on lists _ behind st _ _ (no_whole_top _ stack index_names h) = ap (λ r. work_move st.stored (after r (λ i. operand_below (distance i) >>= push))) (no-whole stack h)
 refused-on lists _ behind st _ _ (no_whole_top _ stack roll_names h) = ap (λ r. work_move st.stored (after r (λ shift. whole_operand >>= λ span. roll_by shift span))) (no-whole stack h)
-refused-on lists _ behind st _ _ (no_whole_top _ stack put_names h) =
-    ap (λ r. store_move (after r (λ i. operand >>= λ a. given (stored_at st.stored i) >>= λ _. given (Ok (slice_set st.stored (nat_abs i) a))))) (no-whole stack h)
+refused-on lists _ behind st _ _ (no_whole_top _ stack put_names h) = grind (arith, no-whole)
 refused-on lists _ behind st _ _ (no_whole_top _ stack get_names h) = ap (λ r. store_move (after r (λ i. given (stored_at st.stored i) >>= λ x. push x >>= λ _. given (Ok st.stored)))) (no-whole stack h)
-refused-on lists op behind st _ _ (index_too_deep beneath i h) =
-    ap (work_move st.stored) (whole-popped beneath i (λ i. operand_below (distance i) >>= push) ∙ ap (λ r. after r push) (below-past beneath (distance i) h))
-refused-on lists op behind st _ _ (no_whole_span beneath shift h) =
-    ap (work_move st.stored) (whole-popped beneath shift (λ shift. whole_operand >>= λ span. roll_by shift span) ∙ ap (λ r. after r (λ span. roll_by shift span)) (no-whole beneath h))
+refused-on lists op behind st _ _ (index_too_deep beneath i h) = grind (arith, whole-popped, below-past)
+refused-on lists op behind st _ _ (no_whole_span beneath shift h) = grind (arith, whole-popped, no-whole)
 refused-on lists op behind st _ _ (span_below_zero beneath n shift) = ap (work_move st.stored) (roll-last beneath (negsuc n) shift)
 refused-on lists op behind st _ _ (span_too_long beneath n shift h) =
     let test : nat_lt (length beneath) n ≡ true = grind (arith, nat_tests) in
     ap (work_move st.stored) (roll-last beneath (pos n) shift ∙ ap (λ t. if t then Err expected_more_operands else Ok (tt, rolled_top shift n beneath)) test)
 refused-on lists op behind st _ _ (nothing_to_put i) = ap store_move (whole-popped [] i (λ i. operand >>= λ a. given (stored_at st.stored i) >>= λ _. given (Ok (slice_set st.stored (nat_abs i) a))))
-refused-on lists op behind st _ _ (put_nowhere beneath a i h) =
-    ap store_move (put-last st.stored beneath a i ∙ ap (λ r. after (given r beneath) (λ _. given (Ok (slice_set st.stored (nat_abs i) a)))) (stored-nowhere st.stored i h))
-refused-on lists op behind st _ _ (get_nowhere beneath i h) =
-    ap store_move (get-last st.stored beneath i ∙ ap (λ r. after (given r beneath) (λ x. push x >>= λ _. given (Ok st.stored))) (stored-nowhere st.stored i h))
+refused-on lists op behind st _ _ (put_nowhere beneath a i h) = grind (arith, put-last, stored-nowhere)
+refused-on lists op behind st _ _ (get_nowhere beneath i h) = grind (arith, get-last, stored-nowhere)
 
 -- clearing: the longest end that an operator may take
 not-true : (b : Bool) → (IsTrue b → ⊥) → b ≡ false
-not-true true h = absurd (h refl)
-not-true false h = refl
+not-true b h = grind arith
 
 most-taken : (takes : ℕ → Bool) (stack beneath taken : List ℤ) → TakesMost takes stack beneath taken → greatest takes (length stack) ≡ Some (length taken)
 most-taken takes stack beneath taken h =
@@ -280,10 +186,7 @@ none-taken : (takes : ℕ → Bool) (stack : List ℤ) → TakesNone takes stack
 none-taken takes stack h = greatest-none takes (length stack) (λ j within. not-true (takes j) (h j within))
 
 last-is : (stack beneath taken : List ℤ) → stack ≡ beneath ++ taken → last_of stack (length taken) ≡ taken
-last-is stack beneath taken e =
-    let all : length stack ≡ length beneath + length taken = ap length e ∙ length-append beneath taken in
-    let far : length stack - length taken ≡ length beneath = omega arith in
-    ap (λ k. drop_of k stack) far ∙ ap (drop_of (length beneath)) e ∙ drop-append_seam beneath taken
+last-is stack beneath taken e = grind (arith, nat_tests, common_steps, length-append, drop-append_seam)
 
 -- the width is settled beneath the operands taken
 settled-is : (before : Option (Option ℤ)) (stack beneath taken : List ℤ) (width : Option ℤ) → stack ≡ beneath ++ taken → IsSettled before beneath width →
@@ -295,28 +198,20 @@ settled-is _ stack _ taken _ e (operand_beneath lower x) =
     let far : length stack - length taken - 1 ≡ length lower = omega arith in
     ap (λ t. if t then None else slice_get stack (length stack - length taken - 1)) test
     ∙ ap (slice_get stack) far ∙ ap (λ s. slice_get s (length lower)) (e ∙ append_assoc lower (x ∷ []) taken) ∙ get-seam lower x taken
-settled-is _ stack _ taken _ e nothing_beneath =
-    let test : (length taken == length stack) ≡ true = (let same : length stack ≡ length taken = ap length e in grind (arith, nat_tests)) in
-    ap (λ t. if t then None else slice_get stack (length stack - length taken - 1)) test
+settled-is _ stack _ taken _ e nothing_beneath = grind (arith, length-append, nat_tests, get-seam)
 
 clearing-is : (st : State) (stems : ℕ) (beneath taken : List ℤ) (width : Option ℤ) → st.stack ≡ beneath ++ taken → IsSettled st.width beneath width →
     clearing st stems (Some (length taken)) ≡ Clears taken stems width 0
-clearing-is st stems beneath taken width e h =
-    ap (λ t. Clears t stems (settled st.width st.stack (length taken)) 0) (last-is st.stack beneath taken e)
-    ∙ ap (λ w. Clears taken stems w 0) (settled-is st.width st.stack beneath taken width e h)
+clearing-is st stems beneath taken width e h = grind (arith, last-is, settled-is)
 
 stems-are : (st : State) (stems : ℕ) → StemsAfter st stems → stems_after st ≡ stems
 stems-are st _ (in_pairs n odd few all) = omega arith
 
 within : (stems : ℕ) (move : Move) → stems < 2 ^ 32 → with_stems stems move ≡ move
-within stems move h =
-    let test : nat_lt stems (2 ^ 32) ≡ true = grind (arith, nat_tests) in
-    ap (λ t. if t then move else Refuses too_many_stems) test
+within stems move h = grind arith
 
 too_many : (stems : ℕ) (move : Move) → 2 ^ 32 ≤ stems → with_stems stems move ≡ Refuses too_many_stems
-too_many stems move h =
-    let test : nat_lt stems (2 ^ 32) ≡ false = grind (arith, nat_tests) in
-    ap (λ t. if t then move else Refuses too_many_stems) test
+too_many stems move h = grind arith
 
 -- how many of the operands an operator of a kind takes
 taken-by : (op : Operator) (k : Kind) (n : ℕ) → kind op ≡ k → taken_of op n ≡ greatest (lengths k) n
@@ -333,40 +228,25 @@ mask-is st stems beneath pairs width e few even h =
 
 end-is : (before : Option (Option ℤ)) (stack beneath : List ℤ) (width : Option ℤ) → TakesAtEnd stack beneath → IsSettled before beneath width →
     settled before stack (if nat_lt (length stack) 4 then 0 else 4) ≡ width
-end-is before _ _ width (last_four beneath taken n) h =
-    let all : length (beneath ++ taken) ≡ length beneath + length taken = length-append beneath taken in
-    let test : nat_lt (length (beneath ++ taken)) 4 ≡ false = grind (arith, nat_tests) in
-    ap (λ t. settled before (beneath ++ taken) (if t then 0 else 4)) test
-    ∙ ap (settled before (beneath ++ taken)) (sym n)
-    ∙ settled-is before (beneath ++ taken) beneath taken width refl h
+end-is before _ _ width (last_four beneath taken n) h = grind (arith, length-append, nat_tests, settled-is, append-nil)
 end-is before _ _ width (fewer stack few) h =
     let test : nat_lt (length stack) 4 ≡ true = grind (arith, nat_tests) in
-    ap (λ t. settled before stack (if t then 0 else 4)) test
-    ∙ settled-is before stack stack [] width (sym (append-nil stack)) h
+    ap (λ t. settled before stack (if t then 0 else 4)) test ∙ settled-is before stack stack [] width (sym (append-nil stack)) h
 
 does-on : (lists : Lists) (op : Operator) (behind : List ℕ) (st : State) (move : Move) → Does lists op behind st move → effect lists op behind st ≡ move
 does-on lists op behind st _ (makes beneath taken left new is e) = ap (on lists op behind st) e ∙ makes-on lists op behind st beneath taken left new is
 does-on lists op behind st _ (refused e is) = refused-on lists op behind st st.stack e is
 does-on lists op behind st _ (without_meaning part k) = ap (λ k. effect_of k lists op behind st) k
-does-on lists op behind st _ (draws takes beneath taken width k h settles) =
-    ap (λ k. effect_of k lists op behind st) k
+does-on lists op behind st _ (draws takes beneath taken width k h settles) = ap (λ k. effect_of k lists op behind st) k
     ∙ ap (clearing st st.stems) (taken-by op (Draws takes) (length st.stack) k ∙ most-taken takes st.stack beneath taken h)
     ∙ clearing-is st st.stems beneath taken width h.parts settles
-does-on lists op behind st _ (draws_none takes k h) =
-    ap (λ k. effect_of k lists op behind st) k ∙ ap (clearing st st.stems) (taken-by op (Draws takes) (length st.stack) k ∙ none-taken takes st.stack h)
-does-on lists op behind st _ (declares takes beneath taken width stems k counts few h settles) =
-    ap (λ k. effect_of k lists op behind st) k
+does-on lists op behind st _ (draws_none takes k h) = grind (arith, taken-by, none-taken)
+does-on lists op behind st _ (declares takes beneath taken width stems k counts few h settles) = ap (λ k. effect_of k lists op behind st) k
     ∙ ap (λ o. with_stems (stems_after st) (clearing st (stems_after st) o)) (taken-by op (DeclaresStems takes) (length st.stack) k ∙ most-taken takes st.stack beneath taken h)
     ∙ ap (λ stems. with_stems stems (clearing st stems (Some (length taken)))) (stems-are st stems counts)
     ∙ within stems (clearing st stems (Some (length taken))) few ∙ clearing-is st stems beneath taken width h.parts settles
-does-on lists op behind st _ (declares_none takes stems k counts few h) =
-    ap (λ k. effect_of k lists op behind st) k
-    ∙ ap (λ o. with_stems (stems_after st) (clearing st (stems_after st) o)) (taken-by op (DeclaresStems takes) (length st.stack) k ∙ none-taken takes st.stack h)
-    ∙ ap (λ stems. with_stems stems (Refuses malformed_operands)) (stems-are st stems counts) ∙ within stems (Refuses malformed_operands) few
-does-on lists op behind st _ (declares_too_many takes stems k counts many) =
-    ap (λ k. effect_of k lists op behind st) k
-    ∙ ap (λ stems. with_stems stems (clearing st stems (taken_of op (length st.stack)))) (stems-are st stems counts)
-    ∙ too_many stems (clearing st stems (taken_of op (length st.stack))) many
+does-on lists op behind st _ (declares_none takes stems k counts few h) = grind (arith, taken-by, none-taken, stems-are, within)
+does-on lists op behind st _ (declares_too_many takes stems k counts many) = grind (arith, stems-are, too_many)
 does-on lists op behind st _ (masks beneath pairs width stems k counts few bytes e small even settles) =
     let there : nat_lt (length behind) (mask_len stems) ≡ false = grind (arith, nat_tests) in
     ap (λ k. effect_of k lists op behind st) k
@@ -374,32 +254,14 @@ does-on lists op behind st _ (masks beneath pairs width stems k counts few bytes
     (taken-by op (Masks (exactly 0)) (length st.stack) k ∙ exactly-taken 0 (length st.stack) (omega arith))
     ∙ ap (λ stems. with_stems stems (if nat_lt (length behind) (mask_len stems) then Refuses unexpected_eof else mask_clearing st stems (Some 0))) (stems-are st stems counts)
     ∙ within stems (if nat_lt (length behind) (mask_len stems) then Refuses unexpected_eof else mask_clearing st stems (Some 0)) few
-    ∙ ap (λ t. if t then Refuses unexpected_eof else mask_clearing st stems (Some 0)) there
-    ∙ mask-is st stems beneath pairs width e small even settles
-does-on lists op behind st _ (masks_cut takes stems k counts few missing) =
-    let short : nat_lt (length behind) (mask_len stems) ≡ true = grind (arith, nat_tests) in
-    ap (λ k. effect_of k lists op behind st) k
-    ∙ ap (λ stems. with_stems stems (if nat_lt (length behind) (mask_len stems) then Refuses unexpected_eof else mask_clearing st stems (taken_of op (length st.stack)))) (stems-are st stems counts)
-    ∙ within stems (if nat_lt (length behind) (mask_len stems) then Refuses unexpected_eof else mask_clearing st stems (taken_of op (length st.stack))) few
-    ∙ ap (λ t. if t then Refuses unexpected_eof else mask_clearing st stems (taken_of op (length st.stack))) short
-does-on lists op behind st _ (masks_too_many takes stems k counts many) =
-    ap (λ k. effect_of k lists op behind st) k
-    ∙ ap (λ stems. with_stems stems (if nat_lt (length behind) (mask_len stems) then Refuses unexpected_eof else mask_clearing st stems (taken_of op (length st.stack)))) (stems-are st stems counts)
-    ∙ too_many stems (if nat_lt (length behind) (mask_len stems) then Refuses unexpected_eof else mask_clearing st stems (taken_of op (length st.stack))) many
-does-on lists op behind st _ (calls routines beneath n routine k e there) =
-    ap (λ k. effect_of k lists op behind st) k ∙ ap (λ stack. call_move (subroutine (routines lists) stack)) e
-    ∙ ap call_move (whole-popped beneath n (λ number. given (ok_or (named (routines lists) number) missing_subroutine)))
-    ∙ ap (λ o. call_move (given (ok_or o missing_subroutine) beneath)) there
-does-on lists op behind st _ (calls_no_number routines k h) =
-    ap (λ k. effect_of k lists op behind st) k
-    ∙ ap (λ r. call_move (after r (λ number. given (ok_or (named (routines lists) number) missing_subroutine)))) (no-whole st.stack h)
-does-on lists op behind st _ (calls_nothing routines beneath n k e missing) =
-    ap (λ k. effect_of k lists op behind st) k ∙ ap (λ stack. call_move (subroutine (routines lists) stack)) e
-    ∙ ap call_move (whole-popped beneath n (λ number. given (ok_or (named (routines lists) number) missing_subroutine)))
-    ∙ ap (λ o. call_move (given (ok_or o missing_subroutine) beneath)) missing
+    ∙ ap (λ t. if t then Refuses unexpected_eof else mask_clearing st stems (Some 0)) there ∙ mask-is st stems beneath pairs width e small even settles
+does-on lists op behind st _ (masks_cut takes stems k counts few missing) = grind (arith, nat_tests, stems-are, within)
+does-on lists op behind st _ (masks_too_many takes stems k counts many) = grind (arith, stems-are, too_many)
+does-on lists op behind st _ (calls routines beneath n routine k e there) = grind (arith, whole-popped)
+does-on lists op behind st _ (calls_no_number routines k h) = grind (arith, no-whole)
+does-on lists op behind st _ (calls_nothing routines beneath n k e missing) = grind (arith, whole-popped)
 does-on lists op behind st _ (returns k) = ap (λ k. effect_of k lists op behind st) k
-does-on lists op behind st _ (ends beneath width k h settles) =
-    ap (λ k. effect_of k lists op behind st) k ∙ ap Ends (end-is st.width st.stack beneath width h settles)
+does-on lists op behind st _ (ends beneath width k h settles) = grind (arith, end-is)
 
 -- Each operator does something from each state.
 abbrev Found : Lists → Operator → (behind : List ℕ) → State → Type 0
@@ -435,14 +297,12 @@ ones lists op behind st many go = found-one lists op behind st 0 many st.stack r
 
 twos : (lists : Lists) (op : Operator) (behind : List ℕ) (st : State) → pops op ≡ 2 →
     ((beneath : List ℤ) (a b : ℤ) → st.stack ≡ beneath ++ (a ∷ b ∷ []) → Found lists op behind st) → Found lists op behind st
-twos lists op behind st many go =
-    found-one lists op behind st 1 many st.stack refl (ending st.stack)
+twos lists op behind st many go = found-one lists op behind st 1 many st.stack refl (ending st.stack)
     (λ under b is. found-next lists op behind st 2 (b ∷ []) many (omega arith) under is (ending under) (λ beneath a is. go beneath a b is))
 
 fours : (lists : Lists) (op : Operator) (behind : List ℕ) (st : State) → pops op ≡ 4 →
     ((beneath : List ℤ) (p q v w : ℤ) → st.stack ≡ beneath ++ (p ∷ q ∷ v ∷ w ∷ []) → Found lists op behind st) → Found lists op behind st
-fours lists op behind st many go =
-    found-one lists op behind st 3 many st.stack refl (ending st.stack)
+fours lists op behind st many go = found-one lists op behind st 3 many st.stack refl (ending st.stack)
     (λ third w is. found-next lists op behind st 4 (w ∷ []) many (omega arith) third is (ending third)
     (λ second v is. found-next lists op behind st 4 (v ∷ w ∷ []) many (omega arith) second is (ending second)
     (λ first q is. found-next lists op behind st 4 (q ∷ v ∷ w ∷ []) many (omega arith) first is (ending first)
@@ -547,8 +407,7 @@ abbrev RootOf : ℕ → Type 0
 RootOf n = (r : ℕ) × (r * r ≤ n) × (n < (r + 1) * (r + 1))
 
 next-root : (n r : ℕ) → r * r ≤ n → n < (r + 1) * (r + 1) → (suc n < (r + 1) * (r + 1)) ⊎ ((r + 1) * (r + 1) ≤ suc n) → RootOf (suc n)
-next-root n r under above (inl low) = (r, omega arith, low)
-next-root n r under above (inr high) = (r + 1, high, let up : (r + 1 + 1) * (r + 1 + 1) ≡ (r + 1) * (r + 1) + (r + 1) + (r + 1) + 1 = omega arith in omega arith)
+next-root n r under above h2 = grind arith
 
 root-of : (n : ℕ) → RootOf n
 root-of zero = (0, omega arith, omega arith)
@@ -564,12 +423,10 @@ found-div : (lists : Lists) (behind : List ℕ) (st : State) (beneath : List ℤ
 found-div lists behind st beneath a (pos zero) is = found-refused lists Div behind st (beneath ++ (a ∷ pos 0 ∷ [])) zero_divisor is (zero_divisor_on_top beneath a)
 found-div lists behind st beneath a (pos (suc n)) is =
     found-result lists Div behind st beneath (a ∷ pos (suc n) ∷ []) (cut (a *ℤ pos 65536) (pos (suc n))) is (div a (pos (suc n)) (λ e. let no : suc n ≡ 0 = cc in omega arith))
-found-div lists behind st beneath a (negsuc n) is =
-    found-result lists Div behind st beneath (a ∷ negsuc n ∷ []) (cut (a *ℤ pos 65536) (negsuc n)) is (div a (negsuc n) (λ e. cc))
+found-div lists behind st beneath a (negsuc n) is = found-result lists Div behind st beneath (a ∷ negsuc n ∷ []) (cut (a *ℤ pos 65536) (negsuc n)) is (div a (negsuc n) (λ e. cc))
 
 found-if : (lists : Lists) (behind : List ℕ) (st : State) (beneath : List ℤ) (p q v w : ℤ) → st.stack ≡ beneath ++ (p ∷ q ∷ v ∷ w ∷ []) → Found lists IfElse behind st
-found-if lists behind st beneath p q v w is =
-    by_lt_z w v (λ above. found-left lists IfElse behind st beneath (p ∷ q ∷ v ∷ w ∷ []) (q ∷ []) is (if_above p q v w above))
+found-if lists behind st beneath p q v w is = by_lt_z w v (λ above. found-left lists IfElse behind st beneath (p ∷ q ∷ v ∷ w ∷ []) (q ∷ []) is (if_above p q v w above))
     (λ under. found-left lists IfElse behind st beneath (p ∷ q ∷ v ∷ w ∷ []) (p ∷ []) is (if_not_above p q v w under))
 
 -- the longest end that an operator may take, or none
@@ -577,22 +434,11 @@ abbrev Longest : (ℕ → Bool) → ℕ → Type 0
 Longest takes n = (k : ℕ) × (k ≤ n) × IsTrue (takes k) × ((j : ℕ) → k < j → j ≤ n → ¬ IsTrue (takes j))
 
 decided : (b : Bool) → (IsTrue b) ⊎ (IsTrue b → ⊥)
-decided true = inl refl
-decided false = inr (λ h. cc)
+decided b = grind arith
 
 longer : (takes : ℕ → Bool) (n : ℕ) → (IsTrue (takes (suc n))) ⊎ (IsTrue (takes (suc n)) → ⊥) → (Longest takes n) ⊎ ((j : ℕ) → j ≤ n → ¬ IsTrue (takes j)) →
     (Longest takes (suc n)) ⊎ ((j : ℕ) → j ≤ suc n → ¬ IsTrue (takes j))
-longer takes n (inl here) before = inl (suc n, omega arith, here, λ j above under. absurd (omega arith))
-longer takes n (inr other) (inl one) = inl (one.0, (let low : one.0 ≤ n = one.1 in omega arith), one.2, λ j above under. by_size j above under (cases_lt n j))
-  where
-    by_size : (j : ℕ) → one.0 < j → j ≤ suc n → (n < j) ⊎ (j ≤ n) → ¬ IsTrue (takes j)
-    by_size j above under (inl past) = let same : j ≡ suc n = omega arith in subst (λ i. ¬ IsTrue (takes i)) (sym same) other
-    by_size j above under (inr low) = one.3 j above low
-longer takes n (inr other) (inr nowhere) = inr (λ j under. by_size j under (cases_lt n j))
-  where
-    by_size : (j : ℕ) → j ≤ suc n → (n < j) ⊎ (j ≤ n) → ¬ IsTrue (takes j)
-    by_size j under (inl past) = let same : j ≡ suc n = omega arith in subst (λ i. ¬ IsTrue (takes i)) (sym same) other
-    by_size j under (inr low) = nowhere j low
+longer takes n h0 before = grind arith
 
 longest : (takes : ℕ → Bool) (n : ℕ) → (Longest takes n) ⊎ ((j : ℕ) → j ≤ n → ¬ IsTrue (takes j))
 longest takes zero = by_test (decided (takes 0))

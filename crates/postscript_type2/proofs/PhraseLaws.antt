@@ -25,14 +25,8 @@ neither t u h = grind arith
 no-number_by : (b : ℕ) → (b == 0x1c) ≡ false → b < 0x20 → is_number b ≡ false
 no-number_by b e low = ap (λ t. t || nat_lt 0x1f b) e ∙ le-ltb 0x1f b (omega (arith, low))
 
--- which reading a first byte begins
-pub hit : (b : Bool) (x y : Reading ℤ) (bytes : List ℕ) (place : ℕ) → b ≡ true → (if b then x else y) bytes place ≡ x bytes place
-hit true x y bytes place h = refl
-hit false x y bytes place h = absurd (cc)
-
 pub skip : (b : Bool) (x y : Reading ℤ) (bytes : List ℕ) (place : ℕ) → b ≡ false → (if b then x else y) bytes place ≡ y bytes place
-skip true x y bytes place h = absurd (cc)
-skip false x y bytes place h = refl
+skip b x y bytes place h = grind arith
 
 abbrev two : Reading ℤ
 two = unsigned 2 >>= λ n. pure (whole (two_sided 0x8000 n))
@@ -95,15 +89,12 @@ reads-number number x (spellings.of_bits b a c d e low) = (
   λ tail. reads-bits b (a ∷ c ∷ d ∷ e ∷ tail) low ∙ unsigned-there 4 (two_sided 0x80000000) (a ∷ c ∷ d ∷ e ∷ tail) (omega arith),
 )
 
-cons-parts : (x y : ℕ) (xs ys : List ℕ) → x ∷ xs ≡ y ∷ ys → (x ≡ y) × (xs ≡ ys)
-cons-parts x y xs ys h = (cc, cc)
-
 same-next : (x y : ℤ) (m n : ℕ) → Got x m ≡ Got y n → m ≡ n
 same-next x y m n h = cc
 
 -- the same by the first byte
 spelled-front : (b : ℕ) (s : List ℕ) (x : ℤ) → IsNumber (b ∷ s) x → (tail : List ℕ) → (is_number b ≡ true) × (spelled b (s ++ tail) 0 ≡ Got x (length s))
-spelled-front b s x is tail = grind (arith, reads-number, cons-parts)
+spelled-front b s x is tail = grind (arith, reads-number)
 
 -- the forms of a first byte
 abbrev pub Form : ℕ → Type 0
@@ -128,8 +119,7 @@ number-at b r (inl e) = subst (λ c. Stands c r ⊎ IsCut c r) (sym e) (at_two r
     at_two (a ∷ []) = inr (0 ∷ [], _, unsigned-cut 2 (λ n. whole (two_sided 0x8000 n)) (a ∷ []) (omega arith), λ e. cc, spellings.of_two_bytes a 0)
     at_two (a ∷ c ∷ t) = inl (2, _, unsigned-there 2 (λ n. whole (two_sided 0x8000 n)) (a ∷ c ∷ t) (omega arith), spellings.of_two_bytes a c, omega arith)
 number-at b r (inr (inl h)) = inl (0, _, reads-small b r h.0 h.1, spellings.small b h.0 h.1, omega arith)
-number-at b [] (inr (inr (inl h))) =
-    inr (0 ∷ [], _, reads-above b [] h.0 h.1 ∙ unsigned-cut 1 (λ s. whole (above b s)) [] (omega arith), λ e. cc, spellings.positive b 0 h.0 h.1)
+number-at b [] (inr (inr (inl h))) = inr (0 ∷ [], _, reads-above b [] h.0 h.1 ∙ unsigned-cut 1 (λ s. whole (above b s)) [] (omega arith), λ e. cc, spellings.positive b 0 h.0 h.1)
 number-at b (s ∷ t) (inr (inr (inl h))) =
     let n : big_endian (s ∷ []) ≡ s = omega arith in
     inl (1, _, reads-above b (s ∷ t) h.0 h.1 ∙ unsigned-there 1 (λ s. whole (above b s)) (s ∷ t) (omega arith) ∙ ap (λ s. Got (whole (above b s)) 1) n, spellings.positive b s h.0 h.1, omega arith)
@@ -160,8 +150,7 @@ number-before number x is tail =
     let s = read.1 in (
       length s,
       ap length read.2,
-      ap (λ bytes. phrase (bytes ++ tail)) read.2
-          ∙ number-first b (s ++ tail) x (length s) read.3 (read.4 tail)
+      ap (λ bytes. phrase (bytes ++ tail)) read.2 ∙ number-first b (s ++ tail) x (length s) read.3 (read.4 tail)
           ∙ ap (with_number x) (phrase-from (length s) (s ++ tail) ∙ ap (λ rest. fronted [] (length s) (phrase rest)) (drop-append_seam s tail)),
     )
 
@@ -202,8 +191,7 @@ cut-phrase (b ∷ r) (m ∷ ms) w x some more e is = by_read (number-at b r (for
     begins = (spelled-front b (r ++ m ∷ ms) x whole []).0
 
     by_read : Stands b r ⊎ IsCut b r → phrase (b ∷ r) ≡ NoPhrase unexpected_eof
-    by_read (inr cut) =
-        ap (λ v. cond v (numbered (spelled b r 0) (λ more. phrase_after more r)) (ending b r)) begins ∙ ap (λ o. numbered o (λ more. phrase_after more r)) cut.2
+    by_read (inr cut) = ap (λ v. cond v (numbered (spelled b r 0) (λ more. phrase_after more r)) (ending b r)) begins ∙ ap (λ o. numbered o (λ more. phrase_after more r)) cut.2
     by_read (inl there) =
         let more = there.0 in
         let short = (spelled-front b (take more r) there.1 there.3 (drop more r ++ m ∷ ms)).1 in

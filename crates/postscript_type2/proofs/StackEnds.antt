@@ -1,14 +1,14 @@
 -- Works on the end of a stack.
-use Rattle.std.proofs.Math.Seq.{take-append_seam}
+use Rattle.std.proofs.lemmas.Grind.{common_steps}
+use Rattle.std.proofs.Math.Seq.{take-append_seam, get_or-append_seam}
 use Rattle.std.proofs.lemmas.Option.{slice_get-get_or}
-use Rattle.std.proofs.Math.Seq.{get_or-append_seam}
 use Rattle.std.proofs.lemmas.Bool.Decides.{nat_tests}
-use Rattle.std.proofs.Common.{◌≡◌, ap, sym, ◌∙◌, ℕ, ◌+◌, ◌-◌, ◌≤◌, ℤ, int_le, nat_lt, true, false, List, [], ◌∷◌, ◌++◌, length, length-append, append_assoc, slice_get, Some, None, Result, Ok, Err, if◌then◌else◌, arith}
+use Rattle.std.proofs.Common.{◌≡◌, ap, sym, ◌∙◌, ℕ, ◌+◌, ◌-◌, ◌≤◌, ℤ, int_le, nat_lt, true, List, [], ◌∷◌, ◌++◌, length, length-append, append_assoc, slice_get, Some, None, Result, Ok, Err, if◌then◌else◌, arith}
 use Rattle.std.specs.Option.{ok_or}
-use Rattle.postscript_base.specs.Refusal.{Refusal, expected_operand, expected_integer, expected_more_operands}
-use Rattle.postscript_type2.specs.Number.{whole, to_int}
+use Rattle.postscript_base.specs.Refusal.{Refusal, expected_operand, expected_more_operands}
+use Rattle.postscript_type2.specs.Number.{whole}
 use Rattle.postscript_type2.specs.Program.Stacks.{one_to_one, two_to_one, choice, removal, exchange}
-use Rattle.postscript_type2.specs.Program.StackWork.{Work, after, ◌>>=◌, given, pop, operand, whole_operand, operand_below, push}
+use Rattle.postscript_type2.specs.Program.StackWork.{Work, ◌>>=◌, given, pop, whole_operand, operand_below, push}
 use Rattle.postscript_type2.proofs.Wholes.{to_int-whole}
 
 -- the item behind a front
@@ -30,21 +30,11 @@ pub ending : (xs : List ℤ) → Ending xs
 ending [] = nothing
 ending (a ∷ xs) = with_front a xs (ending xs)
 
--- the top of a stack
-length-last : (beneath : List ℤ) (x : ℤ) → length (beneath ++ x ∷ []) - 1 ≡ length beneath
-length-last beneath x = omega (arith, length-append beneath (x ∷ []))
-
-pub pop-last : (e : Refusal) (beneath : List ℤ) (x : ℤ) → pop e (beneath ++ x ∷ []) ≡ Ok (x, beneath)
-pop-last e beneath x =
-    rw (length-last beneath x, get-seam beneath x [], take-append_seam beneath (x ∷ []))
-
 pub popped : {B : Type 0} (e : Refusal) (beneath : List ℤ) (x : ℤ) (next : ℤ → Work B) → (pop e >>= next) (beneath ++ x ∷ []) ≡ next x beneath
-popped e beneath x next = ap (λ r. after r next) (pop-last e beneath x)
+popped e beneath x next = grind (arith, nat_tests, common_steps, get-seam, take-append_seam, length-append)
 
 pub whole-popped : {B : Type 0} (beneath : List ℤ) (n : ℤ) (next : ℤ → Work B) → (whole_operand >>= next) (beneath ++ whole n ∷ []) ≡ next n beneath
-whole-popped beneath n next =
-    ap (λ r. after r next) (popped expected_integer beneath (whole n) (λ bits. given (ok_or (to_int bits) expected_integer))
-    ∙ ap (λ o. given (ok_or o expected_integer) beneath) (to_int-whole n))
+whole-popped beneath n next = grind (arith, popped, to_int-whole)
 
 pub two-last : (beneath : List ℤ) (a b : ℤ) → beneath ++ (a ∷ b ∷ []) ≡ (beneath ++ a ∷ []) ++ b ∷ []
 two-last beneath a b = sym (append_assoc beneath (a ∷ []) (b ∷ []))
@@ -53,32 +43,20 @@ pub one-last : (f : ℤ → Result ℤ Refusal) (beneath : List ℤ) (a : ℤ) �
 one-last f beneath a = popped expected_operand beneath a (λ a. given (f a) >>= push)
 
 pub two-lasts : (f : ℤ → ℤ → Result ℤ Refusal) (beneath : List ℤ) (a b : ℤ) → two_to_one f (beneath ++ (a ∷ b ∷ [])) ≡ (given (f a b) >>= push) beneath
-two-lasts f beneath a b =
-    ap (two_to_one f) (two-last beneath a b)
-    ∙ popped expected_operand (beneath ++ a ∷ []) b (λ b. operand >>= λ a. given (f a b) >>= push)
-    ∙ popped expected_operand beneath a (λ a. given (f a b) >>= push)
+two-lasts f beneath a b = grind (arith, two-last, popped)
 
 -- four popped one after the other
 four-last : (beneath : List ℤ) (p q v w : ℤ) → beneath ++ (p ∷ q ∷ v ∷ w ∷ []) ≡ (((beneath ++ p ∷ []) ++ q ∷ []) ++ v ∷ []) ++ w ∷ []
 four-last beneath p q v w = simp append_assoc
 
 pub choice-last : (beneath : List ℤ) (p q v w : ℤ) → choice (beneath ++ (p ∷ q ∷ v ∷ w ∷ [])) ≡ Ok (tt, beneath ++ (if int_le v w then p else q) ∷ [])
-choice-last beneath p q v w =
-    ap choice (four-last beneath p q v w)
-    ∙ popped expected_operand (((beneath ++ p ∷ []) ++ q ∷ []) ++ v ∷ []) w (λ w. operand >>= λ v. operand >>= λ q. operand >>= λ p. push (if int_le v w then p else q))
-    ∙ popped expected_operand ((beneath ++ p ∷ []) ++ q ∷ []) v (λ v. operand >>= λ q. operand >>= λ p. push (if int_le v w then p else q))
-    ∙ popped expected_operand (beneath ++ p ∷ []) q (λ q. operand >>= λ p. push (if int_le v w then p else q))
-    ∙ popped expected_operand beneath p (λ p. push (if int_le v w then p else q))
+choice-last beneath p q v w = grind (arith, four-last, popped)
 
 pub removal-last : (beneath : List ℤ) (a : ℤ) → removal (beneath ++ a ∷ []) ≡ Ok (tt, beneath)
 removal-last beneath a = popped expected_operand beneath a (λ _. given (Ok tt))
 
 pub exchange-last : (beneath : List ℤ) (a b : ℤ) → exchange (beneath ++ (a ∷ b ∷ [])) ≡ Ok (tt, beneath ++ (b ∷ a ∷ []))
-exchange-last beneath a b =
-    ap exchange (two-last beneath a b)
-    ∙ popped expected_operand (beneath ++ a ∷ []) b (λ b. operand >>= λ a. push b >>= λ _. push a)
-    ∙ popped expected_operand beneath a (λ a. push b >>= λ _. push a)
-    ∙ ap (λ stack. Ok (tt, stack)) (sym (two-last beneath b a))
+exchange-last beneath a b = grind (arith, two-last, popped)
 
 -- an operand so far down, and where none is
 pub below-there : (beneath : List ℤ) (x : ℤ) (above : List ℤ) → operand_below (length above) (beneath ++ x ∷ above) ≡ Ok (x, beneath ++ x ∷ above)
@@ -91,6 +69,4 @@ below-there beneath x above =
     (ap (λ b. if b then slice_get (beneath ++ x ∷ above) (length (beneath ++ x ∷ above) - 1 - length above) else None) test ∙ found)
 
 pub below-past : (stack : List ℤ) (i : ℕ) → length stack ≤ i → operand_below i stack ≡ Err expected_more_operands
-below-past stack i past =
-    let test : nat_lt i (length stack) ≡ false = grind (arith, nat_tests) in
-    ap (λ b. given (ok_or (if b then slice_get stack (length stack - 1 - i) else None) expected_more_operands) stack) test
+below-past stack i past = grind arith

@@ -1,8 +1,9 @@
 -- What stays of a phrase, by the rules and as it is computed.
+use Rattle.std.proofs.lemmas.Grind.{common_steps}
 use Rattle.std.proofs.Math.Seq.{take-append_seam, drop-append_seam}
 use Rattle.std.proofs.lemmas.Bool.Decides.{nat_tests}
 use Rattle.std.proofs.lemmas.List.{append-nil}
-use Rattle.std.proofs.Common.{◌≡◌, refl, ap, sym, subst, ◌∙◌, ◌⊎◌, inl, inr, ℕ, ◌-◌, Bool, true, false, nat_lt, ◌==◌, List, [], ◌∷◌, ◌++◌, take, drop, length, length-append, append_assoc, ℤ, Option, Some, None, option_map, if◌then◌else◌, arith}
+use Rattle.std.proofs.Common.{◌≡◌, refl, ap, sym, subst, ◌∙◌, ◌⊎◌, inl, inr, ℕ, Bool, true, false, nat_lt, ◌==◌, List, [], ◌∷◌, ◌++◌, length, length-append, append_assoc, ℤ, Option, Some, None, if◌then◌else◌, arith}
 use Rattle.postscript_type2.specs.declared.operation.Operator.{Operator}
 use Rattle.postscript_type2.specs.Operation.Kinds.{Kind, CallsFrom, GoesBack, kind}
 use Rattle.postscript_type2.specs.Program.Flat.{without_operator}
@@ -22,16 +23,7 @@ after-number number (Some front) = number ++ front
 
 number-by : (first : ℕ) (tail rest : List ℕ) → behind_first first ≡ length tail → before_last ((first ∷ tail) ++ rest) ≡ Some (after-number (first ∷ tail) (before_last rest))
 unfolding after-number
-number-by first tail rest long =
-    ap (λ o. Some (unless_last first o)) (past-is (behind_first first) (tail ++ rest))
-    ∙ ap (λ n. Some (unless_last first (option_map (λ f. take n (tail ++ rest) ++ f) (before_last (drop n (tail ++ rest)))))) long
-    ∙ ap (λ xs. Some (unless_last first (option_map (λ f. xs ++ f) (before_last (drop (length tail) (tail ++ rest)))))) (take-append_seam tail rest)
-    ∙ ap (λ xs. Some (unless_last first (option_map (λ f. tail ++ f) (before_last xs)))) (drop-append_seam tail rest)
-    ∙ by_last (before_last rest)
-  where
-    by_last : (o : Option (List ℕ)) → Some (unless_last first (option_map (λ f. tail ++ f) o)) ≡ Some (after-number (first ∷ tail) o)
-    by_last None = refl
-    by_last (Some front) = refl
+number-by first tail rest long = grind (arith, past-is, take-append_seam, drop-append_seam, after-number)
 
 -- how many bytes follow the first one
 count : (word small two : Bool) → ℕ
@@ -57,18 +49,13 @@ number-before number x (spellings.of_bits first a b c d low) rest =
 last-is : (front : List ℕ) (before : List ℤ) → IsNumbers front before → (number : List ℕ) (x : ℤ) → IsNumber number x → before_last (front ++ number) ≡ Some front
 unfolding after-number
 last-is front before rules.none number x is = ap before_last (sym (append-nil number)) ∙ number-before number x is []
-last-is front before (rules.one_more n m y ys first more) number x is =
-    ap before_last (append_assoc n m number) ∙ number-before n y first (m ++ number) ∙ ap (λ o. Some (after-number n o)) (last-is m ys more number x is)
+last-is front before (rules.one_more n m y ys first more) number x is = grind (arith, nat_tests, common_steps, number-before, after-number, last-is m ys more number x is)
 
 without-code : (numbers : List ℕ) (code : ℕ) → without_operator (numbers ++ code ∷ []) ≡ numbers
-without-code numbers code =
-    let n : length (numbers ++ code ∷ []) - 1 ≡ length numbers = let l = length-append numbers (code ∷ []) in omega (arith, l) in
-    ap (λ k. take k (numbers ++ code ∷ [])) n ∙ take-append_seam numbers (code ∷ [])
+without-code numbers code = grind (arith, nat_tests, common_steps, length-append, take-append_seam)
 
 flat-own : (op : Operator) (bytes : List ℕ) (k : Kind) → is_flat_kind k ≡ true → piece_of k op bytes ≡ Stands (by op bytes)
-flat-own op bytes (CallsFrom routines) own = absurd (cc)
-flat-own op bytes GoesBack own = absurd (cc)
-flat-own op bytes k own = refl
+flat-own op bytes k own = grind arith
 
 stays-so : (op : Operator) (bytes : List ℕ) (p : Piece) → Stays op bytes p → piece (by op bytes) ≡ p
 stays-so op bytes p (rules.of_call front number code before x op' routines is first last) =
@@ -92,9 +79,7 @@ split numbers xs (rules.one_more n m y ys first more) = by_split (split m ys mor
         inr (n ++ front, number, y ∷ before, x, ap (λ xs. n ++ xs) is ∙ sym (append_assoc n front number), rules.one_more n front y before first some, last)
 
 same-kinds : (k : Kind) → stands_flat k ≡ is_flat_kind k
-same-kinds (CallsFrom routines) = refl
-same-kinds GoesBack = refl
-same-kinds k = refl
+same-kinds k = grind arith
 
 -- a phrase of a call or a return is numbers and then its operator, of one byte
 spelled-so : (bytes : List ℕ) (numbers : List ℤ) (op : Operator) → is_flat op ≡ false → IsPhrase bytes numbers op →

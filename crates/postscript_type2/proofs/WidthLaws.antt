@@ -3,8 +3,8 @@ use Rattle.std.proofs.lemmas.List.Elements.{All-append, All-nil, All-cons, All-h
 use Rattle.std.proofs.Common.{◌≡◌, refl, ap, sym, subst, ◌∙◌, ◌⊎◌, inl, inr, ℕ, suc, ◌<◌, ℤ, List, [], ◌∷◌, ◌++◌, length, Option, Some, None, All, arith}
 use Rattle.postscript_type2.specs.declared.operation.Operator.{Operator}
 use Rattle.postscript_type2.specs.Program.Effects.{State, start, Move, Keeps, Clears, Calls, Ends, pushed, stacked, holding, cleared}
-use Rattle.postscript_type2.specs.Program.Meaning.{answer as answer_of, Moves, Means, used_up, unread, refused as refused_phrase, keeps, clears as clears_phrase, calls_too_deep, calls as calls_phrase, calls_to_stop, calls_to_finish, returns as returns_phrase, returns_nowhere, finishes, Closes, in_outermost, at_last_byte, with_bytes_behind}
-use Rattle.postscript_type2.specs.Program.OperatorRules.{Does, makes, refused, without_meaning, draws, draws_none, declares, declares_none, declares_too_many, masks, masks_cut, masks_too_many, calls, calls_no_number, calls_nothing, returns, ends, IsSettled, settled_before, operand_beneath, nothing_beneath}
+use Rattle.postscript_type2.specs.Program.Meaning.{answer as answer_of, Moves, Means, keeps, clears as clears_phrase, calls as calls_phrase, calls_to_stop, calls_to_finish, returns as returns_phrase, finishes, Closes}
+use Rattle.postscript_type2.specs.Program.OperatorRules.{Does, draws, declares, masks, ends, IsSettled}
 use Rattle.postscript_type2.specs.Program.Routines.{Lists}
 use Rattle.postscript_type2.specs.Program.Runs.{Answer, Said, End, UsedUp, Returned, Finished, Fault, Run, last_width, width_by, width_of}
 use Rattle.postscript_type2.specs.Program.Widths.{FirstSettles, clears as first_clears, ends as first_ends, behind_others, in_subroutine, behind_subroutine, WidthIsSettledOnce, HasWidth, HasNoWidth, EndsWith, NeverFinished}
@@ -17,27 +17,14 @@ MovesWith width (Ends last) = last ≡ width
 MovesWith width move = Unit {0}
 
 stays : (before : Option (Option ℤ)) (beneath : List ℤ) (last width : Option ℤ) → before ≡ Some width → IsSettled before beneath last → last ≡ width
-stays _ _ last width e (settled_before _ _) = cc
-stays _ _ last width e (operand_beneath lower x) = cc
-stays _ _ last width e nothing_beneath = cc
+stays before beneath last width e h1 = grind arith
 
 does-with : (lists : Lists) (op : Operator) (behind : List ℕ) (st : State) (width : Option ℤ) → st.width ≡ Some width → (move : Move) → Does lists op behind st move → MovesWith width move
-does-with lists op behind st width e _ (makes beneath taken left new is at) = tt
-does-with lists op behind st width e _ (refused r is) = tt
-does-with lists op behind st width e _ (without_meaning part k) = tt
 does-with lists op behind st width e _ (draws takes beneath taken last k h settles) = stays st.width beneath last width e settles
-does-with lists op behind st width e _ (draws_none takes k h) = tt
 does-with lists op behind st width e _ (declares takes beneath taken last stems k counts few h settles) = stays st.width beneath last width e settles
-does-with lists op behind st width e _ (declares_none takes stems k counts few h) = tt
-does-with lists op behind st width e _ (declares_too_many takes stems k counts many) = tt
 does-with lists op behind st width e _ (masks beneath rest last stems k counts few bytes at small even settles) = stays st.width beneath last width e settles
-does-with lists op behind st width e _ (masks_cut takes stems k counts few missing) = tt
-does-with lists op behind st width e _ (masks_too_many takes stems k counts many) = tt
-does-with lists op behind st width e _ (calls routines beneath n routine k at there) = tt
-does-with lists op behind st width e _ (calls_no_number routines k h) = tt
-does-with lists op behind st width e _ (calls_nothing routines beneath n k at missing) = tt
-does-with lists op behind st width e _ (returns k) = tt
 does-with lists op behind st width e _ (ends beneath last k h settles) = stays st.width beneath last width e settles
+does-with lists op behind st width e _ _ = tt
 
 moves-with : (lists : Lists) (st : State) (phrase : List ℕ) (numbers : List ℤ) (op : Operator) (behind : List ℕ) (move : Move) (width : Option ℤ) → st.width ≡ Some width →
     Moves lists st phrase numbers op behind move → MovesWith width move
@@ -56,22 +43,16 @@ record Keeping (width : Option ℤ) (answers : List Answer) (end : End) : Type 0
   pub last : EndsSettled width end
 
 closes-with : (width last : Option ℤ) (depth : ℕ) (behind : List ℕ) (end : End) → last ≡ width → Closes last depth behind end → EndsSettled width end
-closes-with width last _ _ _ e (in_outermost behind) = e
-closes-with width last _ _ _ e (at_last_byte depth) = e
-closes-with width last _ _ _ e (with_bytes_behind depth behind inner some) = tt
+closes-with width last depth behind end e h1 = grind arith
 
 keeping : (lists : Lists) (width : Option ℤ) (depth : ℕ) (rest : List ℕ) (st : State) (answers : List Answer) (trace : List Said) (end : End) →
     st.width ≡ Some width → Means lists depth rest st answers trace end → Keeping width answers end
-keeping lists width _ _ _ _ _ _ e (used_up depth st) = record { each = All-nil (λ answer. answer.width ≡ width); last = tt }
-keeping lists width _ _ _ _ _ _ e (unread depth rest st r some none) = record { each = All-nil (λ answer. answer.width ≡ width); last = tt }
-keeping lists width _ _ _ _ _ _ e (refused_phrase depth phrase behind numbers op st r m) = record { each = All-nil (λ answer. answer.width ≡ width); last = tt }
 keeping lists width _ _ _ _ _ _ e (keeps depth phrase behind numbers op st stack stored answers trace end m more) =
     keeping lists width depth behind (holding stack stored st) answers trace end e more
 keeping lists width _ _ _ _ _ _ e (clears_phrase depth phrase mask behind numbers op st taken stems last answers trace end m more) =
     let same : last ≡ width = moves-with lists st phrase numbers op (mask ++ behind) (Clears taken stems last (length mask)) width e m in
     let rest = keeping lists width depth behind (cleared stems last st) answers trace end (ap Some same) more in
     record { each = All-cons (λ answer. answer.width ≡ width) (answer_of op taken last) answers same rest.each; last = rest.last }
-keeping lists width _ _ _ _ _ _ e (calls_too_deep depth phrase behind numbers op st subroutine stack m deep) = record { each = All-nil (λ answer. answer.width ≡ width); last = tt }
 keeping lists width _ _ _ _ _ _ e (calls_phrase depth phrase behind numbers op st subroutine stack inner inner_trace back answers trace end m few within more) =
     let first = keeping lists width (suc depth) subroutine (stacked stack st) inner inner_trace (Returned back) e within in
     let rest = keeping lists width depth behind back answers trace end first.last more in
@@ -82,10 +63,10 @@ keeping lists width _ _ _ _ _ _ e (calls_to_finish depth phrase behind numbers o
     let first = keeping lists width (suc depth) subroutine (stacked stack st) inner inner_trace (Finished last) e within in
     record { each = first.each; last = closes-with width last depth behind end first.last closes }
 keeping lists width _ _ _ _ _ _ e (returns_phrase depth phrase behind numbers op st m inner) = record { each = All-nil (λ answer. answer.width ≡ width); last = e }
-keeping lists width _ _ _ _ _ _ e (returns_nowhere phrase behind numbers op st m) = record { each = All-nil (λ answer. answer.width ≡ width); last = tt }
 keeping lists width _ _ _ _ _ _ e (finishes depth phrase behind numbers op st last end m closes) =
     let same : last ≡ width = moves-with lists st phrase numbers op behind (Ends last) width e m in
     record { each = All-nil (λ answer. answer.width ≡ width); last = closes-with width last depth behind end same closes }
+keeping lists width _ _ _ _ _ _ e _ = record { each = All-nil (λ answer. answer.width ≡ width); last = tt }
 
 -- what is left of a run where no width is settled yet: none is settled in it, or its first settles one
 abbrev NoneSettled : End → Type 0
@@ -130,8 +111,7 @@ past-call lists depth phrase behind numbers op st subroutine stack inner answers
   where
     by_rest : Left lists depth behind back answers end → Left lists depth (phrase ++ behind) st (inner ++ answers) end
     by_rest (unsettled nothing last) = unsettled (ap (λ xs. xs ++ answers) none ∙ nothing) last
-    by_rest (settles width first rest) =
-        settles width
+    by_rest (settles width first rest) = settles width
         (behind_subroutine depth phrase behind numbers op st subroutine stack inner_trace back m few
         (subst (λ xs. Means lists (suc depth) subroutine (stacked stack st) xs inner_trace (Returned back)) none within) first)
         (record { each = subst (λ xs. All (λ answer. answer.width ≡ width) (xs ++ answers)) (sym none) rest.each; last = rest.last })
@@ -141,16 +121,12 @@ closes-none last end h = absurd h
 
 left : (lists : Lists) (depth : ℕ) (rest : List ℕ) (st : State) (answers : List Answer) (trace : List Said) (end : End) →
     st.width ≡ None → Means lists depth rest st answers trace end → Left lists depth rest st answers end
-left lists _ _ _ _ _ _ e (used_up depth st) = unsettled refl tt
-left lists _ _ _ _ _ _ e (unread depth rest st r some none) = unsettled refl tt
-left lists _ _ _ _ _ _ e (refused_phrase depth phrase behind numbers op st r m) = unsettled refl tt
 left lists _ _ _ _ _ _ e (keeps depth phrase behind numbers op st stack stored answers trace end m more) =
     past-kept lists depth phrase behind numbers op st stack stored answers end m (left lists depth behind (holding stack stored st) answers trace end e more)
 left lists _ _ _ _ _ _ e (clears_phrase depth phrase mask behind numbers op st taken stems last answers trace end m more) =
     let rest = keeping lists last depth behind (cleared stems last st) answers trace end refl more in
     settles last (first_clears depth phrase (mask ++ behind) numbers op st taken stems (length mask) m)
     (record { each = All-cons (λ answer. answer.width ≡ last) (answer_of op taken last) answers refl rest.each; last = rest.last })
-left lists _ _ _ _ _ _ e (calls_too_deep depth phrase behind numbers op st subroutine stack m deep) = unsettled refl tt
 left lists _ _ _ _ _ _ e (calls_phrase depth phrase behind numbers op st subroutine stack inner inner_trace back answers trace end m few within more) =
     past-call lists depth phrase behind numbers op st subroutine stack inner answers inner_trace trace back end m few within more
     (left lists (suc depth) subroutine (stacked stack st) inner inner_trace (Returned back) e within)
@@ -162,21 +138,15 @@ left lists _ _ _ _ _ _ e (calls_to_finish depth phrase behind numbers op st subr
     past-inner lists depth phrase behind numbers op st subroutine stack inner (Finished last) end m few (closes-none last end) (λ width h. closes-with width last depth behind end h closes)
     (left lists (suc depth) subroutine (stacked stack st) inner inner_trace (Finished last) e within)
 left lists _ _ _ _ _ _ e (returns_phrase depth phrase behind numbers op st m inner) = unsettled refl e
-left lists _ _ _ _ _ _ e (returns_nowhere phrase behind numbers op st m) = unsettled refl tt
 left lists _ _ _ _ _ _ e (finishes depth phrase behind numbers op st last end m closes) = closes-left lists depth phrase behind numbers op st last end m closes
+left lists _ _ _ _ _ _ e _ = unsettled refl tt
 
 -- of the whole run
 ends-with : (width : Option ℤ) (end : End) → EndsSettled width end → EndsWith width end
-ends-with width (Finished last) h = h
-ends-with width (Returned st) h = tt
-ends-with width UsedUp h = tt
-ends-with width (Fault e) h = tt
+ends-with width end h = grind arith
 
 never : (end : End) → NoneSettled end → NeverFinished end
-never (Finished last) h = h
-never (Returned st) h = tt
-never UsedUp h = tt
-never (Fault e) h = tt
+never end h = grind arith
 
 -- the width of a run that has one: that of its first answer, or of its end
 last-is : (width before : Option ℤ) (answers : List Answer) → All (λ answer. answer.width ≡ width) answers → (before ≡ width) ⊎ (0 < length answers) → last_width before answers ≡ width
@@ -186,13 +156,7 @@ last-is width before (answer ∷ answers) h some =
     last-is width answer.width answers (All-tail (λ answer. answer.width ≡ width) answer answers h) (inl (All-head (λ answer. answer.width ≡ width) answer answers h))
 
 none-is : (run : Run) → run.answers ≡ [] → NoneSettled run.end → width_of run ≡ None
-none-is run none not_yet = ap (λ answers. width_by None answers run.end) none ∙ by_end run.end not_yet
-  where
-    by_end : (end : End) → NoneSettled end → width_by None [] end ≡ None
-    by_end (Finished last) h = absurd h
-    by_end (Returned st) h = refl
-    by_end UsedUp h = refl
-    by_end (Fault e) h = refl
+none-is run h0 not_yet = grind arith
 
 abbrev HasOneOrNone : Option ℤ → List Answer → End → Type 0
 HasOneOrNone width answers end = (width_by None answers end ≡ width) ⊎ ((answers ≡ []) × NeverFinished end × (width_by None answers end ≡ None))

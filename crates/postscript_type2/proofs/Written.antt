@@ -2,14 +2,13 @@
 use Rattle.std.proofs.Math.Seq.{drop-cons, take-add, drop-length, take-length}
 use Rattle.std.proofs.lemmas.List.{append-nil, drop-drop, take-append-drop}
 use Rattle.std.proofs.Math.ListN.{drop_of_length-le}
-use Rattle.std.proofs.Common.{◌≡◌, refl, ap, sym, ◌∙◌, ℕ, ◌+◌, ◌-◌, ◌<◌, ◌≤◌, List, [], ◌∷◌, ◌++◌, take, drop, length, append_assoc, get_or, add-one, ◌⊎◌, inl, inr, Option, Some, None, IfSome, option_map, arith}
+use Rattle.std.proofs.Common.{◌≡◌, ap, sym, ◌∙◌, ℕ, ◌+◌, ◌-◌, ◌<◌, ◌≤◌, List, [], ◌∷◌, ◌++◌, take, drop, length, append_assoc, get_or, add-one, ◌⊎◌, Option, Some, None, option_map, arith}
 use Rattle.postscript_type2.specs.declared.operation.Operator.{Operator}
 use Rattle.postscript_type2.specs.declared.operation.Operator.TheVariants.{CallSubr, CallGSubr, Return}
 use Rattle.postscript_type2.specs.declared.program.inlined.Inlined.{Inlined}
-use Rattle.postscript_type2.specs.Program.Flat.{without_operator}
 use Rattle.postscript_type2.specs.Program.Inlined.{behind_first, unless_last, before_last, Stands, call_piece, piece, put_before, pieced, inlined, text}
 use Rattle.postscript_type2.specs.Program.Runs.{Said, by}
-use Rattle.postscript_type2.specs.Program.Written.{IsLastOf, written}
+use Rattle.postscript_type2.specs.Program.Written.{written}
 use Rattle.postscript_type2.proofs.LastNumbers.{past-is}
 
 -- the numbers before the last, where the last that begins before a place is known, by those behind the place
@@ -22,8 +21,7 @@ so_far numbers last next = left numbers last next (before_last (drop next number
 
 pub before-first : (numbers : List ℕ) → before_last numbers ≡ so_far numbers None 0
 unfolding so_far left
-before-first [] = refl
-before-first (b ∷ r) = refl
+before-first numbers = grind arith
 
 pub one-more : (numbers : List ℕ) (last : Option ℕ) (next : ℕ) → next < length numbers →
     so_far numbers last next ≡ so_far numbers (Some next) (next + (behind_first (get_or numbers next 0) + 1))
@@ -50,37 +48,20 @@ pub none-more : (numbers : List ℕ) (last : Option ℕ) (next : ℕ) → length
 unfolding so_far left
 none-more numbers last next h = ap (λ xs. left numbers last next (before_last xs)) (drop_of_length-le numbers h)
 
--- so the last number is found
-pub last-of : (numbers : List ℕ) (last : Option ℕ) (next : ℕ) → before_last numbers ≡ so_far numbers last next → IfSome last (λ place. place ≤ length numbers) → length numbers ≤ next →
-    IsLastOf numbers last
-last-of numbers None next is within h = is ∙ none-more numbers None next h
-last-of numbers (Some place) next is within h = (is ∙ none-more numbers (Some place) next h, within)
-
 -- what stays of a call, and of a phrase that neither calls nor returns
 pub call-stays : (op : Operator) (bytes : List ℕ) (n : ℕ) (o : Option (List ℕ)) → (op ≡ CallSubr) ⊎ (op ≡ CallGSubr) → n ≡ length bytes - 1 → before_last (take n bytes) ≡ o →
     piece (by op bytes) ≡ call_piece o
-call-stays op bytes n o calls is last =
-    let there : call_piece (before_last (without_operator bytes)) ≡ call_piece o = ap (λ n. call_piece (before_last (take n bytes))) (sym is) ∙ ap call_piece last in
-    by_call op calls there
-  where
-    by_call : (op : Operator) → (op ≡ CallSubr) ⊎ (op ≡ CallGSubr) → call_piece (before_last (without_operator bytes)) ≡ call_piece o → piece (by op bytes) ≡ call_piece o
-    by_call op (inl h) e = ap (λ op. piece (by op bytes)) h ∙ e
-    by_call op (inr h) e = ap (λ op. piece (by op bytes)) h ∙ e
+call-stays op bytes n o h0 is last = grind arith
 
 pub others-stay : (op : Operator) (bytes : List ℕ) → (op ≡ CallSubr → ⊥) → (op ≡ Return → ⊥) → (op ≡ CallGSubr → ⊥) → piece (by op bytes) ≡ Stands (by op bytes)
-others-stay CallSubr bytes sub back gsub = absurd (sub refl)
-others-stay CallGSubr bytes sub back gsub = absurd (gsub refl)
-others-stay Return bytes sub back gsub = absurd (back refl)
-others-stay op bytes sub back gsub = refl
+others-stay op bytes h0 back gsub = grind arith
 
 put-none : (phrases : List Said) → put_before [] phrases ≡ phrases
-put-none [] = refl
-put-none (said ∷ phrases) = refl
+put-none phrases = grind arith
 
 stands-behind : (code bytes : List ℕ) (whole : ℕ) (op : Operator) (phrases : List Said) →
     take whole code ++ text (put_before (drop whole code) (by op bytes ∷ phrases)) ≡ (code ++ bytes) ++ text phrases
-stands-behind code bytes whole op phrases =
-    ap (λ xs. take whole code ++ xs) (append_assoc (drop whole code) bytes (text phrases))
+stands-behind code bytes whole op phrases = ap (λ xs. take whole code ++ xs) (append_assoc (drop whole code) bytes (text phrases))
     ∙ sym (append_assoc (take whole code) (drop whole code) (bytes ++ text phrases))
     ∙ ap (λ xs. xs ++ (bytes ++ text phrases)) (take-append-drop whole code) ∙ sym (append_assoc code bytes (text phrases))
 
@@ -89,10 +70,7 @@ pub stands-written : (old new : Inlined) (bytes : List ℕ) (op : Operator) (sai
     piece said ≡ Stands (by op bytes) → (more : List Said) → written new more ≡ written old (said ∷ more)
 stands-written old new bytes op said appended all is more =
     let code : List ℕ = new.code.items in
-    ap (λ n. take n code ++ text (put_before (drop n code) (inlined more))) all
-    ∙ ap (λ xs. xs ++ text (put_before (drop (length code) code) (inlined more))) (take-length code)
-    ∙ ap (λ xs. code ++ text (put_before xs (inlined more))) (drop-length code)
-    ∙ ap (λ phrases. code ++ text phrases) (put-none (inlined more))
-    ∙ ap (λ xs. xs ++ text (inlined more)) appended
-    ∙ sym (stands-behind old.code.items bytes old.whole op (inlined more))
+    ap (λ n. take n code ++ text (put_before (drop n code) (inlined more))) all ∙ ap (λ xs. xs ++ text (put_before (drop (length code) code) (inlined more))) (take-length code)
+    ∙ ap (λ xs. code ++ text (put_before xs (inlined more))) (drop-length code) ∙ ap (λ phrases. code ++ text phrases) (put-none (inlined more))
+    ∙ ap (λ xs. xs ++ text (inlined more)) appended ∙ sym (stands-behind old.code.items bytes old.whole op (inlined more))
     ∙ ap (λ p. take old.whole old.code.items ++ text (put_before (drop old.whole old.code.items) (pieced p (inlined more)))) (sym is)

@@ -58,12 +58,17 @@ impl Choice {
             return Ok(());
         }
         for word in list.split(',') {
-            match word.split_once('-') {
-                Some((first, last)) => self.put_range(face, char_of(first)?, char_of(last)?)?,
-                None => self.put_char(face, char_of(word)?)?,
-            }
+            self.put_unicode(face, word)?;
         }
         Ok(())
+    }
+
+    /// Adds the characters of a word of such a list.
+    fn put_unicode(&mut self, face: &Face<'_>, word: &str) -> Result<(), Failure> {
+        match word.split_once('-') {
+            Some((first, last)) => self.put_range(face, char_of(first)?, char_of(last)?),
+            None => self.put_char(face, char_of(word)?),
+        }
     }
 
     /// Adds glyphs of these numbers.
@@ -80,13 +85,8 @@ impl Choice {
             return Ok(());
         }
         for word in list.split(',') {
-            match word.split_once('-') {
-                Some((first, last)) => self.put_numbers(
-                    gid_of(first, glyphs)?,
-                    gid_of(last, glyphs)?,
-                )?,
-                None => self.put_numbers(gid_of(word, glyphs)?, gid_of(word, glyphs)?)?,
-            }
+            let (first, last) = gids_of(word, glyphs)?;
+            self.put_numbers(first, last)?;
         }
         Ok(())
     }
@@ -156,6 +156,17 @@ fn char_of(word: &str) -> Result<u32, Failure> {
     match u32::from_str_radix(digits, 16) {
         Ok(char) => Ok(char),
         Err(_) => Err(Failure::Usage("--unicodes: a list of numbers in hex, as 41,U+42,61-7a")),
+    }
+}
+
+/// The first and the last glyph of a word: a number, or a range of two.
+fn gids_of(word: &str, glyphs: usize) -> Result<(u32, u32), Failure> {
+    match word.split_once('-') {
+        Some((first, last)) => Ok((gid_of(first, glyphs)?, gid_of(last, glyphs)?)),
+        None => {
+            let gid = gid_of(word, glyphs)?;
+            Ok((gid, gid))
+        }
     }
 }
 

@@ -58,6 +58,7 @@ fn opened<'l>(alloc: Global, cff: &'l [u8]) -> Result<FontView<'l>, Failure> {
 impl<'l> Face<'l> {
     /// The face of this number.
     pub fn open(alloc: Global, bytes: &'l [u8], number: u16) -> Result<Face<'l>, Failure> {
+        let faces = faces(bytes)?;
         let file = FontFile::read(bytes, usize::from(number))?;
         let cff = needed(&file, [b'C', b'F', b'F', b' '], "CFF")?;
         let head = needed(&file, [b'h', b'e', b'a', b'd'], "head")?;
@@ -81,7 +82,7 @@ impl<'l> Face<'l> {
         let set = font.char_set().ok();
         Ok(Face {
             file,
-            faces: faces(bytes)?,
+            faces,
             units,
             glyphs,
             advances,

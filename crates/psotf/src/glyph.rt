@@ -198,22 +198,27 @@ fn asked(face: &Face<'_>, words: &ArgMatches<'_>) -> Result<u16, Failure> {
     }
 }
 
-/// Writes the glyphs that words name.
-pub fn write<W: Write>(
+/// The numbers of the glyphs that words name.
+fn named(face: &Face<'_>, words: &ArgMatches<'_>) -> Result<Range<u16>, Failure> {
+    let glyphs = count(face);
+    if words.get_flag("all") {
+        return Ok(0..glyphs);
+    }
+    let gid = asked(face, words)?;
+    if gid >= glyphs {
+        return Err(Failure::NoGlyph(gid));
+    }
+    Ok(gid..gid.saturating_add(1))
+}
+
+/// Writes the glyphs that words name, and tells how many are refused.
+fn told<W: Write>(
     rt: &HostRuntime,
     face: &Face<'_>,
     words: &ArgMatches<'_>,
     out: &mut W,
-) -> Result<(), Failure> {
-    let gids = if words.get_flag("all") {
-        0..count(face)
-    } else {
-        let gid = asked(face, words)?;
-        if gid >= count(face) {
-            return Err(Failure::NoGlyph(gid));
-        }
-        gid..gid.saturating_add(1)
-    };
+) -> Result<u64, Failure> {
+    let gids = named(face, words)?;
     let mut progress = Progress::of_answers(rt, gids.end);
     let refused = if words.get_flag("json") {
         objects(rt.alloc(), face, gids, &mut progress, out)
@@ -221,7 +226,17 @@ pub fn write<W: Write>(
         lines(rt.alloc(), face, gids, &mut progress, out)
     };
     progress.end();
-    match refused? {
+    refused
+}
+
+/// Writes the glyphs that words name.
+pub fn write<W: Write>(
+    rt: &HostRuntime,
+    face: &Face<'_>,
+    words: &ArgMatches<'_>,
+    out: &mut W,
+) -> Result<(), Failure> {
+    match told(rt, face, words, out)? {
         0 => Ok(()),
         refused => Err(Failure::Refused(refused)),
     }

@@ -12,6 +12,5 @@ pub returns-clause-listed : goal.returns-clause-listed
 returns-clause-listed c = flatten-listed c.measured.result (still_of c.over.result).end (machine-ends c.over.result) c.measured.ensures.refused
 
 pub returns-clause-meant : goal.returns-clause-meant
-returns-clause-meant c =
-    of-meant (λ len. len) flat_len (lent (routines_of c.args.global) (routines_of c.args.local)) c.args.code.now c.measured.result
+returns-clause-meant c = of-meant (λ len. len) flat_len (lent (routines_of c.args.global) (routines_of c.args.local)) c.args.code.now c.measured.result
     (subst (λ (run : Run). IfOk c.measured.result (λ len. len ≡ flat_len run.trace)) c.over.ensures.run c.measured.ensures.len)
