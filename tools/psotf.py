@@ -18,6 +18,7 @@ import concurrent.futures
 import itertools
 import json
 import pathlib
+import re
 import subprocess
 import sys
 from fractions import Fraction
@@ -142,6 +143,10 @@ def sides_of(texts):
     return None if texts is None else [int(Fraction(text) * 65536) for text in texts]
 
 
+# What fontTools adds to a name that stands twice.
+ONCE_MORE = re.compile(r"#\d+$")
+
+
 def named_of(glyph, is_cid):
     """The name of a glyph as fontTools makes it."""
     return f"cid{glyph['cid']:05d}" if is_cid and glyph["name"] is None and glyph["gid"] else glyph["name"] or ".notdef"
@@ -160,7 +165,7 @@ def glyph_differs(glyph, number, name, font, char_string, drawing, characters):
     return (
         "refused" in glyph
         or glyph["gid"] != number
-        or named_of(glyph, "cid" in glyph) != name
+        or named_of(glyph, "cid" in glyph) not in (name, ONCE_MORE.sub("", name))
         or glyph["advance"] != font["hmtx"][name][0]
         or sorted(glyph["chars"]) != (sorted(characters) if number else [])
         or [operation_of(text) for text in glyph["operations"]] != operations_of(char_string)
