@@ -222,7 +222,7 @@ def face_differs(face, path, font, top):
 
 
 def compare(face):
-    """How many glyphs a face has, how many of them are left out, how many differ, and a line for each that does."""
+    """How many glyphs a face has, how many segments these, how many of them are left out, and a line for each that differs."""
     path, number = face
     font = TTFont(path, lazy=True, fontNumber=number)
     top = font["CFF "].cff.topDictIndex[0]
@@ -241,7 +241,7 @@ def compare(face):
             left_out += 1
         elif glyph_differs(glyph, gid, name, font, char_string, drawing, characters.get(name, [])):
             different.append(f"{path}: {name}")
-    return len(names), left_out, different
+    return len(names), sum(len(glyph["segments"] or []) for glyph in glyphs), left_out, different
 
 
 def main(words):
@@ -249,12 +249,12 @@ def main(words):
         sys.exit(__doc__)
     faces = [(path, number) for path in files_of(*words) for number in range(faces_of(path))]
     faces = [(path, number) for path, number in faces if "CFF " in TTFont(path, lazy=True, fontNumber=number).reader]
-    glyphs = left_out = different = 0
+    glyphs = segments = left_out = different = 0
     with concurrent.futures.ProcessPoolExecutor() as pool:
-        for count, left, lines in pool.map(compare, faces):
-            glyphs, left_out, different = glyphs + count, left_out + left, different + len(lines)
+        for count, pieces, left, lines in pool.map(compare, faces):
+            glyphs, segments, left_out, different = glyphs + count, segments + pieces, left_out + left, different + len(lines)
             print(*lines, sep="\n", end="\n" * bool(lines), flush=True)
-    print(f"{len(faces)} faces, {glyphs} glyphs, {left_out} left out, {different} different")
+    print(f"{len(faces)} faces, {glyphs} glyphs, {segments} segments, {left_out} left out, {different} different")
     sys.exit(different > 0)
 
 

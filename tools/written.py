@@ -95,8 +95,9 @@ def unlike(program, source, path, gids):
 
 
 def chosen_of(draw, count):
-    """Some glyphs, drawn at random, and .notdef."""
-    return sorted({0, *draw.sample(range(count), draw.randint(1, min(count, MOST)))})
+    """.notdef, and some other glyphs, drawn at random: `ots-sanitize` accepts no font of one glyph."""
+    others = range(min(1, count - 1), count)
+    return sorted({0, *draw.sample(others, draw.randint(1, min(len(others), MOST)))})
 
 
 def tallied(path, seed, program):

@@ -8,8 +8,7 @@ use std::{fs, io};
 /// Writes bytes to a file that is new.
 fn write_beside(rt: &HostRuntime, path: &str, bytes: &[u8]) -> io::Result<()> {
     let mut file = File::create(rt, path)?;
-    file.write_all(bytes)?;
-    file.sync_all()
+    file.write_all(bytes)
 }
 
 /// Writes a file beside its place and moves it there.
