@@ -1,7 +1,7 @@
 -- Components of accented glyphs (Technical Note 5177, Appendix C; Technical Note 5176, Appendix B, "Standard Encoding", and
 -- section 13, "Charsets").
 use Rattle.std.specs.Prelude.{◌≡◌, ℕ, ◌<◌, length}
-use Rattle.postscript_compact1.specs.Encodings.{in_runs, runs_of}
+use Rattle.postscript_compact1.specs.Computed.Encodings.{in_runs, runs_of}
 use Rattle.postscript_compact1.specs.declared.encoding.Encoding.TheVariants.{Standard}
 use Rattle.postscript_items.specs.Lent.{items_of}
 use Rattle.postscript_view.specs.CharSets.{IsCharSetOf}

@@ -27,7 +27,7 @@ pub fn component_of(font: &FontView<'_>, code: u8) -> Result<usize>
 }
 
 /// The identifier of the string that the standard encoding has for a code.
-#[tactic(auto, unfolding(postscript_compact1::specs::Encodings::identifier_of))]
+#[tactic(auto, unfolding(postscript_compact1::specs::Computed::Encodings::identifier_of))]
 fn standard_identifier(code: u8) -> StringID
     ensures { result ≡ the_standard_identifier code }
 {

@@ -5,7 +5,7 @@ use Rattle.std.specs.Int.RustNames.{unsigned_abs}
 use Rattle.std.proofs.lemmas.Bool.{cases_lt}
 use Rattle.std.proofs.lemmas.Int.{ints}
 use Rattle.postscript_base.specs.Compact1.Decimal.{Decimal, AreEqual, HasOperand, IsOperand, IsSameValue, operand_of, signed}
-use Rattle.postscript_base.specs.Compact1.Significant.{IsLong, IsShort}
+use Rattle.postscript_base.specs.Private.Significant.{IsLong, IsShort}
 use Rattle.postscript_base.proofs.Operands.{finds_operand}
 use Rattle.postscript_base.proofs.Decimals.{one_form, meets-IsSameValue, IsSameValue-sym, IsSameValue-trans, stripped_canonical, abs-signed, scaled-signed}
 

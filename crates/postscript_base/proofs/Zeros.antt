@@ -1,7 +1,7 @@
 -- One digit more.
 use Rattle.std.proofs.Common.{◌≡◌, ◌≢◌, Bool, true, false, ℕ, zero, suc, ◌+◌, ◌*◌, ◌%◌, ◌^◌, ◌<◌, ◌≤◌, sym, ap, ◌∙◌, ⊎_elim, arith, inl}
 use Rattle.std.proofs.Math.Nat.{pow-suc, pow-le-pow_right, mul_assoc, mul_comm, mul-le-mul}
-use Rattle.postscript_base.specs.Compact1.Significant.{IsLong, IsShort, Keeps}
+use Rattle.postscript_base.specs.Private.Significant.{IsLong, IsShort, Keeps}
 
 pub as_long : (b : Bool) (m z n : ℕ) → b ≡ true → Keeps b m z n → IsLong n
 as_long b m z n e h = grind arith

@@ -6,10 +6,7 @@ pub mod Decimal
 pub mod Number
 pub mod Reals
 pub mod Integers
-pub mod Nibbles
-pub mod Significant
 pub mod Operation
 pub mod Dictionary
 pub mod DictionaryLaw
 pub mod Defaults
-pub mod Operands

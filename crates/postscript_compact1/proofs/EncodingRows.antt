@@ -1,6 +1,6 @@
 -- Known values of the encodings.
 use Rattle.std.proofs.Common.{◌≡◌, refl, ℕ, map, [], ◌∷◌, Some, None, true}
-use Rattle.postscript_compact1.specs.Encodings.{identifier_of, runs_of, are_standard}
+use Rattle.postscript_compact1.specs.Computed.Encodings.{identifier_of, runs_of, are_standard}
 use Rattle.postscript_compact1.specs.declared.encoding.Encoding.{Encoding}
 use Rattle.postscript_compact1.specs.declared.encoding.Encoding.TheVariants.{Standard, Expert}
 

@@ -1,7 +1,6 @@
 -- Fonts (Technical Note 5176).
 pub mod Operands
 pub mod Font
-pub mod Order
 pub mod Layout
 pub mod Value
 pub mod Causes

@@ -1,11 +1,14 @@
+-- What contracts say of fonts and their parts (Technical Note 5176). The relations in the words of the Note are the layout and the
+-- causes of FontSet, and the modules that end in Law; the others spell out what these name. Computed is behind the clauses
+-- `exact` and `value`: definitions that compute the same, for those who prove.
 pub mod StandardStrings
 pub mod FontSet
 pub mod Index
 pub mod IndexLaw
 pub mod Kinds
-pub mod Encodings
 pub mod CharSets
 pub mod ItemsLaw
 pub mod Texts
 pub mod TextsLaw
 pub mod CharSetLaw
+pub mod Computed

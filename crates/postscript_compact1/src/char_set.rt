@@ -4,7 +4,7 @@ ghost use Rattle.std.specs.Option.{option_copied};
 ghost use Rattle.postscript_base.specs.Error.{IsListed};
 ghost use Rattle.postscript_base.specs.Tape.{Reads};
 ghost use Rattle.postscript_base.specs.Tape.Outcome.{same};
-ghost use Rattle.postscript_base.specs.Tape.Seen.{each_as_it_is};
+ghost use Rattle.postscript_base.specs.Private.Seen.{each_as_it_is};
 ghost use Rattle.postscript_compact1.specs.CharSets.{char_set};
 ghost use Rattle.postscript_compact1.specs.CharSets.Predefined.{are_runs, identifier_of, is_predefined, name_of, name_of_glyph, runs_of};
 ghost use Rattle.postscript_compact1.specs.StandardStrings.{standard_string};
@@ -84,9 +84,9 @@ impl CharSet {
     /// ```
     pub fn get(&self, gid: GlyphID) -> Option<&'static str>
         requires { IsTrue (is_predefined self.now) }
-        ensures exact { option_copied result ≡ name_of_glyph self.now gid }
         ensures iso_adobe { self.now ≡ sets.ISOAdobe → 0 < gid → gid ≤ 228 → option_copied result ≡ standard_string gid }
         ensures iso_adobe_alone { self.now ≡ sets.ISOAdobe → (gid ≡ 0) ⊎ (228 < gid) → IsNone result }
+        ensures exact { option_copied result ≡ name_of_glyph self.now gid }
     {
         name(self.runs(), gid)
     }

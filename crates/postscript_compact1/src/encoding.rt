@@ -1,6 +1,6 @@
 //! Encodings.
 ghost use Rattle.std.specs.Prelude.{◌≡◌, ◌<◌, IfSome, IsTrue};
-ghost use Rattle.postscript_compact1.specs.Encodings.{identifier_of, in_runs, runs_of, are_standard, name_of};
+ghost use Rattle.postscript_compact1.specs.Computed.Encodings.{identifier_of, in_runs, runs_of, are_standard, name_of};
 
 use postscript_base::compact1::{GlyphID, StringID};
 
@@ -49,10 +49,10 @@ impl Encoding {
     ///     }
     /// }
     /// ```
-    #[tactic(auto, unfolding(crate::specs::Encodings::identifier_of))]
+    #[tactic(auto, unfolding(crate::specs::Computed::Encodings::identifier_of))]
     pub fn get(&self, gid: GlyphID) -> Option<StringID>
-        ensures exact { result ≡ identifier_of self.now gid }
         ensures standard { IfSome result (λ sid. sid < 391) }
+        ensures exact { result ≡ identifier_of self.now gid }
     {
         if gid > 255 {
             return None;

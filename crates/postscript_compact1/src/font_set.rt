@@ -6,7 +6,7 @@ ghost use Rattle.postscript_base.specs.declared.error.Error.TheVariants as error
 ghost use Rattle.postscript_compact1.specs.FontSet.Font.{Font, font_of, tables_in, parts_in};
 ghost use Rattle.postscript_compact1.specs.FontSet.Causes.{NoFont, NoLenientFont};
 ghost use Rattle.postscript_compact1.specs.FontSet.Layout.{IsFont, IsLenientFont};
-ghost use Rattle.postscript_compact1.specs.FontSet.Order.{font, font_by, lenient_font};
+ghost use Rattle.postscript_compact1.specs.Computed.Order.{font, font_by, lenient_font};
 ghost use Rattle.postscript_compact1.specs.FontSet.Value.{font_shown, tables_shown, parts_shown};
 
 pub mod laws;
@@ -116,11 +116,11 @@ impl FontSet {
     /// }
     /// ```
     pub fn read_lenient<T: Tape>(alloc: Global, tape: &mut T) -> Result<FontSet>
-        ensures exact { Reads font_shown (T.state tape.old) result (T.state tape.new) lenient_font }
-        ensures listed { IsListed (1 ∷ 2 ∷ 3 ∷ 5 ∷ 6 ∷ 7 ∷ 8 ∷ 9 ∷ 10 ∷ 11 ∷ 12 ∷ 13 ∷ 14 ∷ 15 ∷ 16 ∷ []) result }
         ensures found { IsHonest (T.state tape.old) → IfOk result (λ f. IsLenientFont (T.state tape.old).bytes (T.state tape.old).place (font_shown f)) }
         ensures only { IsHonest (T.state tape.old) → IfErr result (λ e. e ≢ errors.Memory → (f : Font) → IsLenientFont (T.state tape.old).bytes (T.state tape.old).place f → ⊥) }
         ensures why { IsHonest (T.state tape.old) → IfErr result (λ e. e ≢ errors.Memory → NoLenientFont e (T.state tape.old).bytes (T.state tape.old).place) }
+        ensures exact { Reads font_shown (T.state tape.old) result (T.state tape.new) lenient_font }
+        ensures listed { IsListed (1 ∷ 2 ∷ 3 ∷ 5 ∷ 6 ∷ 7 ∷ 8 ∷ 9 ∷ 10 ∷ 11 ∷ 12 ∷ 13 ∷ 14 ∷ 15 ∷ 16 ∷ []) result }
     {
         reads_dictionaries();
         read_font(alloc, tape, Manner::Lenient)
@@ -154,7 +154,7 @@ impl Value for FontSet {
     ghost use Rattle.postscript_compact1.specs.FontSet.Font.{Font};
     ghost use Rattle.postscript_compact1.specs.FontSet.Causes.{NoFont};
     ghost use Rattle.postscript_compact1.specs.FontSet.Layout.{IsFont};
-    ghost use Rattle.postscript_compact1.specs.FontSet.Order.{font};
+    ghost use Rattle.postscript_compact1.specs.Computed.Order.{font};
     ghost use Rattle.postscript_compact1.specs.FontSet.Value.{font_shown};
 
     ghost Shown = { Font };
@@ -199,7 +199,7 @@ impl Value for FontSet {
 }
 
 /// Reads a font in a manner.
-#[tactic(auto, using(crate::proofs::Outcomes::refused_after), unfolding(crate::specs::FontSet::Order::font_by))]
+#[tactic(auto, using(crate::proofs::Outcomes::refused_after), unfolding(crate::specs::Computed::Order::font_by))]
 fn read_font<T: Tape>(alloc: Global, tape: &mut T, manner: Manner) -> Result<FontSet>
     ensures exact { Reads font_shown (T.state tape.old) result (T.state tape.new) (font_by manner) }
     ensures listed { IsListed (1 ∷ 2 ∷ 3 ∷ 5 ∷ 6 ∷ 7 ∷ 8 ∷ 9 ∷ 10 ∷ 11 ∷ 12 ∷ 13 ∷ 14 ∷ 15 ∷ 16 ∷ []) result }

@@ -7,7 +7,7 @@ ghost use Rattle.postscript_base.specs.Tape.{Reads, IsHonest};
 ghost use Rattle.postscript_base.specs.Compact1.Offset.{behind, rises};
 ghost use Rattle.postscript_base.specs.Tape.Loops.{AreLinked};
 ghost use Rattle.postscript_base.specs.Tape.Outcome.{same};
-ghost use Rattle.postscript_base.specs.Tape.Seen.{each_as_it_is};
+ghost use Rattle.postscript_base.specs.Private.Seen.{each_as_it_is};
 ghost use Rattle.postscript_compact1.specs.IndexLaw.{IsFilled, IsWhole};
 ghost use Rattle.postscript_compact1.specs.Index.{empty as no_items, filled, index, lengths, lengths_from, offsets as the_offsets};
 
@@ -140,7 +140,7 @@ impl Index {
 impl Value for Index {
     ghost use Rattle.std.specs.Prelude.{[], ◌∷◌};
     ghost use Rattle.postscript_base.specs.Tape.Outcome.{same};
-    ghost use Rattle.postscript_base.specs.Tape.Seen.{each_as_it_is};
+    ghost use Rattle.postscript_base.specs.Private.Seen.{each_as_it_is};
     ghost use Rattle.postscript_base.specs.Tape.{Reads, IsHonest};
     ghost use Rattle.postscript_compact1.specs.Index.{Index, index};
     ghost use Rattle.postscript_compact1.specs.IndexLaw.{IsWhole};

@@ -7,7 +7,7 @@ ghost use Rattle.postscript_base.specs.Tape.{Reads};
 ghost use Rattle.postscript_base.specs.Tape.At.{at};
 ghost use Rattle.postscript_base.specs.Tape.Loops.{chain, until, to_end, each};
 ghost use Rattle.postscript_base.specs.Tape.Outcome.{same};
-ghost use Rattle.postscript_base.specs.Tape.Seen.{each_as_it_is};
+ghost use Rattle.postscript_base.specs.Private.Seen.{each_as_it_is};
 ghost use Rattle.postscript_examples.specs.Readers.{rising, greatest, covers, uncovered, is_covered, text_of, private_size as the_size};
 
 use postscript_base::compact1::Operator;

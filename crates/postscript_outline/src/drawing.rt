@@ -31,13 +31,13 @@ pub fn draw<S: Sink>(
     local: &[Vec<u8>],
     sink: &mut S,
 ) -> Result<Option<Operand>>
-    ensures exact { let run = run_of (subroutines global.now local.now) code.now in
-        MatchResult result (λ width. DrawsRun (S.given sink.old) (S.given sink.new) width run)
-        (λ e. (e ≡ errors.Memory) ⊎ (outline_of run ≡ Err (refusal_of e)) ⊎ S.refuses sink.new e) }
     ensures kept { IsFront (S.given sink.old) (S.given sink.new) }
     ensures front { let run = run_of (subroutines global.now local.now) code.now in
         OnErr result (IsFrontDrawn (S.given sink.old) (S.given sink.new) run.answers) }
     ensures meant { IfOk result (λ width. (run : Run) × IsRunOf (subroutines global.now local.now) code.now run × DrawsRun (S.given sink.old) (S.given sink.new) width run) }
+    ensures exact { let run = run_of (subroutines global.now local.now) code.now in
+        MatchResult result (λ width. DrawsRun (S.given sink.old) (S.given sink.new) width run)
+        (λ e. (e ≡ errors.Memory) ⊎ (outline_of run ≡ Err (refusal_of e)) ⊎ S.refuses sink.new e) }
 {
     draw_program(&mut Program::new(alloc, code, global, local), sink)
 }
@@ -48,12 +48,12 @@ pub fn draw<S: Sink>(
 /// Refused: with what the program is refused with, as `Program::next` is; `Overflow` also where a coordinate leaves the
 /// range; and with what the sink refuses a segment with. The sink has been given the segments up to there.
 pub fn draw_program<S: Sink>(program: &mut Program<'_>, sink: &mut S) -> Result<Option<Operand>>
-    ensures exact { MatchResult result (λ width. DrawsPending (S.given sink.old) (S.given sink.new) width program.old)
-        (λ e. (e ≡ errors.Memory) ⊎ (outlined program.old.answers program.old.end ≡ Err (refusal_of e)) ⊎ S.refuses sink.new e) }
     ensures kept { IsFront (S.given sink.old) (S.given sink.new) }
     ensures front { OnErr result (IsFrontDrawn (S.given sink.old) (S.given sink.new) program.old.answers) }
-    ensures listed { IfErr result (λ e. S.refuses sink.new e ⊎ IsOneOf next_refusals (number e)) }
     ensures ended { IfOk result (λ width. program.new ≡ ended width) }
+    ensures exact { MatchResult result (λ width. DrawsPending (S.given sink.old) (S.given sink.new) width program.old)
+        (λ e. (e ≡ errors.Memory) ⊎ (outlined program.old.answers program.old.end ≡ Err (refusal_of e)) ⊎ S.refuses sink.new e) }
+    ensures listed { IfErr result (λ e. S.refuses sink.new e ⊎ IsOneOf next_refusals (number e)) }
 {
     draw_from(program, Pen::new(), sink)
 }

@@ -25,12 +25,12 @@ impl Outline {
         operations: &[Operation],
         width: Option<Operand>,
     ) -> Result<Outline>
-        ensures exact { let run = run_telling operations.now width in
-            MatchResult result (λ outline. OutlinesApplied outline run) (λ e. (e ≡ errors.Memory) ⊎ (outline_applied run ≡ Err (refusal_of e))) }
         ensures drawn { IfOk result (λ outline. Outlines outline (run_telling operations.now width)) }
         ensures fit { OnOk result (AllFit (answers_of width operations.now)) }
-        ensures listed { IsListed (3 ∷ 20 ∷ 26 ∷ []) result }
         ensures contours { IfOk result (λ outline. AreContours outline.segments.items) }
+        ensures exact { let run = run_telling operations.now width in
+            MatchResult result (λ outline. OutlinesApplied outline run) (λ e. (e ≡ errors.Memory) ⊎ (outline_applied run ≡ Err (refusal_of e))) }
+        ensures listed { IsListed (3 ∷ 20 ∷ 26 ∷ []) result }
     {
         applied(alloc, operations, width)
     }

@@ -55,10 +55,10 @@ pub fn tally_program<T: Tally>(
     program: &mut Program<'_>,
     tally: &mut T,
 ) -> Result<Option<Operand>>
+    ensures ended { IfOk result (λ width. program.new ≡ ended width) }
     ensures exact { MatchResult result
         (λ width. TalliesPending T.after tally.old tally.new width program.old)
         (λ e. (e ≡ errors.Memory) ⊎ (outlined program.old.answers program.old.end ≡ Err (refusal_of e))) }
-    ensures ended { IfOk result (λ width. program.new ≡ ended width) }
 {
     let mut segments = Vec::new(alloc);
     let mut pen = Pen::new();

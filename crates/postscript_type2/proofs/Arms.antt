@@ -6,15 +6,15 @@ use Rattle.std.proofs.lemmas.Grind.{common_steps}
 use Rattle.postscript_type2.specs.declared.refused.Refused.{Refused}
 use Rattle.postscript_type2.specs.declared.refused.Refused.TheVariants.{Memory}
 use Rattle.postscript_base.specs.Refusal.{Refusal, return_without_caller, trailing_data, too_deep}
-use Rattle.postscript_type2.specs.Refused.{reason}
+use Rattle.postscript_type2.specs.Private.Refused.{reason}
 use Rattle.postscript_type2.specs.declared.operation.Operator.{Operator}
 use Rattle.postscript_type2.specs.Program.Effects.{State, Move, Keeps, Clears, Calls, Returns, Ends, Refuses, effect, stacked, holding, cleared}
 use Rattle.postscript_type2.specs.Program.Evaluation.{with_phrase, with_answer, at_end, said, moved, stride}
 use Rattle.postscript_type2.specs.Program.Parsing.{Complete, NoPhrase, phrase, fronted}
 use Rattle.postscript_type2.specs.Program.Routines.{Lists}
 use Rattle.postscript_type2.specs.Program.Runs.{Answer, Said, UsedUp, Finished, Fault}
-use Rattle.postscript_type2.specs.Program.Remaining.{still, next_still, are_used_up}
-use Rattle.postscript_type2.specs.Program.Working.{after_move}
+use Rattle.postscript_type2.specs.Private.Remaining.{still, next_still, are_used_up}
+use Rattle.postscript_type2.specs.Private.Working.{after_move}
 use Rattle.postscript_type2.proofs.Remains.{still_end}
 use Rattle.postscript_type2.proofs.Strides.{still_step-at, stride-is}
 

@@ -9,7 +9,7 @@ use Rattle.postscript_type2.specs.Program.Inlined.{put_before, text}
 use Rattle.postscript_type2.specs.Program.Parsing.{Phrase, phrase, fronted, Complete, NoPhrase}
 use Rattle.postscript_type2.specs.Program.Routines.{Lists}
 use Rattle.postscript_type2.specs.Program.Runs.{Answer, Said, by, End, Finished, Fault, Run}
-use Rattle.postscript_type2.specs.Program.Remaining.{still, next_still}
+use Rattle.postscript_type2.specs.Private.Remaining.{still, next_still}
 use Rattle.postscript_type2.proofs.Strides.{still_step-at}
 
 -- bytes that are numbers, whatever follows them

@@ -15,7 +15,7 @@ use Rattle.postscript_type2.specs.Program.Parsing.{Phrase, Complete, NoPhrase, p
 use Rattle.postscript_type2.specs.Program.Routines.{Lists}
 use Rattle.postscript_type2.specs.Program.Runs.{Said, Finished, Run}
 use Rattle.postscript_type2.specs.Program.Stacks.{removal}
-use Rattle.postscript_type2.specs.Program.Remaining.{next_still}
+use Rattle.postscript_type2.specs.Private.Remaining.{next_still}
 use Rattle.postscript_type2.proofs.Locals.{stands_flat, IsLocal, Local, local}
 use Rattle.postscript_type2.proofs.Strides.{still_step-at}
 

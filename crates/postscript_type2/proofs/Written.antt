@@ -8,7 +8,7 @@ use Rattle.postscript_type2.specs.declared.operation.Operator.TheVariants.{CallS
 use Rattle.postscript_type2.specs.declared.program.inlined.Inlined.{Inlined}
 use Rattle.postscript_type2.specs.Program.Inlined.{behind_first, unless_last, before_last, Stands, call_piece, piece, put_before, pieced, inlined, text}
 use Rattle.postscript_type2.specs.Program.Runs.{Said, by}
-use Rattle.postscript_type2.specs.Program.Written.{written}
+use Rattle.postscript_type2.specs.Private.Written.{written}
 use Rattle.postscript_type2.proofs.LastNumbers.{past-is}
 
 -- the numbers before the last, where the last that begins before a place is known, by those behind the place

@@ -1,6 +1,4 @@
 -- Operators and operands of charstrings (Technical Note 5177).
 pub mod Operators
-pub mod Texts
 pub mod Lengths
 pub mod Kinds
-pub mod Suffixes

@@ -3,10 +3,10 @@ ghost use Rattle.std.specs.Prelude.{◌≡◌, ◌≤◌, ℕ, ℤ, Some, IfSome
 ghost use Rattle.std.specs.Option.{ok_or};
 ghost use Rattle.postscript_base.specs.declared.error.Error.TheVariants as errors;
 ghost use Rattle.postscript_type2.specs.Operation.Kinds.{taken as the_taken};
-ghost use Rattle.postscript_type2.specs.Operation.Suffixes.{longest};
+ghost use Rattle.postscript_type2.specs.Private.Suffixes.{longest};
 ghost use Rattle.postscript_type2.specs.Number.{whole, to_int};
 ghost use Rattle.postscript_type2.specs.Operation.Operators.{operator_of, name_of};
-ghost use Rattle.postscript_type2.specs.Operation.Texts.{text};
+ghost use Rattle.postscript_type2.specs.Private.Texts.{text};
 
 use postscript_base::{Error, Result};
 use std::fmt;

@@ -1,6 +1,6 @@
 //! What the machine is refused with: a small type, since an error may hold a fault of a tape.
 ghost use Rattle.std.specs.Prelude.{◌≡◌};
-ghost use Rattle.postscript_type2.specs.Refused.{error_of};
+ghost use Rattle.postscript_type2.specs.Private.Refused.{error_of};
 ghost use Rattle.postscript_type2.specs.declared.refused.Refused.TheVariants as cases;
 
 use postscript_base::Error;

@@ -1,6 +1,6 @@
 -- Encodings in place (Technical Note 5176, section 12, "Encodings").
 use Rattle.std.specs.Prelude.{◌≡◌, ◌⊎◌, ℕ, zero, suc, ◌+◌, ◌-◌, ◌*◌, ◌/◌, ◌<◌, ◌≤◌, List, length, Some}
-use Rattle.postscript_compact1.specs.Encodings.{identifier_of}
+use Rattle.postscript_compact1.specs.Computed.Encodings.{identifier_of}
 use Rattle.postscript_items.specs.Items.{number_at}
 use Rattle.postscript_view.specs.Naming.{Names}
 use Rattle.postscript_view.specs.declared.char_set.CharSetView.{CharSetView}

@@ -1,7 +1,7 @@
 -- Encodings that say the same.
 use Rattle.std.proofs.Common.{◌≡◌, sym, subst, ℕ, List, inl, inr}
 use Rattle.std.specs.Prelude.{Some, ◌↔◌}
-use Rattle.postscript_compact1.specs.Encodings.{identifier_of}
+use Rattle.postscript_compact1.specs.Computed.Encodings.{identifier_of}
 use Rattle.postscript_view.specs.Encoding.{HasCode, HasOwnCode, IsFirstSupplement, IsInList, IsInRanges, IsSupplemented}
 use Rattle.postscript_view.specs.Naming.{Names}
 use Rattle.postscript_view.specs.declared.char_set.CharSetView.{CharSetView}

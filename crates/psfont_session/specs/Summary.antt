@@ -10,7 +10,7 @@ use Rattle.postscript_compact1.specs.declared.char_set.CharSet.{CharSet}
 use Rattle.postscript_compact1.specs.declared.encoding.Encoding.{Encoding}
 use Rattle.postscript_compact1.specs.declared.font_set.FontSet.{FontSet}
 use Rattle.postscript_compact1.specs.Index.{Index}
-use Rattle.postscript_compact1.specs.Encodings.{name_of as encoding_name}
+use Rattle.postscript_compact1.specs.Computed.Encodings.{name_of as encoding_name}
 use Rattle.postscript_compact1.specs.CharSets.Predefined.{name_of as char_set_name}
 use Rattle.psfont_session.specs.Texts.{fault_line}
 

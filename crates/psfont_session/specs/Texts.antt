@@ -6,7 +6,7 @@ use Rattle.postscript.specs.Error.{code}
 use Rattle.postscript.specs.Program.RunAnswers.{operation_of}
 use Rattle.postscript_base.specs.declared.error.Error.{Error}
 use Rattle.postscript_type2.specs.Operation.Operators.{name_of}
-use Rattle.postscript_type2.specs.Operation.Texts.{text}
+use Rattle.postscript_type2.specs.Private.Texts.{text}
 use Rattle.postscript_type2.specs.declared.operation.Operator.{Operator}
 use Rattle.postscript_type2.specs.declared.program.Answers.{Answers}
 

@@ -1,7 +1,7 @@
 //! The header.
 ghost use Rattle.std.specs.Prelude.{[], ◌∷◌};
 ghost use Rattle.postscript_base.specs.Tape.Outcome.{same};
-ghost use Rattle.postscript_base.specs.Tape.Seen.{each_as_it_is};
+ghost use Rattle.postscript_base.specs.Private.Seen.{each_as_it_is};
 
 use super::OffsetSize;
 use crate::error::Result;

@@ -30,13 +30,13 @@ use std::alloc::Global;
 /// ```
 #[tactic(auto, unfolding(crate::specs::Compact1::Number::number), using(crate::proofs::Spellings::reads_spellings, crate::proofs::Integers::reads_integers, crate::proofs::Operands::finds_operands, crate::proofs::Onward::dict_number_takes, crate::proofs::Outcomes::refused_after))]
 pub fn read<T: Tape>(alloc: Global, tape: &mut T) -> Result<Operand>
-    ensures exact { Reads same (T.state tape.old) result (T.state tape.new) the_number }
-    ensures listed { IsListed (1 ∷ 2 ∷ 3 ∷ 7 ∷ 8 ∷ []) result }
     ensures no_memory { BeginsNoReal (T.state tape.old) → IsListed (1 ∷ 2 ∷ 7 ∷ []) result }
     ensures grammar { ReadsSpellings }
     ensures integers { ReadsIntegers }
     ensures operands { FindsOperands }
     ensures onward { TakesBytes the_number }
+    ensures exact { Reads same (T.state tape.old) result (T.state tape.new) the_number }
+    ensures listed { IsListed (1 ∷ 2 ∷ 3 ∷ 7 ∷ 8 ∷ []) result }
 {
     let first = byte(tape)?;
     begun(alloc, tape, first)

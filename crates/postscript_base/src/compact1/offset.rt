@@ -4,7 +4,7 @@ ghost use Rattle.postscript_base.specs.Error.{IsListed};
 ghost use Rattle.postscript_base.specs.Numbers.{number};
 ghost use Rattle.postscript_base.specs.Compact1.Offset.{IsOffsetSize, offset, rising, behind, rises as the_test};
 ghost use Rattle.postscript_base.specs.Tape.Outcome.{same};
-ghost use Rattle.postscript_base.specs.Tape.Seen.{each_as_it_is};
+ghost use Rattle.postscript_base.specs.Private.Seen.{each_as_it_is};
 ghost use Rattle.postscript_base.specs.Tape.{Reads};
 
 use crate::error::{Error, Result};

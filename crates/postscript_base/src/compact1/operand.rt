@@ -39,9 +39,9 @@ impl Operand {
     /// }
     /// ```
     pub fn new(mantissa: i128, exponent: i32) -> Option<Operand>
-        ensures exact { result ≡ operand_of mantissa exponent }
         ensures some { IfSome result (λ o. HasOperand o × IsSameValue o.mantissa o.exponent mantissa exponent) }
         ensures none { IfNone result ((m e : ℤ) → IsOperand m e → IsSameValue m e mantissa exponent → ⊥) }
+        ensures exact { result ≡ operand_of mantissa exponent }
     {
         if mantissa == 0 {
             return Some(Operand::zero());
@@ -81,8 +81,8 @@ impl Operand {
 
     /// The mantissa: 0, or a number of at most eighteen digits that does not end in 0. Never refused.
     pub fn mantissa(&self) -> i64
-        ensures value { result ≡ self.now.mantissa }
         ensures operand { HasOperand self.now }
+        ensures value { result ≡ self.now.mantissa }
     {
         self.mantissa
     }
@@ -103,9 +103,9 @@ impl Operand {
     /// }
     /// ```
     pub fn to_i32(&self) -> Option<i32>
-        ensures exact { result ≡ the_i32 self.now }
         ensures some { IfSome result (λ v. IsSameValue self.now.mantissa self.now.exponent v (pos 0)) }
         ensures none { IfNone result ((v : ℤ) → negsuc (2 ^ 31 - 1) ≤ℤ v → v ≤ℤ pos (2 ^ 31 - 1) → IsSameValue self.now.mantissa self.now.exponent v (pos 0) → ⊥) }
+        ensures exact { result ≡ the_i32 self.now }
     {
         let (mantissa, exponent) = (self.mantissa(), self.exponent());
         if exponent < 0 || exponent > 9 {

@@ -32,7 +32,7 @@ impl<'a> Model for Operands<'a> {
 
     ghost coded = { decimals_code };
 
-    ghost use Rattle.postscript_base.specs.Compact1.Operands.{items};
+    ghost use Rattle.postscript_base.specs.Private.Operands.{items};
 
     ghost view = { λ operands. items operands.kind };
 }

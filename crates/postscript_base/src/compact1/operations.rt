@@ -138,7 +138,7 @@ impl Clone for Operations {
 impl Value for Operations {
     ghost use Rattle.std.specs.Prelude.{[], ◌∷◌};
     ghost use Rattle.postscript_base.specs.Tape.Outcome.{same};
-    ghost use Rattle.postscript_base.specs.Tape.Seen.{each_as_it_is};
+    ghost use Rattle.postscript_base.specs.Private.Seen.{each_as_it_is};
     ghost use Rattle.postscript_base.specs.Compact1.Dictionary.{Dictionary, dictionary};
     ghost use Rattle.postscript_base.specs.Compact1.DictionaryLaw.{ReadsDictionaries};
     ghost use Rattle.postscript_base.specs.Tape.{Reads};

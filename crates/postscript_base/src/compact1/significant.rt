@@ -1,7 +1,7 @@
 //! What matters of a number's digits.
 ghost use Rattle.std.specs.Prelude.{◌≡◌, ◌≢◌, ℕ, ◌+◌, ◌*◌, ◌^◌, ◌%◌, ◌<◌, ◌≤◌, length, List, ◌++◌};
 ghost use Rattle.postscript_base.specs.Compact1.Decimal.{IsDigits, digits_number};
-ghost use Rattle.postscript_base.specs.Compact1.Significant.{Keeps};
+ghost use Rattle.postscript_base.specs.Private.Significant.{Keeps};
 
 /// The least number of nineteen digits.
 const LONG: u128 = 1_000_000_000_000_000_000;

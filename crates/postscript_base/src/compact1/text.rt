@@ -6,7 +6,7 @@ ghost use Rattle.postscript_base.specs.Error.{IsListed};
 ghost use Rattle.postscript_base.specs.Tape.Outcome.{Answers, same};
 ghost use Rattle.postscript_base.specs.Tape.{Reads};
 ghost use Rattle.postscript_base.specs.declared.error.Error.TheVariants as errors;
-ghost use Rattle.postscript_base.specs.Compact1.Nibbles.{one_nibble, step as the_step};
+ghost use Rattle.postscript_base.specs.Private.Nibbles.{one_nibble, step as the_step};
 ghost use Rattle.postscript_base.specs.Compact1.Reals.{after_digits, digits_of, is_exponent_negative, is_digit, fraction_at, fraction_digits, exponent_at, exponent_digits, real_of, after_sign, text_of_real, valued};
 
 use super::digits::of_real;
@@ -33,7 +33,7 @@ pub(crate) fn read_text<T: Tape>(alloc: Global, tape: &mut T) -> Result<Vec<u8>>
 
 /// Reads one byte of a text, and says whether this was the last.
 #[inline(always)]
-#[tactic(auto, unfolding(crate::specs::Compact1::Nibbles::step))]
+#[tactic(auto, unfolding(crate::specs::Private::Nibbles::step))]
 fn step<T: Tape>(tape: &mut T, text: &mut Vec<u8>) -> Result<bool>
     ensures exact { Reads (λ ended. (ended, text.new.items)) (T.state tape.old) result (T.state tape.new) (the_step text.old.items) }
     ensures listed { IsListed (1 ∷ 2 ∷ 3 ∷ 7 ∷ []) result }

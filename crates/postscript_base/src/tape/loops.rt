@@ -84,10 +84,10 @@ pub fn read_chain<W: Linked + Drop, T: Tape>(
     first: W::Given,
     length: usize,
 ) -> Result<Vec<W>>
+    ensures linked { IfOk result (λ values. AreLinked W.follows (λ given value. W.left given (W.view value)) first length values.items) }
     ensures exact { Reads (λ values. W.views values.items) (T.state tape.old) result (T.state tape.new)
         (chain W.reading W.left first length) }
     ensures listed { IsListed (3 ∷ W.refusals) result }
-    ensures linked { IfOk result (λ values. AreLinked W.follows (λ given value. W.left given (W.view value)) first length values.items) }
 {
     let mut values = Vec::new(alloc);
     let mut given = first;
@@ -142,11 +142,11 @@ pub fn read_until<W: Until + Drop, T: Tape>(
 /// place of the tape does not rise, as an honest tape's does; `UnexpectedEof` from a seek; `Io`, `Memory`.
 pub fn read_to_end<V: Value + Drop, T: Tape>(alloc: Global, tape: &mut T) -> Result<Vec<V>>
     requires { TakesBytes V.reading }
+    ensures rises { IfOk result (λ values. vec_len values < 2 ^ 64) }
+    ensures takes { IsHonest (T.state tape.old) → IfOk result (λ values. vec_len values ≤ length (T.state tape.old).bytes - (T.state tape.old).place) }
     ensures exact { Reads (λ values. V.views values.items) (T.state tape.old) result (T.state tape.new)
         (to_end V.reading) }
     ensures listed { IsListed (1 ∷ 2 ∷ 3 ∷ 4 ∷ V.refusals) result }
-    ensures rises { IfOk result (λ values. vec_len values < 2 ^ 64) }
-    ensures takes { IsHonest (T.state tape.old) → IfOk result (λ values. vec_len values ≤ length (T.state tape.old).bytes - (T.state tape.old).place) }
 {
     let mut values = Vec::with_capacity(alloc, ROOM)?;
     let mut place = tape.position()?;
@@ -236,10 +236,10 @@ pub fn read_each<S: Source, T: Tape>(
     sources: &[S],
     given: S::Given,
 ) -> Result<Vec<S::Value>>
+    ensures fitting { IfOk result (λ values. AreFor S.fits sources.now values.items) }
     ensures exact { Reads (λ values. S.views values.items) (T.state tape.old) result (T.state tape.new)
         (each (S.reading given) (map S.seen sources.now)) }
     ensures listed { IsListed (3 ∷ S.refusals) result }
-    ensures fitting { IfOk result (λ values. AreFor S.fits sources.now values.items) }
 {
     let mut values = Vec::new(alloc);
     for source in sources {

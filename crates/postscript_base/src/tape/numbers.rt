@@ -1,7 +1,7 @@
 //! Values of a fixed number of bytes.
 ghost use Rattle.std.specs.Prelude.{ℕ, List, [], ◌∷◌};
 ghost use Rattle.postscript_base.specs.Tape.Outcome.{same};
-ghost use Rattle.postscript_base.specs.Tape.Seen.{each_as_it_is};
+ghost use Rattle.postscript_base.specs.Private.Seen.{each_as_it_is};
 ghost use Rattle.postscript_base.specs.Numbers.{slice, number};
 
 use super::{Tape, Value, fixed};

@@ -23,7 +23,7 @@ use Rattle.postscript_compact1.specs.declared.encoding.Encoding.{Encoding}
 use Rattle.postscript_compact1.specs.declared.font_set.manner.Manner.{Manner}
 use Rattle.postscript_compact1.specs.declared.font_set.manner.Manner.TheVariants.{Strict, Lenient}
 use Rattle.postscript_compact1.specs.FontSet.Font.{Part, Tables, Font}
-use Rattle.postscript_compact1.specs.FontSet.Order.{font, lenient_font}
+use Rattle.postscript_compact1.specs.Computed.Order.{font, lenient_font}
 use Rattle.postscript_compact1.specs.FontSet.Layout.{HasFirst, HasTwo, IsSlice, IsPlace, Stands, HasEncoding, HasCharStrings, HasCharSet, HasPrivate, IsLacking, IsPart, AreTables, IsFont, IsLenientFont}
 
 -- the place sought lies past the end, or what stands there is refused

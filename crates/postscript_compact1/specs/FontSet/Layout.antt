@@ -20,7 +20,7 @@ use Rattle.postscript_compact1.specs.declared.encoding.Encoding.TheVariants as e
 use Rattle.postscript_compact1.specs.declared.font_set.manner.Manner.{Manner}
 use Rattle.postscript_compact1.specs.declared.font_set.manner.Manner.TheVariants.{Strict, Lenient}
 use Rattle.postscript_compact1.specs.FontSet.Font.{Part, Tables, Font, columns, font_of}
-use Rattle.postscript_compact1.specs.FontSet.Order.{font, lenient_font}
+use Rattle.postscript_compact1.specs.Computed.Order.{font, lenient_font}
 
 -- the first operand of an operator, or those of the first two, with the defaults, as whole numbers of 32 bits
 abbrev pub HasFirst : Dictionary → Operator → ℤ → Type 0

@@ -5,7 +5,7 @@ ghost use Rattle.postscript_base.specs.Tape.{Reads};
 ghost use Rattle.postscript_base.specs.Tape.Loops.{until};
 ghost use Rattle.postscript_base.specs.Tape.Onward.{TakesBytes};
 ghost use Rattle.postscript_base.specs.Tape.Outcome.{Reading, same};
-ghost use Rattle.postscript_base.specs.Tape.Seen.{each_as_it_is};
+ghost use Rattle.postscript_base.specs.Private.Seen.{each_as_it_is};
 ghost use Rattle.postscript_compact1.specs.CharSets.{range_1, range_2, glyphs_of_1, glyphs_of_2, covering, uncovered, none_wanting, if_any};
 
 use postscript_base::compact1::StringID;

@@ -2,7 +2,7 @@
 ghost use Rattle.std.specs.Prelude.{[], ◌∷◌, map, string_bytes};
 ghost use Rattle.postscript_base.specs.Error.{IsListed};
 ghost use Rattle.postscript_base.specs.Tape.{Reads};
-ghost use Rattle.postscript_compact1.specs.FontSet.Order.{names as the_names, dictionaries as the_dictionaries, tables, behind};
+ghost use Rattle.postscript_compact1.specs.Computed.Order.{names as the_names, dictionaries as the_dictionaries, tables, behind};
 ghost use Rattle.postscript_compact1.specs.FontSet.Value.{tables_shown};
 
 use crate::index::{Dictionaries, Names, Strings, Subroutines};
@@ -21,7 +21,7 @@ pub(super) struct Tables {
 }
 
 /// Reads what stands behind the header.
-#[tactic(auto, unfolding(crate::specs::FontSet::Order::behind))]
+#[tactic(auto, unfolding(crate::specs::Computed::Order::behind))]
 pub(super) fn read_behind<T: Tape>(
     alloc: Global,
     tape: &mut T,
@@ -38,7 +38,7 @@ pub(super) fn read_behind<T: Tape>(
 }
 
 /// Reads names, dictionaries, strings and global subroutines, one behind the other.
-#[tactic(auto, unfolding(crate::specs::FontSet::Order::tables))]
+#[tactic(auto, unfolding(crate::specs::Computed::Order::tables))]
 fn read_tables<T: Tape>(alloc: Global, tape: &mut T, place: u64) -> Result<Tables>
     ensures exact { Reads tables_shown (T.state tape.old) result (T.state tape.new) (tables place) }
     ensures listed { IsListed (1 ∷ 2 ∷ 3 ∷ 5 ∷ 6 ∷ 7 ∷ 8 ∷ 9 ∷ []) result }
@@ -56,7 +56,7 @@ fn read_tables<T: Tape>(alloc: Global, tape: &mut T, place: u64) -> Result<Table
 }
 
 /// Reads the names, each as a text.
-#[tactic(auto, using(crate::proofs::IndexIs::needs), unfolding(crate::specs::FontSet::Order::names))]
+#[tactic(auto, using(crate::proofs::IndexIs::needs), unfolding(crate::specs::Computed::Order::names))]
 fn read_names<T: Tape>(alloc: Global, tape: &mut T, place: u64) -> Result<Vec<String>>
     ensures exact { Reads (λ names. map string_bytes names.items) (T.state tape.old) result (T.state tape.new) (the_names place) }
     ensures listed { IsListed (1 ∷ 2 ∷ 3 ∷ 5 ∷ 6 ∷ []) result }
@@ -66,7 +66,7 @@ fn read_names<T: Tape>(alloc: Global, tape: &mut T, place: u64) -> Result<Vec<St
 }
 
 /// Reads the dictionaries.
-#[tactic(auto, unfolding(crate::specs::FontSet::Order::dictionaries))]
+#[tactic(auto, unfolding(crate::specs::Computed::Order::dictionaries))]
 fn read_dictionaries<T: Tape>(alloc: Global, tape: &mut T) -> Result<Vec<Operations>>
     ensures exact { Reads (λ dictionaries. dictionaries.items) (T.state tape.old) result (T.state tape.new) the_dictionaries }
     ensures listed { IsListed (1 ∷ 2 ∷ 3 ∷ 5 ∷ 6 ∷ 7 ∷ 8 ∷ 9 ∷ []) result }

@@ -68,7 +68,7 @@ impl Walue for CharStrings {
 
     ghost use Rattle.std.specs.Prelude.{[], ◌∷◌};
     ghost use Rattle.postscript_base.specs.Tape.Outcome.{same};
-    ghost use Rattle.postscript_base.specs.Tape.Seen.{each_as_it_is};
+    ghost use Rattle.postscript_base.specs.Private.Seen.{each_as_it_is};
     ghost use Rattle.postscript_compact1.specs.Index.{Index};
     ghost use Rattle.postscript_compact1.specs.Kinds.{char_strings};
 

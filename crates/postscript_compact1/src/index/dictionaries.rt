@@ -83,7 +83,7 @@ impl Dictionaries {
 impl Value for Dictionaries {
     ghost use Rattle.std.specs.Prelude.{[], ◌∷◌};
     ghost use Rattle.postscript_base.specs.Tape.Outcome.{same};
-    ghost use Rattle.postscript_base.specs.Tape.Seen.{each_as_it_is};
+    ghost use Rattle.postscript_base.specs.Private.Seen.{each_as_it_is};
     ghost use Rattle.postscript_compact1.specs.Index.{Index, index};
 
     ghost Shown = { Index };

@@ -69,7 +69,7 @@ impl Clone for Subroutines {
 impl Value for Subroutines {
     ghost use Rattle.std.specs.Prelude.{[], ◌∷◌};
     ghost use Rattle.postscript_base.specs.Tape.Outcome.{same};
-    ghost use Rattle.postscript_base.specs.Tape.Seen.{each_as_it_is};
+    ghost use Rattle.postscript_base.specs.Private.Seen.{each_as_it_is};
     ghost use Rattle.postscript_compact1.specs.Index.{Index, index};
 
     ghost Shown = { Index };

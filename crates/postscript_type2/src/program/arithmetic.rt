@@ -1,7 +1,7 @@
 //! Arithmetic over the bits of operands.
 ghost use Rattle.std.specs.Prelude.{◌≡◌, ◌≢◌, ◌*ℤ◌, ◌≤◌, ◌<◌, ◌^◌, pos, unsigned_abs};
 ghost use Rattle.postscript_type2.specs.Program.FixedPoint.{fit as the_fit, absolute_value as the_absolute_value, opposite as the_opposite, sum as the_sum, difference as the_difference, product as the_product, quotient as the_quotient, cut as the_cut, whole_root as the_whole_root, root as the_root, truth as the_truth, is_true as the_is_true, both as the_both, either as the_either, denial as the_denial, same_bits as the_same_bits};
-ghost use Rattle.postscript_type2.specs.Program.Performing.{Gives};
+ghost use Rattle.postscript_type2.specs.Private.Performing.{Gives};
 
 use crate::operation::Operand;
 use crate::refused::{Refused, Result};

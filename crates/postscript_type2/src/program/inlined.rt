@@ -4,9 +4,9 @@ ghost use Rattle.postscript_base.specs.declared.error.Error.TheVariants as error
 ghost use Rattle.postscript_base.specs.Refusal.{refusal_of};
 ghost use Rattle.postscript_type2.specs.declared.refused.Refused.TheVariants as cases;
 ghost use Rattle.postscript_type2.specs.Program.Inlined.{behind_first, piece as the_piece, inlined_text, inlined_len};
-ghost use Rattle.postscript_type2.specs.Program.Machines.{IsNested, said_of, still_of};
+ghost use Rattle.postscript_type2.specs.Private.Machines.{IsNested, said_of, still_of};
 ghost use Rattle.postscript_type2.specs.Program.Runs.{Said as Phrase, fault_of};
-ghost use Rattle.postscript_type2.specs.Program.Written.{IsPiece, IsLastOf, written, counted};
+ghost use Rattle.postscript_type2.specs.Private.Written.{IsPiece, IsLastOf, written, counted};
 
 use super::machine::{Event, Machine, Said};
 use crate::operation::Operator;

@@ -11,7 +11,7 @@ ghost use Rattle.postscript_type2.specs.Program.Inlining.{KeepsMeaning, FlatText
 ghost use Rattle.postscript_type2.specs.Program.Meaning.{IsRunOf};
 ghost use Rattle.postscript_type2.specs.Program.Routines.{Lists, lent};
 ghost use Rattle.postscript_type2.specs.Program.Runs.{Run, fault_of};
-ghost use Rattle.postscript_type2.specs.Program.Working.{routines_of};
+ghost use Rattle.postscript_type2.specs.Private.Working.{routines_of};
 
 use super::flat::{flat_code, measured};
 use super::inlined::{inlined_code, inlined_measured};

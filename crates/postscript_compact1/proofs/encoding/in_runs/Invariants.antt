@@ -1,5 +1,5 @@
 use Rattle.std.proofs.Common.{◌≡◌, ℕ, List, IsTrue, drop}
-use Rattle.postscript_compact1.specs.Encodings.{Run, in_runs, are_standard}
+use Rattle.postscript_compact1.specs.Computed.Encodings.{Run, in_runs, are_standard}
 use Rattle.postscript_compact1.proofs.encoding.in_runs.Given as goal
 
 -- the runs that are left have the code where all have it, and name standard strings

@@ -1,6 +1,6 @@
 use Rattle.std.proofs.Common.{◌∙◌, sym}
 use Rattle.std.proofs.lemmas.Result.{err_from_is_err_and}
-use Rattle.postscript_compact1.specs.FontSet.Order.{font_by}
+use Rattle.postscript_compact1.specs.Computed.Order.{font_by}
 use Rattle.postscript_compact1.proofs.Outcomes.{refused_after, got}
 use Rattle.postscript_compact1.proofs.font_set.read_font.Goals as goal
 

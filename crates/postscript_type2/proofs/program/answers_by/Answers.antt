@@ -3,7 +3,7 @@ use Rattle.postscript_base.specs.declared.error.Error.TheVariants.{Memory}
 use Rattle.postscript_type2.specs.Program.Evaluation.{run_of}
 use Rattle.postscript_type2.specs.Program.RunAnswers.{Tells}
 use Rattle.postscript_type2.specs.Program.Routines.{lent}
-use Rattle.postscript_type2.specs.Program.Working.{routines_of}
+use Rattle.postscript_type2.specs.Private.Working.{routines_of}
 use Rattle.postscript_type2.proofs.Telling.{tells-meant, tells-listed}
 use Rattle.postscript_type2.proofs.program.answers_by.Goals.{After-drop-by-2}
 use Rattle.postscript_type2.proofs.program.answers_by.Goals as goal

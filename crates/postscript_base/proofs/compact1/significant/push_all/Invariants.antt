@@ -1,6 +1,6 @@
 use Rattle.std.proofs.Common.{ℕ, ◌+◌, ◌≤◌, List, ◌++◌, take}
 use Rattle.postscript_base.specs.Compact1.Decimal.{digits_number}
-use Rattle.postscript_base.specs.Compact1.Significant.{Keeps}
+use Rattle.postscript_base.specs.Private.Significant.{Keeps}
 use Rattle.postscript_base.proofs.compact1.significant.push_all.Given as goal
 
 abbrev pub invariant-loop-digit : goal.invariant-loop-digit

@@ -1,5 +1,5 @@
 use Rattle.std.proofs.Common.{rules}
-use Rattle.postscript_compact1.specs.FontSet.Order.{tables}
+use Rattle.postscript_compact1.specs.Computed.Order.{tables}
 use Rattle.postscript_compact1.proofs.font_set.tables.read_tables.Goals as goal
 
 pub returns-clause-exact : goal.returns-clause-exact

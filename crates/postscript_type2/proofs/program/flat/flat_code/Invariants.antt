@@ -1,6 +1,6 @@
 use Rattle.std.proofs.Common.{◌≡◌, ◌++◌, length}
 use Rattle.postscript_type2.specs.Program.Flat.{flat_text}
-use Rattle.postscript_type2.specs.Program.Machines.{IsNested, still_of}
+use Rattle.postscript_type2.specs.Private.Machines.{IsNested, still_of}
 use Rattle.postscript_type2.proofs.program.flat.flat_code.Given as goal
 
 -- what is flat so far and the flat text of what is left are the whole

@@ -1,6 +1,6 @@
 use Rattle.std.proofs.Common.{◌≡◌, ◌+◌, ◌-◌, ◌^◌, ◌<◌, length, min}
 use Rattle.postscript_type2.specs.Program.Flat.{flat_text, flat_len}
-use Rattle.postscript_type2.specs.Program.Machines.{IsNested, still_of}
+use Rattle.postscript_type2.specs.Private.Machines.{IsNested, still_of}
 use Rattle.postscript_type2.proofs.program.flat.measured.Given as goal
 
 -- what is measured so far and the flat text of what is left are the whole

@@ -1,7 +1,7 @@
 use Rattle.std.proofs.Common.{◌≡◌, ◌≤◌, length}
 use Rattle.postscript_type2.specs.Program.Inlined.{inlined_text}
-use Rattle.postscript_type2.specs.Program.Machines.{IsNested, still_of}
-use Rattle.postscript_type2.specs.Program.Written.{written}
+use Rattle.postscript_type2.specs.Private.Machines.{IsNested, still_of}
+use Rattle.postscript_type2.specs.Private.Written.{written}
 use Rattle.postscript_type2.proofs.program.inlined.inlined_code.Given as goal
 
 -- what is written so far, before what is left, is the whole

@@ -1,7 +1,7 @@
 use Rattle.std.proofs.Common.{◌≡◌, ◌<◌, ◌^◌, length}
 use Rattle.postscript_type2.specs.Program.Inlined.{inlined_len}
-use Rattle.postscript_type2.specs.Program.Machines.{IsNested, still_of}
-use Rattle.postscript_type2.specs.Program.Written.{counted}
+use Rattle.postscript_type2.specs.Private.Machines.{IsNested, still_of}
+use Rattle.postscript_type2.specs.Private.Written.{counted}
 use Rattle.postscript_type2.proofs.program.inlined.inlined_measured.Given as goal
 
 -- what is counted so far, before what is left, is the whole

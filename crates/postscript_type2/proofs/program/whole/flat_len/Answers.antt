@@ -1,9 +1,9 @@
 use Rattle.std.proofs.Common.{◌≡◌, subst, IfOk}
 use Rattle.postscript_type2.specs.Program.Flat.{flat_len}
-use Rattle.postscript_type2.specs.Program.Machines.{still_of}
+use Rattle.postscript_type2.specs.Private.Machines.{still_of}
 use Rattle.postscript_type2.specs.Program.Runs.{Run}
 use Rattle.postscript_type2.specs.Program.Routines.{lent}
-use Rattle.postscript_type2.specs.Program.Working.{routines_of}
+use Rattle.postscript_type2.specs.Private.Working.{routines_of}
 use Rattle.postscript_type2.proofs.EndingLaws.{machine-ends, flatten-listed}
 use Rattle.postscript_type2.proofs.Telling.{of-meant}
 use Rattle.postscript_type2.proofs.program.whole.flat_len.Goals as goal

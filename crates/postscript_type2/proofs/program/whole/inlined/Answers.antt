@@ -1,10 +1,10 @@
 use Rattle.postscript_type2.proofs.InlinedLaws.{no-longer, adds-result}
 use Rattle.std.proofs.Common.{arith, ◌≡◌, subst, IfOk, OnOk, None}
 use Rattle.postscript_type2.specs.Program.Inlined.{inlined_text}
-use Rattle.postscript_type2.specs.Program.Machines.{still_of}
+use Rattle.postscript_type2.specs.Private.Machines.{still_of}
 use Rattle.postscript_type2.specs.Program.Runs.{Run, fault_of}
 use Rattle.postscript_type2.specs.Program.Routines.{lent}
-use Rattle.postscript_type2.specs.Program.Working.{routines_of}
+use Rattle.postscript_type2.specs.Private.Working.{routines_of}
 use Rattle.postscript_type2.proofs.EndingLaws.{machine-ends, flatten-listed}
 use Rattle.postscript_type2.proofs.InlinedMeaning.{keeps-result}
 use Rattle.postscript_type2.proofs.Telling.{of-meant}

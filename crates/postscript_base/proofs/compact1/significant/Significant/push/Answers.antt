@@ -1,6 +1,6 @@
 use Rattle.std.proofs.Common.{arith}
 use Rattle.std.proofs.Common.{◌≡◌, ℕ, ◌+◌, ◌*◌, Bool, true, false}
-use Rattle.postscript_base.specs.Compact1.Significant.{Keeps, IsShort, IsLong}
+use Rattle.postscript_base.specs.Private.Significant.{Keeps, IsShort, IsLong}
 use Rattle.postscript_base.proofs.Zeros.{as_short, long_more, short_zero, short_more, short_long, short_far}
 use Rattle.postscript_base.proofs.compact1.significant.Significant.push.Goals as goal
 

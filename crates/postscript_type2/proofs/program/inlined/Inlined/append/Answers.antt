@@ -1,5 +1,5 @@
 use Rattle.std.proofs.Common.{◌≡◌, rules, length}
-use Rattle.postscript_type2.specs.Program.Machines.{said_of}
+use Rattle.postscript_type2.specs.Private.Machines.{said_of}
 use Rattle.postscript_type2.proofs.Written.{stands-written}
 use Rattle.postscript_type2.proofs.program.inlined.Inlined.append.Goals as goal
 

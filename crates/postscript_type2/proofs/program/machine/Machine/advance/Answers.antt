@@ -1,8 +1,8 @@
 use Rattle.std.proofs.Common.{eqb-true, arith, ◌≡◌, ◌∙◌, ◌-◌, ap, sym, refl, take, length, inr, add-one, ◌<◌}
 use Rattle.std.proofs.lemmas.Result.{err_from_is_err_and}
-use Rattle.postscript_type2.specs.Program.Callers.{rests}
+use Rattle.postscript_type2.specs.Private.Callers.{rests}
 use Rattle.postscript_type2.specs.Program.Effects.{State, cleared, stacked, settled}
-use Rattle.postscript_type2.specs.Program.Working.{lists_of, state_of, move_of, after_move}
+use Rattle.postscript_type2.specs.Private.Working.{lists_of, state_of, move_of, after_move}
 use Rattle.postscript_type2.proofs.Arms.{IsRead, is-read, some-of, used-up, kept, answered, entered, too-deep-call, returned, no-caller, finished, trailing, refused-or-memory, unread-or-memory}
 use Rattle.postscript_type2.proofs.program.machine.Machine.advance.Goals as goal
 
