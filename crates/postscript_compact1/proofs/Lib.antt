@@ -19,6 +19,7 @@ pub mod CharSetRefused
 pub mod IndexRefused
 pub mod ItemsAre
 pub mod TextsAre
+pub mod Passed
 pub mod FontClauses
 pub mod FontCauses
 pub mod FontRows

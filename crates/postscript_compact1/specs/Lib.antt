@@ -12,3 +12,4 @@ pub mod Texts
 pub mod TextsLaw
 pub mod CharSetLaw
 pub mod Computed
+pub mod Private

@@ -1,12 +1,14 @@
 //! Fonts (Technical Note 5176).
-ghost use Rattle.std.specs.Prelude.{◌≡◌, ◌≢◌, ℕ, [], ◌∷◌, IfOk, IfErr};
+ghost use Rattle.std.specs.Prelude.{◌≡◌, ◌≢◌, ℕ, [], ◌∷◌, IfOk, IfErr, OnOk};
 ghost use Rattle.postscript_base.specs.Error.{IsListed};
 ghost use Rattle.postscript_base.specs.Tape.{Reads, IsHonest};
+ghost use Rattle.postscript_base.specs.Tape.Outcome.{Got, after};
 ghost use Rattle.postscript_base.specs.declared.error.Error.TheVariants as errors;
 ghost use Rattle.postscript_compact1.specs.FontSet.Font.{Font, font_of, tables_in, parts_in};
 ghost use Rattle.postscript_compact1.specs.FontSet.Causes.{NoFont, NoLenientFont};
 ghost use Rattle.postscript_compact1.specs.FontSet.Layout.{IsFont, IsLenientFont};
 ghost use Rattle.postscript_compact1.specs.Computed.Order.{font, font_by, lenient_font};
+ghost use Rattle.postscript_compact1.specs.Private.Passed.{passed_font};
 ghost use Rattle.postscript_compact1.specs.FontSet.Value.{font_shown, tables_shown, parts_shown};
 
 pub mod laws;
@@ -19,7 +21,7 @@ use crate::char_set::CharSet;
 use crate::encoding::Encoding;
 use crate::index::{CharStrings, Strings, Subroutines};
 use manner::Manner;
-use parts::{Parts, read_parts};
+use parts::{Parts, pass_parts, read_parts};
 use postscript_base::compact1::laws::reads_dictionaries;
 use postscript_base::compact1::{Header, Operations};
 use postscript_base::{Result, Tape, Value};
@@ -125,6 +127,55 @@ impl FontSet {
         reads_dictionaries();
         read_font(alloc, tape, Manner::Lenient)
     }
+
+    /// Whether `read` answers a font at the tape's place (Technical Note 5176, "CFF Data Layout"), and where it does not,
+    /// why. The font is passed over: what is read of it is dropped, dictionary by dictionary, and its char strings are not
+    /// read at all, since their last offset says how many bytes they are. Of these only the offsets take memory for a
+    /// while, four bytes a glyph, and no time is spent on their bytes. A tape that faults within them is not noticed; none
+    /// that is honest does.
+    ///
+    /// On an honest tape it is answered exactly where a font stands (`specs/FontSet/Layout.antt`), want of memory aside,
+    /// and the tape then stands where `read` leaves it. Offsets count from the tape's place.
+    ///
+    /// Refused: as `read` is, with the same error in the same order; `Memory` in fewer cases.
+    ///
+    /// ```rust
+    /// pub fn is_font(alloc: Global, bytes: &[u8]) -> bool {
+    ///     FontSet::check(alloc, &mut Cursor::new(bytes)).is_ok()
+    /// }
+    /// ```
+    pub fn check<T: Tape>(alloc: Global, tape: &mut T) -> Result<()>
+        ensures found { IsHonest (T.state tape.old) → OnOk result ((f : Font) × IsFont (T.state tape.old).bytes (T.state tape.old).place f (T.state tape.new).place) }
+        ensures only { IsHonest (T.state tape.old) → IfErr result (λ e. e ≢ errors.Memory → (f : Font) (next : ℕ) → IsFont (T.state tape.old).bytes (T.state tape.old).place f next → ⊥) }
+        ensures why { IsHonest (T.state tape.old) → IfErr result (λ e. e ≢ errors.Memory → NoFont e (T.state tape.old).bytes (T.state tape.old).place) }
+        ensures exact { Reads (λ _. tt {0}) (T.state tape.old) result (T.state tape.new) (λ bytes place. after (font bytes place) (λ _ next. Got tt next)) }
+        ensures listed { IsListed (1 ∷ 2 ∷ 3 ∷ 5 ∷ 6 ∷ 7 ∷ 8 ∷ 9 ∷ 10 ∷ 11 ∷ 12 ∷ 13 ∷ 14 ∷ 15 ∷ 16 ∷ []) result }
+    {
+        reads_dictionaries();
+        pass_font(alloc, tape, Manner::Strict)
+    }
+
+    /// Whether `read_lenient` answers a font at the tape's place, and where it does not, why. It is to `read_lenient` as
+    /// `check` is to `read`: the font is passed over, its char strings are not read, and on an honest tape it is answered
+    /// exactly where a font stands that may lack private dictionaries and local subroutines, want of memory aside.
+    ///
+    /// Refused: as `read_lenient` is, with the same error in the same order; `Memory` in fewer cases.
+    ///
+    /// ```rust
+    /// pub fn lenient_refusal(alloc: Global, bytes: &[u8]) -> Option<Error> {
+    ///     FontSet::check_lenient(alloc, &mut Cursor::new(bytes)).err()
+    /// }
+    /// ```
+    pub fn check_lenient<T: Tape>(alloc: Global, tape: &mut T) -> Result<()>
+        ensures found { IsHonest (T.state tape.old) → OnOk result ((f : Font) × IsLenientFont (T.state tape.old).bytes (T.state tape.old).place f) }
+        ensures only { IsHonest (T.state tape.old) → IfErr result (λ e. e ≢ errors.Memory → (f : Font) → IsLenientFont (T.state tape.old).bytes (T.state tape.old).place f → ⊥) }
+        ensures why { IsHonest (T.state tape.old) → IfErr result (λ e. e ≢ errors.Memory → NoLenientFont e (T.state tape.old).bytes (T.state tape.old).place) }
+        ensures exact { Reads (λ _. tt {0}) (T.state tape.old) result (T.state tape.new) (λ bytes place. after (lenient_font bytes place) (λ _ next. Got tt next)) }
+        ensures listed { IsListed (1 ∷ 2 ∷ 3 ∷ 5 ∷ 6 ∷ 7 ∷ 8 ∷ 9 ∷ 10 ∷ 11 ∷ 12 ∷ 13 ∷ 14 ∷ 15 ∷ 16 ∷ []) result }
+    {
+        reads_dictionaries();
+        pass_font(alloc, tape, Manner::Lenient)
+    }
 }
 
 /// The font at the tape's place (Technical Note 5176, "CFF Data Layout"), from which offsets count. The version in the
@@ -209,6 +260,18 @@ fn read_font<T: Tape>(alloc: Global, tape: &mut T, manner: Manner) -> Result<Fon
     let tables = read_behind(alloc, tape, start, header)?;
     let parts = read_parts(alloc, tape, manner, start, &tables.dictionaries)?;
     Ok(of_parts(header, tables, parts))
+}
+
+/// Passes over a font in a manner: it is read as by `read_font`, and nothing of it is kept.
+#[tactic(auto, using(crate::proofs::Outcomes::refused_after), unfolding(crate::specs::Private::Passed::passed_font))]
+fn pass_font<T: Tape>(alloc: Global, tape: &mut T, manner: Manner) -> Result<()>
+    ensures exact { Reads (λ _. tt) (T.state tape.old) result (T.state tape.new) (passed_font manner) }
+    ensures listed { IsListed (1 ∷ 2 ∷ 3 ∷ 5 ∷ 6 ∷ 7 ∷ 8 ∷ 9 ∷ 10 ∷ 11 ∷ 12 ∷ 13 ∷ 14 ∷ 15 ∷ 16 ∷ []) result }
+{
+    let start = tape.position()?;
+    let header = Header::read(alloc, tape)?;
+    let tables = read_behind(alloc, tape, start, header)?;
+    pass_parts(alloc, tape, manner, start, &tables.dictionaries)
 }
 
 /// The font of its header, of what stands behind it, and of its parts.

@@ -15,6 +15,7 @@ mod char_strings;
 mod dictionaries;
 pub mod laws;
 mod names;
+mod passed;
 mod strings;
 mod subroutines;
 
@@ -23,6 +24,7 @@ pub use char_strings::CharStrings;
 pub use dictionaries::Dictionaries;
 pub(crate) use dictionaries::operations_of;
 pub use names::Names;
+pub(crate) use passed::pass_index_at;
 use postscript_base::compact1::{Offset, OffsetSize};
 use postscript_base::tape::{Source, read_chain, read_each};
 use postscript_base::{Result, Tape, Value, Walue};

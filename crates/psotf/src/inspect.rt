@@ -5,8 +5,8 @@ use crate::face::Face;
 use crate::failure::Failure;
 use crate::hints::hinted;
 use crate::sheet::Sheet;
+use postscript_base::Error;
 use postscript_base::compact1::Operator;
-use postscript_base::{Error, Tape};
 use postscript_compact1::font_set::FontSet;
 use postscript_sfnt::Name;
 use postscript_view::CharSetView;
@@ -96,32 +96,11 @@ struct Refusals {
     lenient: Option<Error>,
 }
 
-/// What a font that is read leniently lacks of what the strict reading needs: the first dictionary that lacks one decides.
-fn lacking(font: &FontSet) -> Option<Error> {
-    for (i, dictionary) in font.global_dictionaries.iter().enumerate() {
-        if dictionary.get_double(Operator::Private).is_none() {
-            return Some(Error::MissingOperation(Operator::Private));
-        }
-        let local = font.local_dictionaries.get(i)?;
-        if local.get_single(Operator::Subrs).is_none() {
-            return Some(Error::MissingOperation(Operator::Subrs));
-        }
-    }
-    None
-}
-
-/// Reads the whole font: once, where the lenient reading answers it, since the strict one refuses it then for what it lacks
-/// alone.
+/// Passes over the whole font once by each reading. Nothing of it is kept.
 fn refusals_of(alloc: Global, cff: &[u8]) -> Refusals {
-    match FontSet::read_lenient(alloc, &mut Cursor::new(cff)) {
-        Ok(font) => Refusals {
-            strict: lacking(&font),
-            lenient: None,
-        },
-        Err(lenient) => Refusals {
-            strict: Cursor::new(cff).take::<FontSet>(alloc).err(),
-            lenient: Some(lenient),
-        },
+    Refusals {
+        strict: FontSet::check(alloc, &mut Cursor::new(cff)).err(),
+        lenient: FontSet::check_lenient(alloc, &mut Cursor::new(cff)).err(),
     }
 }
 

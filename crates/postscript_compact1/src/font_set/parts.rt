@@ -7,11 +7,14 @@ ghost use Rattle.postscript_compact1.specs.Computed.Order.{encoding as the_encod
 ghost use Rattle.postscript_compact1.specs.FontSet.Font.{columns, more};
 ghost use Rattle.postscript_compact1.specs.FontSet.Value.{part_shown, parts_shown};
 
+mod passed;
+
 use super::manner::Manner;
 use super::operands::{bounds, first, place_at, type_two};
 use crate::char_set::CharSet;
 use crate::encoding::Encoding;
 use crate::index::{CharStrings, Subroutines, operations_of};
+pub(super) use passed::pass_parts;
 use postscript_base::compact1::{Operations, Operator};
 use postscript_base::error::Part as Unsupported;
 use postscript_base::tape::{bytes_at, read_at, read_given_at};
