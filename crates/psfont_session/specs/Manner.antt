@@ -1,7 +1,7 @@
 -- How fonts are read.
 use Rattle.postscript.specs.Tape.Outcome.{Reading}
 use Rattle.postscript.specs.FontSet.Font.{Font}
-use Rattle.postscript.specs.FontSet.Order.{font, lenient_font}
+use Rattle.postscript.specs.Computed.Order.{font, lenient_font}
 use Rattle.psfont_session.specs.declared.command.Manner.{Manner}
 use Rattle.psfont_session.specs.declared.command.Manner.TheVariants.{Strict, Lenient}
 
