@@ -78,21 +78,21 @@ def requests(folder, library, program, file):
     return [count - counts[0] for count in counts[1:]]
 
 
+def print_ratios(name, count, ways, loop, asked):
+    next_, run, flat_len, flatten = ways
+    ratios = [run / loop, run / next_, flat_len / run, flatten / run]
+    print_row(name, count, *(f"{ratio:.2f}" for ratio in ratios), *asked)
+
+
 def print_four_ways(times, asked):
-    """A row for each font, and one for all but the calls."""
-
-    def ratios(name, count, ways, loop, requested):
-        next_, run, flat_len, flatten = ways
-        parts = [run / loop, run / next_, flat_len / run, flatten / run]
-        print_row(name, count, *(f"{part:.2f}" for part in parts), *requested)
-
-    print("| font | operations | `run` / the Rust loop | `run` / `next` | `flat_len` / `run` | `flatten` / `run` | requests: `next` | `run` | `flat_len` | `flatten` |")
+    """A row for each font, and one for all of them without the calls."""
+    ratios = "`run` / the Rust loop | `run` / `next` | `flat_len` / `run` | `flatten` / `run`"
+    print_row("font", "operations", ratios, "requests: `next` | `run` | `flat_len` | `flatten`")
     print("|---|---|---|---|---|---|---|---|---|---|")
     for name, count, ways, (loop,) in times:
-        ratios(name, count, ways, loop, asked[name])
-    fonts = [row for row in times if row[0] != "calls"]
-    counts, all_ways, loops = [row[1] for row in fonts], [row[2] for row in fonts], [row[3][0] for row in fonts]
-    ratios("all fonts", sum(counts), sums(all_ways), sum(loops), sums(asked[row[0]] for row in fonts))
+        print_ratios(name, count, ways, loop, asked[name])
+    names, counts, ways, loops = zip(*(row for row in times if row[0] != "calls"))
+    print_ratios("all fonts", sum(counts), sums(ways), *sums(loops), sums(asked[name] for name in names))
 
 
 def print_memory(folder, library, program, files):

@@ -7,10 +7,14 @@ For each kind of statement it makes a crate of one function with ten of them, an
 lesser processor time counts, less that of the function without them. It prints the seconds for one statement. Needs `rt` on the
 path, and takes some five minutes.
 """
-import os
+import pathlib
 import resource
-import subprocess
+import sys
 import tempfile
+
+sys.dont_write_bytecode = True
+
+from building import printed, write_crate
 
 KINDS = {
     '`assert_eq!(rt; a, b, "at {row}")`': 'assert_eq!(rt; a, b, "at {row}");',
@@ -43,16 +47,9 @@ def seconds(body):
     taken = []
     for _ in range(2):
         with tempfile.TemporaryDirectory() as top:
-            os.makedirs(f"{top}/crates/statements/src")
-            for folder in ("specs", "proofs"):
-                os.makedirs(f"{top}/crates/statements/{folder}")
-                open(f"{top}/crates/statements/{folder}/Lib.antt", "w").close()
-            with open(f"{top}/crates.txt", "w") as file:
-                file.write("statements:\n")
-            with open(f"{top}/crates/statements/src/lib.rt", "w") as file:
-                file.write(HEAD + body)
+            own = write_crate(pathlib.Path(top), "statements:", "lib.rt", HEAD + body)
             before = resource.getrusage(resource.RUSAGE_CHILDREN)
-            subprocess.run(["rt", "check", "--jobs", "1"], cwd=f"{top}/crates/statements", check=True, stdout=subprocess.DEVNULL)
+            printed("rt", "check", "--jobs", "1", folder=own)
             after = resource.getrusage(resource.RUSAGE_CHILDREN)
             taken.append(after.ru_utime - before.ru_utime + after.ru_stime - before.ru_stime)
     return min(taken)
