@@ -65,20 +65,19 @@ def proved(folder, name, uses, top=TOP):
     return own / "out" / name
 
 
-def cargo(folder, name, version="0.1.0", dependencies=""):
-    """The program NAME of the Rust sources in a folder, whose manifest this writes."""
-    package = f'[package]\nname = "{name}"\nversion = "{version}"\nedition = "2021"\n'
-    (folder / "Cargo.toml").write_text(package + dependencies)
-    printed("cargo", "build", "--quiet", "--release", "--offline", folder=folder)
+def cargo(folder, name, more="", version="0.1.0", words=()):
+    """The folder of the programs of the Rust sources in a folder, whose manifest this writes."""
+    (folder / "Cargo.toml").write_text(f'[package]\nname = "{name}"\nversion = "{version}"\nedition = "2021"\n{more}')
+    printed("cargo", "build", "--quiet", "--release", "--offline", *words, folder=folder)
     return folder / "target" / "release"
 
 
-def rival(folder, crate, name):
-    """The program tools/NAME_rust.txt, built in a folder over a copy of the source of the Rust crate `postscript`."""
+def rival(folder, crate, name, feature="whole"):
+    """The program tools/NAME_rust.txt, built in a folder over a copy of the source of the Rust crate `postscript`, with a feature."""
     shutil.copytree(pathlib.Path(crate) / "src", folder / "src")
     (folder / "src" / "bin").mkdir()
     shutil.copyfile(TOOLS / f"{name}_rust.txt", folder / "src" / "bin" / f"{name}.rs")
-    return cargo(folder, "postscript", "0.14.1") / name
+    return cargo(folder, "postscript", f"[features]\n{feature} = []\n", "0.14.1", ["--features", feature]) / name
 
 
 def parser_program(folder, name):
@@ -87,7 +86,7 @@ def parser_program(folder, name):
     shutil.copyfile(TOOLS / f"{name}_ttf.txt", folder / "src" / "main.rs")
     listed = printed("dpkg", "-L", "librust-ttf-parser-dev").splitlines()
     parser = next(path for path in listed if path.endswith("/Cargo.toml")).removesuffix("/Cargo.toml")
-    return cargo(folder, name, dependencies=f'[dependencies]\nttf-parser = {{ path = "{parser}" }}\n') / name
+    return cargo(folder, name, f'[dependencies]\nttf-parser = {{ path = "{parser}" }}\n') / name
 
 
 def memory(folder):

@@ -6,9 +6,10 @@
 
 CRATE is the folder of the Rust crate's source, with its folder src/. Each WORD is a folder or an installed Debian package, of which
 each file .otf is taken, or a font file; fonts without a table `CFF ` are left out. Needs `rt`, `cargo` and `gcc` on the path, and
-Debian's python3-fonttools. Neither folder is written to. The program over this repository is tools/readings_main.txt, proved in a
-copy with what the crates keep in out/; the one over the Rust crate is tools/readings_rust.txt. This one also makes what a reading
-leaves, and nothing else: the floor, or the maps alone. All of them run by turns.
+Debian's python3-fonttools. Neither folder is written to. The programs over this repository are tools/fonts_main.txt and
+tools/dictionaries_main.txt, proved in a copy with what the crates keep in out/; the ones over the Rust crate stand in
+tools/readings_rust.txt. There are two more there, which make what a reading leaves, and nothing else: the floor, and the maps alone.
+Three programs run by turns.
 
 The first line times whole fonts, and the INDEX of their char strings; the median of the times of each counts. The line of a font
 whose private dictionary has no Subrs is left out, since both programs refuse it. A second table, by tools/memory.c, has the most bytes
@@ -29,8 +30,9 @@ import building
 from building import printed
 from font_files import fonts_of
 
-USES = "postscript_compact1 postscript_base hex anyhow"
+USES = {"fonts": "postscript_compact1 postscript_base hex anyhow", "dictionaries": "postscript_base hex anyhow"}
 TURNS = {"fonts": 9, "dictionaries": 5}
+PLAIN = {"fonts": "lists", "dictionaries": "maps"}
 
 
 def number(table, place, size):
@@ -83,11 +85,11 @@ def add_times(told, times):
 
 
 def timed(programs, turns):
-    """How many items each line has, and the times of the three programs, by turns; each is a command and the file that it reads."""
+    """How many items each line has, and the times of the three programs, by turns; with each stands the file that it reads."""
     all_times = [{} for _ in programs]
     for _ in range(turns):
-        for (words, lines), times in zip(programs, all_times):
-            add_times(printed(*words, given=lines), times)
+        for (program, lines), times in zip(programs, all_times):
+            add_times(printed(program, given=lines), times)
     if list(all_times[0]) != list(all_times[1]):
         sys.exit("the programs did not read the same")
     return dict(all_times[0].keys()), [{name: nanos for (name, _), nanos in times.items()} for times in all_times]
@@ -152,29 +154,31 @@ def print_memory(items, ours, rust):
         print(f"| {kind}:{name} | {count} | {size} | {most} | {most / size:.2f} | {(most - size) / count:.0f} | {other} |")
 
 
-def write_lines(path, items, with_places):
-    """Writes a line for each item, and gives the file."""
-    lines = ([kind, name, table.hex(), *map(str, places if with_places else [])] for kind, name, table, places in items)
-    path.write_text("".join(f"{' '.join(line)}\n" for line in lines))
+def write_lines(path, items, between, with_places):
+    """Writes a line for each item, with this between kind and name, and gives the file."""
+    lines = ([f"{kind}{between}{name}", table.hex(), *(places if with_places else [])] for kind, name, table, places in items)
+    path.write_text("".join(f"{' '.join(map(str, line))}\n" for line in lines))
     return path
 
 
 def main(words):
     if len(words) < 3 or words[0] not in TURNS:
         sys.exit(__doc__)
+    what, crate, *words = words
     with tempfile.TemporaryDirectory() as name:
         folder = pathlib.Path(name)
-        items = list((whole_fonts if words[0] == "fonts" else dictionaries)(words[2:]))
-        lines, placed = (write_lines(folder / file, items, file == "placed") for file in ("lines", "placed"))
-        rust = building.rival(folder / "rust", words[1], "readings")
-        ours = building.proved(folder / "ours", "readings", USES)
-        times = timed([([ours], lines), ([rust], lines), ([rust, "plain"], placed)], TURNS[words[0]])
-        if words[0] == "dictionaries":
+        items = list((whole_fonts if what == "fonts" else dictionaries)(words))
+        lines = write_lines(folder / "lines", items, " " if what == "fonts" else ":", False)
+        placed = write_lines(folder / "placed", items, ":", True)
+        rust, plain = (building.rival(folder / feature, crate, "readings", feature) for feature in (what, PLAIN[what]))
+        ours = building.proved(folder / "ours", what, USES[what])
+        times = timed([(ours, lines), (rust, placed), (plain, placed)], TURNS[what])
+        if what == "dictionaries":
             print_dictionaries(*times)
             return
         print_fonts(*times)
         print()
-        print_memory(items, *(asked(folder, program, lines) for program in (ours, rust)))
+        print_memory(items, asked(folder, ours, lines), asked(folder, rust, placed))
 
 
 if __name__ == "__main__":
