@@ -23,9 +23,9 @@ import sys
 
 sys.dont_write_bytecode = True
 
+from building import PSFONT
 from second_reader import read_font
 
-PROGRAM = pathlib.Path(__file__).resolve().parent.parent / "crates" / "psfont" / "out" / "psfont"
 BATCH = 2000
 SECONDS_A_BATCH = 300
 ROUNDS = 40
@@ -581,7 +581,7 @@ def arguments(words):
     parser = argparse.ArgumentParser(description=__doc__.split("\n", 1)[0])
     parser.add_argument("--seed", type=int, default=1)
     parser.add_argument("--count", type=int, default=100_000)
-    parser.add_argument("program", nargs="?", default=PROGRAM, metavar="PSFONT")
+    parser.add_argument("program", nargs="?", default=PSFONT, metavar="PSFONT")
     return parser.parse_args(words)
 
 

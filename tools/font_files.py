@@ -1,7 +1,20 @@
-"""The font files that the words of a script name."""
+#!/usr/bin/python3
+"""Fetches the OpenType fonts of Debian's packages, and prints how many files .otf there are.
+
+    tools/font_files.py FOLDER
+
+Each package fonts-* that holds a file .otf is downloaded and unpacked below FOLDER; nothing is installed. The other scripts take the
+folder, as tools/view.py 38 3000 FOLDER. What is there already is kept. Needs Debian's python3-fonttools and apt-file, once updated, and
+some 300 MB.
+
+As a module it finds the font files that the words of another script name, and gives the glyphs of a font as lines.
+"""
 
 import pathlib
 import subprocess
+import sys
+
+from fontTools.ttLib import TTFont
 
 
 def files_of(*words, ends=(".otf",)):
@@ -15,3 +28,74 @@ def files_of(*words, ends=(".otf",)):
         else:
             listed = subprocess.run(["dpkg", "-L", word], stdout=subprocess.PIPE, check=True).stdout.decode().split("\n")
             yield from sorted(name for name in listed if name.endswith(ends))
+
+
+def fonts_of(*words):
+    """The name of each font with a table `CFF `, without its ending, and the font."""
+    for path in files_of(*words):
+        font = TTFont(path, lazy=True)
+        if "CFF " in font:
+            yield pathlib.Path(path).stem, font
+
+
+def glyph_lines(path):
+    """The subroutines and glyphs of a font file, each with `global`, `local` or `code`; none where it has no table `CFF `, or several
+    Private dictionaries."""
+    font = TTFont(path, lazy=True)
+    if "CFF " not in font:
+        return []
+    cff = font["CFF "].cff
+    top = cff[0]
+    if hasattr(top, "FDArray"):
+        return []
+    local = getattr(top.Private, "Subrs", [])
+    lines = [("global", cff.GlobalSubrs[i].bytecode) for i in range(len(cff.GlobalSubrs))]
+    lines += [("local", local[i].bytecode) for i in range(len(local))]
+    return lines + [("code", top.CharStrings[name].bytecode) for name in font.getGlyphOrder()]
+
+
+def spelled(lines):
+    """Such lines as text: a word, a space, and bytes in hex."""
+    return "".join(f"{kind} {code.hex()}\n" for kind, code in lines)
+
+
+def write_glyphs(folder, words, **more):
+    """Writes the glyphs of each font, as such lines, to a file of its name, and more texts to files of theirs; gives the files."""
+    folder.mkdir()
+    texts = {pathlib.Path(path).stem: spelled(glyph_lines(path)) for path in files_of(*words)}
+    for name, text in {**texts, **more}.items():
+        if text:
+            (folder / name).write_text(text)
+    return sorted(folder.iterdir())
+
+
+def packages():
+    """Debian's packages fonts-* that hold a file .otf."""
+    listed = subprocess.run(["apt-file", "search", "-x", r"\.otf$"], stdout=subprocess.PIPE, check=True).stdout.decode()
+    names = {line.partition(":")[0] for line in listed.splitlines()}
+    return sorted(name for name in names if name.startswith("fonts-"))
+
+
+def fetch(folder, package):
+    """Downloads a package and unpacks it: into one root for all, since files of one package are links to another's."""
+    debs = folder / "debs"
+    subprocess.run(["apt-get", "download", "-qq", package], cwd=debs, check=True)
+    for deb in debs.glob(f"{package}_*.deb"):
+        subprocess.run(["dpkg-deb", "-x", deb, folder / "root"], check=True)
+        deb.unlink()
+    (folder / f"{package}.done").touch()
+
+
+def main(words):
+    if len(words) != 1:
+        sys.exit(__doc__)
+    folder = pathlib.Path(words[0]).resolve()
+    (folder / "debs").mkdir(parents=True, exist_ok=True)
+    for package in packages():
+        if not (folder / f"{package}.done").exists():
+            fetch(folder, package)
+    print(sum(1 for _ in (folder / "root").rglob("*.otf")))
+
+
+if __name__ == "__main__":
+    main(sys.argv[1:])

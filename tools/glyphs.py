@@ -18,18 +18,19 @@ run, the glyph is counted as left out. The status is 1 where a glyph differs.
 """
 
 import collections
-import pathlib
 import subprocess
 import sys
 import tempfile
+
+sys.dont_write_bytecode = True
 
 from fontTools.misc.psCharStrings import T2CharString, T2OutlineExtractor, T2WidthExtractor
 from fontTools.pens.recordingPen import RecordingPen
 from fontTools.ttLib import TTFont
 
+from building import PSFONT
 from font_files import files_of
 
-PSFONT = pathlib.Path(__file__).resolve().parent.parent / "crates" / "psfont" / "out" / "psfont"
 DRAWING = """rlineto hlineto vlineto rrcurveto rcurveline rlinecurve vvcurveto hhcurveto vhcurveto hvcurveto
     hflex flex hflex1 flex1""".split()
 

@@ -1,20 +1,29 @@
 #!/usr/bin/python3
-"""Compares inlined codes with the codes that hb-subset and fontTools make without subroutines.
+"""Compares the inlined codes of the glyphs of real fonts, byte for byte, with what hb-subset and fontTools make of them.
 
-    tools/inlined.py PROGRAM WORD..
+    tools/inlined.py WORD..
 
-PROGRAM is the one that tools/inlined.sh builds. Each WORD is an installed Debian package, of which each file .otf is taken, or a
-font file; fonts without a table `CFF ` and those of several Private dictionaries are left out. It prints each glyph whose bytes
-differ, and for each font how many glyphs were compared, how many have the same bytes, and how many bytes all of them have.
+Each WORD is a folder or an installed Debian package, of which each file .otf is taken, or a font file; fonts without a table `CFF ` and
+those of several Private dictionaries are left out. It prints each glyph whose bytes differ, and for each font how many glyphs were
+compared, how many have the same bytes, and how many bytes all of them have.
+
+Needs `rt` and `hb-subset` on the path, and Debian's python3-fonttools. The program is tools/inlined_main.txt, proved in a copy with
+what the crates keep in out/.
 """
 
+import pathlib
 import subprocess
 import sys
 import tempfile
 
+sys.dont_write_bytecode = True
+
 from fontTools.ttLib import TTFont
 
-from charstrings import files_of, lines_of
+import building
+from font_files import files_of, glyph_lines, spelled
+
+USES = "postscript_type2 postscript_base hex anyhow"
 
 
 def harfbuzz_codes(path):
@@ -41,8 +50,7 @@ def fonttools_codes(path):
 
 def inlined_codes(program, lines):
     """The lengths of the flat codes, and the inlined codes, whose lengths have to be as told."""
-    text = "".join(f"{kind} {code.hex()}\n" for kind, code in lines)
-    answer = subprocess.run([program], input=text.encode(), stdout=subprocess.PIPE, check=True).stdout.decode()
+    answer = subprocess.run([program], input=spelled(lines).encode(), stdout=subprocess.PIPE, check=True).stdout.decode()
     flat, codes = [], []
     for line in answer.splitlines():
         length, flat_length, *digits = line.split()
@@ -55,7 +63,7 @@ def inlined_codes(program, lines):
 
 
 def compare(program, path):
-    lines = lines_of(path)
+    lines = glyph_lines(path)
     if not lines:
         return
     flat, ours = inlined_codes(program, lines)
@@ -70,11 +78,12 @@ def compare(program, path):
 
 
 def main(words):
-    if len(words) < 2:
+    if not words:
         sys.exit(__doc__)
-    for word in words[1:]:
-        for path in files_of(word):
-            compare(words[0], path)
+    with tempfile.TemporaryDirectory() as folder:
+        program = building.proved(pathlib.Path(folder), "inlined", USES)
+        for path in files_of(*words):
+            compare(program, path)
 
 
 if __name__ == "__main__":

@@ -1,14 +1,18 @@
-#!/usr/bin/env python3
-"""Counts the instructions a glyph of three programs by valgrind's callgrind, and prints a table; then the requests for memory of
-each glyph by `step`.
+#!/usr/bin/python3
+"""Counts the instructions that the glyphs of a font take here, in the Rust crate `postscript` and in `ttf-parser`, and prints a
+table; then how many requests for memory each glyph makes here by `step`.
 
-    tools/instructions.py OURS RUST TTF COUNTER GLYPHS FONT..
+    tools/instructions.py CRATE FONT..
 
-The programs are those of instructions_main.txt, charstrings_rust.txt and instructions_ttf.txt, built. GLYPHS is a folder with a
-file for each FONT, by its name without `.otf`, as charstrings.py writes it. A count is that of two rounds over all glyphs, less
-that of none, so starting and reading the file are left out. COUNTER is tools/refused.c, built: loaded before the C library it
-counts requests, those of one round less those of none: of all glyphs, and of each of the first 300 alone. It stops where `step`,
-`next`, both over subroutines in place, and the Rust crate answer different numbers of operations.
+CRATE is the folder of the Rust crate's source, with its folder src/. Each FONT is a font file with a table `CFF ` and one
+Private dictionary. Instructions are counted by valgrind's callgrind: those of two rounds over all glyphs, less those of none, so
+starting and reading the file are left out. Requests are counted by tools/memory.c, those of one round less those of none: of all
+glyphs, and of each of the first 300 alone. It stops where `step`, `next`, both over subroutines in place, and the Rust crate answer
+different numbers of operations.
+
+Needs `rt`, `cargo`, `gcc` and `valgrind` on the path, and Debian's python3-fonttools and librust-ttf-parser-dev. Neither folder is
+written to. The program over this repository is tools/instructions_main.txt, proved in a copy with what the crates keep in out/;
+the others are tools/charstrings_rust.txt and tools/instructions_ttf.txt.
 """
 
 import collections
@@ -19,6 +23,12 @@ import subprocess
 import sys
 import tempfile
 
+sys.dont_write_bytecode = True
+
+import building
+from font_files import write_glyphs
+
+USES = "postscript_outline postscript_type2 postscript_items postscript_base hex anyhow"
 ALONE = 300
 WAYS = ["step", "step_over", "next", "next_over", "run", "flat_len", "flatten", "draw"]
 ALIKE = ["step", "step_over", "next", "next_over"]
@@ -74,17 +84,27 @@ def print_requests(ours, counter, given):
     print(f"{given.name}: {len(codes)} glyphs, {whole} requests; of the first {ALONE} alone {told}", flush=True)
 
 
-def main(words):
-    if len(words) < 6:
-        sys.exit(__doc__)
-    words, counter = [*words[:3], *words[4:]], os.path.abspath(words[3])
+def print_all(programs, counter, fonts):
     print(f"| font | glyphs | {' | '.join(f'`{way}`' for way in WAYS)} | the Rust crate's `next` | `ttf-parser` |")
     print("|---" * (len(WAYS) + 4) + "|")
-    for font in words[4:]:
-        print_line(words[:3], pathlib.Path(words[3]) / pathlib.Path(font).stem, font)
+    for font, given in fonts:
+        print_line(programs, given, font)
     print()
-    for font in words[4:]:
-        print_requests(words[0], counter, pathlib.Path(words[3]) / pathlib.Path(font).stem)
+    for _, given in fonts:
+        print_requests(programs[0], counter, given)
+
+
+def main(words):
+    if len(words) < 2:
+        sys.exit(__doc__)
+    with tempfile.TemporaryDirectory() as name:
+        folder = pathlib.Path(name)
+        write_glyphs(folder / "fonts", words[1:])
+        fonts = [(font, folder / "fonts" / pathlib.Path(font).stem) for font in words[1:]]
+        rust = building.rival(folder / "rust", words[0], "charstrings")
+        ttf = building.parser_program(folder / "ttf", "instructions")
+        ours = building.proved(folder / "ours", "instructions", USES)
+        print_all([ours, rust, ttf], building.memory(folder), fonts)
 
 
 if __name__ == "__main__":

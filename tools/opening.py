@@ -1,49 +1,59 @@
 #!/usr/bin/python3
-"""Fonts to be opened, and the table of how long that took.
+"""Times the opening of fonts: in place, by `FontSet::read_lenient`, by FreeType and by `ttf-parser`, in one run.
 
-    tools/opening.py tables FOLDER WORD..       writes the table `CFF ` of each font, and prints the paths
-    tools/opening.py told OURS FREETYPE PARSER  prints what the three programs told
+    tools/opening.py WORD..
 
-Each WORD is a folder or an installed Debian package, of which each file .otf is taken, or a font file.
+Each WORD is a folder or an installed Debian package, of which each file .otf is taken, or a font file. Each font is its table `CFF ` alone.
+Needs `rt`, `cargo` and `gcc` on the path, and Debian's python3-fonttools, librust-ttf-parser-dev and libfreetype-dev. The program over
+this repository is tools/opening_main.txt, proved in a copy with what the crates keep in out/; the others are tools/opening_ft.c and
+tools/opening_ttf.txt.
 """
 
 import pathlib
 import statistics
 import sys
+import tempfile
 
 sys.dont_write_bytecode = True
 
-from fontTools.ttLib import TTFont
+import building
+from building import printed
+from font_files import fonts_of
 
-from font_files import files_of
-
+USES = "postscript_view postscript_compact1 postscript_base postscript_items anyhow"
 SHOWN = ("EBGaramond12-Regular", "FreeSerif", "unifont")
 
 
 def write_tables(folder, words):
-    number = 0
-    for word in words:
-        for path in files_of(word):
-            font = TTFont(path, lazy=True)
-            if "CFF " in font:
-                table = pathlib.Path(folder) / f"{number}-{pathlib.Path(path).stem.replace(' ', '_')}"
-                table.write_bytes(font.reader["CFF "])
-                print(table)
-                number += 1
+    """Writes the table `CFF ` of each font, and their paths to a file, which it gives."""
+    (folder / "tables").mkdir()
+    tables = []
+    for name, font in fonts_of(*words):
+        tables.append(folder / "tables" / f"{len(tables)}-{name.replace(' ', '_')}")
+        tables[-1].write_bytes(font.reader["CFF "])
+    (folder / "lines").write_text("".join(f"{table}\n" for table in tables))
+    return folder / "lines"
 
 
-def rows_of(path):
-    return [line.split() for line in pathlib.Path(path).read_text().splitlines()]
+def freetype(folder):
+    """tools/opening_ft.c, built."""
+    flags = printed("pkg-config", "--cflags", "--libs", "freetype2").split()
+    printed("gcc", "-O2", building.TOOLS / "opening_ft.c", "-o", folder / "freetype", *flags)
+    return folder / "freetype"
+
+
+def rows_of(program, lines):
+    return [line.split() for line in printed(program, given=lines).splitlines()]
 
 
 def micros(nanos):
     return f"{nanos / 1000:.1f}" if nanos < 100000 else f"{nanos / 1000:.0f}"
 
 
-def print_told(ours, freetype, parser):
+def print_told(all_rows):
     fonts, both = [], []
     slower, more = 0, 0
-    for own, other, third in zip(rows_of(ours), rows_of(freetype), rows_of(parser)):
+    for own, other, third in zip(*all_rows):
         if not own[0] == other[0] == third[0]:
             sys.exit("the programs were not asked the same")
         name = pathlib.Path(own[0]).name.partition("-")[2]
@@ -72,12 +82,14 @@ def print_told(ours, freetype, parser):
 
 
 def main(words):
-    if words[:1] == ["tables"] and len(words) > 2:
-        write_tables(words[1], words[2:])
-    elif words[:1] == ["told"] and len(words) == 4:
-        print_told(*words[1:])
-    else:
+    if not words:
         sys.exit(__doc__)
+    with tempfile.TemporaryDirectory() as name:
+        folder = pathlib.Path(name)
+        lines = write_tables(folder, words)
+        programs = [freetype(folder), building.parser_program(folder / "ttf", "opening")]
+        programs.insert(0, building.proved(folder / "ours", "opening", USES))
+        print_told([rows_of(program, lines) for program in programs])
 
 
 if __name__ == "__main__":

@@ -1,34 +1,42 @@
-#!/usr/bin/env python3
+#!/usr/bin/python3
 """Compares the path of each glyph of fonts with the one that fontTools draws.
 
-    tools/outlines.py PROGRAM WORD..
-    tools/outlines.py PROGRAM --sheet FONT
+    tools/outlines.py WORD..
+    tools/outlines.py --sheet FONT
 
-PROGRAM is that of outlines_main.txt, built. Each WORD is a folder or an installed Debian package, of which each file .otf is taken, or a
+Each WORD is a folder or an installed Debian package, of which each file .otf is taken, or a
 font file. Fonts without a table `CFF ` and those of several Private dictionaries are left out, and so are glyphs whose
 `endchar` names two others, which are not followed. Each segment and each coordinate is compared as an exact fraction, and the
 width with the nominal or the default one; the bounds with those of ControlBoundsPen, and the tight bounds with those of
 BoundsPen, rounded outwards to 65536ths, which a side may leave by one more, and by one less where the float that was rounded
 lies within a thousandth of a whole one. The status is 1 where a glyph differs. With --sheet it writes forty glyphs of a font file,
 as they are drawn, as SVG.
+
+Needs `rt` on the path, and Debian's python3-fonttools. The program is tools/outlines_main.txt, proved in a copy with what the crates
+keep in out/.
 """
 
 import collections
 import concurrent.futures
 import math
+import pathlib
 import re
 import subprocess
 import sys
+import tempfile
 from fractions import Fraction
 from xml.sax.saxutils import escape
+
+sys.dont_write_bytecode = True
 
 from fontTools.pens.boundsPen import BoundsPen, ControlBoundsPen
 from fontTools.pens.recordingPen import RecordingPen
 from fontTools.ttLib import TTFont
 
-from charstrings import lines_of
-from font_files import files_of
+import building
+from font_files import files_of, glyph_lines, spelled
 
+USES = "postscript_outline postscript_type2 postscript_base hex anyhow"
 LETTERS = "ABCDEFGHIJKLMNOPQRSTUVWXYZabcdefghijklmn"
 NAMES = {"M": "moveTo", "L": "lineTo", "C": "curveTo", "Z": "closePath"}
 
@@ -86,11 +94,10 @@ def width_of(word, private):
 def compare(program, path):
     """Counts the glyphs of a font file, and tells those that differ."""
     counts, told = collections.Counter(), []
-    lines = lines_of(path)
+    lines = glyph_lines(path)
     if not lines:
         return counts, told
-    text = "".join(f"{kind} {code.hex()}\n" for kind, code in lines)
-    printed = subprocess.run([program], input=text.encode(), stdout=subprocess.PIPE, check=True).stdout.decode().split("\n")
+    printed = subprocess.run([program], input=spelled(lines).encode(), stdout=subprocess.PIPE, check=True).stdout.decode().split("\n")
     font = TTFont(path, lazy=True)
     strings = font["CFF "].cff[0].CharStrings
     counts["fonts"] += 1
@@ -126,8 +133,7 @@ def compare_all(program, words):
 
 def sheet(program, path):
     """Writes forty glyphs as SVG: eight in a row, with the font's name and licence."""
-    text = "".join(f"{kind} {code.hex()}\n" for kind, code in lines_of(path))
-    printed = subprocess.run([program], input=text.encode(), stdout=subprocess.PIPE, check=True).stdout.decode().split("\n")
+    printed = subprocess.run([program], input=spelled(glyph_lines(path)).encode(), stdout=subprocess.PIPE, check=True).stdout.decode().split("\n")
     font = TTFont(path, lazy=True)
     drawn_paths = dict(zip(font.getGlyphOrder(), (line.split(" ", 3)[-1] for line in printed), strict=False))
     character_map = font.getBestCmap()
@@ -147,12 +153,14 @@ def sheet(program, path):
 
 
 def main(words):
-    if len(words) < 2:
+    if not words or words == ["--sheet"]:
         sys.exit(__doc__)
-    if words[1] == "--sheet":
-        sheet(words[0], words[2])
-        return
-    counts = compare_all(words[0], words[1:])
+    with tempfile.TemporaryDirectory() as folder:
+        program = building.proved(pathlib.Path(folder), "outlines", USES)
+        if words[0] == "--sheet":
+            sheet(program, words[1])
+            return
+        counts = compare_all(program, words)
     print(", ".join(f"{count} {kind}" for kind, count in sorted(counts.items())))
     sys.exit(counts["different"] > 0)
 

@@ -26,8 +26,8 @@ import sys
 sys.dont_write_bytecode = True
 
 import second_interpreter as second
+from building import PSFONT
 
-PSFONT = pathlib.Path(__file__).parent.parent / "crates" / "psfont" / "out" / "psfont"
 BATCH = 2000
 MOST_PHRASES = 20000
 MOST_SECONDS = 600

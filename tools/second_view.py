@@ -1,6 +1,6 @@
 """A second reader of fonts in place, by the rules of the format (Technical Note 5176).
 
-It was written with the library's definitions in sight, and shares no code with it. `lines_of(table)` gives the lines that the program of `tools/view.sh` prints of a table
+It was written with the library's definitions in sight, and shares no code with it. `lines_of(table)` gives the lines that the program of `tools/view.py` prints of a table
 `CFF ` with the argument `few`: the font, the glyph of each code, and of a few glyphs the name or the CID, the first glyph that
 has it, the font dictionary, the advance and the matrix; or the number of the refusal. Numbers, dictionaries and reals are
 read by `tools/second_reader.py`, and charstrings by `tools/second_interpreter.py`.

@@ -1,11 +1,13 @@
-#!/usr/bin/env python3
-"""Font files as fontTools reads them, beside the answers of a program, and fonts with changed bytes.
+#!/usr/bin/python3
+"""Compares `postscript_sfnt` with fontTools over font files, and reads fonts with changed bytes.
 
-    tools/sfnt.py compare PROGRAM WORD..                      prints what differs, and the sums
-    tools/sfnt.py changed PROGRAM FOLDER SEED COUNT WORD..    runs the program over changed fonts
+    tools/sfnt.py SEED COUNT WORD..
 
-Each WORD is a folder or an installed Debian package, of which each file .otf, .ttf and .ttc is taken, or a font file. PROGRAM is
-tools/sfnt_main.txt, built. The status is 1 where something differs or where the program ended otherwise than with 0.
+Each WORD is a folder or an installed Debian package, of which each file .otf, .ttf and .ttc is taken, or a font file. Of each face these
+must be the same: the tables, the units, the box, the number of glyphs, the family, the style, each advance, and the glyph of
+each character. Then COUNT fonts are made from these with bytes that are changed at random from SEED, and each is read: the
+program must answer to each and end with status 0. Needs `rt` on the path and Debian's python3-fonttools. The program is
+tools/sfnt_main.txt, proved in a copy with what the crates keep in out/. The status is 1 where something differs.
 """
 
 import collections
@@ -14,10 +16,14 @@ import random
 import struct
 import subprocess
 import sys
+import tempfile
 import zlib
+
+sys.dont_write_bytecode = True
 
 from fontTools.ttLib import TTFont
 
+import building
 from font_files import files_of
 
 TAGS = ["CFF ", "GDEF", "GPOS", "GSUB", "OS/2", "cmap", "head", "hhea", "hmtx", "maxp", "name", "post"]
@@ -205,11 +211,13 @@ def changed(program, folder, seed, count, words):
 
 
 def main(words):
-    if words[:1] == ["compare"] and len(words) > 2:
-        return compare(words[1], words[2:])
-    if words[:1] == ["changed"] and len(words) > 5:
-        return changed(words[1], words[2], int(words[3]), int(words[4]), words[5:])
-    sys.exit(__doc__)
+    if len(words) < 3:
+        sys.exit(__doc__)
+    with tempfile.TemporaryDirectory() as name:
+        folder = pathlib.Path(name)
+        program = building.proved(folder, "sfnt", "postscript_sfnt anyhow")
+        (folder / "changed").mkdir()
+        return compare(program, words[2:]) or changed(program, folder / "changed", int(words[0]), int(words[1]), words[2:])
 
 
 if __name__ == "__main__":

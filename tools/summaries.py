@@ -24,10 +24,11 @@ import tempfile
 
 sys.dont_write_bytecode = True
 
-from font_files import files_of
 from fontTools.ttLib import TTFont
 
-PSFONT = pathlib.Path(__file__).resolve().parent.parent / "crates" / "psfont" / "out" / "psfont"
+from building import PSFONT
+from font_files import files_of
+
 ENCODINGS = ["Standard", "Expert"]
 CHAR_SETS = ["ISOAdobe", "Expert", "ExpertSubset"]
 EMPTY = "an item of no bytes", 6

@@ -1,12 +1,15 @@
-#!/usr/bin/env python3
-"""Fonts of the Compact Font Format as fontTools reads them, beside the answers of a program, and fonts with changed bytes.
+#!/usr/bin/python3
+"""Compares `postscript_view` with fontTools over font files, and fonts with changed bytes with a second reader.
 
-    tools/view.py compare PROGRAM WORD..                      prints what differs, and the sums
-    tools/view.py changed PROGRAM FOLDER SEED COUNT WORD..    compares changed fonts with tools/second_view.py
+    tools/view.py SEED COUNT WORD..
 
 Each WORD is a folder or an installed Debian package, of which each file .otf and .ttc with a table `CFF ` is taken, or a font file; of a
-collection the first face. PROGRAM is tools/view_main.txt, built. The status is 1 where something differs or where the program
-ended otherwise than with 0.
+collection the first face. Of each font these must be the same: whether it is CID-keyed, the box, and of each glyph the name or
+the CID, the font dictionary, the matrix and the advance; and the glyph of each code. The first glyph of each name and CID is
+asked back. Then COUNT fonts are made from these with bytes that are changed at random from SEED, and each is asked the same:
+the program must answer to each as tools/second_view.py does, and end with status 0. Needs `rt` on the path and Debian's
+python3-fonttools. The program is tools/view_main.txt, proved in a copy with what the crates keep in out/. The status is 1 where
+something differs.
 """
 
 import collections
@@ -14,14 +17,19 @@ import pathlib
 import random
 import subprocess
 import sys
+import tempfile
 from fractions import Fraction
+
+sys.dont_write_bytecode = True
 
 from fontTools.misc.psCharStrings import T2WidthExtractor
 from fontTools.ttLib import TTFont
 
+import building
 from font_files import files_of
 from second_view import lines_of
 
+USES = "postscript_view postscript_sfnt postscript_base postscript_items postscript_type2 postscript_compact1 anyhow"
 DEFAULT_MATRIX = [Fraction(1, 1000), 0, 0, Fraction(1, 1000), 0, 0]
 BATCH = 100
 
@@ -253,11 +261,13 @@ def changed(program, folder, seed, count, words):
 
 
 def main(words):
-    if words[:1] == ["compare"] and len(words) > 2:
-        return compare(words[1], words[2:])
-    if words[:1] == ["changed"] and len(words) > 5:
-        return changed(words[1], words[2], int(words[3]), int(words[4]), words[5:])
-    sys.exit(__doc__)
+    if len(words) < 3:
+        sys.exit(__doc__)
+    with tempfile.TemporaryDirectory() as name:
+        folder = pathlib.Path(name)
+        program = building.proved(folder, "view", USES)
+        (folder / "changed").mkdir()
+        return compare(program, words[2:]) or changed(program, folder / "changed", int(words[0]), int(words[1]), words[2:])
 
 
 if __name__ == "__main__":

@@ -12,7 +12,7 @@ use std::alloc::Global;
 const PIECE: usize = 65_536;
 
 /// So many bytes, as they stand. The parameter is how many; for none the list is empty. The list grows as bytes come
-/// (`tools/hostile_fonts.py` shows that a count alone takes no memory).
+/// (`tools/hostile.py fonts` shows that a count alone takes no memory).
 ///
 /// Refused: `UnexpectedEof` where fewer are left, `Io`, `Memory`.
 #[tactic(auto, unfolding(crate::specs::Numbers::slice))]

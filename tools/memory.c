@@ -1,9 +1,12 @@
-/* What a program asks of malloc while it reads: a library to be loaded before the C library's.
+/* Counts what a program asks of malloc, and refuses it where it is told to: a library to be loaded before the C library's.
  *
- * The program asks for the time before and after each reading. From an odd call of clock_gettime to the next one the most
- * bytes that are asked for and not given back are counted, beyond those at the end; a realloc counts the new size in place
- * of the old one. Each write to standard output then writes a line with the most of the readings before it to the file
- * that ASKED names.
+ * Each variable does something of its own where it stands in the environment:
+ *
+ * - REFUSED is the number of the request that is refused, counted from 1; where it is 0 none is.
+ * - TOLD names a file. The number of requests, and the sum of their bytes, are written there at the end.
+ * - ASKED names a file. The program asks for the time before and after what is looked at. From an odd call of clock_gettime to the
+ *   next one the most bytes that are asked for and not given back are counted, beyond those at the end; a realloc counts the new
+ *   size in place of the old one. Each write to standard output then adds a line to the file, with the most of those before it.
  */
 #define _GNU_SOURCE
 #include <errno.h>
@@ -24,6 +27,7 @@ struct header {
     void *block;
 };
 
+static unsigned long requests, bytes;
 static size_t now, most, reading;
 static unsigned calls;
 
@@ -31,9 +35,16 @@ static struct header *header_of(void *p) {
     return (struct header *)p - 1;
 }
 
+static int is_refused(size_t size) {
+    const char *number = getenv("REFUSED");
+    requests++;
+    bytes += size;
+    return number && requests == strtoul(number, NULL, 10);
+}
+
 static void *ask(size_t alignment, size_t size) {
     size_t front = alignment < sizeof(struct header) ? sizeof(struct header) : alignment;
-    char *block = size + front < size ? NULL : __libc_memalign(front, size + front);
+    char *block = is_refused(size) || size + front < size ? NULL : __libc_memalign(front, size + front);
     if (!block)
         return NULL;
     struct header *header = header_of(block + front);
@@ -87,6 +98,16 @@ void *realloc(void *p, size_t size) {
     return q;
 }
 
+/* Writes a line to the file that a variable names, past its end or over all. */
+static void tell(const char *variable, int mode, const char *line) {
+    const char *name = getenv(variable);
+    int file = name ? open(name, O_WRONLY | O_CREAT | mode, 0644) : -1;
+    if (file >= 0) {
+        syscall(SYS_write, file, line, strlen(line));
+        close(file);
+    }
+}
+
 int clock_gettime(clockid_t clock, struct timespec *time) {
     if (calls++ % 2 && most - now > reading)
         reading = most - now;
@@ -94,14 +115,18 @@ int clock_gettime(clockid_t clock, struct timespec *time) {
     return syscall(SYS_clock_gettime, clock, time);
 }
 
-ssize_t write(int file, const void *bytes, size_t count) {
+ssize_t write(int file, const void *text, size_t count) {
     if (file == 1 && reading) {
         char line[32];
-        int length = snprintf(line, sizeof line, "%zu\n", reading);
-        int out = open(getenv("ASKED"), O_WRONLY | O_CREAT | O_APPEND, 0644);
-        syscall(SYS_write, out, line, length);
-        close(out);
+        snprintf(line, sizeof line, "%zu\n", reading);
+        tell("ASKED", O_APPEND, line);
         reading = 0;
     }
-    return syscall(SYS_write, file, bytes, count);
+    return syscall(SYS_write, file, text, count);
+}
+
+__attribute__((destructor)) static void tell_requests(void) {
+    char line[64];
+    snprintf(line, sizeof line, "%lu %lu\n", requests, bytes);
+    tell("TOLD", O_TRUNC, line);
 }

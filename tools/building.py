@@ -1,0 +1,96 @@
+"""Programs that a script builds in a folder of its own: over the crates of this repository, over a Rust crate, and in C.
+
+A program of Rattle is proved in a copy of the crates that it uses, with what these keep in out/; nothing is written beside the folder.
+Where a command fails, the script ends with what the command printed, and with status 1.
+"""
+
+import os
+import pathlib
+import shutil
+import subprocess
+import sys
+
+TOOLS = pathlib.Path(__file__).resolve().parent
+TOP = TOOLS.parent
+PSFONT = TOP / "crates" / "psfont" / "out" / "psfont"
+
+
+def printed(*words, folder=None, given=os.devnull, **variables):
+    """What a command prints, run in a folder, with a file as its input and with variables beside those of the script."""
+    with open(given, "rb") as lines:
+        done = subprocess.run(
+            words, cwd=folder, stdin=lines, capture_output=True, text=True, check=False, env={**os.environ, **variables},
+        )
+    if done.returncode:
+        sys.exit(done.stdout + done.stderr)
+    return done.stdout
+
+
+def crates_of(top):
+    """The line of each crate in crates.txt, and the words of it that come behind the colon."""
+    lines = (top / "crates.txt").read_text().splitlines()
+    heads = {line: line.partition(":") for line in lines if line and not line.startswith("#")}
+    return {head.split()[0]: (line, uses.split()) for line, (head, _, uses) in heads.items()}
+
+
+def below(crates, uses):
+    """Those of the words that are crates, and the crates that these use, the lowest first."""
+    found = {}
+    for name in uses:
+        if name in crates:
+            found.update(dict.fromkeys([*below(crates, crates[name][1]), name]))
+    return list(found)
+
+
+def write_crate(folder, line, file, text):
+    """Writes a crate of one file of src/ below a folder, with its line at the end of crates.txt, and gives the crate's folder."""
+    own = folder / "crates" / line.partition(":")[0]
+    for path, content in {f"src/{file}": text, "specs/Lib.antt": "", "proofs/Lib.antt": ""}.items():
+        (own / path).parent.mkdir(parents=True)
+        (own / path).write_text(content)
+    with (folder / "crates.txt").open("a") as lines:
+        lines.write(f"{line}\n")
+    return own
+
+
+def proved(folder, name, uses, top=TOP):
+    """The program tools/NAME_main.txt, proved and built in a folder, over copies of the crates below TOP that it uses."""
+    crates = crates_of(top)
+    libraries = below(crates, uses.split())
+    for library in libraries:
+        shutil.copytree(top / "crates" / library, folder / "crates" / library)
+    (folder / "crates.txt").write_text("".join(f"{crates[library][0]}\n" for library in libraries))
+    own = write_crate(folder, f"{name}: {uses}", "main.rt", (TOOLS / f"{name}_main.txt").read_text())
+    printed("rt", "run", folder=own)
+    return own / "out" / name
+
+
+def cargo(folder, name, more="", version="0.1.0", words=()):
+    """The folder of the programs of the Rust sources in a folder, whose manifest this writes."""
+    (folder / "Cargo.toml").write_text(f'[package]\nname = "{name}"\nversion = "{version}"\nedition = "2021"\n{more}')
+    printed("cargo", "build", "--quiet", "--release", "--offline", *words, folder=folder)
+    return folder / "target" / "release"
+
+
+def rival(folder, crate, name, feature="whole"):
+    """The program tools/NAME_rust.txt, built in a folder over a copy of the source of the Rust crate `postscript`, with a feature."""
+    shutil.copytree(pathlib.Path(crate) / "src", folder / "src")
+    (folder / "src" / "bin").mkdir()
+    shutil.copyfile(TOOLS / f"{name}_rust.txt", folder / "src" / "bin" / f"{name}.rs")
+    return cargo(folder, "postscript", f"[features]\n{feature} = []\n", "0.14.1", ["--features", feature]) / name
+
+
+def parser_program(folder, name):
+    """The program tools/NAME_ttf.txt, built in a folder over Debian's crate `ttf-parser`."""
+    (folder / "src").mkdir(parents=True)
+    shutil.copyfile(TOOLS / f"{name}_ttf.txt", folder / "src" / "main.rs")
+    listed = printed("dpkg", "-L", "librust-ttf-parser-dev").splitlines()
+    parser = next(path for path in listed if path.endswith("/Cargo.toml")).removesuffix("/Cargo.toml")
+    return cargo(folder, name, f'[dependencies]\nttf-parser = {{ path = "{parser}" }}\n') / name
+
+
+def memory(folder):
+    """tools/memory.c, built in a folder: a library for LD_PRELOAD."""
+    library = folder / "memory.so"
+    printed("gcc", "-shared", "-fPIC", "-O2", TOOLS / "memory.c", "-o", library)
+    return str(library)

@@ -1,0 +1,198 @@
+#!/usr/bin/env python3
+"""Hands psfont fonts and charstrings that claim more than they hold, or cost time or memory, and measures both.
+
+    (cd crates/psfont && rt run < stdin)
+    tools/hostile.py fonts
+    tools/hostile.py programs
+
+The fonts claim more than they hold, or hold much of one kind. Each is written to a file, and crates/psfont/out/psfont is run with
+the words `font FILE`. The programs are charstrings of four million bytes. Each is handed to psfont as `code`, `local` and `run`.
+What is printed, or for a program its end, has to be what the rules say.
+
+The table gives the bytes, the time from the start to the last answer, and the most memory that the process had; for a program both
+with the reading of the line of eight million hex digits. Nothing is drawn at random. The status is 1 where an answer differs.
+"""
+
+import subprocess
+import sys
+import tempfile
+import time
+
+sys.dont_write_bytecode = True
+
+from building import PSFONT
+
+HEADER = bytes([1, 0, 4, 1])
+NONE = bytes(2)
+CHAR_SET, ENCODING, CHAR_STRINGS, PRIVATE, SUBRS = b"\x0f", b"\x10", b"\x11", b"\x12", b"\x13"
+FILL = b"\x0c\x05"
+SIZE = 4_000_000
+END = b"\x0e"
+
+
+def index(items):
+    """An INDEX with offsets of four bytes."""
+    if not items:
+        return NONE
+    offsets, at = [], 1
+    for item in [b""] + items:
+        at += len(item)
+        offsets.append(at.to_bytes(4, "big"))
+    return len(items).to_bytes(2, "big") + b"\x04" + b"".join(offsets) + b"".join(items)
+
+
+def number(n):
+    """An operand of five bytes."""
+    return b"\x1d" + n.to_bytes(4, "big", signed=True)
+
+
+def font(tops, parts=b"", names=()):
+    """A font whose dictionaries are made once the place behind the global subroutines is known."""
+    front = HEADER + index(list(names))
+    place = len(front) + len(index([top(0) for top in tops])) + 2 * len(NONE)
+    return front + index([top(place) for top in tops]) + NONE + NONE + parts
+
+
+def whole(glyphs, char_set=b"", size=None):
+    """A dictionary, and its char strings, char set, private dictionary and local subroutines behind one another."""
+    strings, private = index([b"\x0e"] * glyphs), number(6) + SUBRS
+
+    def top(place):
+        behind = place + len(strings)
+        set_at = number(behind) + CHAR_SET if char_set else b""
+        private_at = number(len(private) if size is None else size) + number(behind + len(char_set))
+        return set_at + number(place) + CHAR_STRINGS + private_at + PRIVATE
+
+    return top, strings + char_set + private + NONE
+
+
+def summary(dictionaries, glyphs, char_set="ISOAdobe", names=()):
+    lines = ["header 1 0 4 1", f"names {len(names)}"] + [f"name {name}" for name in names]
+    lines += ["strings 0", "globals 0", f"dictionaries {dictionaries}"]
+    return lines + [f"font Standard {char_set} glyphs {glyphs} locals 0"] * dictionaries + ["end"]
+
+
+def fault(code):
+    return [f"psfont: fault {code}"]
+
+
+def fonts():
+    """Each shape: its name, the font, and what has to be printed."""
+    yield "65,535 names claimed over ten bytes", HEADER + b"\xff\xff\x01" + bytes(range(1, 11)), fault(1)
+    yield "a name of 4 GB claimed", HEADER + b"\x00\x01\x04\x00\x00\x00\x01\xff\xff\xff\xff" + bytes(100), fault(1)
+    top, parts = whole(1, size=2**31 - 1)
+    yield "a private dictionary of 2 GB claimed", font([top], parts), fault(1)
+    top, parts = whole(65_535)
+    yield "65,535 glyphs", font([top], parts), summary(1, 65_535)
+    ranges = b"\x01" + b"".join(first.to_bytes(2, "big") + b"\xff" for first in range(1, 65_281, 256)) + b"\xff\x01\xfd"
+    top, parts = whole(65_535, ranges)
+    yield "65,535 glyphs in ranges", font([top], parts), summary(1, 65_535, "Format1")
+    top, parts = whole(65_535, b"\x02\x00\x01\xff\xfd")
+    yield "65,535 glyphs in a range of format 2", font([top], parts), summary(1, 65_535, "Format2")
+    top, parts = whole(65_535, b"\x02" + b"\x00\x01\x00\x00" * 65_534)
+    yield "65,535 glyphs in 65,534 ranges of format 2", font([top], parts), summary(1, 65_535, "Format2")
+    top, parts = whole(2, b"\x02" + b"\x00\x01\xff\xff" * 2)
+    yield "two glyphs, and ranges of format 2 for 131,072", font([top], parts), fault(10)
+    top, parts = whole(1000)
+    yield "100 dictionaries over the same 1,000 glyphs", font([top] * 100, parts), summary(100, 1000)
+    top, parts = whole(1)
+    filled = lambda place: b"\x8b" * 4_000_000 + FILL + top(place)
+    yield "a dictionary of four million operands", font([filled], parts), summary(1, 1)
+    real = b"\x1e" + b"\x11" * 2_000_000 + b"\xff"
+    spelled = lambda place: real + FILL + top(place)
+    yield "a real of four million digits", font([spelled], parts), fault(8)
+    small = b"\x1e\xa0" + b"\x00" * 2_000_000 + b"\x1f"
+    spelled_small = lambda place: small + FILL + top(place)
+    yield "a real with four million zeros behind its point", font([spelled_small], parts), fault(8)
+    long = "A" * 4_000_000
+    yield "a name of four million letters", font([top], parts, [long.encode()]), summary(1, 1, names=[long])
+
+
+def filled(piece, size=SIZE):
+    return piece * (size // len(piece))
+
+
+def nested():
+    """Calls of a local subroutine that calls the next one twice, ten deep, where the last one returns at once."""
+    levels = [bytes([0x21 + k, 0x0A]) * 2 + b"\x0b" for k in range(9)] + [b"\x0b"]
+    return filled(b"\x20\x0a", 4000), levels
+
+
+def programs():
+    """Each shape: its name, the code, the local subroutines, how many lines are answered, and the last lines."""
+    numbers = filled(b"\x8b", SIZE)
+    yield "numbers alone", numbers, [], 2, ["fault 1", "width none"]
+    yield "a line of two million points", numbers + b"\x05" + END, [], 3, ["end", "width none"]
+    masks = filled(b"\x8b", 200_000) + b"\x12" + filled(b"\x13" + bytes(12_500))
+    yield "masks of 100,000 stems", masks + END, [], None, ["end", "width none"]
+    code, levels = nested()
+    yield "2,000 times a thousand calls, ten deep", code + END, levels, 2, ["end", "width none"]
+    yield "moves", filled(b"\x8c\x16") + END, [], SIZE // 2 + 2, ["end", "width none"]
+    # EndChar leaves four operands out, and the width is the one beneath them.
+    roll = b"\x1c\x27\x10\x8c\x0c\x1e"
+    yield "rolls of 10,000", filled(b"\x8b", 33_000) + filled(roll) + END, [], 2, ["end", "width 0"]
+    roll = b"\x1c\x7f\xff\x8c\x0c\x1e"
+    yield "rolls of 32,767, the widest", filled(b"\x8b", 33_000) + filled(roll) + END, [], 2, ["end", "width 0"]
+    index = b"\x1c\x7f\xff\x0c\x1d\x0c\x12"
+    yield "an operand far down, again and again", filled(b"\x8b", 33_000) + filled(index) + END, [], 2, ["end", "width 0"]
+    # Each quotient is less than the number that is divided, by one bit at least, until it is 0.
+    yield "quotients", b"\x8c" + filled(b"\xff\x00\x01\x00\x01\x0c\x0c") + END, [], 2, ["end", "width 0"]
+    yield "roots", b"\x8c" + filled(b"\x0c\x1a") + END, [], 2, ["end", "width 1"]
+
+
+def run(words, lines, check):
+    """What is printed on either output, the seconds, and the most memory in MB; the status has to be 0 where it is checked."""
+    with tempfile.TemporaryFile() as given, tempfile.TemporaryFile() as answers, tempfile.NamedTemporaryFile() as told:
+        given.writelines(lines)
+        given.seek(0)
+        begun = time.monotonic()
+        timed = ["/usr/bin/time", "-q", "-f", "%M", "-o", told.name]
+        subprocess.run([*timed, PSFONT, *words], stdin=given, stdout=answers, stderr=answers, check=check)
+        seconds = time.monotonic() - begun
+        answers.seek(0)
+        return answers.read().decode().splitlines(), seconds, int(told.read()) / 1024
+
+
+def row(name, data, seconds, memory):
+    print(f"| {name} | {len(data)} | {seconds:.2f} | {memory:.0f} |", flush=True)
+
+
+def read_fonts():
+    """Prints a row for each font, and how many answers differ."""
+    wrong = 0
+    for name, data, wanted in fonts():
+        with tempfile.NamedTemporaryFile() as file:
+            file.write(data)
+            file.flush()
+            found, seconds, memory = run(["font", file.name], [], check=False)
+        row(name, data, seconds, memory)
+        if found != wanted:
+            wrong += 1
+            print(f"{name}: {str(found)[:200]}, wanted {str(wanted)[:200]}")
+    return wrong
+
+
+def run_programs():
+    """Prints a row for each program, and how many answers differ."""
+    wrong = 0
+    for name, code, local, count, wanted in programs():
+        lines = [b"code " + code.hex().encode() + b"\n"] + [b"local " + routine.hex().encode() + b"\n" for routine in local]
+        found, seconds, memory = run([], [*lines, b"run\n"], check=True)
+        found = found[len(lines):]
+        row(name, code, seconds, memory)
+        if found[-2:] != wanted or (count is not None and len(found) != count):
+            wrong += 1
+            print(f"{name}: {len(found)} lines, the last {found[-2:]}, wanted {count} and {wanted}")
+    return wrong
+
+
+def main(words):
+    if words not in (["fonts"], ["programs"]):
+        sys.exit(__doc__)
+    print(f"| {'font' if words == ['fonts'] else 'shape'} | bytes | seconds | MB |")
+    print("|---|---|---|---|")
+    return 1 if (read_fonts if words == ["fonts"] else run_programs)() else 0
+
+
+if __name__ == "__main__":
+    sys.exit(main(sys.argv[1:]))
