@@ -129,10 +129,10 @@ impl FontSet {
     }
 
     /// Whether `read` answers a font at the tape's place (Technical Note 5176, "CFF Data Layout"), and where it does not,
-    /// why. The font is passed over: what is read of it is dropped, dictionary by dictionary, and its char strings are not
-    /// read at all, since their last offset says how many bytes they are. Of these only the offsets take memory for a
-    /// while, four bytes a glyph, and no time is spent on their bytes. A tape that faults within them is not noticed; none
-    /// that is honest does.
+    /// why. The font is passed over: its char strings are not read, since their last offset says how many bytes they are.
+    /// Of these only the offsets take memory for a while, four bytes a glyph, and no time is spent on their bytes. What
+    /// else is read of a dictionary is dropped before the next one, and names, strings and global subroutines at the end.
+    /// A tape that faults within char strings is not noticed; none that is honest does.
     ///
     /// On an honest tape it is answered exactly where a font stands (`specs/FontSet/Layout.antt`), want of memory aside,
     /// and the tape then stands where `read` leaves it. Offsets count from the tape's place.

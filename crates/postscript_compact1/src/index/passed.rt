@@ -1,5 +1,5 @@
 //! An INDEX that is passed over (Technical Note 5176, "INDEX Data").
-ghost use Rattle.std.specs.Prelude.{◌≡◌, List, [], ◌∷◌};
+ghost use Rattle.std.specs.Prelude.{◌≡◌, [], ◌∷◌};
 ghost use Rattle.postscript_base.specs.Error.{IsListed};
 ghost use Rattle.postscript_base.specs.Tape.{Reads};
 ghost use Rattle.postscript_base.specs.Tape.At.{at};
@@ -55,7 +55,8 @@ fn pass_filled<T: Tape>(alloc: Global, tape: &mut T, count: u16) -> Result<usize
     Ok(usize::from(count))
 }
 
-/// How many bytes the items are that offsets bound: the last offset less the first, which is 1. None where there are no offsets.
+/// How many bytes the items are that offsets bound: the last offset less the first, which is 1. It is 0 where
+/// there are no offsets.
 fn size_of_items(offsets: &[Offset]) -> u32
     ensures { result ≡ the_size_of_items offsets.now }
 {

@@ -1,4 +1,4 @@
-use Rattle.std.proofs.Common.{◌∙◌, [], ◌∷◌, ◌++◌, refl}
+use Rattle.std.proofs.Common.{◌∙◌, [], ◌∷◌, ◌++◌, arith}
 use Rattle.std.proofs.lemmas.Result.{err_from_is_err_and}
 use Rattle.postscript_compact1.specs.Private.Passed.{passed_part, passed_parts}
 use Rattle.postscript_compact1.proofs.EachPart.{goes_on, ends, is_done}
@@ -28,7 +28,4 @@ loop-dictionary-preserved g c = λ honest.
 
 pub returns-clause-exact : goal.returns-clause-exact
 unfolding passed_parts
-returns-clause-exact g c = λ honest.
-    let so_far = c.loop-dictionary.invariant honest in
-    let all = is_done (passed_part c.args.manner c.args.start) so_far.1.0 c.args.dictionaries.now c.loop-dictionary.dictionary-index _ _ _ c.loop-dictionary-test.false so_far.1.1 in
-    (so_far.0, rw all refl)
+returns-clause-exact g c = grind (arith, is_done)
