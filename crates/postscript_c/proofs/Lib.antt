@@ -5,5 +5,6 @@ pub mod Operands
 pub mod Outcomes
 pub mod Reading
 pub mod Selecting
+pub mod Sketching
 pub mod Telling
 pub mod TellingWidths

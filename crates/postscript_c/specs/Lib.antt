@@ -13,6 +13,7 @@ pub mod Operations
 pub mod Places
 pub mod Segments
 pub mod Selection
+pub mod Shown
 pub mod Texts
 pub mod Widths
 pub mod Written

@@ -13,10 +13,11 @@ ghost use Rattle.postscript_c.specs.declared.flat.Flat.{Flat as TheFlat};
 ghost use Rattle.postscript_c.specs.Listing.{AreOfCid, TellsOperations, rooms};
 ghost use Rattle.postscript_c.specs.Naming.{TellsName, TellsNamed};
 ghost use Rattle.postscript_c.specs.Operations.{listed_at, shown as the_shown};
+ghost use Rattle.postscript_c.specs.Shown.{found_shown, glyph_shown};
 ghost use Rattle.postscript_c.specs.Texts.{TellsText};
 ghost use Rattle.postscript_c.specs.Written.{IsFlat, IsSubset, TellsWritten};
 ghost use Rattle.postscript_c.specs.declared.font.PsfFont.{PsfFont as TheFont};
-ghost use Rattle.postscript_c.specs.declared.glyph.Found.{Found as TheFound};
+ghost use Rattle.postscript_c.specs.Glyphs.{Glyph as TheGlyph};
 ghost use Rattle.postscript_c.specs.declared.operations.Listed.{Listed as TheListed};
 ghost use Rattle.postscript_write.specs.Sources.{chosen, keeping};
 ghost use Rattle.postscript_write.specs.declared.error.Error.{Error as WriteRefusal};
@@ -25,12 +26,13 @@ use crate::files::{tell_faces, tell_glyph, tell_table};
 use crate::fill::{PsfSegment, fill};
 use crate::flat::{flat_glyph, tell_flat};
 use crate::font::{PsfFont, opened};
-use crate::glyph::{Found, glyph_of};
 use crate::names::{tell_name, tell_named};
 use crate::operations::{PsfOperation, operations_of, tell_operations};
+use crate::picture::{Found, found_glyph};
 use crate::status::{NO_GLYPH, NO_ROOM};
 use crate::texts::tell_text;
-use crate::told::{PsfBounds, PsfGlyph, status, tight, told};
+use crate::tight::{PsfBounds, bound, traced_glyph};
+use crate::told::{PsfGlyph, status, told};
 use crate::written::{PsfRefusal, flat, subset_of, tell_written};
 use postscript_base::Result;
 use std::alloc::Global;
@@ -57,16 +59,17 @@ pub extern "C" fn psf_font_open(alloc: Global, bytes: &[u8], font: &mut PsfFont)
     put(&answer, font)
 }
 
-/// Hands an outline over: 0, or `NO_ROOM`.
+/// Hands a picture over: 0, or `NO_ROOM`.
 fn hand(found: &Found, segments: &mut [PsfSegment], count: &mut usize, info: &mut PsfGlyph) -> i32
-    ensures { Hands found.now result segments.new count.new info.new }
+    ensures { Hands (glyph_shown found.now) result segments.new count.new info.new }
 {
-    *count = found.outline.segments.len();
-    *info = told(&found.outline, &found.part);
-    if segments.len() < found.outline.segments.len() {
+    let drawn = &found.picture.sketch.segments;
+    *count = drawn.len();
+    *info = told(&found.picture, &found.part);
+    if segments.len() < drawn.len() {
         return NO_ROOM;
     }
-    fill(&found.outline.segments, segments);
+    fill(drawn, segments);
     0
 }
 
@@ -77,7 +80,7 @@ fn tell(
     count: &mut usize,
     info: &mut PsfGlyph,
 ) -> i32
-    ensures { Tells answer.now result (room segments.old count.old info.old) (room segments.new count.new info.new) }
+    ensures { Tells (found_shown answer.now) result (room segments.old count.old info.old) (room segments.new count.new info.new) }
 {
     match answer {
         Ok(Some(found)) => hand(found, segments, count, info),
@@ -98,10 +101,10 @@ pub extern "C" fn psf_glyph_outline(
     count: &mut usize,
     info: &mut PsfGlyph,
 ) -> i32
-    ensures cid { font.now.is_cid ≢ 0 → (answer : Answer (Maybe TheFound) Refusal) × IsOfCid bytes.now font.now glyph answer × Tells answer result (room segments.old count.old info.old) (room segments.new count.new info.new) }
-    ensures plain { font.now.is_cid ≡ 0 → (answer : Answer (Maybe TheFound) Refusal) × IsOf bytes.now font.now glyph answer × Tells answer result (room segments.old count.old info.old) (room segments.new count.new info.new) }
+    ensures cid { font.now.is_cid ≢ 0 → (answer : Answer (Maybe TheGlyph) Refusal) × IsOfCid bytes.now font.now glyph answer × Tells answer result (room segments.old count.old info.old) (room segments.new count.new info.new) }
+    ensures plain { font.now.is_cid ≡ 0 → (answer : Answer (Maybe TheGlyph) Refusal) × IsOf bytes.now font.now glyph answer × Tells answer result (room segments.old count.old info.old) (room segments.new count.new info.new) }
 {
-    let answer = glyph_of(alloc, bytes, font, glyph);
+    let answer = found_glyph(alloc, bytes, font, glyph);
     tell(&answer, segments, count, info)
 }
 
@@ -202,20 +205,6 @@ pub extern "C" fn psf_glyph_flat(
     tell_flat(&answer, room, count)
 }
 
-/// Tells the bounds of an answer.
-fn bound(answer: &Result<Option<Found>>, bounds: &mut PsfBounds) -> i32
-    ensures { TellsBounds answer.now result bounds.old bounds.new }
-{
-    match answer {
-        Ok(Some(found)) => {
-            *bounds = tight(&found.outline);
-            0
-        }
-        Ok(None) => NO_GLYPH,
-        Err(e) => status(e),
-    }
-}
-
 /// The bounds of the lines and curves of a glyph: 0, or the number of the refusal, or `NO_GLYPH`.
 #[unsafe(no_mangle)]
 pub extern "C" fn psf_glyph_bounds(
@@ -225,10 +214,10 @@ pub extern "C" fn psf_glyph_bounds(
     glyph: usize,
     bounds: &mut PsfBounds,
 ) -> i32
-    ensures cid { font.now.is_cid ≢ 0 → (answer : Answer (Maybe TheFound) Refusal) × IsOfCid bytes.now font.now glyph answer × TellsBounds answer result bounds.old bounds.new }
-    ensures plain { font.now.is_cid ≡ 0 → (answer : Answer (Maybe TheFound) Refusal) × IsOf bytes.now font.now glyph answer × TellsBounds answer result bounds.old bounds.new }
+    ensures cid { font.now.is_cid ≢ 0 → (answer : Answer (Maybe TheGlyph) Refusal) × IsOfCid bytes.now font.now glyph answer × TellsBounds answer result bounds.old bounds.new }
+    ensures plain { font.now.is_cid ≡ 0 → (answer : Answer (Maybe TheGlyph) Refusal) × IsOf bytes.now font.now glyph answer × TellsBounds answer result bounds.old bounds.new }
 {
-    let answer = glyph_of(alloc, bytes, font, glyph);
+    let answer = traced_glyph(alloc, bytes, font, glyph);
     bound(&answer, bounds)
 }
 

@@ -1,9 +1,7 @@
 //! Glyphs by number.
-ghost use Rattle.std.specs.Prelude.{◌≡◌, ◌≢◌, ℕ, List, option_map, IfOk, Ok};
+ghost use Rattle.std.specs.Prelude.{◌≡◌, ◌≢◌, ℕ, option_map, IfOk, Ok};
 ghost use Rattle.postscript_base.specs.Tape.Outcome.{Answers, same};
-ghost use Rattle.postscript_c.specs.Glyphs.{index_at as the_index, program_at, program_of as the_program, drawn_at, drawn_by, drawn_if, shown};
-ghost use Rattle.postscript_c.specs.Answers.{IsOf};
-ghost use Rattle.postscript_c.specs.CidAnswers.{IsOfCid};
+ghost use Rattle.postscript_c.specs.Glyphs.{index_at as the_index, program_at, program_of as the_program};
 ghost use Rattle.postscript_c.specs.CidParts.{HasPart, IsPartOf};
 ghost use Rattle.postscript_items.specs.Lent.{items_of};
 
@@ -12,7 +10,6 @@ use crate::part::{PsfPart, part_of};
 use crate::select::selected;
 use postscript_base::{Error, Result};
 use postscript_items::Items;
-use postscript_outline::Outline;
 use postscript_type2::Program;
 use postscript_view::tables::operations_of;
 use std::alloc::Global;
@@ -98,61 +95,4 @@ pub(crate) fn program<'l>(
         font.global_subroutines,
         part.local_subroutines,
     )
-}
-
-/// What a program draws.
-fn draw(alloc: Global, program: &mut Program<'_>) -> Result<Outline>
-    ensures exact { (bytes : List ℕ) (place : ℕ) → Answers shown result place (drawn_by program.old bytes place) }
-{
-    Outline::of_program(alloc, program)
-}
-
-/// What a program draws, if there is one.
-#[tactic(auto, unfolding(crate::specs::Glyphs::drawn_if))]
-fn draw_if(alloc: Global, program: Option<Program<'_>>) -> Result<Option<Outline>>
-    ensures exact { (bytes : List ℕ) (place : ℕ) → Answers (option_map shown) result place (drawn_if program.entry bytes place) }
-{
-    let Some(mut program) = program else {
-        return Ok(None);
-    };
-    Ok(Some(draw(alloc, &mut program)?))
-}
-
-/// The outline of a glyph. None where there is no such glyph.
-#[tactic(auto, unfolding(crate::specs::Glyphs::drawn_at))]
-fn outline(
-    alloc: Global,
-    bytes: &[u8],
-    font: &PsfFont,
-    part: &PsfPart,
-    glyph: usize,
-) -> Result<Option<Outline>>
-    ensures exact { (place : ℕ) → Answers (option_map shown) result place (drawn_at font.now part.now glyph bytes.now place) }
-{
-    let program = program(alloc, bytes, font, part, glyph)?;
-    draw_if(alloc, program)
-}
-
-/// The outline of a glyph, and its part.
-#[derive(Drop)]
-pub(crate) struct Found {
-    pub(crate) outline: Outline,
-    pub(crate) part: PsfPart,
-}
-
-/// The outline of a glyph, with its part. None where there is no such glyph.
-pub(crate) fn glyph_of(
-    alloc: Global,
-    bytes: &[u8],
-    font: &PsfFont,
-    glyph: usize,
-) -> Result<Option<Found>>
-    ensures plain { font.now.is_cid ≡ 0 → IsOf bytes.now font.now glyph result }
-    ensures cid { font.now.is_cid ≢ 0 → IsOfCid bytes.now font.now glyph result }
-{
-    let part = part_at(alloc, bytes, font, glyph)?;
-    match outline(alloc, bytes, font, &part, glyph)? {
-        Some(outline) => Ok(Some(Found { outline, part })),
-        None => Ok(None),
-    }
 }

@@ -1,13 +1,12 @@
 //! What is told of a glyph besides its segments.
 ghost use Rattle.std.specs.Prelude.{◌≡◌, pos};
 ghost use Rattle.postscript_base.specs.Error.{code};
-ghost use Rattle.postscript_c.specs.Answers.{advance as the_advance, IsToldOf, sides_of};
-ghost use Rattle.postscript_outline.specs.Drawing.{point};
-ghost use Rattle.postscript_outline.specs.Tight.{IsTightBoundsOf, arcs};
+ghost use Rattle.postscript_c.specs.Answers.{advance as the_advance, IsToldOf};
+ghost use Rattle.postscript_c.specs.Shown.{picture_shown};
 
 use crate::part::PsfPart;
+use crate::picture::Picture;
 use postscript_base::Error;
-use postscript_outline::Outline;
 use postscript_type2::Operand;
 
 /// What is told of a glyph besides its segments, in 16.16 bits.
@@ -44,13 +43,13 @@ fn advance(width: Option<Operand>, part: &PsfPart) -> i64
     }
 }
 
-/// What is told of an outline.
-pub(crate) fn told(outline: &Outline, part: &PsfPart) -> PsfGlyph
-    ensures { IsToldOf outline.now part.now result }
+/// What is told of a picture.
+pub(crate) fn told(picture: &Picture, part: &PsfPart) -> PsfGlyph
+    ensures { IsToldOf (picture_shown picture.now) part.now result }
 {
-    let advance = advance(outline.width, part);
-    let has_width = u32::from(outline.width.is_some());
-    match outline.bounds() {
+    let advance = advance(picture.width, part);
+    let has_width = u32::from(picture.width.is_some());
+    match picture.sketch.bounds() {
         Some(bounds) => PsfGlyph {
             advance,
             left: bounds.low.x,
@@ -68,41 +67,6 @@ pub(crate) fn told(outline: &Outline, part: &PsfPart) -> PsfGlyph
             top: 0,
             has_bounds: 0,
             has_width,
-        },
-    }
-}
-
-/// The bounds of the lines and curves of a glyph, in 65536ths of a unit.
-#[repr(C)]
-#[derive(Clone, Copy)]
-pub struct PsfBounds {
-    /// 0 where there is no point.
-    pub left: i32,
-    pub bottom: i32,
-    pub right: i32,
-    pub top: i32,
-    /// 1 where there is a point, else 0.
-    pub has_bounds: u32,
-}
-
-/// The bounds of the lines and curves of an outline.
-pub(crate) fn tight(outline: &Outline) -> PsfBounds
-    ensures { IsTightBoundsOf (sides_of result) (arcs (point (pos 0) (pos 0)) outline.now.segments.items) }
-{
-    match outline.tight_bounds() {
-        Some(bounds) => PsfBounds {
-            left: bounds.low.x,
-            bottom: bounds.low.y,
-            right: bounds.high.x,
-            top: bounds.high.y,
-            has_bounds: 1,
-        },
-        None => PsfBounds {
-            left: 0,
-            bottom: 0,
-            right: 0,
-            top: 0,
-            has_bounds: 0,
         },
     }
 }

@@ -1,12 +1,13 @@
 use Rattle.std.proofs.Common.{◌≡◌, rules, sym, subst, ℤ, to_z, of_z, w32}
+use Rattle.postscript_c.specs.Shown.{found_shown}
 use Rattle.postscript_c.specs.Answers.{Tells, room}
 use Rattle.postscript_c.proofs.exports.psf_glyph_outline.Goals as goal
 
 pub returns : goal.returns
 returns c =
     let same : to_z w32 (of_z w32 c.tell.result) ≡ c.tell.result = search rules in
-    let P : ℤ → Type 0 = λ status. Tells c.glyph_of-answer.result status (room c.args.segments.now c.args.count.now c.args.info.now) (room c.tell.new.segments c.tell.new.count c.tell.new.info) in
+    let P : ℤ → Type 0 = λ status. Tells (found_shown c.found_glyph-answer.result) status (room c.args.segments.now c.args.count.now c.args.info.now) (room c.tell.new.segments c.tell.new.count c.tell.new.info) in
     record {
-      cid = λ h. (c.glyph_of-answer.result, c.glyph_of-answer.ensures.cid h, subst P (sym same) c.tell.ensures);
-      plain = λ h. (c.glyph_of-answer.result, c.glyph_of-answer.ensures.plain h, subst P (sym same) c.tell.ensures);
+      cid = λ h. ((found_shown c.found_glyph-answer.result), c.found_glyph-answer.ensures.cid h, subst P (sym same) c.tell.ensures);
+      plain = λ h. ((found_shown c.found_glyph-answer.result), c.found_glyph-answer.ensures.plain h, subst P (sym same) c.tell.ensures);
     }

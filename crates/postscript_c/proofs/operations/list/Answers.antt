@@ -2,7 +2,7 @@ use Rattle.std.proofs.Common.{◌≡◌, refl, ◌∙◌, rules, ◌∷◌, ◌+
 use Rattle.postscript_c.proofs.Operands.{one_more, theirs_too}
 use Rattle.postscript_c.specs.Operations.{answered}
 use Rattle.postscript_c.specs.declared.operations.PsfOperation.{PsfOperation}
-use Rattle.postscript_type2.specs.Program.Runs.{Answer, End}
+use Rattle.postscript_type2.specs.Program.Runs.{Answer}
 use Rattle.postscript_c.proofs.operations.list.Goals as goal
 
 pub loop-operands-preserved : goal.loop-operands-preserved

@@ -1,0 +1,29 @@
+-- What the values of private types are seen as.
+use Rattle.std.specs.Prelude.{map, Option, option_map, Result, Ok, Err}
+use Rattle.postscript_base.specs.declared.error.Error.{Error}
+use Rattle.postscript_c.specs.Glyphs.{Drawn, Glyph}
+use Rattle.postscript_c.specs.Segments.{meant}
+use Rattle.postscript_c.specs.declared.picture.Found.{Found}
+use Rattle.postscript_c.specs.declared.picture.Picture.{Picture}
+use Rattle.postscript_c.specs.declared.tight.Traced.{Traced}
+use Rattle.postscript_outline.specs.declared.outline.Outline.{Outline}
+
+abbrev pub picture_shown : Picture → Drawn
+picture_shown picture = record { segments = map meant picture.sketch.segments.items; width = picture.width }
+
+abbrev pub glyph_shown : Found → Glyph
+glyph_shown found = record { drawn = picture_shown found.picture; part = found.part }
+
+abbrev pub found_shown : Result (Option Found) Error → Result (Option Glyph) Error
+found_shown (Ok found) = Ok (option_map glyph_shown found)
+found_shown (Err e) = Err e
+
+abbrev pub outline_shown : Outline → Drawn
+outline_shown outline = record { segments = outline.segments.items; width = outline.width }
+
+abbrev pub trace_shown : Traced → Glyph
+trace_shown traced = record { drawn = outline_shown traced.outline; part = traced.part }
+
+abbrev pub traced_shown : Result (Option Traced) Error → Result (Option Glyph) Error
+traced_shown (Ok traced) = Ok (option_map trace_shown traced)
+traced_shown (Err e) = Err e

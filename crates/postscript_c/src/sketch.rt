@@ -1,0 +1,86 @@
+//! What a glyph draws, as C holds it.
+ghost use Rattle.std.specs.Prelude.{◌≡◌, ◌∷◌, ◌++◌, [], None, IfErr, IfOk, OnOk, fold, map};
+ghost use Rattle.std.specs.Coded.{Coded-set};
+ghost use Rattle.postscript_base.specs.declared.error.Error.TheVariants as errors;
+ghost use Rattle.postscript_c.specs.Segments.{AreShown, AreShown-prop, meant};
+ghost use Rattle.postscript_outline.specs.Bounds.{IsBoundsOf, points, taking};
+
+use crate::fill::{PsfSegment, shown};
+use postscript_base::Result;
+use postscript_outline::laws::bounds_take_in_points;
+use postscript_outline::{Bounds, Point, Segment, Sink, Tally};
+use std::alloc::Global;
+
+/// For how many segments there is room at first: nearly all glyphs have fewer.
+const ROOM: usize = 128;
+
+/// The segments that a glyph draws, as C holds them, and the bounds of their points.
+#[derive(Drop)]
+pub(crate) struct Sketch {
+    pub(crate) segments: Vec<PsfSegment>,
+    bounds: Option<Bounds>,
+    ghost shown: { AreShown segments.items } by { AreShown-prop segments.items },
+    ghost bounded: { bounds ≡ fold taking None (map meant segments.items) } by { Coded-set bounds-code bounds (fold taking None (map meant segments.items)) },
+}
+
+impl Sketch {
+    /// Nothing yet.
+    pub(crate) fn new(alloc: Global) -> Result<Sketch>
+        ensures empty { IfOk result (λ sketch. sketch.segments.items ≡ []) }
+        ensures memory { IfErr result (λ e. e ≡ errors.Memory) }
+    {
+        Ok(Sketch {
+            segments: Vec::with_capacity(alloc, ROOM)?,
+            bounds: None,
+        })
+    }
+
+    /// The bounds of the points, control points too. None where there is no point.
+    pub(crate) fn bounds(&self) -> Option<Bounds>
+        ensures { IsBoundsOf result (points (map meant self.now.segments.items)) }
+    {
+        bounds_take_in_points();
+        self.bounds
+    }
+
+    /// Takes in one more segment.
+    #[inline(always)]
+    fn add(&mut self, segment: Segment) -> Result<()>
+        ensures given { OnOk result (map meant self.new.segments.items ≡ map meant self.old.segments.items ++ segment ∷ []) }
+        ensures refused { IfErr result (λ e. (e ≡ errors.Memory) × (map meant self.new.segments.items ≡ map meant self.old.segments.items)) }
+    {
+        self.segments.push(shown(segment))?;
+        self.bounds.add(segment);
+        Ok(())
+    }
+}
+
+impl Sink for Sketch {
+    ghost use Rattle.std.specs.Prelude.{◌≡◌, map};
+    ghost use Rattle.postscript_base.specs.declared.error.Error.TheVariants as errors;
+    ghost use Rattle.postscript_c.specs.Segments.{meant};
+
+    ghost given = { λ sketch. map meant sketch.segments.items };
+
+    ghost refuses = { λ _ e. e ≡ errors.Memory };
+
+    #[inline(always)]
+    fn move_to(&mut self, to: Point) -> Result<()> {
+        self.add(Segment::MoveTo(to))
+    }
+
+    #[inline(always)]
+    fn line_to(&mut self, to: Point) -> Result<()> {
+        self.add(Segment::LineTo(to))
+    }
+
+    #[inline(always)]
+    fn curve_to(&mut self, first: Point, second: Point, to: Point) -> Result<()> {
+        self.add(Segment::CurveTo(first, second, to))
+    }
+
+    #[inline(always)]
+    fn close(&mut self) -> Result<()> {
+        self.add(Segment::Close)
+    }
+}
