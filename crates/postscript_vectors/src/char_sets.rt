@@ -69,6 +69,22 @@ fn every_glyph_of_the_predefined_sets(rt: HostRuntime) {
     check_set(&rt, &Set::ExpertSubset, subset.as_slice(), 86);
 }
 
+/// Some glyphs of the predefined sets, and their names.
+#[rattlefmt::skip]
+const GLYPHS: &[(Set, u16, Option<&str>)] = &[
+    (Set::Expert, 2, Some("exclamsmall")), (Set::Expert, 12, Some("comma")), (Set::Expert, 166, None),
+    (Set::Expert, 165, Some("Ydieresissmall")), (Set::ExpertSubset, 2, Some("dollaroldstyle")), (Set::ISOAdobe, 0, None),
+];
+
+#[test]
+fn some_glyphs_of_the_predefined_sets(rt: HostRuntime) {
+    for (row, (set, number, name)) in GLYPHS.iter().enumerate() {
+        holds_at(&rt, name_of(set, *number) == *name, "row", row);
+    }
+    let last = get_standard_string(390) == Some("Semibold");
+    holds(&rt, last, "the last standard string");
+}
+
 /// Compares the glyph of each code with the words of a text, in which a code without a glyph has a word that is no number.
 fn check_codes<R: Abort>(rt: &R, encoding: Encoding, text: &str) {
     let mut codes = 0u16;
@@ -90,6 +106,7 @@ fn every_code_of_the_encodings(rt: HostRuntime) {
     check_codes(&rt, Encoding::Standard, STANDARD_ENCODING);
     holds(&rt, Encoding::Expert.name() == "Expert", "another name");
     check_codes(&rt, Encoding::Expert, EXPERT_ENCODING);
+    holds(&rt, Encoding::Standard.get(42) == Some(11), "code 42");
 }
 
 /// Bytes, and the number of glyphs; the set as a text, or the number of the refusal.
