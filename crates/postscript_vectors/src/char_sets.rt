@@ -1,7 +1,7 @@
 //! Char sets and encodings, and the strings that they name.
 mod tables;
 
-use crate::checks::{code_of, holds, holds_at, put, put_shown};
+use crate::checks::{Wanted, code_of, holds, holds_at, put, put_shown, read_given};
 use postscript::compact1::char_set::{CharSet0, CharSet1, CharSet2, Range1, Range2};
 use postscript::compact1::index::get_standard_string;
 use postscript::compact1::{CharSet, Encoding};
@@ -22,6 +22,7 @@ fn words<R: Abort>(rt: &R, alloc: Global, text: &'static str) -> Vec<&'static st
 
 /// Compares each standard string with the words.
 fn check_strings<R: Abort>(rt: &R, words: &[&'static str]) {
+    holds(rt, words.len() == 391, "the number of strings");
     for number in 0..=u16::MAX {
         let wanted = words.get(usize::from(number)).copied();
         let is_so = get_standard_string(number) == wanted;
@@ -59,7 +60,6 @@ fn check_set<R: Abort>(rt: &R, set: &Set, words: &[&'static str], count: usize) 
 fn every_glyph_of_the_predefined_sets(rt: HostRuntime) {
     let alloc = rt.alloc();
     let strings = words(&rt, alloc, STRINGS);
-    holds(&rt, strings.len() == 391, "the number of strings");
     check_strings(&rt, strings.as_slice());
     let plain = strings.get(1..229).unwrap_or(&[]);
     check_set(&rt, &Set::ISOAdobe, plain, 228);
@@ -70,13 +70,10 @@ fn every_glyph_of_the_predefined_sets(rt: HostRuntime) {
 }
 
 /// Some glyphs of the predefined sets, and their names.
+#[rattlefmt::skip]
 const GLYPHS: &[(Set, u16, Option<&str>)] = &[
-    (Set::Expert, 2, Some("exclamsmall")),
-    (Set::Expert, 12, Some("comma")),
-    (Set::Expert, 165, Some("Ydieresissmall")),
-    (Set::Expert, 166, None),
-    (Set::ExpertSubset, 2, Some("dollaroldstyle")),
-    (Set::ISOAdobe, 0, None),
+    (Set::Expert, 2, Some("exclamsmall")), (Set::Expert, 12, Some("comma")), (Set::Expert, 166, None),
+    (Set::Expert, 165, Some("Ydieresissmall")), (Set::ExpertSubset, 2, Some("dollaroldstyle")), (Set::ISOAdobe, 0, None),
 ];
 
 #[test]
@@ -113,46 +110,27 @@ fn every_code_of_the_encodings(rt: HostRuntime) {
 }
 
 /// Bytes, and the number of glyphs; the set as a text, or the number of the refusal.
-type Row = (&'static [u8], usize, std::result::Result<&'static str, u8>);
+type Row = (&'static [u8], usize, Wanted<&'static str>);
 
+#[rattlefmt::skip]
 const ROWS: &[Row] = &[
-    (&[0, 0, 5], 2, Ok("Format0 0: 5")),
-    (&[0, 0, 5, 1, 2], 3, Ok("Format0 0: 5 258")),
-    (&[0, 0, 5], 0, Err(10)),
-    (&[0], 1, Ok("Format0 0:")),
-    (&[0, 0], 2, Err(1)),
-    (&[0], usize::MAX, Err(1)),
-    (&[1, 0, 1, 2], 4, Ok("Format1 1: 1+2")),
-    (&[1, 0, 1, 2], 3, Err(10)),
-    (&[1, 0, 1, 2], 5, Err(1)),
-    (&[1, 0, 1, 2, 0, 9, 0], 5, Ok("Format1 1: 1+2 9+0")),
-    (&[1], 1, Ok("Format1 1:")),
-    (&[1], 0, Err(10)),
-    (&[1, 0, 1, 255], 257, Ok("Format1 1: 1+255")),
-    (&[1, 0, 1, 255], 256, Err(10)),
-    (&[1, 0, 1, 255], usize::MAX, Err(1)),
-    (&[2, 0, 1, 0, 2], 4, Ok("Format2 2: 1+2")),
-    (&[2, 0, 1, 0, 2], 3, Err(10)),
-    (&[2, 0, 1, 0, 2], 5, Err(1)),
-    (&[2, 0, 1, 0, 2, 0, 9, 0, 0], 5, Ok("Format2 2: 1+2 9+0")),
-    (&[2, 0, 1, 1, 0], 258, Ok("Format2 2: 1+256")),
-    (&[2, 0, 1, 1, 0], 257, Err(10)),
-    (&[2], 1, Ok("Format2 2:")),
-    (&[2], 0, Err(10)),
-    (&[2], 4, Err(1)),
+    (&[0, 0, 5], 2, Ok("Format0 0: 5")), (&[0, 0, 5, 1, 2], 3, Ok("Format0 0: 5 258")),
+    (&[0, 0, 5], 0, Err(10)), (&[0], 1, Ok("Format0 0:")), (&[0, 0], 2, Err(1)),
+    (&[0], usize::MAX, Err(1)), (&[1, 0, 1, 2], 4, Ok("Format1 1: 1+2")),
+    (&[1, 0, 1, 2], 3, Err(10)), (&[1, 0, 1, 2], 5, Err(1)),
+    (&[1, 0, 1, 2, 0, 9, 0], 5, Ok("Format1 1: 1+2 9+0")), (&[1], 1, Ok("Format1 1:")),
+    (&[1], 0, Err(10)), (&[1, 0, 1, 255], 257, Ok("Format1 1: 1+255")),
+    (&[1, 0, 1, 255], 256, Err(10)), (&[1, 0, 1, 255], usize::MAX, Err(1)),
+    (&[2, 0, 1, 0, 2], 4, Ok("Format2 2: 1+2")), (&[2, 0, 1, 0, 2], 3, Err(10)),
+    (&[2, 0, 1, 0, 2], 5, Err(1)), (&[2, 0, 1, 0, 2, 0, 9, 0, 0], 5, Ok("Format2 2: 1+2 9+0")),
+    (&[2, 0, 1, 1, 0], 258, Ok("Format2 2: 1+256")), (&[2, 0, 1, 1, 0], 257, Err(10)),
+    (&[2], 1, Ok("Format2 2:")), (&[2], 0, Err(10)), (&[2], 4, Err(1)),
     // Sums that 16 bits do not count.
     (&[2, 0, 1, 255, 255], 65_537, Ok("Format2 2: 1+65535")),
-    (&[2, 0, 1, 255, 255], 65_536, Err(10)),
-    (&[2, 0, 1, 255, 255, 0, 1, 255, 255], 2, Err(10)),
+    (&[2, 0, 1, 255, 255], 65_536, Err(10)), (&[2, 0, 1, 255, 255, 0, 1, 255, 255], 2, Err(10)),
     (&[2, 0, 1, 255, 255, 0, 1, 255, 255], 65_540, Err(10)),
-    (
-        &[2, 0, 1, 255, 255, 0, 1, 255, 255],
-        131_073,
-        Ok("Format2 2: 1+65535 1+65535"),
-    ),
-    (&[2, 0, 1, 255, 255], usize::MAX, Err(1)),
-    (&[3], 4, Err(11)),
-    (&[255], 0, Err(11)),
+    (&[2, 0, 1, 255, 255, 0, 1, 255, 255], 131_073, Ok("Format2 2: 1+65535 1+65535")),
+    (&[2, 0, 1, 255, 255], usize::MAX, Err(1)), (&[3], 4, Err(11)), (&[255], 0, Err(11)),
     (&[], 0, Err(1)),
 ];
 
@@ -198,16 +176,11 @@ fn is_set<R: Abort>(rt: &R, alloc: Global, set: &CharSet, wanted: &str) -> bool 
     text.as_str() == wanted
 }
 
-/// The set at the start of bytes, given a number of glyphs.
-fn read_set(alloc: Global, bytes: &[u8], glyphs: usize) -> Result<CharSet> {
-    Cursor::new(bytes).take_given(alloc, glyphs)
-}
-
 /// Whether each front of bytes is refused as cut.
 fn are_cut(alloc: Global, bytes: &[u8], glyphs: usize) -> bool {
     let mut are_so = true;
     for length in 0..bytes.len() {
-        are_so = are_so && code_of(read_set(alloc, &bytes[..length], glyphs)) == 1;
+        are_so = are_so && code_of(read_given::<CharSet>(alloc, &bytes[..length], glyphs)) == 1;
     }
     are_so
 }
@@ -246,50 +219,25 @@ fn rows_of_char_sets(rt: HostRuntime) {
     }
 }
 
-/// A set of format 0.
-fn read_set0(alloc: Global, bytes: &[u8], glyphs: usize) -> Result<CharSet0> {
-    Cursor::new(bytes).take_given(alloc, glyphs)
-}
+/// A format alone, and the numbers of the refusals where it is read as each of the three, for one glyph.
+#[rattlefmt::skip]
+const FORMATS: &[(u8, [u8; 3])] =
+    &[(0, [0, 10, 10]), (1, [10, 0, 10]), (2, [10, 10, 0]), (3, [10, 10, 10])];
 
-/// A set of format 1.
-fn read_set1(alloc: Global, bytes: &[u8], glyphs: usize) -> Result<CharSet1> {
-    Cursor::new(bytes).take_given(alloc, glyphs)
-}
-
-/// A set of format 2.
-fn read_set2(alloc: Global, bytes: &[u8], glyphs: usize) -> Result<CharSet2> {
-    Cursor::new(bytes).take_given(alloc, glyphs)
+/// The numbers of the refusals of bytes as a set of each format, for one glyph.
+fn codes_of_formats(alloc: Global, bytes: &[u8]) -> [u8; 3] {
+    [
+        code_of(read_given::<CharSet0>(alloc, bytes, 1)),
+        code_of(read_given::<CharSet1>(alloc, bytes, 1)),
+        code_of(read_given::<CharSet2>(alloc, bytes, 1)),
+    ]
 }
 
 /// Reads a set of format 0, and clones it.
 fn check_format0<R: Abort>(rt: &R, alloc: Global) {
-    let set = read_set0(alloc, &[0, 1, 1], 2).expect(rt, "a set");
+    let set: CharSet0 = read_given(alloc, &[0, 1, 1], 2).expect(rt, "a set");
     let same = set.clone().expect(rt, "memory");
     holds(rt, same.glyphs.as_slice() == [257].as_slice(), "a clone");
-}
-
-#[test]
-fn sets_of_one_format(rt: HostRuntime) {
-    let alloc = rt.alloc();
-    let other = code_of(read_set0(alloc, &[1], 1));
-    holds(&rt, other == 10, "format 1 as format 0");
-    let other = code_of(read_set1(alloc, &[0], 1));
-    holds(&rt, other == 10, "format 0 as format 1");
-    check_format0(&rt, alloc);
-    let range = Cursor::new([1, 2, 3].as_slice()).take::<Range1>(alloc);
-    let range = range.expect(&rt, "a range");
-    holds(&rt, range.first == 258, "the first glyph");
-    holds(&rt, range.left == 3, "how many are left");
-}
-
-/// Reads a range of format 2.
-pub fn check_range<R: Abort>(rt: &R, alloc: Global) {
-    let mut tape = Cursor::new([1, 2, 3, 4].as_slice());
-    let range = Tape::take::<Range2>(&mut tape, alloc);
-    let range = range.expect(rt, "a range");
-    holds(rt, range.first == 258, "the first glyph");
-    holds(rt, range.left == 772, "how many are left");
-    holds(rt, tape.position() == 4, "the next place");
 }
 
 /// Whether two sets are of format 2, of the same two ranges.
@@ -305,20 +253,32 @@ fn are_same(set: &CharSet2, other: &CharSet2) -> bool {
 /// Reads a set of format 2, and clones it.
 fn check_format2<R: Abort>(rt: &R, alloc: Global) {
     let bytes = [2, 0, 7, 1, 0, 0, 9, 0, 0];
-    let set = read_set2(alloc, &bytes, 259).expect(rt, "a set");
+    let set: CharSet2 = read_given(alloc, &bytes, 259).expect(rt, "a set");
     let same = set.clone().expect(rt, "memory");
     holds(rt, are_same(&set, &same), "a set and its clone");
 }
 
 #[test]
-fn sets_of_format_2(rt: HostRuntime) {
+fn sets_of_one_format(rt: HostRuntime) {
     let alloc = rt.alloc();
-    for first in [0, 1, 3] {
-        let code = code_of(read_set2(alloc, &[first], 1));
-        holds_at(&rt, code == 10, "format", usize::from(first));
+    for (format, codes) in FORMATS {
+        let is_so = codes_of_formats(alloc, &[*format]) == *codes;
+        holds_at(&rt, is_so, "format", usize::from(*format));
     }
-    check_range(&rt, alloc);
+    check_format0(&rt, alloc);
     check_format2(&rt, alloc);
+}
+
+#[test]
+fn ranges_of_both_formats(rt: HostRuntime) {
+    let alloc = rt.alloc();
+    let mut tape = Cursor::new([1, 2, 3, 1, 2, 3, 4].as_slice());
+    let range = Tape::take::<Range1>(&mut tape, alloc).expect(&rt, "a range");
+    let is_so = range.first == 258 && range.left == 3 && tape.position() == 3;
+    holds(&rt, is_so, "a range of format 1");
+    let range = Tape::take::<Range2>(&mut tape, alloc).expect(&rt, "a range");
+    let is_so = range.first == 258 && range.left == 772 && tape.position() == 7;
+    holds(&rt, is_so, "a range of format 2");
 }
 
 /// Whether a set is predefined, and its clone has its name.
@@ -327,20 +287,14 @@ fn is_predefined<R: Abort>(rt: &R, set: &CharSet) -> bool {
     set.is_predefined() && same.name() == set.name()
 }
 
-/// Clones the predefined sets.
-fn check_predefined<R: Abort>(rt: &R) {
-    holds(rt, is_predefined(rt, &CharSet::ISOAdobe), "ISOAdobe");
-    holds(rt, is_predefined(rt, &CharSet::Expert), "Expert");
-    holds(
-        rt,
-        is_predefined(rt, &CharSet::ExpertSubset),
-        "ExpertSubset",
-    );
-}
-
 #[test]
 fn predefined_sets_and_their_clones(rt: HostRuntime) {
-    check_predefined(&rt);
+    let plain = is_predefined(&rt, &CharSet::ISOAdobe);
+    holds(&rt, plain, "ISOAdobe");
+    let expert = is_predefined(&rt, &CharSet::Expert);
+    holds(&rt, expert, "Expert");
+    let subset = is_predefined(&rt, &CharSet::ExpertSubset);
+    holds(&rt, subset, "ExpertSubset");
 }
 
 /// The bytes of so many ranges of glyph 7 on with so many left, one less than the count, and of a last one of 254.
@@ -357,34 +311,21 @@ fn ranges<R: Abort>(rt: &R, alloc: Global, left: u8, count: usize) -> Vec<u8> {
 
 /// Whether 65,535 glyphs are read in these ranges.
 fn are_ranges<R: Abort>(rt: &R, alloc: Global, bytes: &[u8]) -> bool {
-    let set = read_set1(alloc, bytes, 65_535).expect(rt, "a set");
+    let set: CharSet1 = read_given(alloc, bytes, 65_535).expect(rt, "a set");
     let same = set.clone().expect(rt, "memory");
     same.ranges.len().saturating_mul(3).saturating_add(1) == bytes.len()
-}
-
-/// Reads 65,535 glyphs in ranges of 256, and clones them.
-fn check_format1<R: Abort>(rt: &R, alloc: Global) {
-    let long = ranges(rt, alloc, 255, 256);
-    holds(rt, are_ranges(rt, alloc, long.as_slice()), "ranges of 256");
-}
-
-/// Reads sets of each format and the clones of all.
-pub fn check_clones<R: Abort>(rt: &R, alloc: Global) {
-    check_predefined(rt);
-    check_format0(rt, alloc);
-    check_format1(rt, alloc);
-    check_format2(rt, alloc);
-    holds(
-        rt,
-        is_row(rt, alloc, &(&[0, 0, 5], 2, Ok("Format0 0: 5"))),
-        "a set",
-    );
 }
 
 #[test]
 fn long_char_sets(rt: HostRuntime) {
     let alloc = rt.alloc();
-    check_format1(&rt, alloc);
-    let short = ranges(&rt, alloc, 0, 65_535);
-    holds(&rt, are_ranges(&rt, alloc, short.as_slice()), "ranges of 1");
+    for (left, count) in [(255, 256), (0, 65_535)] {
+        let bytes = ranges(&rt, alloc, left, count);
+        holds_at(
+            &rt,
+            are_ranges(&rt, alloc, bytes.as_slice()),
+            "ranges",
+            count,
+        );
+    }
 }

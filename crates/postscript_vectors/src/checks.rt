@@ -1,8 +1,12 @@
 //! How a test fails, and the bytes and texts that tests compare.
-use postscript::Result;
+use postscript::{Result, Tape, Value, Walue};
 use std::alloc::Global;
 use std::fmt::Display;
+use std::io::Cursor;
 use std::process::Abort;
+
+/// What a row wants: a value, or the number of the refusal.
+pub type Wanted<T> = std::result::Result<T, u8>;
 
 /// Fails the test where a fact does not hold, and names the fact.
 pub fn holds<R: Abort>(rt: &R, is_so: bool, fact: &str) {
@@ -31,6 +35,16 @@ pub fn code_of<T: Drop>(outcome: Result<T>) -> u8 {
         Ok(_) => 0,
         Err(e) => e.code(),
     }
+}
+
+/// The value at the start of bytes.
+pub fn read<V: Value>(alloc: Global, bytes: &[u8]) -> Result<V> {
+    Cursor::new(bytes).take(alloc)
+}
+
+/// The value at the start of bytes that is read by a parameter.
+pub fn read_given<W: Walue>(alloc: Global, bytes: &[u8], parameter: W::Parameter) -> Result<W> {
+    Cursor::new(bytes).take_given(alloc, parameter)
 }
 
 /// Adds a word to a text.

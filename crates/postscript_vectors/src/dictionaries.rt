@@ -1,5 +1,6 @@
 //! Dictionaries: their operators, their operations, and the map that they leave.
-use crate::checks::{code_of, holds, holds_at, put, put_shown};
+use crate::checks::{Wanted, code_of, holds, holds_at, put_shown, read};
+use crate::errors::is_named;
 use crate::tapes::{Trouble, TroubledTape};
 use postscript::compact1::{Operand, Operands, Operation, Operations, Operator};
 use postscript::{Result, Tape};
@@ -8,21 +9,16 @@ use std::io::Cursor;
 use std::process::Abort;
 
 /// Bytes; and each operator with its operands as texts, or the number of the refusal.
-type Row = (
-    &'static [u8],
-    std::result::Result<&'static [(Operator, &'static str)], u8>,
-);
+type Row = (&'static [u8], Wanted<&'static [(Operator, &'static str)]>);
 
+#[rattlefmt::skip]
 const ROWS: &[Row] = &[
     (&[0x8b], Ok(&[])),
     (&[0x8c, 0x00, 0x8d, 0x00], Ok(&[(Operator::Version, "2")])),
     (&[0x0c], Ok(&[])),
     (&[], Ok(&[])),
     (&[0xff], Err(9)),
-    (
-        &[0x8c, 0x8d, 0x12, 0x8b, 0x12],
-        Ok(&[(Operator::Private, "0")]),
-    ),
+    (&[0x8c, 0x8d, 0x12, 0x8b, 0x12], Ok(&[(Operator::Private, "0")])),
     (&[0x0c, 0x06], Ok(&[(Operator::CharStringType, "")])),
     (&[0x1e, 0x12], Ok(&[])),
     (&[0x8c, 0x1c, 0x00], Ok(&[])),
@@ -30,27 +26,16 @@ const ROWS: &[Row] = &[
     (&[0x8b, 0x0c, 0x1d], Err(9)),
     (&[0x1f], Err(9)),
     // The top dictionary and the private one of the smallest font.
-    (
-        &[0xa3, 0x11, 0x8d, 0xa9, 0x12],
-        Ok(&[(Operator::CharStrings, "24"), (Operator::Private, "2 3e1")]),
-    ),
+    (&[0xa3, 0x11, 0x8d, 0xa9, 0x12], Ok(&[(Operator::CharStrings, "24"), (Operator::Private, "2 3e1")])),
     (&[0x8d, 0x13], Ok(&[(Operator::Subrs, "2")])),
     // Operands of each form, cut before the operator, and before the end of each.
     (
-        &[
-            0x1c, 0x27, 0x10, 0x1d, 0, 1, 0x86, 0xa0, 0x1e, 0xe2, 0xa2, 0x5f, 0xfa, 0x7c, 0x05,
-        ],
+        &[0x1c, 0x27, 0x10, 0x1d, 0, 1, 0x86, 0xa0, 0x1e, 0xe2, 0xa2, 0x5f, 0xfa, 0x7c, 0x05],
         Ok(&[(Operator::FontBBox, "1e4 1e5 -225e-2 1e3")]),
     ),
     (&[0x8c, 0x00, 0x1c, 0x27], Ok(&[(Operator::Version, "1")])),
-    (
-        &[0x8c, 0x00, 0x1d, 0, 1, 0x86],
-        Ok(&[(Operator::Version, "1")]),
-    ),
-    (
-        &[0x8c, 0x00, 0x1e, 0xe2, 0xa2],
-        Ok(&[(Operator::Version, "1")]),
-    ),
+    (&[0x8c, 0x00, 0x1d, 0, 1, 0x86], Ok(&[(Operator::Version, "1")])),
+    (&[0x8c, 0x00, 0x1e, 0xe2, 0xa2], Ok(&[(Operator::Version, "1")])),
     (&[0x8c, 0x00, 0xfa], Ok(&[(Operator::Version, "1")])),
     // What is refused behind an operation, and behind an operand.
     (&[0x8c, 0x00, 0x8c, 0x16], Err(9)),
@@ -84,11 +69,6 @@ fn is_map<R: Abort>(rt: &R, alloc: Global, map: &Operations, wanted: &[(Operator
     is_so
 }
 
-/// The dictionary of bytes.
-fn read_map(alloc: Global, bytes: &[u8]) -> Result<Operations> {
-    Cursor::new(bytes).take(alloc)
-}
-
 /// Whether a dictionary is read as a row wants.
 fn is_wanted<R: Abort>(rt: &R, alloc: Global, read: &Result<Operations>, row: &Row) -> bool {
     match (read, &row.1) {
@@ -116,58 +96,25 @@ fn rows_of_dictionaries(rt: HostRuntime) {
 
 /// Each operator: its code, its name, and the texts of its default operands, `-` where it has none (Technical Note 5176,
 /// Tables 9, 10 and 23).
-pub const OPERATORS: &[(u16, &str, &str)] = &[
-    (0x00, "Version", "-"),
-    (0x01, "Notice", "-"),
-    (0x02, "FullName", "-"),
-    (0x03, "FamilyName", "-"),
-    (0x04, "Weight", "-"),
-    (0x05, "FontBBox", "0 0 0 0"),
-    (0x06, "BlueValues", "-"),
-    (0x07, "OtherBlues", "-"),
-    (0x08, "FamilyBlues", "-"),
-    (0x09, "FamilyOtherBlues", "-"),
-    (0x0a, "StdHW", "-"),
-    (0x0b, "StdVW", "-"),
-    (0x0d, "UniqueID", "-"),
-    (0x0e, "XUID", "-"),
-    (0x0f, "CharSet", "0"),
-    (0x10, "Encoding", "0"),
-    (0x11, "CharStrings", "-"),
-    (0x12, "Private", "-"),
-    (0x13, "Subrs", "-"),
-    (0x14, "DefaultWidthX", "0"),
-    (0x15, "NominalWidthX", "0"),
-    (0x0c00, "Copyright", "-"),
-    (0x0c01, "IsFixedPitch", "0"),
-    (0x0c02, "ItalicAngle", "0"),
-    (0x0c03, "UnderlinePosition", "-1e2"),
-    (0x0c04, "UnderlineThickness", "5e1"),
-    (0x0c05, "PaintType", "0"),
-    (0x0c06, "CharStringType", "2"),
-    (0x0c07, "FontMatrix", "1e-3 0 0 1e-3 0 0"),
-    (0x0c08, "StrokeWidth", "0"),
-    (0x0c09, "BlueScale", "39625e-6"),
-    (0x0c0a, "BlueShift", "7"),
-    (0x0c0b, "BlueFuzz", "1"),
-    (0x0c0c, "StemSnapH", "-"),
-    (0x0c0d, "StemSnapV", "-"),
-    (0x0c0e, "ForceBold", "0"),
-    (0x0c11, "LanguageGroup", "0"),
-    (0x0c12, "ExpansionFactor", "6e-2"),
-    (0x0c13, "InitialRandomSeed", "0"),
-    (0x0c14, "SyntheticBase", "-"),
-    (0x0c15, "PostScript", "-"),
-    (0x0c16, "BaseFontName", "-"),
-    (0x0c17, "BaseFontBlend", "-"),
-    (0x0c1e, "ROS", "-"),
-    (0x0c1f, "CIDFontVersion", "0"),
-    (0x0c20, "CIDFontRevision", "0"),
-    (0x0c21, "CIDFontType", "0"),
-    (0x0c22, "CIDCount", "872e1"),
-    (0x0c23, "UIDBase", "-"),
-    (0x0c24, "FDArray", "-"),
-    (0x0c25, "FDSelect", "-"),
+#[rattlefmt::skip]
+const OPERATORS: &[(u16, &str, &str)] = &[
+    (0x00, "Version", "-"), (0x01, "Notice", "-"), (0x02, "FullName", "-"), (0x03, "FamilyName", "-"),
+    (0x04, "Weight", "-"), (0x05, "FontBBox", "0 0 0 0"), (0x06, "BlueValues", "-"),
+    (0x07, "OtherBlues", "-"), (0x08, "FamilyBlues", "-"), (0x09, "FamilyOtherBlues", "-"),
+    (0x0a, "StdHW", "-"), (0x0b, "StdVW", "-"), (0x0d, "UniqueID", "-"), (0x0e, "XUID", "-"),
+    (0x0f, "CharSet", "0"), (0x10, "Encoding", "0"), (0x11, "CharStrings", "-"), (0x12, "Private", "-"),
+    (0x13, "Subrs", "-"), (0x14, "DefaultWidthX", "0"), (0x15, "NominalWidthX", "0"),
+    (0x0c00, "Copyright", "-"), (0x0c01, "IsFixedPitch", "0"), (0x0c02, "ItalicAngle", "0"),
+    (0x0c03, "UnderlinePosition", "-1e2"), (0x0c04, "UnderlineThickness", "5e1"),
+    (0x0c05, "PaintType", "0"), (0x0c06, "CharStringType", "2"),
+    (0x0c07, "FontMatrix", "1e-3 0 0 1e-3 0 0"), (0x0c08, "StrokeWidth", "0"),
+    (0x0c09, "BlueScale", "39625e-6"), (0x0c0a, "BlueShift", "7"), (0x0c0b, "BlueFuzz", "1"),
+    (0x0c0c, "StemSnapH", "-"), (0x0c0d, "StemSnapV", "-"), (0x0c0e, "ForceBold", "0"),
+    (0x0c11, "LanguageGroup", "0"), (0x0c12, "ExpansionFactor", "6e-2"), (0x0c13, "InitialRandomSeed", "0"),
+    (0x0c14, "SyntheticBase", "-"), (0x0c15, "PostScript", "-"), (0x0c16, "BaseFontName", "-"),
+    (0x0c17, "BaseFontBlend", "-"), (0x0c1e, "ROS", "-"), (0x0c1f, "CIDFontVersion", "0"),
+    (0x0c20, "CIDFontRevision", "0"), (0x0c21, "CIDFontType", "0"), (0x0c22, "CIDCount", "872e1"),
+    (0x0c23, "UIDBase", "-"), (0x0c24, "FDArray", "-"), (0x0c25, "FDSelect", "-"),
     (0x0c26, "FontName", "-"),
 ];
 
@@ -185,7 +132,7 @@ fn is_default<R: Abort>(rt: &R, alloc: Global, operator: Operator, text: &str) -
     are(rt, alloc, &operator.default(), text) && are(rt, alloc, &none.get(operator), text)
 }
 
-/// Whether a code has the operator of a row, or none where there is no row.
+/// Whether a code has the operator of a row, which refusals name, or none where there is no row.
 fn is_known<R: Abort>(
     rt: &R,
     alloc: Global,
@@ -194,7 +141,9 @@ fn is_known<R: Abort>(
 ) -> bool {
     match (found, row) {
         (Ok(operator), Some((_, name, text))) => {
-            operator.name() == *name && is_default(rt, alloc, *operator, text)
+            operator.name() == *name
+                && is_default(rt, alloc, *operator, text)
+                && is_named(rt, alloc, *operator, name)
         }
         (Err(e), None) => e.code() == 9,
         _ => false,
@@ -212,7 +161,7 @@ fn row_of(code: u16) -> Option<&'static (u16, &'static str, &'static str)> {
 }
 
 #[test]
-fn each_operator_and_its_defaults(rt: HostRuntime) {
+fn each_operator_its_defaults_and_its_refusals(rt: HostRuntime) {
     let alloc = rt.alloc();
     for code in 0..0x0d00u16 {
         let is_so = is_known(&rt, alloc, &Operator::from(code), row_of(code));
@@ -243,9 +192,9 @@ fn is_looked_up(map: &Operations) -> bool {
 }
 
 /// Reads a dictionary, and clones it.
-pub fn check_clone<R: Abort>(rt: &R, alloc: Global) {
+fn check_clone<R: Abort>(rt: &R, alloc: Global) {
     let bytes = [0x8c, 0x8d, 0x12, 0x8b, 0x12, 0x8e, 0x8f, 0x90, 0x05];
-    let map = read_map(alloc, &bytes).expect(rt, "a dictionary");
+    let map: Operations = read(alloc, &bytes).expect(rt, "a dictionary");
     holds(rt, is_looked_up(&map), "a dictionary");
     let copy = map.clone().expect(rt, "memory");
     holds(rt, is_looked_up(&copy), "a clone");
@@ -256,25 +205,18 @@ fn looked_up_and_cloned(rt: HostRuntime) {
     let alloc = rt.alloc();
     check_clone(&rt, alloc);
     // Operands that are written, and none of them, are not the defaults.
-    let bare = read_map(alloc, &[0x0c, 0x06]).expect(&rt, "no operand");
+    let bare: Operations = read(alloc, &[0x0c, 0x06]).expect(&rt, "no operand");
     let none = bare.get_single(Operator::CharStringType).is_none();
     holds(&rt, none, "no operand is written");
-}
-
-/// Reads one operation.
-pub fn check_operation<R: Abort>(rt: &R, alloc: Global) {
-    let mut tape = Cursor::new([0x8c, 0x00].as_slice());
-    let read = Tape::take::<Operation>(&mut tape, alloc);
-    let (operator, operands) = read.expect(rt, "an operation");
-    holds(rt, operator == Operator::Version, "the operator");
-    let text = texts(rt, alloc, operands.as_slice());
-    holds(rt, text.as_str() == "1", "the operand");
 }
 
 #[test]
 fn one_operation(rt: HostRuntime) {
     let alloc = rt.alloc();
-    check_operation(&rt, alloc);
+    let first: Operation = read(alloc, &[0x8c, 0x00]).expect(&rt, "an operation");
+    holds(&rt, first.0 == Operator::Version, "the operator");
+    let text = texts(&rt, alloc, first.1.as_slice());
+    holds(&rt, text.as_str() == "1", "the operand");
 }
 
 /// Whether a byte alone is a dictionary: an operator of one byte, or the beginning of an operand or of an operator of two.
@@ -307,12 +249,12 @@ fn long_dictionary<R: Abort>(rt: &R, alloc: Global) -> Vec<u8> {
 fn first_bytes_long_dictionaries_and_tapes_that_stand_still(rt: HostRuntime) {
     let alloc = rt.alloc();
     for byte in 0..=255u8 {
-        let read = read_map(alloc, &[byte]);
-        holds_at(&rt, is_first(&read, byte), "byte", usize::from(byte));
+        let is_so = is_first(&read(alloc, &[byte]), byte);
+        holds_at(&rt, is_so, "byte", usize::from(byte));
     }
     // The last operation counts.
-    let long = read_map(alloc, long_dictionary(&rt, alloc).as_slice());
-    let map = long.expect(&rt, "a long dictionary");
+    let long = long_dictionary(&rt, alloc);
+    let map: Operations = read(alloc, long.as_slice()).expect(&rt, "a long dictionary");
     holds(&rt, map.0.len() == 1, "one operator");
     let last = single(&map, Operator::Version);
     holds(&rt, last == Some(2), "the last operation");

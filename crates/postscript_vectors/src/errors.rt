@@ -1,6 +1,5 @@
 //! The numbers and the texts of refusals.
 use crate::checks::{holds, holds_at, is_text};
-use crate::dictionaries::OPERATORS;
 use postscript::Error;
 use postscript::compact1::Operator;
 use postscript::error::Part;
@@ -10,6 +9,7 @@ use std::io::ErrorKind;
 use std::process::Abort;
 
 /// The refusals but a fault of the tape, their numbers and their texts.
+#[rattlefmt::skip]
 const REFUSALS: &[(Error, u8, &str)] = &[
     (Error::UnexpectedEof, 1, "failed to fill whole buffer"),
     (Error::Memory, 3, "failed to find memory"),
@@ -20,47 +20,19 @@ const REFUSALS: &[(Error, u8, &str)] = &[
     (Error::OutOfRangeNumber, 8, "found a number out of range"),
     (Error::UnknownOperator, 9, "found an unknown operator"),
     (Error::MalformedCharSet, 10, "found a malformed char set"),
-    (
-        Error::UnknownCharSetFormat,
-        11,
-        "found an unknown char-set format",
-    ),
-    (
-        Error::UnknownCharStringFormat,
-        12,
-        "found an unknown char-string format",
-    ),
+    (Error::UnknownCharSetFormat, 11, "found an unknown char-set format"),
+    (Error::UnknownCharStringFormat, 12, "found an unknown char-string format"),
     (Error::OutOfRangeOffset, 15, "found an offset out of range"),
-    (
-        Error::Unsupported(Part::CustomEncoding),
-        16,
-        "found an unsupported part",
-    ),
-    (
-        Error::Unsupported(Part::Random),
-        16,
-        "found an unsupported part",
-    ),
+    (Error::Unsupported(Part::CustomEncoding), 16, "found an unsupported part"),
+    (Error::Unsupported(Part::Random), 16, "found an unsupported part"),
     (Error::ExpectedOperand, 17, "expected an operand"),
-    (
-        Error::ExpectedInteger,
-        18,
-        "expected an operand of a different type",
-    ),
+    (Error::ExpectedInteger, 18, "expected an operand of a different type"),
     (Error::ExpectedMoreOperands, 19, "expected more operands"),
     (Error::MalformedOperands, 20, "found malformed operands"),
     (Error::InvalidOperand, 21, "found an invalid operand"),
     (Error::MissingSubroutine, 22, "failed to find a subroutine"),
-    (
-        Error::ReturnWithoutCaller,
-        23,
-        "found a return operator without a caller",
-    ),
-    (
-        Error::TrailingData,
-        24,
-        "found trailing data after the end operator",
-    ),
+    (Error::ReturnWithoutCaller, 23, "found a return operator without a caller"),
+    (Error::TrailingData, 24, "found trailing data after the end operator"),
     (Error::TooDeep, 25, "found calls nested too deep"),
     (Error::Overflow, 26, "found an overflow"),
     (Error::ZeroDivisor, 27, "found a zero divisor"),
@@ -70,7 +42,7 @@ const REFUSALS: &[(Error, u8, &str)] = &[
 ];
 
 /// The number and the text of a refusal.
-pub fn check<R: Abort>(rt: &R, alloc: Global, error: &Error, code: u8, message: &str) {
+fn check<R: Abort>(rt: &R, alloc: Global, error: &Error, code: u8, message: &str) {
     holds_at(rt, error.code() == code, "refusal", usize::from(code));
     let text = error.to_string(alloc).expect(rt, "memory");
     is_text(rt, text.as_str(), message, message);
@@ -90,22 +62,12 @@ fn names<R: Abort>(
 }
 
 /// Whether both refusals that name an operator name this one.
-fn is_named<R: Abort>(rt: &R, alloc: Global, operator: Operator, name: &str) -> bool {
+pub fn is_named<R: Abort>(rt: &R, alloc: Global, operator: Operator, name: &str) -> bool {
     let malformed = Error::MalformedOperation(operator);
     let missing = Error::MissingOperation(operator);
     let front = "found a malformed operation with operator ";
     let other = "failed to find an operation with operator ";
     names(rt, alloc, &malformed, 13, front, name) && names(rt, alloc, &missing, 14, other, name)
-}
-
-#[test]
-fn refusals_at_each_operator(rt: HostRuntime) {
-    let alloc = rt.alloc();
-    for (code, name, _) in OPERATORS {
-        let operator = Operator::from(*code).expect(&rt, "an operator");
-        let is_so = is_named(&rt, alloc, operator, name);
-        holds_at(&rt, is_so, "code", usize::from(*code));
-    }
 }
 
 /// Whether a fault of this kind stays a fault of the tape.

@@ -1,6 +1,7 @@
 //! Each example once.
 use crate::checks::holds;
-use postscript::compact1::{FontSet, Operator as Key};
+use crate::programs::routines_of;
+use postscript::compact1::{FontSet, Operations, Operator as Key};
 use postscript::type2::{Operand, Operator, Program};
 use postscript::{Error, Value};
 use postscript_examples::advances::advance;
@@ -16,13 +17,12 @@ use postscript_examples::tapes::{first_byte_twice, first_number};
 use std::alloc::Global;
 use std::io::Cursor;
 use std::process::Abort;
-use std::test::Fail;
 
 /// The width 3, a move by 1 and 2, and a call of the subroutine with the number -107.
 const CODE: [u8; 7] = [0x8e, 0x8c, 0x8d, 0x15, 0x20, 0x0a, 0x0e];
 
 /// A line of 1, and a return.
-const LINE: [u8; 3] = [0x8c, 0x06, 0x0b];
+const LINE: &str = "8c060b";
 
 /// The same glyph without a call: its number and the return's zero are dropped.
 const FLAT: [u8; 13] = [
@@ -44,12 +44,15 @@ const WIDE: [u8; 48] = [
 ];
 
 #[test]
-fn numbers_and_bytes(rt: HostRuntime) -> Result<(), Fail> {
-    assert!(rt; matches!(first_number(rt.alloc(), &[0x12, 0x34, 0x56]), Ok(0x1234)));
-    assert!(rt; matches!(first_number(rt.alloc(), &[0x12]), Err(Error::UnexpectedEof)));
-    let bytes = Vec::from_slice(rt.alloc(), &[7])?;
-    assert!(rt; matches!(first_byte_twice(rt.alloc(), bytes), Ok((7, 7))));
-    Ok(())
+fn numbers_and_bytes(rt: HostRuntime) {
+    let alloc = rt.alloc();
+    let number = first_number(alloc, &[0x12, 0x34, 0x56]);
+    holds(&rt, matches!(number, Ok(0x1234)), "a number");
+    let cut = first_number(alloc, &[0x12]);
+    holds(&rt, matches!(cut, Err(Error::UnexpectedEof)), "a cut one");
+    let bytes = Vec::from_slice(alloc, &[7]).expect(&rt, "memory");
+    let twice = first_byte_twice(alloc, bytes);
+    holds(&rt, matches!(twice, Ok((7, 7))), "a byte twice");
 }
 
 /// An operand that is a whole number.
@@ -71,19 +74,14 @@ fn is_it(glyph: &Glyph) -> bool {
 }
 
 /// Whether a code draws it with these local subroutines.
-fn draws_it(alloc: Global, code: &[u8], local: &[Vec<u8>]) -> bool {
-    match glyph(alloc, code, &[], local) {
-        Ok(glyph) => is_it(&glyph),
-        Err(_) => false,
-    }
+fn draws_it<R: Abort>(rt: &R, alloc: Global, code: &[u8], local: &[Vec<u8>]) -> bool {
+    is_it(&glyph(alloc, code, &[], local).expect(rt, "a glyph"))
 }
 
 /// Whether `CODE` has three operands and the width 3 with these local subroutines.
-fn is_counted(alloc: Global, local: &[Vec<u8>]) -> bool {
-    match operand_count(alloc, &CODE, &[], local) {
-        Ok((count, width)) => count == 3 && width == Some(whole(3)),
-        Err(_) => false,
-    }
+fn is_counted<R: Abort>(rt: &R, alloc: Global, local: &[Vec<u8>]) -> bool {
+    let counted = operand_count(alloc, &CODE, &[], local);
+    counted.expect(rt, "a count") == (3, Some(whole(3)))
 }
 
 /// Whether the first operation of `CODE` is passed as a move by two operands, with the width 3.
@@ -94,38 +92,29 @@ fn is_passed(alloc: Global, local: &[Vec<u8>]) -> bool {
 }
 
 /// Whether the operators of `CODE` are a move and a line.
-fn are_its_operators(alloc: Global, local: &[Vec<u8>]) -> bool {
-    match operators(alloc, &CODE, &[], local) {
-        Ok(operators) => matches!(operators.as_slice(), [Operator::RMoveTo, Operator::HLineTo]),
-        Err(_) => false,
-    }
+fn are_its_operators<R: Abort>(rt: &R, alloc: Global, local: &[Vec<u8>]) -> bool {
+    let found = operators(alloc, &CODE, &[], local).expect(rt, "operators");
+    matches!(found.as_slice(), [Operator::RMoveTo, Operator::HLineTo])
 }
 
 /// Whether `CODE` is `FLAT` as flat code with these local subroutines, which then draws it with none.
-fn is_flat(alloc: Global, local: &[Vec<u8>]) -> bool {
-    match flat(alloc, &CODE, &[], local) {
-        Ok(code) => code.as_slice() == FLAT.as_slice() && draws_it(alloc, &code, &[]),
-        Err(_) => false,
-    }
+fn is_flat<R: Abort>(rt: &R, alloc: Global, local: &[Vec<u8>]) -> bool {
+    let code = flat(alloc, &CODE, &[], local).expect(rt, "flat code");
+    code.as_slice() == FLAT.as_slice() && draws_it(rt, alloc, &code, &[])
 }
 
 #[test]
-fn a_glyph(rt: HostRuntime) -> Result<(), Fail> {
-    // Without its subroutine it is refused.
-    assert!(rt;
-        matches!(
-            glyph(rt.alloc(), &CODE, &[], &[]),
-            Err(Error::MissingSubroutine)
-        )
-    );
-    let line = Vec::from_slice(rt.alloc(), &LINE)?;
-    let local = vec![in rt.alloc(); line]?;
-    assert!(rt; draws_it(rt.alloc(), &CODE, local.as_slice()));
-    assert!(rt; is_counted(rt.alloc(), local.as_slice()));
-    assert!(rt; is_passed(rt.alloc(), local.as_slice()));
-    assert!(rt; are_its_operators(rt.alloc(), local.as_slice()));
-    assert!(rt; is_flat(rt.alloc(), local.as_slice()));
-    Ok(())
+fn a_glyph(rt: HostRuntime) {
+    let alloc = rt.alloc();
+    let refused = glyph(alloc, &CODE, &[], &[]);
+    let is_so = matches!(refused, Err(Error::MissingSubroutine));
+    holds(&rt, is_so, "no subroutine");
+    let local = routines_of(&rt, alloc, LINE);
+    holds(&rt, draws_it(&rt, alloc, &CODE, &local), "the glyph");
+    holds(&rt, is_counted(&rt, alloc, &local), "its operands");
+    holds(&rt, is_passed(alloc, &local), "its first operation");
+    holds(&rt, are_its_operators(&rt, alloc, &local), "its operators");
+    holds(&rt, is_flat(&rt, alloc, &local), "its flat code");
 }
 
 /// Whether there is this text alone.
@@ -186,31 +175,27 @@ fn an_advance(rt: HostRuntime) {
     holds(&rt, advances_by(alloc, &WIDE, 103), "a nominal width");
 }
 
+/// Whether the operands of a dictionary have this text alone.
+fn is_told<R: Abort>(rt: &R, alloc: Global, map: &Operations, key: Key, wanted: &str) -> bool {
+    are(&texts_of(alloc, map, key).expect(rt, "texts"), wanted)
+}
+
 #[test]
-fn a_dictionary(rt: HostRuntime) -> Result<(), Fail> {
+fn a_dictionary(rt: HostRuntime) {
+    let alloc = rt.alloc();
     // -12.5 as a real, and `ItalicAngle`.
-    let dictionary = dictionary_of(rt.alloc(), &[0x1e, 0xe1, 0x2a, 0x5f, 0x0c, 0x02])?;
-    assert!(rt; italic_angle(&dictionary) == Some((-125, -1)));
-    assert!(rt;
-        are(
-            &texts_of(rt.alloc(), &dictionary, Key::ItalicAngle)?,
-            "-125e-1"
-        )
-    );
+    let map = dictionary_of(alloc, &[0x1e, 0xe1, 0x2a, 0x5f, 0x0c, 0x02]);
+    let map = map.expect(&rt, "a dictionary");
+    let angle = italic_angle(&map);
+    holds(&rt, angle == Some((-125, -1)), "the angle");
+    let is_so = is_told(&rt, alloc, &map, Key::ItalicAngle, "-125e-1");
+    holds(&rt, is_so, "the text of the angle");
     // What the dictionary does not say has its default.
-    assert!(rt;
-        are(
-            &texts_of(rt.alloc(), &dictionary, Key::BlueScale)?,
-            "39625e-6"
-        )
-    );
-    assert!(rt;
-        matches!(
-            dictionary_of(rt.alloc(), &[0xff]),
-            Err(Error::UnknownOperator)
-        )
-    );
-    Ok(())
+    let is_so = is_told(&rt, alloc, &map, Key::BlueScale, "39625e-6");
+    holds(&rt, is_so, "a default");
+    let refused = dictionary_of(alloc, &[0xff]);
+    let is_so = matches!(refused, Err(Error::UnknownOperator));
+    holds(&rt, is_so, "no operator");
 }
 
 /// Whether a font that is read is the one of the name A.

@@ -1,11 +1,19 @@
-//! Flat code.
+//! Flat code, and inlined code.
 use crate::checks::{bytes_of, code_of, holds};
 use crate::programs::{DOUBLING, routines_of, told};
+use postscript::Result;
 use postscript::type2::Program;
 use std::alloc::Global;
 use std::process::Abort;
 
-/// A code in hex, its local subroutines in hex, each after a space, and its flat code in hex.
+/// How a code is written without calls.
+#[derive(Clone, Copy)]
+enum Form {
+    Flat,
+    Inlined,
+}
+
+/// A code in hex, its local subroutines in hex, each after a space, and its code without calls in hex.
 type Row = (&'static str, &'static str, &'static str);
 
 const FLAT: &[Row] = &[
@@ -28,112 +36,136 @@ const FLAT: &[Row] = &[
     ("200a8b0c1516", "908b0c140b", "200c12908b0c148b0c128b0c1516"),
 ];
 
-/// A code in hex, its local subroutines in hex, and the length of its flat code.
-const FLAT_LENGTHS: &[(&str, &str, usize)] = &[
-    ("200a0e", "8c8d150b", 10),
-    ("200a", "8c0b", 7),
-    ("200a8c8d150e", "8c16", 5),
-    ("", "", 0),
-    // 512 moves, and a thousand calls.
-    ("200a0e", DOUBLING, 7163),
+const INLINED: &[Row] = &[
+    ("", "", ""),
+    // A drop that the code has itself stays.
+    ("8c8d8b0c12150e", "", "8c8d8b0c12150e"),
+    ("200a0e", "8c8d150b", "8c8d150e"),
+    ("200a0e", "210a 0e", "0e"),
+    ("200aff", "0e", "0e"),
+    ("0eff", "", "0e"),
+    // The operands in front of a call and of a return stay.
+    ("8e8c200a150e", "8d0b", "8e8c8d150e"),
+    ("200a8b0c1516", "908b0c140b", "908b0c148b0c1516"),
+    // Used up in a subroutine, and after a return: no operator takes the operand that is left.
+    ("200a8c8d150e", "8c16", "8c16"),
+    ("8c16200a", "8c0b", "8c16"),
+    ("8c168d200a", "8e210a 8f0b", "8c16"),
+    // A mask keeps its bytes, also one that could begin a number or an operator.
+    ("8c8d8c8d200a0e", "13800b", "8c8d8c8d13800e"),
+    ("8c8d1320200a0e", "0b", "8c8d13200e"),
+    ("8c8d131c200a0e", "0b", "8c8d131c0e"),
+    ("8c8d130c200a0e", "8c160b", "8c8d130c8c160e"),
+    // The number of the call in three bytes and in five, and numbers of each form in front of it.
+    ("1cff950a0e", "8c160b", "8c160e"),
+    ("ffff9500000a0e", "8c160b", "8c160e"),
+    ("fb00f7001cff950a0e", "150b", "fb00f700150e"),
+    ("1c2020200a0e", "160b", "1c2020160e"),
+    ("ff202020208c200a0e", "150b", "ff202020208c150e"),
+    // Operators worked out the number of the call, or a subroutine left it.
+    ("208b0c0a0a0e", "8c160b", "208b0c0a0c128c160e"),
+    ("200a0a0e", "210b 8c160b", "210c128c160e"),
 ];
 
 /// A code in hex, its local subroutines in hex, and the number of the fault.
-const FAULTY: &[(&str, &str, u8)] = &[
+type Faulty = (&'static str, &'static str, u8);
+
+const FAULTY: &[Faulty] = &[
     ("8c8d", "", 1),
     ("200aff", "0e0b", 24),
-    ("200a0e", "210a0b 0e", 24),
     ("0b", "", 23),
     ("200a", "200a", 25),
+    ("200a0e", "210a0b 0e", 24),
     ("06", "", 20),
     ("8cab0c14", "", 21),
 ];
 
-/// The flat code of a code.
-fn flat_of<R: Abort>(rt: &R, alloc: Global, code: &[u8], local: &[Vec<u8>]) -> Vec<u8> {
-    Program::flatten(alloc, code, &[], local).expect(rt, "flat code")
+/// The code without calls.
+fn written(alloc: Global, form: Form, code: &[u8], local: &[Vec<u8>]) -> Result<Vec<u8>> {
+    match form {
+        Form::Flat => Program::flatten(alloc, code, &[], local),
+        Form::Inlined => Program::inlined(alloc, code, &[], local),
+    }
 }
 
-/// The length of the flat code of a code.
-fn length_of<R: Abort>(rt: &R, alloc: Global, code: &[u8], local: &[Vec<u8>]) -> usize {
-    Program::flat_len(alloc, code, &[], local).expect(rt, "a length")
+/// The length of the code without calls.
+fn measured(alloc: Global, form: Form, code: &[u8], local: &[Vec<u8>]) -> Result<usize> {
+    match form {
+        Form::Flat => Program::flat_len(alloc, code, &[], local),
+        Form::Inlined => Program::inlined_len(alloc, code, &[], local),
+    }
 }
 
-/// Whether the runs of a code and of its flat code answer the same.
-pub fn are_same<R: Abort>(
-    rt: &R,
-    alloc: Global,
-    code: &[u8],
-    local: &[Vec<u8>],
-    flat: &[u8],
-) -> bool {
-    let before = told(rt, alloc, code, &[], local);
-    let after = told(rt, alloc, flat, &[], &[]);
+/// Whether a code without calls stays as it is.
+fn stays<R: Abort>(rt: &R, alloc: Global, form: Form, code: &[u8]) -> bool {
+    let again = written(alloc, form, code, &[]).expect(rt, "the code again");
+    again.as_slice() == code
+}
+
+/// Whether the runs of a code and of one without calls answer the same.
+fn are_same<R: Abort>(rt: &R, alloc: Global, code: &[u8], local: &[Vec<u8>], flat: &[u8]) -> bool {
+    let before = told(rt, alloc, code, (&[], local));
+    let after = told(rt, alloc, flat, (&[], &[]));
     after.as_str() == before.as_str()
 }
 
-/// Whether flat code is its own flat code.
-fn stays<R: Abort>(rt: &R, alloc: Global, flat: &[u8]) -> bool {
-    flat_of(rt, alloc, flat, &[]).as_slice() == flat
-}
-
-/// Flattens a code, and its flat code again.
-fn check<R: Abort>(rt: &R, alloc: Global, row: &Row) {
+/// Writes a code without calls, and that code again.
+fn check<R: Abort>(rt: &R, alloc: Global, form: Form, row: &Row) {
     let bytes = bytes_of(rt, alloc, row.0);
     let local = routines_of(rt, alloc, row.1);
     let wanted = bytes_of(rt, alloc, row.2);
-    let flat = flat_of(rt, alloc, bytes.as_slice(), local.as_slice());
-    holds(rt, flat.as_slice() == wanted.as_slice(), row.0);
-    let length = length_of(rt, alloc, bytes.as_slice(), local.as_slice());
+    let found = written(alloc, form, &bytes, &local).expect(rt, "a code");
+    holds(rt, found.as_slice() == wanted.as_slice(), row.0);
+    let length = measured(alloc, form, &bytes, &local).expect(rt, "a length");
     holds(rt, length == wanted.len(), row.0);
-    holds(rt, stays(rt, alloc, flat.as_slice()), row.0);
-    let is_so = are_same(
-        rt,
-        alloc,
-        bytes.as_slice(),
-        local.as_slice(),
-        flat.as_slice(),
-    );
-    holds(rt, is_so, row.0);
+    holds(rt, stays(rt, alloc, form, &wanted), row.0);
+    holds(rt, are_same(rt, alloc, &bytes, &local, &wanted), row.0);
 }
 
-/// Measures the flat code of a code.
-pub fn check_length<R: Abort>(rt: &R, alloc: Global, row: &(&str, &str, usize)) {
+/// A code whose run is refused is neither written nor measured.
+fn check_faulty<R: Abort>(rt: &R, alloc: Global, form: Form, row: &Faulty) {
     let bytes = bytes_of(rt, alloc, row.0);
     let local = routines_of(rt, alloc, row.1);
-    let length = length_of(rt, alloc, bytes.as_slice(), local.as_slice());
-    holds(rt, length == row.2, row.0);
+    let code = code_of(written(alloc, form, &bytes, &local));
+    holds(rt, code == row.2, row.0);
+    let code = code_of(measured(alloc, form, &bytes, &local));
+    holds(rt, code == row.2, row.0);
 }
 
-/// Flattens and measures a code whose run is refused.
-fn check_faulty<R: Abort>(rt: &R, alloc: Global, row: &(&str, &str, u8)) {
-    let bytes = bytes_of(rt, alloc, row.0);
-    let local = routines_of(rt, alloc, row.1);
-    let flat = Program::flatten(alloc, bytes.as_slice(), &[], local.as_slice());
-    holds(rt, code_of(flat) == row.2, row.0);
-    let length = Program::flat_len(alloc, bytes.as_slice(), &[], local.as_slice());
-    holds(rt, code_of(length) == row.2, row.0);
-}
-
-/// Flattens 512 moves and a thousand calls.
-pub fn check_moves<R: Abort>(rt: &R, alloc: Global) {
+/// Writes and measures 512 moves and a thousand calls.
+fn check_moves<R: Abort>(rt: &R, alloc: Global, form: Form, wanted: usize) {
     let local = routines_of(rt, alloc, DOUBLING);
-    let flat = flat_of(rt, alloc, &[0x20, 0x0a, 0x0e], local.as_slice());
-    holds(rt, flat.len() == 7163, "the length of many moves");
-    holds(rt, stays(rt, alloc, flat.as_slice()), "many moves");
+    let code = [0x20, 0x0a, 0x0e];
+    let found = written(alloc, form, &code, &local).expect(rt, "a code");
+    holds(rt, found.len() == wanted, "many moves");
+    let length = measured(alloc, form, &code, &local).expect(rt, "a length");
+    holds(rt, length == wanted, "the length of many moves");
+    holds(rt, stays(rt, alloc, form, &found), "many moves again");
 }
 
 #[test]
 fn flat_codes(rt: HostRuntime) {
     let alloc = rt.alloc();
     for row in FLAT {
-        check(&rt, alloc, row);
+        check(&rt, alloc, Form::Flat, row);
     }
+    check_moves(&rt, alloc, Form::Flat, 7163);
+}
+
+#[test]
+fn inlined_codes(rt: HostRuntime) {
+    let alloc = rt.alloc();
+    for row in INLINED {
+        check(&rt, alloc, Form::Inlined, row);
+    }
+    check_moves(&rt, alloc, Form::Inlined, 1025);
+}
+
+#[test]
+fn faulty_codes(rt: HostRuntime) {
+    let alloc = rt.alloc();
     for row in FAULTY {
-        check_faulty(&rt, alloc, row);
+        check_faulty(&rt, alloc, Form::Flat, row);
+        check_faulty(&rt, alloc, Form::Inlined, row);
     }
-    for row in FLAT_LENGTHS {
-        check_length(&rt, alloc, row);
-    }
-    check_moves(&rt, alloc);
 }

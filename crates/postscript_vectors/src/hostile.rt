@@ -1,6 +1,6 @@
 //! Hostile fonts and tapes.
-use crate::checks::{bytes_of, changed, code_of, holds};
-use crate::fonts::{FONT, OF_FONT, font_of, told, told_on};
+use crate::checks::{bytes_of, changed, code_of, holds, read};
+use crate::fonts::{FONT, OF_FONT, told, told_on};
 use crate::tapes::{Trouble, TroubledTape};
 use postscript::Tape;
 use postscript::compact1::FontSet;
@@ -12,16 +12,11 @@ fn is_of_a_font(code: u8) -> bool {
     matches!(code, 0 | 1 | 5..=16)
 }
 
-/// The number of the refusal of the font at the start of bytes, 0 where it is read.
-fn code_of_font(alloc: Global, bytes: &[u8]) -> u8 {
-    code_of(font_of(alloc, bytes))
-}
-
 /// Reads the smallest font with each value in one place.
 fn check_values<R: Abort>(rt: &R, alloc: Global, place: usize) {
     for value in 0..=255u8 {
         let bytes = changed(rt, alloc, FONT, place, value);
-        if !is_of_a_font(code_of_font(alloc, bytes.as_slice())) {
+        if !is_of_a_font(code_of(read::<FontSet>(alloc, bytes.as_slice()))) {
             panic!(rt; "at {place} with {value}")
         }
     }
@@ -38,8 +33,8 @@ fn fonts_with_a_byte_changed(rt: HostRuntime) {
 /// Whether a font on a troubled tape is told so by both readings.
 fn is_told<R: Abort>(rt: &R, alloc: Global, bytes: &[u8], trouble: Trouble, wanted: &str) -> bool {
     let strictly = told_on(rt, alloc, &mut TroubledTape::new(bytes, trouble));
-    let read = FontSet::read_lenient(alloc, &mut TroubledTape::new(bytes, trouble));
-    let leniently = told(rt, alloc, &read);
+    let found = FontSet::read_lenient(alloc, &mut TroubledTape::new(bytes, trouble));
+    let leniently = told(rt, alloc, &found);
     strictly.as_str() == wanted && leniently.as_str() == wanted
 }
 
@@ -59,13 +54,8 @@ fn fonts_on_strange_tapes(rt: HostRuntime) {
     let interrupted = is_told(&rt, alloc, font.as_slice(), Trouble::Interrupted, OF_FONT);
     holds(&rt, interrupted, "interrupted");
     // The lists stand behind the header, where no place is left.
-    let far = is_told(
-        &rt,
-        alloc,
-        &[0x01, 0x00, 0x04, 0x01],
-        Trouble::Far,
-        "fault 15",
-    );
+    let header = [0x01, 0x00, 0x04, 0x01];
+    let far = is_told(&rt, alloc, &header, Trouble::Far, "fault 15");
     holds(&rt, far, "no place is left");
     check_still(&rt, alloc);
     let zeros = "header 0 0 0 0|strings 0|globals 0";

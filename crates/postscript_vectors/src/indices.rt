@@ -1,5 +1,5 @@
 //! Indices, and what their items are read as.
-use crate::checks::{code_of, holds, holds_at};
+use crate::checks::{Wanted, code_of, holds, holds_at, read, read_given};
 use crate::tapes::{Trouble, TroubledTape};
 use postscript::compact1::index::{CharStrings, Dictionaries, Names, Strings, Subroutines};
 use postscript::compact1::{Index, Offset, Operations, Operator};
@@ -9,42 +9,24 @@ use std::io::Cursor;
 use std::process::Abort;
 
 /// Bytes; and the items and the next place, or the number of the refusal.
-type Row = (
-    &'static [u8],
-    std::result::Result<(&'static [&'static [u8]], u64), u8>,
-);
+type Row = (&'static [u8], Wanted<(&'static [&'static [u8]], u64)>);
 
+#[rattlefmt::skip]
 const ROWS: &[Row] = &[
-    (&[0, 0], Ok((&[], 2))),
-    (&[0, 0, 5], Ok((&[], 2))),
-    (&[], Err(1)),
-    (&[0], Err(1)),
+    (&[0, 0], Ok((&[], 2))), (&[0, 0, 5], Ok((&[], 2))), (&[], Err(1)), (&[0], Err(1)),
     (&[0, 1], Err(1)),
     // Offsets that do not begin with 1, or do not rise. The first that is wrong is refused before the next is read.
-    (&[0, 1, 1, 1, 1], Err(6)),
-    (&[0, 1, 1, 2, 3], Err(6)),
-    (&[0, 1, 1, 2], Err(6)),
-    (&[0, 1, 1, 0], Err(6)),
-    (&[0, 2, 1, 1, 3, 2], Err(6)),
+    (&[0, 1, 1, 1, 1], Err(6)), (&[0, 1, 1, 2, 3], Err(6)), (&[0, 1, 1, 2], Err(6)),
+    (&[0, 1, 1, 0], Err(6)), (&[0, 2, 1, 1, 3, 2], Err(6)),
     // Sizes of offsets.
-    (&[0, 1, 0], Err(5)),
-    (&[0, 1, 5], Err(5)),
-    (&[0, 1, 0xff, 1, 2, 0x41], Err(5)),
+    (&[0, 1, 0], Err(5)), (&[0, 1, 5], Err(5)), (&[0, 1, 0xff, 1, 2, 0x41], Err(5)),
     (&[0, 1, 1, 1, 2, 0x41], Ok((&[&[0x41]], 6))),
-    (
-        &[0, 1, 2, 0, 1, 0, 3, 0x41, 0x42],
-        Ok((&[&[0x41, 0x42]], 9)),
-    ),
+    (&[0, 1, 2, 0, 1, 0, 3, 0x41, 0x42], Ok((&[&[0x41, 0x42]], 9))),
     (&[0, 1, 3, 0, 0, 1, 0, 0, 2, 0x0e], Ok((&[&[0x0e]], 10))),
-    (
-        &[0, 1, 4, 0, 0, 0, 1, 0, 0, 0, 2, 0x0e, 0x0f],
-        Ok((&[&[0x0e]], 12)),
-    ),
+    (&[0, 1, 4, 0, 0, 0, 1, 0, 0, 0, 2, 0x0e, 0x0f], Ok((&[&[0x0e]], 12))),
     // An item that is cut, one of 4 GiB, and 65,535 of them.
-    (&[0, 1, 1, 1, 3, 0x41], Err(1)),
-    (&[0, 1, 4, 0, 0, 0, 1, 0xff, 0xff, 0xff, 0xff], Err(1)),
-    (&[0xff, 0xff, 1, 1, 2, 3, 4, 5, 6, 7], Err(1)),
-    (TWO, Ok((&[&[0x41], &[0x42, 0x43]], 9))),
+    (&[0, 1, 1, 1, 3, 0x41], Err(1)), (&[0, 1, 4, 0, 0, 0, 1, 0xff, 0xff, 0xff, 0xff], Err(1)),
+    (&[0xff, 0xff, 1, 1, 2, 3, 4, 5, 6, 7], Err(1)), (TWO, Ok((&[&[0x41], &[0x42, 0x43]], 9))),
 ];
 
 /// Two items, of one byte and of two.
@@ -69,6 +51,11 @@ fn is_two(index: &Index) -> bool {
         && has_items(index, &[&[0x41], &[0x42, 0x43]])
 }
 
+/// Whether an INDEX is that of no items.
+fn is_empty(index: &Index) -> bool {
+    index.count == 0 && index.offset_size == 0 && index.offsets.is_empty() && has_items(index, &[])
+}
+
 /// Whether an INDEX is read as a row wants, up to this place.
 fn is_row(read: &Result<Index>, next: u64, row: &Row) -> bool {
     match (read, &row.1) {
@@ -88,14 +75,9 @@ fn rows_of_indices(rt: HostRuntime) {
     }
 }
 
-/// The INDEX at the start of bytes.
-fn read_index(alloc: Global, bytes: &[u8]) -> Result<Index> {
-    Cursor::new(bytes).take(alloc)
-}
-
 /// Reads the two items, and clones them.
 fn check_clone<R: Abort>(rt: &R, alloc: Global) {
-    let index = read_index(alloc, TWO).expect(rt, "two items");
+    let index: Index = read(alloc, TWO).expect(rt, "two items");
     holds(rt, is_two(&index), "two items");
     holds(rt, is_two(&index.clone().expect(rt, "memory")), "a clone");
 }
@@ -104,15 +86,12 @@ fn check_clone<R: Abort>(rt: &R, alloc: Global) {
 fn cut_copied_and_empty_indices(rt: HostRuntime) {
     let alloc = rt.alloc();
     for length in 0..TWO.len() {
-        let code = code_of(read_index(alloc, &TWO[..length]));
+        let code = code_of(read::<Index>(alloc, &TWO[..length]));
         holds_at(&rt, code == 1, "an INDEX cut to", length);
     }
     check_clone(&rt, alloc);
     let empty = Index::empty(alloc);
-    holds(&rt, empty.count == 0, "the count of none");
-    holds(&rt, empty.offset_size == 0, "the size of none");
-    holds(&rt, empty.offsets.is_empty(), "the offsets of none");
-    holds(&rt, has_items(&empty, &[]), "the items of none");
+    holds(&rt, is_empty(&empty), "no items");
 }
 
 /// Reads the two items on a tape that fails after so many calls.
@@ -137,16 +116,10 @@ fn indices_on_troubled_tapes(rt: HostRuntime) {
     for calls in 0..9u32 {
         check_failing(&rt, alloc, calls);
     }
-    holds(
-        &rt,
-        are_read(&rt, alloc, Trouble::Interrupted),
-        "interrupted",
-    );
-    holds(
-        &rt,
-        are_read(&rt, alloc, Trouble::OneByte),
-        "one byte a read",
-    );
+    let interrupted = are_read(&rt, alloc, Trouble::Interrupted);
+    holds(&rt, interrupted, "interrupted");
+    let one_byte = are_read(&rt, alloc, Trouble::OneByte);
+    holds(&rt, one_byte, "one byte a read");
 }
 
 /// How long items are that are read in one piece or in more.
@@ -164,9 +137,8 @@ fn index_of_long<R: Abort>(rt: &R, alloc: Global) -> Vec<u8> {
     let mut bytes = Vec::from_slice(alloc, &front).expect(rt, "memory");
     for (i, long) in LONG.iter().enumerate() {
         let item = long_item(rt, alloc, i, *long);
-        bytes
-            .extend_from_slice(item.as_slice())
-            .expect(rt, "memory");
+        let added = bytes.extend_from_slice(item.as_slice());
+        added.expect(rt, "memory");
     }
     bytes
 }
@@ -175,7 +147,7 @@ fn index_of_long<R: Abort>(rt: &R, alloc: Global) -> Vec<u8> {
 fn long_items(rt: HostRuntime) {
     let alloc = rt.alloc();
     let bytes = index_of_long(&rt, alloc);
-    let index = read_index(alloc, bytes.as_slice()).expect(&rt, "long items");
+    let index: Index = read(alloc, bytes.as_slice()).expect(&rt, "long items");
     holds(&rt, index.len() == 4, "the number of items");
     for (i, long) in LONG.iter().enumerate() {
         let item = long_item(&rt, alloc, i, *long);
@@ -201,71 +173,43 @@ fn are_two(index: &Index, same: &Index) -> bool {
 
 /// Whether the two items are char strings, in a clone too.
 fn are_char_strings<R: Abort>(rt: &R, alloc: Global) -> bool {
-    let read = Cursor::new(TWO).take_given::<CharStrings>(alloc, 2);
-    let char_strings = read.expect(rt, "char strings");
-    let same = char_strings.clone().expect(rt, "memory");
-    are_two(&*char_strings, &*same)
-}
-
-/// The dictionaries at the start of bytes.
-fn read_dictionaries<R: Abort>(rt: &R, alloc: Global, bytes: &[u8]) -> Dictionaries {
-    Cursor::new(bytes).take(alloc).expect(rt, "dictionaries")
+    let items: CharStrings = read_given(alloc, TWO, 2).expect(rt, "char strings");
+    are_two(&*items, &*items.clone().expect(rt, "memory"))
 }
 
 /// Whether the two items are dictionaries, in a clone too.
 fn are_dictionaries<R: Abort>(rt: &R, alloc: Global) -> bool {
-    let dictionaries = read_dictionaries(rt, alloc, TWO);
-    let same = dictionaries.clone().expect(rt, "memory");
-    are_two(&*dictionaries, &*same)
-}
-
-/// The names at the start of bytes.
-fn read_names<R: Abort>(rt: &R, alloc: Global, bytes: &[u8]) -> Names {
-    Cursor::new(bytes).take(alloc).expect(rt, "names")
+    let items: Dictionaries = read(alloc, TWO).expect(rt, "dictionaries");
+    are_two(&*items, &*items.clone().expect(rt, "memory"))
 }
 
 /// Whether the two items are names, in a clone too.
 fn are_names<R: Abort>(rt: &R, alloc: Global) -> bool {
-    let names = read_names(rt, alloc, TWO);
-    let same = names.clone().expect(rt, "memory");
-    are_two(&*names, &*same)
-}
-
-/// The strings at the start of bytes.
-fn read_strings<R: Abort>(rt: &R, alloc: Global, bytes: &[u8]) -> Strings {
-    Cursor::new(bytes).take(alloc).expect(rt, "strings")
+    let items: Names = read(alloc, TWO).expect(rt, "names");
+    are_two(&*items, &*items.clone().expect(rt, "memory"))
 }
 
 /// Whether the two items are strings, in a clone too.
 fn are_strings<R: Abort>(rt: &R, alloc: Global) -> bool {
-    let strings = read_strings(rt, alloc, TWO);
-    let same = strings.clone().expect(rt, "memory");
-    are_two(&*strings, &*same)
+    let items: Strings = read(alloc, TWO).expect(rt, "strings");
+    are_two(&*items, &*items.clone().expect(rt, "memory"))
 }
 
 /// Whether the two items are subroutines, in a clone too.
 fn are_subroutines<R: Abort>(rt: &R, alloc: Global) -> bool {
-    let read = Cursor::new(TWO).take::<Subroutines>(alloc);
-    let subroutines = read.expect(rt, "subroutines");
-    let same = subroutines.clone().expect(rt, "memory");
-    are_two(&*subroutines, &*same)
-}
-
-/// Reads the two items as each kind of items, and clones them.
-pub fn check_clones<R: Abort>(rt: &R, alloc: Global) {
-    check_clone(rt, alloc);
-    holds(rt, are_char_strings(rt, alloc), "char strings");
-    holds(rt, are_dictionaries(rt, alloc), "dictionaries");
-    holds(rt, are_names(rt, alloc), "names");
-    holds(rt, are_strings(rt, alloc), "strings");
-    holds(rt, are_subroutines(rt, alloc), "subroutines");
+    let items: Subroutines = read(alloc, TWO).expect(rt, "subroutines");
+    are_two(&*items, &*items.clone().expect(rt, "memory"))
 }
 
 #[test]
 fn what_two_items_are_read_as(rt: HostRuntime) {
     let alloc = rt.alloc();
     holds(&rt, are_refused(alloc), "other formats");
-    check_clones(&rt, alloc);
+    holds(&rt, are_char_strings(&rt, alloc), "char strings");
+    holds(&rt, are_dictionaries(&rt, alloc), "dictionaries");
+    holds(&rt, are_names(&rt, alloc), "names");
+    holds(&rt, are_strings(&rt, alloc), "strings");
+    holds(&rt, are_subroutines(&rt, alloc), "subroutines");
     let none = Subroutines::empty(alloc);
     holds(&rt, none.len() == 0, "no subroutines");
 }
@@ -297,31 +241,17 @@ fn index_of<R: Abort>(rt: &R, alloc: Global, items: &[&[u8]]) -> Vec<u8> {
 
 /// Bytes and their text. The last four are the Unicode Standard's tables 3-8 to 3-11 (3.9, "U+FFFD Substitution of
 /// Maximal Subparts"): forms that are not the shortest, surrogates, other bytes, and sequences that are cut.
+#[rattlefmt::skip]
 const TEXTS: &[(&[u8], &str)] = &[
     (b"A", "A"),
-    (
-        &[0xc3, 0x84, 0xe2, 0x82, 0xac, 0xf0, 0x9f, 0x98, 0x80],
-        "\u{c4}\u{20ac}\u{1f600}",
-    ),
+    (&[0xc3, 0x84, 0xe2, 0x82, 0xac, 0xf0, 0x9f, 0x98, 0x80], "\u{c4}\u{20ac}\u{1f600}"),
     (&[0xff, 0x41], "\u{fffd}A"),
     (&[0xff, 0xff], "\u{fffd}\u{fffd}"),
     (&[0xe2, 0x82, 0x41], "\u{fffd}A"),
-    (
-        &[0xc0, 0xaf, 0xe0, 0x80, 0xbf, 0xf0, 0x81, 0x82, 0x41],
-        "\u{fffd}\u{fffd}\u{fffd}\u{fffd}\u{fffd}\u{fffd}\u{fffd}\u{fffd}A",
-    ),
-    (
-        &[0xed, 0xa0, 0x80, 0xed, 0xbf, 0xbf, 0xed, 0xaf, 0x41],
-        "\u{fffd}\u{fffd}\u{fffd}\u{fffd}\u{fffd}\u{fffd}\u{fffd}\u{fffd}A",
-    ),
-    (
-        &[0xf4, 0x91, 0x92, 0x93, 0xff, 0x41, 0x80, 0xbf, 0x42],
-        "\u{fffd}\u{fffd}\u{fffd}\u{fffd}\u{fffd}A\u{fffd}\u{fffd}B",
-    ),
-    (
-        &[0xe1, 0x80, 0xe2, 0xf0, 0x91, 0x92, 0xf1, 0xbf, 0x41],
-        "\u{fffd}\u{fffd}\u{fffd}\u{fffd}A",
-    ),
+    (&[0xc0, 0xaf, 0xe0, 0x80, 0xbf, 0xf0, 0x81, 0x82, 0x41], "\u{fffd}\u{fffd}\u{fffd}\u{fffd}\u{fffd}\u{fffd}\u{fffd}\u{fffd}A"),
+    (&[0xed, 0xa0, 0x80, 0xed, 0xbf, 0xbf, 0xed, 0xaf, 0x41], "\u{fffd}\u{fffd}\u{fffd}\u{fffd}\u{fffd}\u{fffd}\u{fffd}\u{fffd}A"),
+    (&[0xf4, 0x91, 0x92, 0x93, 0xff, 0x41, 0x80, 0xbf, 0x42], "\u{fffd}\u{fffd}\u{fffd}\u{fffd}\u{fffd}A\u{fffd}\u{fffd}B"),
+    (&[0xe1, 0x80, 0xe2, 0xf0, 0x91, 0x92, 0xf1, 0xbf, 0x41], "\u{fffd}\u{fffd}\u{fffd}\u{fffd}A"),
 ];
 
 /// The bytes of an INDEX of the bytes of the texts.
@@ -333,11 +263,6 @@ fn index_of_texts<R: Abort>(rt: &R, alloc: Global) -> Vec<u8> {
     index_of(rt, alloc, items.as_slice())
 }
 
-/// The texts of names.
-fn texts_of<R: Abort>(rt: &R, alloc: Global, bytes: &[u8]) -> Vec<String> {
-    read_names(rt, alloc, bytes).into(alloc).expect(rt, "texts")
-}
-
 /// Whether the name at a place has this text.
 fn is_name(names: &[String], i: usize, text: &str) -> bool {
     match names.get(i) {
@@ -346,19 +271,16 @@ fn is_name(names: &[String], i: usize, text: &str) -> bool {
     }
 }
 
-/// Reads names, and compares their texts.
-pub fn check_names<R: Abort>(rt: &R, alloc: Global) {
-    let names = texts_of(rt, alloc, index_of_texts(rt, alloc).as_slice());
-    holds(rt, names.len() == TEXTS.len(), "the number of names");
-    for (i, (_, text)) in TEXTS.iter().enumerate() {
-        holds_at(rt, is_name(names.as_slice(), i, text), "row", i);
-    }
-}
-
 #[test]
 fn texts_of_names(rt: HostRuntime) {
     let alloc = rt.alloc();
-    check_names(&rt, alloc);
+    let bytes = index_of_texts(&rt, alloc);
+    let names: Names = read(alloc, bytes.as_slice()).expect(&rt, "names");
+    let texts = names.into(alloc).expect(&rt, "texts");
+    holds(&rt, texts.len() == TEXTS.len(), "the number of names");
+    for (i, (_, text)) in TEXTS.iter().enumerate() {
+        holds_at(&rt, is_name(texts.as_slice(), i, text), "row", i);
+    }
 }
 
 /// Fails where the string of a number has another text.
@@ -368,31 +290,34 @@ fn check_string<R: Abort>(rt: &R, alloc: Global, strings: &Strings, sid: u16, te
     holds_at(rt, is_so, "string", usize::from(sid));
 }
 
-/// Reads strings, and compares the texts of some, of standard ones, and of numbers that have none.
-pub fn check_strings<R: Abort>(rt: &R, alloc: Global) {
-    let bytes = index_of_texts(rt, alloc);
-    let strings = read_strings(rt, alloc, bytes.as_slice());
-    for (i, (_, text)) in TEXTS.iter().enumerate() {
-        let sid = 391 + u16::from(short(i));
-        check_string(rt, alloc, &strings, sid, Some(*text));
-    }
-    check_string(rt, alloc, &strings, 0, Some(".notdef"));
-    check_string(rt, alloc, &strings, 175, Some("Aring"));
-    check_string(rt, alloc, &strings, 390, Some("Semibold"));
-    check_string(rt, alloc, &strings, 400, None);
-    check_string(rt, alloc, &strings, 401, None);
-    check_string(rt, alloc, &strings, u16::MAX, None);
-}
+/// Numbers of standard strings and of none, and their texts.
+const NUMBERS: &[(u16, Option<&str>)] = &[
+    (0, Some(".notdef")),
+    (175, Some("Aring")),
+    (390, Some("Semibold")),
+    (400, None),
+    (401, None),
+    (u16::MAX, None),
+];
 
 #[test]
 fn texts_of_strings(rt: HostRuntime) {
     let alloc = rt.alloc();
-    check_strings(&rt, alloc);
+    let bytes = index_of_texts(&rt, alloc);
+    let strings: Strings = read(alloc, bytes.as_slice()).expect(&rt, "strings");
+    for (i, (_, text)) in TEXTS.iter().enumerate() {
+        let sid = 391 + u16::from(short(i));
+        check_string(&rt, alloc, &strings, sid, Some(*text));
+    }
+    for (sid, text) in NUMBERS {
+        check_string(&rt, alloc, &strings, *sid, *text);
+    }
 }
 
 /// The dictionaries of an INDEX of short items.
 fn dictionaries_of<R: Abort>(rt: &R, alloc: Global, items: &[&[u8]]) -> Dictionaries {
-    read_dictionaries(rt, alloc, index_of(rt, alloc, items).as_slice())
+    let bytes = index_of(rt, alloc, items);
+    read(alloc, bytes.as_slice()).expect(rt, "dictionaries")
 }
 
 /// Whether a map has this operation alone, of this operand.
@@ -401,27 +326,6 @@ fn is_single(map: &Operations, operator: Operator, operand: i32) -> bool {
         Some(found) => map.0.len() == 1 && found.to_i32() == Some(operand),
         None => false,
     }
-}
-
-/// Whether a dictionary has this operation alone, of this operand.
-fn has_single<R: Abort>(
-    rt: &R,
-    alloc: Global,
-    dictionaries: &Dictionaries,
-    i: usize,
-    operator: Operator,
-    operand: i32,
-) -> bool {
-    match dictionaries.operations(alloc, i).expect(rt, "operations") {
-        Some(map) => is_single(&map, operator, operand),
-        None => false,
-    }
-}
-
-/// Whether there is no dictionary of this number.
-fn has_none<R: Abort>(rt: &R, alloc: Global, dictionaries: &Dictionaries, i: usize) -> bool {
-    let map = dictionaries.operations(alloc, i);
-    map.expect(rt, "operations").is_none()
 }
 
 /// Whether the first two of three maps have the operations of the first two dictionaries.
@@ -434,68 +338,67 @@ fn are_maps(maps: &[Operations]) -> bool {
     }
 }
 
-/// Reads dictionaries, one by one and all of them.
-pub fn check_dictionaries<R: Abort>(rt: &R, alloc: Global) {
-    let dictionaries = dictionaries_of(rt, alloc, &[&[0x8c, 0x00], &[0x8d, 0x12], &[0x8b]]);
-    let first = has_single(rt, alloc, &dictionaries, 0, Operator::Version, 1);
-    holds(rt, first, "the first dictionary");
-    let second = has_single(rt, alloc, &dictionaries, 1, Operator::Private, 2);
-    holds(rt, second, "the second dictionary");
-    holds(rt, has_none(rt, alloc, &dictionaries, 3), "no fourth");
-    holds(
-        rt,
-        has_none(rt, alloc, &dictionaries, usize::MAX),
-        "no last of all",
-    );
-    let copy = dictionaries.clone().expect(rt, "memory");
-    let maps = copy.into(alloc).expect(rt, "operations");
-    holds(rt, are_maps(maps.as_slice()), "all dictionaries");
+/// The operations of a dictionary.
+fn map_of<R: Abort>(rt: &R, alloc: Global, all: &Dictionaries, i: usize) -> Option<Operations> {
+    all.operations(alloc, i).expect(rt, "operations")
+}
+
+/// Whether a dictionary has this operation alone, of this operand.
+fn has_single(map: &Option<Operations>, operator: Operator, operand: i32) -> bool {
+    match map {
+        Some(map) => is_single(map, operator, operand),
+        None => false,
+    }
+}
+
+/// Reads dictionaries one by one.
+fn check_each<R: Abort>(rt: &R, alloc: Global, all: &Dictionaries) {
+    let first = map_of(rt, alloc, all, 0);
+    holds(rt, has_single(&first, Operator::Version, 1), "the first");
+    let second = map_of(rt, alloc, all, 1);
+    holds(rt, has_single(&second, Operator::Private, 2), "the second");
+    holds(rt, map_of(rt, alloc, all, 3).is_none(), "no fourth");
+    let last = map_of(rt, alloc, all, usize::MAX);
+    holds(rt, last.is_none(), "no last of all");
 }
 
 #[test]
 fn dictionaries_of_items(rt: HostRuntime) {
     let alloc = rt.alloc();
-    check_dictionaries(&rt, alloc);
+    let all = dictionaries_of(&rt, alloc, &[&[0x8c, 0x00], &[0x8d, 0x12], &[0x8b]]);
+    check_each(&rt, alloc, &all);
+    let copy = all.clone().expect(&rt, "memory");
+    let maps = copy.into(alloc).expect(&rt, "operations");
+    holds(&rt, are_maps(maps.as_slice()), "all dictionaries");
 }
 
-/// An item that is refused, and the number of the refusal.
-const REFUSED: &[(&[u8], u8)] = &[
-    (&[0xff], 9),
-    (&[0x1e, 0xd0], 7),
-    (&[0x1e, 0x1b, 0x10, 0x01, 0xff], 8),
+/// Items, the numbers of the refusals of the first two of them, of the third of them, and of all of them. Where there is no third,
+/// nothing is refused.
+type Refused = (&'static [&'static [u8]], [u8; 4]);
+
+#[rattlefmt::skip]
+const REFUSED: &[Refused] = &[
+    (&[&[0x8c, 0x00], &[0xff]], [0, 9, 0, 9]),
+    (&[&[0x8c, 0x00], &[0xff], &[0x8b, 0x0c, 0x1d]], [0, 9, 9, 9]),
+    (&[&[0x8c, 0x00], &[0x1e, 0xd0]], [0, 7, 0, 7]),
+    (&[&[0x8c, 0x00], &[0x1e, 0xd0], &[0x8b, 0x0c, 0x1d]], [0, 7, 9, 7]),
+    (&[&[0x8c, 0x00], &[0x1e, 0x1b, 0x10, 0x01, 0xff]], [0, 8, 0, 8]),
+    (&[&[0x8c, 0x00], &[0x1e, 0x1b, 0x10, 0x01, 0xff], &[0x8b, 0x0c, 0x1d]], [0, 8, 9, 8]),
 ];
 
-/// The numbers of the refusals of three items, one by one, the second being this one, and of all of them.
-fn codes_around<R: Abort>(rt: &R, alloc: Global, item: &[u8]) -> [u8; 4] {
-    let dictionaries = dictionaries_of(rt, alloc, &[&[0x8c, 0x00], item, &[0x8b, 0x0c, 0x1d]]);
-    let first = code_of(dictionaries.operations(alloc, 0));
-    let second = code_of(dictionaries.operations(alloc, 1));
-    let third = code_of(dictionaries.operations(alloc, 2));
-    [first, second, third, code_of(dictionaries.into(alloc))]
-}
-
-/// The numbers of the refusals of two items, one by one, the second being this one, and of both of them.
-fn codes_of_two<R: Abort>(rt: &R, alloc: Global, item: &[u8]) -> [u8; 3] {
-    let dictionaries = dictionaries_of(rt, alloc, &[&[0x8c, 0x00], item]);
-    let first = code_of(dictionaries.operations(alloc, 0));
-    let second = code_of(dictionaries.operations(alloc, 1));
-    [first, second, code_of(dictionaries.into(alloc))]
-}
-
-#[test]
-fn refused_dictionaries_of_two_items(rt: HostRuntime) {
-    let alloc = rt.alloc();
-    for (item, code) in REFUSED {
-        let is_so = codes_of_two(&rt, alloc, item) == [0, *code, *code];
-        holds_at(&rt, is_so, "code", usize::from(*code));
-    }
+/// The numbers of the refusals of three items, one by one, and of all items.
+fn codes_of<R: Abort>(rt: &R, alloc: Global, items: &[&[u8]]) -> [u8; 4] {
+    let all = dictionaries_of(rt, alloc, items);
+    let first = code_of(all.operations(alloc, 0));
+    let second = code_of(all.operations(alloc, 1));
+    let third = code_of(all.operations(alloc, 2));
+    [first, second, third, code_of(all.into(alloc))]
 }
 
 #[test]
 fn refused_dictionaries_of_items(rt: HostRuntime) {
     let alloc = rt.alloc();
-    for (item, code) in REFUSED {
-        let is_so = codes_around(&rt, alloc, item) == [0, *code, 9, *code];
-        holds_at(&rt, is_so, "code", usize::from(*code));
+    for (row, (items, codes)) in REFUSED.iter().enumerate() {
+        holds_at(&rt, codes_of(&rt, alloc, items) == *codes, "row", row);
     }
 }

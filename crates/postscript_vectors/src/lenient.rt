@@ -1,6 +1,6 @@
 //! Fonts that lack private dictionaries or local subroutines, by both readings.
-use crate::checks::{bytes_of, changed, holds_at, is_text, put_shown};
-use crate::fonts::{FONT, TWO_DICTIONARIES, font_of, told};
+use crate::checks::{changed, holds_at, is_text, put_shown, read};
+use crate::fonts::{FONT, TWO_DICTIONARIES, told};
 use postscript::Result;
 use postscript::compact1::{FontSet, Operations, Operator};
 use std::alloc::Global;
@@ -20,9 +20,13 @@ const WITH_WIDTH: &str =
 const WITHOUT: &str =
     "header 1 0 4 1|name A|strings 0|globals 0|font Standard ISOAdobe glyphs 1 locals 0|local 0 width 0";
 
+const NAMELESS: &str =
+    "header 1 0 4 1|strings 0|globals 0|font Standard ISOAdobe glyphs 1 locals 0|local 0 width 0";
+
 const FIRST_WITHOUT: &str =
     "header 1 0 4 1|strings 0|globals 0|font Standard ISOAdobe glyphs 1 locals 0|font Standard ISOAdobe glyphs 1 locals 0|local 0 width 0|local 1 width 0";
 
+#[rattlefmt::skip]
 const ROWS: &[Row] = &[
     (FONT, 0, 0x01, OF_FONT, OF_FONT),
     // No Private, and no Subrs behind DefaultWidthX.
@@ -30,36 +34,12 @@ const ROWS: &[Row] = &[
     (FONT, 31, 0x14, "fault 14", WITH_WIDTH),
     // A size of 0 reads no bytes, also where the place lies past the end; a negative offset is refused.
     (FONT, 17, 0x8b, "fault 14", WITHOUT),
-    (
-        "01000401000101010241000101 0106a3118bf612000000000001010102 0e8d130000",
-        0,
-        0x01,
-        "fault 14",
-        WITHOUT,
-    ),
+    ("01000401000101010241000101 0106a3118bf612000000000001010102 0e8d130000", 0, 0x01, "fault 14", WITHOUT),
     (FONT, 18, 0x8a, "fault 15", "fault 15"),
-    (
-        "01000401000101010241000101 0106a3118b8a12000000000001010102 0e8d130000",
-        0,
-        0x01,
-        "fault 15",
-        "fault 15",
-    ),
+    ("01000401000101010241000101 0106a3118b8a12000000000001010102 0e8d130000", 0, 0x01, "fault 15", "fault 15"),
     // No operand of Private, and one that is no whole number.
-    (
-        "01000401 0000 0001010103 9c11 0000 0000 00010101020e",
-        0,
-        0x01,
-        "fault 14",
-        "header 1 0 4 1|strings 0|globals 0|font Standard ISOAdobe glyphs 1 locals 0|local 0 width 0",
-    ),
-    (
-        "01000401 0000 0001010108 a1111e2a5f8b12 0000 0000 00010101020e",
-        0,
-        0x01,
-        "fault 13",
-        "fault 13",
-    ),
+    ("01000401 0000 0001010103 9c11 0000 0000 00010101020e", 0, 0x01, "fault 14", NAMELESS),
+    ("01000401 0000 0001010108 a1111e2a5f8b12 0000 0000 00010101020e", 0, 0x01, "fault 13", "fault 13"),
     // Two dictionaries, the first of which has no Private.
     (TWO_DICTIONARIES, 16, 0x13, "fault 14", FIRST_WITHOUT),
 ];
@@ -89,40 +69,14 @@ fn told_long<R: Abort>(rt: &R, alloc: Global, read: &Result<FontSet>) -> String 
     text
 }
 
-/// What is told of the strict reading.
-fn told_strictly<R: Abort>(rt: &R, alloc: Global, bytes: &[u8]) -> String {
-    told_long(rt, alloc, &font_of(alloc, bytes))
-}
-
-/// What is told of the lenient reading.
-fn told_leniently<R: Abort>(rt: &R, alloc: Global, bytes: &[u8]) -> String {
-    told_long(
-        rt,
-        alloc,
-        &FontSet::read_lenient(alloc, &mut Cursor::new(bytes)),
-    )
-}
-
-/// Reads the smallest font leniently.
-pub fn check_lenient<R: Abort>(rt: &R, alloc: Global) {
-    let bytes = bytes_of(rt, alloc, FONT);
-    let text = told_leniently(rt, alloc, bytes.as_slice());
-    is_text(rt, text.as_str(), OF_FONT, "the lenient reading");
-}
-
-/// What is told of the clone of a font that is read leniently.
-fn told_of_clone<R: Abort>(rt: &R, alloc: Global, bytes: &[u8]) -> String {
-    let read = FontSet::read_lenient(alloc, &mut Cursor::new(bytes));
-    let copy = read.expect(rt, "a font").clone();
-    told_long(rt, alloc, &copy)
-}
-
 #[test]
 fn clone_of_a_font_with_empty_lists(rt: HostRuntime) {
     let alloc = rt.alloc();
     // The first of two dictionaries has no private one, and so no local subroutines.
     let bytes = changed(&rt, alloc, TWO_DICTIONARIES, 16, 0x13);
-    let text = told_of_clone(&rt, alloc, bytes.as_slice());
+    let found = FontSet::read_lenient(alloc, &mut Cursor::new(bytes.as_slice()));
+    let copy = found.expect(&rt, "a font").clone();
+    let text = told_long(&rt, alloc, &copy);
     is_text(&rt, text.as_str(), FIRST_WITHOUT, "a clone");
 }
 
@@ -131,9 +85,10 @@ fn fonts_by_both_readings(rt: HostRuntime) {
     let alloc = rt.alloc();
     for (row, (digits, place, byte, strict, lenient)) in ROWS.iter().enumerate() {
         let bytes = changed(&rt, alloc, digits, *place, *byte);
-        let text = told_strictly(&rt, alloc, bytes.as_slice());
+        let text = told_long(&rt, alloc, &read(alloc, bytes.as_slice()));
         holds_at(&rt, text.as_str() == *strict, "strict row", row);
-        let text = told_leniently(&rt, alloc, bytes.as_slice());
+        let found = FontSet::read_lenient(alloc, &mut Cursor::new(bytes.as_slice()));
+        let text = told_long(&rt, alloc, &found);
         holds_at(&rt, text.as_str() == *lenient, "lenient row", row);
     }
 }

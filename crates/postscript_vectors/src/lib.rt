@@ -4,8 +4,6 @@
 #[cfg(test)]
 mod accents;
 #[cfg(test)]
-mod ample;
-#[cfg(test)]
 mod char_sets;
 #[cfg(test)]
 mod checks;
@@ -25,8 +23,6 @@ mod fonts;
 mod hostile;
 #[cfg(test)]
 mod indices;
-#[cfg(test)]
-mod inlined;
 #[cfg(test)]
 mod lenient;
 #[cfg(test)]

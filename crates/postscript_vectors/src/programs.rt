@@ -6,66 +6,30 @@ mod paths;
 mod steps;
 mod storage;
 
-use crate::checks::{bytes_of, code_of, holds, holds_at, is_text, put, put_shown};
+use crate::checks::{Wanted, bytes_of, code_of, holds, holds_at, is_text, put, put_shown};
 use crate::synthetic::charstring;
-use arithmetic::{ARITHMETIC, STACK};
-use calls::{CALLS, GLOBAL_CALLS, LONG_LISTS};
+use calls::{GLOBAL_CALLS, LONG_LISTS};
 use codes::{LENGTHS, NUMBERS, OPERANDS, OPERATORS};
-use paths::{HINTS, PATHS, PATHS_AND_NUMBERS};
 use postscript::type2::{self, Answers, Operand, Operation, Operator, Program, number};
 use postscript::{Error, Result};
 use std::alloc::Global;
 use std::io::Cursor;
 use std::process::Abort;
-use steps::{BY_TURNS, STEPS};
-use storage::STORAGE;
+use steps::STEPS;
 
 /// A code in hex, its local subroutines in hex, each after a space, and the answers of the run: a text for each
-/// operation, for the end, and for the width.
+/// operation, for the end, and for the width, where there is one.
 type Row = (&'static str, &'static str, &'static str);
 
-/// Paths, widths and numbers.
-fn paths_and_numbers() -> &'static [Row] {
-    PATHS_AND_NUMBERS
-}
-
-/// The other operators that draw.
-fn rows_of_paths() -> &'static [Row] {
-    PATHS
-}
-
-/// Stems and masks.
-fn rows_of_hints() -> &'static [Row] {
-    HINTS
-}
-
-/// Calls and returns.
-fn rows_of_calls() -> &'static [Row] {
-    CALLS
-}
-
-/// Arithmetic and truth.
-fn rows_of_arithmetic() -> &'static [Row] {
-    ARITHMETIC
-}
-
-/// The stack.
-fn rows_of_the_stack() -> &'static [Row] {
-    STACK
-}
-
-/// Storage.
-fn rows_of_storage() -> &'static [Row] {
-    STORAGE
-}
+/// The global subroutines and the local ones.
+type Lists<'l> = (&'l [Vec<u8>], &'l [Vec<u8>]);
 
 /// The routines in hex, each after a space.
 pub fn routines_of<R: Abort>(rt: &R, alloc: Global, words: &str) -> Vec<Vec<u8>> {
     let mut routines = Vec::new(alloc);
     for word in words.split_whitespace() {
-        routines
-            .push(bytes_of(rt, alloc, word))
-            .expect(rt, "memory");
+        let routine = bytes_of(rt, alloc, word);
+        routines.push(routine).expect(rt, "memory");
     }
     routines
 }
@@ -76,9 +40,8 @@ fn long_list<R: Abort>(rt: &R, alloc: Global, count: usize) -> Vec<Vec<u8>> {
     for _ in 1..count {
         routines.push(Vec::new(alloc)).expect(rt, "memory");
     }
-    routines
-        .push(bytes_of(rt, alloc, "8c16"))
-        .expect(rt, "memory");
+    let last = bytes_of(rt, alloc, "8c16");
+    routines.push(last).expect(rt, "memory");
     routines
 }
 
@@ -90,16 +53,10 @@ fn put_operands<R: Abort>(rt: &R, text: &mut String, operator: Operator, operand
     }
 }
 
-/// Adds an operation.
-fn put_operation<R: Abort>(rt: &R, text: &mut String, operation: &Operation) {
-    put_operands(rt, text, operation.0, operation.1.as_slice());
-}
-
-/// Adds the width.
-fn put_width<R: Abort>(rt: &R, text: &mut String, width: Option<Operand>) {
-    match width {
-        Some(width) => put_shown(rt, text, "width ", &width),
-        None => put(rt, text, "width none"),
+/// Adds the width, where there is one.
+fn put_width<R: Abort>(rt: &R, text: &mut String, word: &str, width: Option<Operand>) {
+    if let Some(width) = width {
+        put_shown(rt, text, word, &width);
     }
 }
 
@@ -115,7 +72,7 @@ fn put_end<R: Abort>(rt: &R, text: &mut String, fault: Option<&Error>) {
 fn operations_of<R: Abort>(rt: &R, alloc: Global, answers: &Answers) -> String {
     let mut text = String::new(alloc);
     for operation in &answers.operations {
-        put_operation(rt, &mut text, operation);
+        put_operands(rt, &mut text, operation.0, operation.1.as_slice());
         put(rt, &mut text, " | ");
     }
     text
@@ -125,92 +82,118 @@ fn operations_of<R: Abort>(rt: &R, alloc: Global, answers: &Answers) -> String {
 fn text_of<R: Abort>(rt: &R, alloc: Global, answers: &Answers) -> String {
     let mut text = operations_of(rt, alloc, answers);
     put_end(rt, &mut text, answers.fault.as_ref());
-    put(rt, &mut text, " | ");
-    put_width(rt, &mut text, answers.width);
+    put_width(rt, &mut text, " | width ", answers.width);
     text
 }
 
 /// What the run of a code answers.
-fn run<R: Abort>(
-    rt: &R,
-    alloc: Global,
-    code: &[u8],
-    global: &[Vec<u8>],
-    local: &[Vec<u8>],
-) -> Answers {
-    type2::run(alloc, code, global, local).expect(rt, "memory")
+fn run<R: Abort>(rt: &R, alloc: Global, code: &[u8], lists: Lists<'_>) -> Answers {
+    type2::run(alloc, code, lists.0, lists.1).expect(rt, "memory")
 }
 
 /// What the run of a code answers, as a text.
-pub fn told<R: Abort>(
-    rt: &R,
-    alloc: Global,
-    code: &[u8],
-    global: &[Vec<u8>],
-    local: &[Vec<u8>],
-) -> String {
-    text_of(rt, alloc, &run(rt, alloc, code, global, local))
+pub fn told<R: Abort>(rt: &R, alloc: Global, code: &[u8], lists: Lists<'_>) -> String {
+    text_of(rt, alloc, &run(rt, alloc, code, lists))
 }
 
 /// Runs a code in hex, and compares the answers.
-fn check<R: Abort>(
-    rt: &R,
-    alloc: Global,
-    code: &str,
-    global: &[Vec<u8>],
-    local: &[Vec<u8>],
-    wanted: &str,
-) {
+fn check<R: Abort>(rt: &R, alloc: Global, code: &str, lists: Lists<'_>, wanted: &str) {
     let bytes = bytes_of(rt, alloc, code);
-    let text = told(rt, alloc, bytes.as_slice(), global, local);
+    let text = told(rt, alloc, bytes.as_slice(), lists);
     is_text(rt, text.as_str(), wanted, code);
 }
 
-/// A list in which each of nine subroutines calls the next one twice, and the last one moves.
-pub const DOUBLING: &str =
-    "210a210a0b 220a220a0b 230a230a0b 240a240a0b 250a250a0b 260a260a0b 270a270a0b 280a280a0b 290a290a0b 8c160b";
-
-/// What 512 moves answer.
-fn many_moves<R: Abort>(rt: &R, alloc: Global) -> String {
-    let mut text = String::new(alloc);
-    for _ in 0..512 {
-        put(rt, &mut text, "HMoveTo 1 | ");
-    }
-    put(rt, &mut text, "end | width none");
-    text
+/// Whether the operations of a front begin the whole code's, and its fault is that of the whole code, or bytes are wanting.
+fn is_front<R: Abort>(rt: &R, alloc: Global, part: &Answers, whole: &Answers) -> bool {
+    let begun = operations_of(rt, alloc, part);
+    let all = operations_of(rt, alloc, whole);
+    let fault = fault_of(part);
+    all.as_str().starts_with(begun.as_str()) && (fault < 2 || fault == fault_of(whole))
 }
 
-/// Runs a row of a table.
+/// The number of the fault of a run, 0 where there is none.
+fn fault_of(answers: &Answers) -> u8 {
+    match &answers.fault {
+        Some(fault) => fault.code(),
+        None => 0,
+    }
+}
+
+/// Whether the run of a front of a code begins the run of the whole code.
+fn begins<R: Abort>(rt: &R, alloc: Global, front: &[u8], code: &[u8], lists: Lists<'_>) -> bool {
+    let part = run(rt, alloc, front, lists);
+    is_front(rt, alloc, &part, &run(rt, alloc, code, lists))
+}
+
+/// Runs a code of a table, and each front of it.
 fn check_row<R: Abort>(rt: &R, alloc: Global, row: &Row) {
     let local = routines_of(rt, alloc, row.1);
-    check(rt, alloc, row.0, &[], local.as_slice(), row.2);
+    let lists: Lists<'_> = (&[], local.as_slice());
+    check(rt, alloc, row.0, lists, row.2);
+    let bytes = bytes_of(rt, alloc, row.0);
+    for length in 0..bytes.len() {
+        let is_so = begins(rt, alloc, &bytes[..length], bytes.as_slice(), lists);
+        holds_at(rt, is_so, row.0, length);
+    }
 }
 
-/// Runs each row.
+/// Runs each code of a table.
 fn check_rows<R: Abort>(rt: &R, alloc: Global, rows: &[Row]) {
     for row in rows {
         check_row(rt, alloc, row);
     }
 }
 
+#[test]
+fn runs_and_their_fronts(rt: HostRuntime) {
+    let alloc = rt.alloc();
+    check_rows(&rt, alloc, paths::numbers());
+    check_rows(&rt, alloc, paths::paths());
+    check_rows(&rt, alloc, paths::hints());
+    check_rows(&rt, alloc, calls::calls());
+    check_rows(&rt, alloc, arithmetic::arithmetic());
+    check_rows(&rt, alloc, arithmetic::stack());
+    check_rows(&rt, alloc, storage::storage());
+}
+
 /// Runs a row with global subroutines.
 fn check_global<R: Abort>(rt: &R, alloc: Global, row: &(&str, &str, &str, &str)) {
     let global = routines_of(rt, alloc, row.1);
     let local = routines_of(rt, alloc, row.2);
-    check(rt, alloc, row.0, global.as_slice(), local.as_slice(), row.3);
+    check(
+        rt,
+        alloc,
+        row.0,
+        (global.as_slice(), local.as_slice()),
+        row.3,
+    );
 }
 
-/// Runs a row with a long list.
+/// Runs a code with a long list.
 fn check_long<R: Abort>(rt: &R, alloc: Global, row: &(&str, usize, &str)) {
     let local = long_list(rt, alloc, row.1);
-    check(rt, alloc, row.0, &[], local.as_slice(), row.2);
+    check(rt, alloc, row.0, (&[], local.as_slice()), row.2);
 }
 
-/// Runs nine subroutines that call the next one twice.
-pub fn check_doubling<R: Abort>(rt: &R, alloc: Global) {
+/// A list in which each of nine subroutines calls the next one twice, and the last one moves.
+pub const DOUBLING: &str =
+    "210a210a0b 220a220a0b 230a230a0b 240a240a0b 250a250a0b 260a260a0b 270a270a0b 280a280a0b 290a290a0b 8c160b";
+
+/// Runs nine subroutines that call the next one twice: 512 moves.
+fn check_doubling<R: Abort>(rt: &R, alloc: Global) {
     let local = routines_of(rt, alloc, DOUBLING);
-    let wanted = many_moves(rt, alloc);
-    check(rt, alloc, "200a0e", &[], local.as_slice(), wanted.as_str());
+    let mut wanted = String::new(alloc);
+    for _ in 0..512 {
+        put(rt, &mut wanted, "HMoveTo 1 | ");
+    }
+    put(rt, &mut wanted, "end");
+    check(
+        rt,
+        alloc,
+        "200a0e",
+        (&[], local.as_slice()),
+        wanted.as_str(),
+    );
 }
 
 /// Whether a run has no fault and so many operations.
@@ -221,19 +204,12 @@ fn has_run(answers: &Answers, count: usize) -> bool {
 /// Whether a charstring of so many operations is run without a fault.
 fn is_run<R: Abort>(rt: &R, alloc: Global, count: usize) -> bool {
     let code = charstring(alloc, count).expect(rt, "memory");
-    has_run(&run(rt, alloc, code.as_slice(), &[], &[]), count)
+    has_run(&run(rt, alloc, code.as_slice(), (&[], &[])), count)
 }
 
 #[test]
-fn runs(rt: HostRuntime) {
+fn runs_with_other_lists(rt: HostRuntime) {
     let alloc = rt.alloc();
-    check_rows(&rt, alloc, paths_and_numbers());
-    check_rows(&rt, alloc, rows_of_paths());
-    check_rows(&rt, alloc, rows_of_hints());
-    check_rows(&rt, alloc, rows_of_calls());
-    check_rows(&rt, alloc, rows_of_arithmetic());
-    check_rows(&rt, alloc, rows_of_the_stack());
-    check_rows(&rt, alloc, rows_of_storage());
     for row in GLOBAL_CALLS {
         check_global(&rt, alloc, row);
     }
@@ -246,187 +222,76 @@ fn runs(rt: HostRuntime) {
     }
 }
 
-/// The number of the fault of a run, 0 where there is none.
-fn fault_of(answers: &Answers) -> u8 {
-    match &answers.fault {
-        Some(fault) => fault.code(),
-        None => 0,
-    }
-}
-
-/// Whether the operations of a front begin the whole code's, and its fault is that of the whole code, or bytes are wanting.
-fn is_front<R: Abort>(rt: &R, alloc: Global, part: &Answers, whole: &Answers) -> bool {
-    let begun = operations_of(rt, alloc, part);
-    let all = operations_of(rt, alloc, whole);
-    let fault = fault_of(part);
-    all.as_str().starts_with(begun.as_str()) && (fault < 2 || fault == fault_of(whole))
-}
-
-/// Whether the run of a front of a code begins the run of the whole code.
-fn begins<R: Abort>(rt: &R, alloc: Global, front: &[u8], code: &[u8], local: &[Vec<u8>]) -> bool {
-    is_front(
-        rt,
-        alloc,
-        &run(rt, alloc, front, &[], local),
-        &run(rt, alloc, code, &[], local),
-    )
-}
-
-/// Runs each front of a code.
-fn check_fronts<R: Abort>(rt: &R, alloc: Global, row: &Row) {
-    let bytes = bytes_of(rt, alloc, row.0);
-    let local = routines_of(rt, alloc, row.1);
-    for length in 0..bytes.len() {
-        let is_so = begins(
-            rt,
-            alloc,
-            &bytes[..length],
-            bytes.as_slice(),
-            local.as_slice(),
-        );
-        holds_at(rt, is_so, row.0, length);
-    }
-}
-
-/// Runs the fronts of each row.
-fn check_all_fronts<R: Abort>(rt: &R, alloc: Global, rows: &[Row]) {
-    for row in rows {
-        check_fronts(rt, alloc, row);
-    }
-}
-
-#[test]
-fn fronts(rt: HostRuntime) {
-    let alloc = rt.alloc();
-    check_all_fronts(&rt, alloc, paths_and_numbers());
-    check_all_fronts(&rt, alloc, rows_of_paths());
-    check_all_fronts(&rt, alloc, rows_of_hints());
-    check_all_fronts(&rt, alloc, rows_of_calls());
-    check_all_fronts(&rt, alloc, rows_of_arithmetic());
-    check_all_fronts(&rt, alloc, rows_of_the_stack());
-    check_all_fronts(&rt, alloc, rows_of_storage());
-}
-
-/// Adds what a step answers.
-fn put_step<R: Abort>(rt: &R, text: &mut String, answer: &Result<Option<Operation>>) {
-    match answer {
-        Ok(Some(operation)) => put_operation(rt, text, operation),
+/// Adds what the next step of a program answers.
+fn put_step<R: Abort>(rt: &R, text: &mut String, program: &mut Program<'_>) {
+    match program.next() {
+        Ok(Some(operation)) => put_operands(rt, text, operation.0, operation.1.as_slice()),
         Ok(None) => put_end(rt, text, None),
-        Err(fault) => put_end(rt, text, Some(fault)),
+        Err(fault) => put_end(rt, text, Some(&fault)),
+    }
+}
+
+/// Adds what the next step of a program answers where its operands are lent.
+fn put_lent_step<R: Abort>(rt: &R, text: &mut String, program: &mut Program<'_>) {
+    match program.step() {
+        Ok(Some((operator, operands))) => put_operands(rt, text, operator, operands),
+        Ok(None) => put_end(rt, text, None),
+        Err(fault) => put_end(rt, text, Some(&fault)),
     }
 }
 
 /// What the next step of a program answers, and the width after it.
-fn step<R: Abort>(rt: &R, alloc: Global, program: &mut Program<'_>) -> String {
+fn step<R: Abort>(rt: &R, alloc: Global, program: &mut Program<'_>, is_lent: bool) -> String {
     let mut text = String::new(alloc);
-    put_step(rt, &mut text, &program.next());
-    put(rt, &mut text, ", ");
-    put_width(rt, &mut text, program.width());
+    if is_lent {
+        put_lent_step(rt, &mut text, program);
+    } else {
+        put_step(rt, &mut text, program);
+    }
+    put_width(rt, &mut text, ", width ", program.width());
     text
 }
 
-/// Asks a program step by step.
-pub fn check_steps<R: Abort>(rt: &R, alloc: Global, row: &(&str, &str, &[&str])) {
+/// Asks a program step by step, by `next` and, where this is so, by `step`, the two in turn.
+fn check_steps<R: Abort>(rt: &R, alloc: Global, row: &(&str, &str, &[&str]), lent: [bool; 2]) {
     let bytes = bytes_of(rt, alloc, row.0);
     let local = routines_of(rt, alloc, row.1);
     let mut program = Program::new(alloc, bytes.as_slice(), &[], local.as_slice());
     holds(rt, program.width().is_none(), row.0);
-    for wanted in row.2 {
-        is_text(rt, step(rt, alloc, &mut program).as_str(), wanted, row.0);
-    }
-}
-
-#[test]
-fn step_by_step(rt: HostRuntime) {
-    let alloc = rt.alloc();
-    for row in STEPS {
-        check_steps(&rt, alloc, row);
-    }
-}
-
-/// What the next step of a program answers where its operands are lent, and the width after it.
-fn lent_step<R: Abort>(rt: &R, alloc: Global, program: &mut Program<'_>) -> String {
-    let mut text = String::new(alloc);
-    match program.step() {
-        Ok(Some((operator, operands))) => put_operands(rt, &mut text, operator, operands),
-        Ok(None) => put_end(rt, &mut text, None),
-        Err(fault) => put_end(rt, &mut text, Some(&fault)),
-    }
-    put(rt, &mut text, ", ");
-    put_width(rt, &mut text, program.width());
-    text
-}
-
-/// Asks a program by `next` and by `step` in turn.
-fn check_by_turns<R: Abort>(rt: &R, alloc: Global, row: &(&str, &str, &[&str]), lends_first: bool) {
-    let bytes = bytes_of(rt, alloc, row.0);
-    let local = routines_of(rt, alloc, row.1);
-    let mut program = Program::new(alloc, bytes.as_slice(), &[], local.as_slice());
-    let mut lends = lends_first;
-    for wanted in row.2 {
-        let told = if lends {
-            lent_step(rt, alloc, &mut program)
-        } else {
-            step(rt, alloc, &mut program)
-        };
-        is_text(rt, told.as_str(), wanted, row.0);
-        lends = !lends;
+    for (i, wanted) in row.2.iter().enumerate() {
+        let text = step(rt, alloc, &mut program, lent[i % 2]);
+        is_text(rt, text.as_str(), wanted, row.0);
     }
 }
 
 #[test]
 fn next_and_step_by_turns(rt: HostRuntime) {
     let alloc = rt.alloc();
-    for row in BY_TURNS {
-        check_by_turns(&rt, alloc, row, true);
-        check_by_turns(&rt, alloc, row, false);
+    for row in STEPS {
+        check_steps(&rt, alloc, row, [false, false]);
+        check_steps(&rt, alloc, row, [true, false]);
+        check_steps(&rt, alloc, row, [false, true]);
     }
 }
 
-/// What the run of a line answers.
-fn line_of<R: Abort>(rt: &R, alloc: Global, operand: Operand) -> String {
-    let mut text = String::new(alloc);
-    put_shown(rt, &mut text, "HLineTo ", &operand);
-    put(rt, &mut text, " | end | width none");
-    text
-}
-
-/// A program reads the number as well.
+/// Whether a program reads the number as well, which it draws a line by.
 fn is_run_so<R: Abort>(rt: &R, alloc: Global, number: &[u8], operand: Operand) -> bool {
     let mut code = Vec::from_slice(alloc, number).expect(rt, "memory");
     code.push(0x06).expect(rt, "memory");
-    told(rt, alloc, code.as_slice(), &[], &[]).as_str() == line_of(rt, alloc, operand).as_str()
-}
-
-/// Whether a number is read as wanted, and by a program as well.
-fn is_number<R: Abort>(
-    rt: &R,
-    alloc: Global,
-    bytes: &[u8],
-    read: &Result<Operand>,
-    wanted: &std::result::Result<i32, u8>,
-) -> bool {
-    match (read, wanted) {
-        (Ok(operand), Ok(bits)) => operand.bits() == *bits && is_run_so(rt, alloc, bytes, *operand),
-        (Err(fault), Err(code)) => fault.code() == *code,
-        _ => false,
-    }
+    let text = told(rt, alloc, code.as_slice(), (&[], &[]));
+    let mut wanted = String::new(alloc);
+    put_shown(rt, &mut wanted, "HLineTo ", &operand);
+    put(rt, &mut wanted, " | end");
+    text.as_str() == wanted.as_str()
 }
 
 /// Reads a number, of a tape and in a program.
-pub fn check_number<R: Abort>(
-    rt: &R,
-    alloc: Global,
-    digits: &str,
-    wanted: &std::result::Result<i32, u8>,
-) {
-    let bytes = bytes_of(rt, alloc, digits);
-    let read = number::read(&mut Cursor::new(bytes.as_slice()));
-    holds(
-        rt,
-        is_number(rt, alloc, bytes.as_slice(), &read, wanted),
-        digits,
-    );
+fn is_number<R: Abort>(rt: &R, alloc: Global, bytes: &[u8], wanted: &Wanted<i32>) -> bool {
+    match (number::read(&mut Cursor::new(bytes)), wanted) {
+        (Ok(operand), Ok(bits)) => operand.bits() == *bits && is_run_so(rt, alloc, bytes, operand),
+        (Err(fault), Err(code)) => fault.code() == *code,
+        _ => false,
+    }
 }
 
 /// Each code, and no other, has its operator.
@@ -446,15 +311,6 @@ fn check_operators<R: Abort>(rt: &R) {
     holds(rt, known == OPERATORS.len(), "the number of operators");
 }
 
-/// Asks each operator how many operands it takes.
-fn check_lengths<R: Abort>(rt: &R) {
-    for (code, length, wanted) in LENGTHS {
-        let operator = Operator::from(*code).expect(rt, "an operator");
-        let is_so = operator.taken(*length) == *wanted;
-        holds_at(rt, is_so, "code", usize::from(*code));
-    }
-}
-
 /// Whether an operand has these bits, this whole number and this text.
 fn is_operand<R: Abort>(rt: &R, alloc: Global, bits: i32, whole: Option<i16>, text: &str) -> bool {
     let operand = Operand::from_bits(bits);
@@ -470,12 +326,28 @@ fn is_operand<R: Abort>(rt: &R, alloc: Global, bits: i32, whole: Option<i16>, te
 fn tables(rt: HostRuntime) {
     let alloc = rt.alloc();
     for (digits, wanted) in NUMBERS {
-        check_number(&rt, alloc, digits, wanted);
+        let bytes = bytes_of(&rt, alloc, digits);
+        let is_so = is_number(&rt, alloc, bytes.as_slice(), wanted);
+        holds(&rt, is_so, digits);
     }
+}
+
+#[test]
+fn operators_of_codes(rt: HostRuntime) {
     check_operators(&rt);
-    check_lengths(&rt);
+    for (code, length, wanted) in LENGTHS {
+        let operator = Operator::from(*code).expect(&rt, "an operator");
+        let is_so = operator.taken(*length) == *wanted;
+        holds_at(&rt, is_so, "code", usize::from(*code));
+    }
+}
+
+#[test]
+fn operands_of_bits(rt: HostRuntime) {
+    let alloc = rt.alloc();
     for (bits, whole, text) in OPERANDS {
-        holds(&rt, is_operand(&rt, alloc, *bits, *whole, text), text);
+        let is_so = is_operand(&rt, alloc, *bits, *whole, text);
+        holds(&rt, is_so, text);
     }
     let order = Operand::from_int(-1) < Operand::from_bits(-1);
     holds(&rt, order, "the order of operands");

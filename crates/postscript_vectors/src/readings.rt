@@ -1,7 +1,8 @@
 //! Readings of tapes of every kind.
-use crate::checks::{code_of, holds, holds_at};
+use crate::checks::{Wanted, code_of, holds, holds_at, read_given};
 use crate::tapes::{Trouble, TroubledTape};
-use postscript::tape::{Opaque, ReadSeek, fixed, read_many};
+use postscript::compact1::char_set::Range1;
+use postscript::tape::{Opaque, ReadSeek, bytes_at, fixed, read_chain, read_many};
 use postscript::{Error, Result, Tape};
 use std::alloc::Global;
 use std::fs;
@@ -9,9 +10,7 @@ use std::fs::File;
 use std::io::{BufReader, Cursor, ErrorKind};
 use std::process::Abort;
 
-const TWELVE: [u8; 12] = [
-    0x01, 0x02, 0x03, 0xff, 0x05, 0x06, 0x07, 0x08, 0x09, 0x0a, 0x0b, 0x0c,
-];
+const TWELVE: [u8; 12] = [1, 2, 3, 0xff, 5, 6, 7, 8, 9, 0x0a, 0x0b, 0x0c];
 
 /// A value of each width.
 type Each = (u8, u16, u32, [u8; 3], [u8; 2]);
@@ -84,14 +83,6 @@ fn read_twelve<R: Abort, T: Tape>(rt: &R, alloc: Global, tape: &mut T, name: &st
     }
 }
 
-/// Reads cursors.
-pub fn read_cursors<R: Abort>(rt: &R, alloc: Global) {
-    read_twelve(rt, alloc, &mut Cursor::new(TWELVE.as_slice()), "a cursor");
-    read_owned(rt, alloc);
-    read_opaque(rt, alloc);
-    read_buffered(rt, alloc);
-}
-
 /// Reads a cursor over a vector.
 fn read_owned<R: Abort>(rt: &R, alloc: Global) {
     let owned = Vec::from_slice(alloc, &TWELVE).expect(rt, "memory");
@@ -136,7 +127,10 @@ fn go_past<R: Abort>(rt: &R, alloc: Global) {
 #[test]
 fn tapes(rt: HostRuntime) {
     let alloc = rt.alloc();
-    read_cursors(&rt, alloc);
+    read_twelve(&rt, alloc, &mut Cursor::new(TWELVE.as_slice()), "a cursor");
+    read_owned(&rt, alloc);
+    read_opaque(&rt, alloc);
+    read_buffered(&rt, alloc);
     read_troubled(&rt, alloc, Trouble::Interrupted);
     read_troubled(&rt, alloc, Trouble::OneByte);
     go_past(&rt, alloc);
@@ -184,23 +178,7 @@ fn asked<T: Tape>(alloc: Global, tape: &mut T, question: &Question) -> Result<u6
     }
 }
 
-/// What a troubled tape answers that is told of nothing but its bytes.
-fn opaquely(alloc: Global, tape: &mut TroubledTape<'_>, question: &Question) -> Result<u64> {
-    asked(alloc, &mut Opaque(tape), question)
-}
-
-/// What a troubled tape answers behind a buffer with room for a byte, where nothing is read ahead.
-fn by_bytes<R: Abort>(
-    rt: &R,
-    alloc: Global,
-    tape: &mut TroubledTape<'_>,
-    question: &Question,
-) -> Result<u64> {
-    let buffered = BufReader::with_capacity(alloc, 1, tape);
-    asked(alloc, &mut buffered.expect(rt, "memory"), question)
-}
-
-/// What a troubled tape answers in a wrapping.
+/// What a troubled tape answers in a wrapping. Behind a buffer it has room for a byte, so that nothing is read ahead.
 fn wrapped<R: Abort>(
     rt: &R,
     alloc: Global,
@@ -210,8 +188,11 @@ fn wrapped<R: Abort>(
 ) -> Result<u64> {
     match wrapping {
         Wrapping::Bare => asked(alloc, tape, question),
-        Wrapping::Opaque => opaquely(alloc, tape, question),
-        Wrapping::Buffered => by_bytes(rt, alloc, tape, question),
+        Wrapping::Opaque => asked(alloc, &mut Opaque(tape), question),
+        Wrapping::Buffered => {
+            let buffered = BufReader::with_capacity(alloc, 1, tape);
+            asked(alloc, &mut buffered.expect(rt, "memory"), question)
+        }
     }
 }
 
@@ -230,7 +211,7 @@ fn answer<R: Abort>(
     tape: &mut TroubledTape<'_>,
     wrapping: &Wrapping,
     question: &Question,
-) -> std::result::Result<u64, u8> {
+) -> Wanted<u64> {
     match wrapped(rt, alloc, tape, wrapping, question) {
         Ok(number) => Ok(number),
         Err(refusal) => Err(number_of(refusal)),
@@ -238,47 +219,22 @@ fn answer<R: Abort>(
 }
 
 /// What is asked, what is answered, the place after it, and how many reads have been asked for by then.
-type Asked = (Question, std::result::Result<u64, u8>, u64, u32);
+type Asked = (Question, Wanted<u64>, u64, u32);
 
 /// How many calls pass before the one that fails, and what is asked.
+#[rattlefmt::skip]
 const FAILING: &[(u32, &[Asked])] = &[
     (0, &[(Question::Each, Err(2), 0, 1)]),
     (1, &[(Question::Each, Err(2), 1, 2)]),
     (2, &[(Question::Each, Err(2), 3, 3)]),
     (3, &[(Question::Each, Err(2), 7, 4)]),
     (4, &[(Question::Each, Err(2), 10, 5)]),
-    (
-        5,
-        &[
-            (Question::Each, Ok(0x0203), 12, 5),
-            (Question::Jump, Err(2), 12, 5),
-            (Question::Jump, Ok(3), 3, 5),
-        ],
-    ),
+    (5, &[(Question::Each, Ok(0x0203), 12, 5), (Question::Jump, Err(2), 12, 5), (Question::Jump, Ok(3), 3, 5)]),
     // A look whose question for the place fails reads nothing.
-    (
-        0,
-        &[
-            (Question::Look, Err(2), 0, 0),
-            (Question::Look, Ok(0x0102), 0, 1),
-        ],
-    ),
-    (
-        1,
-        &[
-            (Question::Byte, Ok(1), 1, 1),
-            (Question::Look, Err(2), 1, 1),
-            (Question::Look, Ok(0x0203), 1, 2),
-        ],
-    ),
+    (0, &[(Question::Look, Err(2), 0, 0), (Question::Look, Ok(0x0102), 0, 1)]),
+    (1, &[(Question::Byte, Ok(1), 1, 1), (Question::Look, Err(2), 1, 1), (Question::Look, Ok(0x0203), 1, 2)]),
     // A look whose reading fails goes back.
-    (
-        1,
-        &[
-            (Question::Look, Err(2), 0, 1),
-            (Question::Look, Ok(0x0102), 0, 2),
-        ],
-    ),
+    (1, &[(Question::Look, Err(2), 0, 1), (Question::Look, Ok(0x0102), 0, 2)]),
     // A failed seek back is told in place of the reading.
     (2, &[(Question::Look, Err(2), 2, 1)]),
 ];
@@ -328,7 +284,7 @@ fn failing_tapes(rt: HostRuntime) {
 
 /// Whether so many bytes are refused as wanting.
 fn are_wanting(alloc: Global, count: usize) -> bool {
-    code_of(Cursor::new([0x01, 0x02].as_slice()).take_given::<Vec<u8>>(alloc, count)) == 1
+    code_of(read_given::<Vec<u8>>(alloc, &[0x01, 0x02], count)) == 1
 }
 
 /// Reads lists of bytes.
@@ -362,11 +318,14 @@ fn check_numbers<R: Abort>(rt: &R, alloc: Global) {
     holds(rt, code == 1, "a number too many");
 }
 
-/// Reads lists that are there.
-pub fn check_lists<R: Abort>(rt: &R, alloc: Global) {
-    check_bytes(rt, alloc);
-    check_long(rt, alloc);
-    check_numbers(rt, alloc);
+/// Reads bytes at a place, and ranges, each given how many glyphs the ones before it leave.
+fn check_places<R: Abort>(rt: &R, alloc: Global) {
+    let mut tape = Cursor::new([0, 7, 1, 0, 9, 0].as_slice());
+    let ranges = read_chain::<Range1, _>(alloc, &mut tape, 3, 2);
+    holds(rt, ranges.expect(rt, "ranges").len() == 2, "two ranges");
+    let bytes = bytes_at(alloc, &mut tape, 3, 2).expect(rt, "bytes");
+    let is_so = bytes.as_slice() == [0, 9].as_slice();
+    holds(rt, is_so, "bytes at a place");
 }
 
 /// Whether a list that no memory holds is refused for memory, with the list and the place of the tape as they were.
@@ -380,9 +339,12 @@ fn is_growth_refused<R: Abort>(rt: &R, alloc: Global) -> bool {
 #[test]
 fn lists(rt: HostRuntime) {
     let alloc = rt.alloc();
-    check_lists(&rt, alloc);
-    holds(&rt, are_wanting(alloc, 3), "one byte is wanting");
-    holds(&rt, are_wanting(alloc, 65_537), "many are wanting");
-    holds(&rt, are_wanting(alloc, usize::MAX), "all are wanting");
+    check_bytes(&rt, alloc);
+    check_long(&rt, alloc);
+    check_numbers(&rt, alloc);
+    check_places(&rt, alloc);
+    for count in [3, 65_537, usize::MAX] {
+        holds_at(&rt, are_wanting(alloc, count), "wanting bytes", count);
+    }
     holds(&rt, is_growth_refused(&rt, alloc), "a list too long");
 }

@@ -1,37 +1,62 @@
 //! Sessions with faults and with waits. The stored run of `psfont`, its files `stdin` and `stdout`, shows what lines are
 //! answered with.
-use postscript::Result as Outcome;
+use crate::checks::{code_of, holds_at};
 use psfont_session::session;
+use std::alloc::Global;
 use std::cell::Cell;
 use std::io;
 use std::io::{BufRead, ErrorKind, Read, Write};
 
-/// A reader of text that shows a byte at a time, and fails once.
+/// A reader of text that shows so many bytes at a time, fails once, and notes whether something written waits while it is asked
+/// for more.
 #[derive(Drop)]
-struct Trickle<'l> {
+struct Shown<'l> {
     text: &'l [u8],
+    step: usize,
+    shown: usize,
     looks_before_fault: usize,
     fault: Option<ErrorKind>,
+    waits: &'l Cell<bool>,
+    late: bool,
 }
 
-impl Read for Trickle<'_> {
+impl<'l> Shown<'l> {
+    fn new(text: &'l [u8], step: usize, waits: &'l Cell<bool>) -> Self {
+        Shown {
+            text,
+            step,
+            shown: 0,
+            looks_before_fault: 0,
+            fault: None,
+            waits,
+            late: false,
+        }
+    }
+}
+
+impl Read for Shown<'_> {
     fn read(&mut self, buffer: &mut [u8]) -> io::Result<usize> {
         self.text.read(buffer)
     }
 }
 
-impl BufRead for Trickle<'_> {
+impl BufRead for Shown<'_> {
     fn fill_buf(&mut self) -> io::Result<&[u8]> {
         if self.looks_before_fault > 0 {
             self.looks_before_fault -= 1;
         } else if let Some(kind) = self.fault.take() {
             return Err(io::Error::from(kind));
         }
-        Ok(&self.text[..self.text.len().min(1)])
+        if self.shown == 0 {
+            self.late = self.late || self.waits.get();
+            self.shown = self.step;
+        }
+        Ok(&self.text[..self.text.len().min(self.shown)])
     }
 
     fn consume(&mut self, amount: usize) {
         self.text.consume(amount);
+        self.shown = self.shown.saturating_sub(amount);
     }
 }
 
@@ -59,38 +84,6 @@ impl Write for Full {
     }
 }
 
-/// A reader of text that shows so many bytes at a time, and notes whether something written waits while it is asked for
-/// more.
-#[derive(Drop)]
-struct Asked<'l> {
-    text: &'l [u8],
-    step: usize,
-    shown: usize,
-    waits: &'l Cell<bool>,
-    late: bool,
-}
-
-impl Read for Asked<'_> {
-    fn read(&mut self, buffer: &mut [u8]) -> io::Result<usize> {
-        self.text.read(buffer)
-    }
-}
-
-impl BufRead for Asked<'_> {
-    fn fill_buf(&mut self) -> io::Result<&[u8]> {
-        if self.shown == 0 {
-            self.late = self.late || self.waits.get();
-            self.shown = self.step;
-        }
-        Ok(&self.text[..self.text.len().min(self.shown)])
-    }
-
-    fn consume(&mut self, amount: usize) {
-        self.text.consume(amount);
-        self.shown = self.shown.saturating_sub(amount);
-    }
-}
-
 /// A writer that notes whether something written waits to be flushed, and counts its flushes.
 #[derive(Drop)]
 struct Flushed<'l> {
@@ -111,108 +104,81 @@ impl Write for Flushed<'_> {
     }
 }
 
-/// The number of an outcome's fault, 0 where there is none.
-fn code_of(outcome: Outcome<()>) -> u8 {
-    match outcome {
-        Ok(()) => 0,
-        Err(fault) => fault.code(),
-    }
-}
+/// What a session answers to a code and its run.
+const OUTPUT: &str = "ok\nHLineTo 1\nend\nwidth none\n";
 
 /// What the reader fails with, and after how many looks; the session's code, and what was answered before.
 ///
 /// Ten looks show the first line, three more the second, and the fourteenth the end.
+#[rattlefmt::skip]
 const FAULTS: &[(Option<ErrorKind>, usize, u8, &str)] = &[
-    (None, 0, 0, "ok\nHLineTo 1\nend\nwidth none\n"),
-    (
-        Some(ErrorKind::Interrupted),
-        0,
-        0,
-        "ok\nHLineTo 1\nend\nwidth none\n",
-    ),
-    (
-        Some(ErrorKind::Interrupted),
-        7,
-        0,
-        "ok\nHLineTo 1\nend\nwidth none\n",
-    ),
-    (
-        Some(ErrorKind::Interrupted),
-        13,
-        0,
-        "ok\nHLineTo 1\nend\nwidth none\n",
-    ),
+    (None, 0, 0, OUTPUT),
+    (Some(ErrorKind::Interrupted), 0, 0, OUTPUT),
+    (Some(ErrorKind::Interrupted), 7, 0, OUTPUT),
+    (Some(ErrorKind::Interrupted), 13, 0, OUTPUT),
     (Some(ErrorKind::PermissionDenied), 7, 2, ""),
     (Some(ErrorKind::OutOfMemory), 12, 2, "ok\n"),
     (Some(ErrorKind::UnexpectedEof), 12, 1, "ok\n"),
     (Some(ErrorKind::UnexpectedEof), 13, 1, "ok\n"),
 ];
 
+/// Whether a session with a reader that fails ends as wanted.
+fn is_ended(alloc: Global, row: &(Option<ErrorKind>, usize, u8, &str)) -> bool {
+    let waits = Cell::new(false);
+    let mut reader = Shown::new(b"code 8c06\nrun", 1, &waits);
+    reader.fault = row.0;
+    reader.looks_before_fault = row.1;
+    let mut writer = Vec::new(alloc);
+    let code = code_of(session(alloc, &mut reader, &mut writer));
+    code == row.2 && writer.as_slice() == row.3.as_bytes()
+}
+
 #[test]
 fn meets_faults_of_the_reader(rt: HostRuntime) {
-    for (fault, looks_before_fault, code, output) in FAULTS {
-        let mut reader = Trickle {
-            text: b"code 8c06\nrun",
-            looks_before_fault: *looks_before_fault,
-            fault: *fault,
-        };
-        let mut writer = Vec::new(rt.alloc());
-        let outcome = code_of(session(rt.alloc(), &mut reader, &mut writer));
-        assert!(rt;
-            (outcome, writer.as_slice()) == (*code, output.as_bytes()),
-            "at {fault:?} after {looks_before_fault}"
-        );
+    for (row, fault) in FAULTS.iter().enumerate() {
+        holds_at(&rt, is_ended(rt.alloc(), fault), "row", row);
     }
+}
+
+/// Whether a session ends with this number whose writer fails so behind so much of the output.
+fn is_full(alloc: Global, room: usize, kind: ErrorKind, wanted: u8) -> bool {
+    let mut reader = b"code 8c06\nrun".as_slice();
+    let mut writer = Full {
+        taken: Vec::new(alloc),
+        room,
+        kind,
+    };
+    let code = code_of(session(alloc, &mut reader, &mut writer));
+    code == wanted && OUTPUT.as_bytes().get(..room) == Some(writer.taken.as_slice())
 }
 
 #[test]
 fn meets_faults_of_the_writer(rt: HostRuntime) {
-    let output = b"ok\nHLineTo 1\nend\nwidth none\n".as_slice();
-    for room in 0..output.len() {
-        for (kind, code) in [(ErrorKind::StorageFull, 2), (ErrorKind::UnexpectedEof, 1)] {
-            let mut reader = b"code 8c06\nrun".as_slice();
-            let mut writer = Full {
-                taken: Vec::new(rt.alloc()),
-                room,
-                kind,
-            };
-            let outcome = code_of(session(rt.alloc(), &mut reader, &mut writer));
-            assert!(rt;
-                (outcome, writer.taken.as_slice()) == (code, &output[..room]),
-                "with room for {room}"
-            );
-        }
+    let alloc = rt.alloc();
+    for room in 0..OUTPUT.len() {
+        let stored = is_full(alloc, room, ErrorKind::StorageFull, 2);
+        holds_at(&rt, stored, "no storage behind", room);
+        let ended = is_full(alloc, room, ErrorKind::UnexpectedEof, 1);
+        holds_at(&rt, ended, "an end behind", room);
     }
+}
+
+/// Whether a session of which so many bytes are shown at a time flushes before it waits, and more than twice where this is so.
+fn is_flushed(alloc: Global, step: usize, is_often: bool) -> bool {
+    let waits = Cell::new(false);
+    let mut reader = Shown::new(b"code\nrun\nflat\nrun\n", step, &waits);
+    let mut writer = Flushed {
+        waits: &waits,
+        flushes: 0,
+    };
+    let code = code_of(session(alloc, &mut reader, &mut writer));
+    code == 0 && !reader.late && !waits.get() && (writer.flushes > 2) == is_often
 }
 
 #[test]
 fn flushes_before_it_waits(rt: HostRuntime) {
-    // So many bytes are shown at a time; whether more than two flushes are needed.
-    for (step, often) in [
-        (1, true),
-        (5, true),
-        (6, true),
-        (17, true),
-        (18, false),
-        (99, false),
-    ] {
-        let waits = Cell::new(false);
-        let mut reader = Asked {
-            text: b"code\nrun\nflat\nrun\n",
-            step,
-            shown: 0,
-            waits: &waits,
-            late: false,
-        };
-        let mut writer = Flushed {
-            waits: &waits,
-            flushes: 0,
-        };
-        let outcome = code_of(session(rt.alloc(), &mut reader, &mut writer));
-        let waited = reader.late || waits.get();
-        assert!(rt;
-            (outcome, waited, writer.flushes > 2) == (0, false, often),
-            "at {step}"
-        );
+    for step in [1, 5, 6, 17, 18, 99] {
+        let is_so = is_flushed(rt.alloc(), step, step < 18);
+        holds_at(&rt, is_so, "bytes at a time:", step);
     }
 }

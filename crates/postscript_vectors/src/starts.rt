@@ -1,9 +1,11 @@
 //! What `psfont` does by the words after its name.
+use crate::checks::holds;
 use psfont_session::start;
-use std::alloc::{AllocError, Global};
+use std::alloc::{AllocGlobal, Global};
 use std::fs;
+use std::fs::Files;
 use std::io::BufWriter;
-use std::test::Fail;
+use std::process::Abort;
 
 const USAGE: &str = "usage: psfont [font PATH | lenient PATH]\n";
 
@@ -40,124 +42,61 @@ type Given = (&'static [&'static str], &'static [u8], &'static [u8]);
 /// What comes of it: its status, what is printed, and what is told as an error.
 type Outcome = (u8, &'static str, &'static str);
 
+#[rattlefmt::skip]
 const STARTS: &[(&str, Given, Outcome)] = &[
     ("no words, no input", (&[], b"", b""), (0, "", "")),
-    (
-        "no words",
-        (&[], b"", b"code\nfont"),
-        (0, "ok\nfault 1\n", ""),
-    ),
-    (
-        "no code",
-        (&[], b"", b"run\nflat\ncode \nrun"),
-        (0, "end\nwidth none\nflat\nok\nend\nwidth none\n", ""),
-    ),
-    (
-        "no line end",
-        (&[], b"", b"\n\r\n\ncode 8C06\n\nrun"),
-        (0, "ok\nHLineTo 1\nend\nwidth none\n", ""),
-    ),
+    ("no words", (&[], b"", b"code\nfont"), (0, "ok\nfault 1\n", "")),
+    ("no code", (&[], b"", b"run\nflat\ncode \nrun"), (0, "end\nwidth none\nflat\nok\nend\nwidth none\n", "")),
+    ("no line end", (&[], b"", b"\n\r\n\ncode 8C06\n\nrun"), (0, "ok\nHLineTo 1\nend\nwidth none\n", "")),
     ("a return", (&[], b"", b"run\r"), (0, "bad command\n", "")),
-    (
-        "returns",
-        (&[], b"", b"run\r\r\n\r\r\n\r"),
-        (0, "bad command\nbad command\nbad command\n", ""),
-    ),
-    (
-        "font missing",
-        (&["font", "missing"], b"", b"run"),
-        (1, "", "psfont: fault 2\n"),
-    ),
-    (
-        "lenient missing",
-        (&["lenient", "missing"], b"", b"run"),
-        (1, "", "psfont: fault 2\n"),
-    ),
+    ("returns", (&[], b"", b"run\r\r\n\r\r\n\r"), (0, "bad command\nbad command\nbad command\n", "")),
+    ("font missing", (&["font", "missing"], b"", b"run"), (1, "", "psfont: fault 2\n")),
+    ("lenient missing", (&["lenient", "missing"], b"", b"run"), (1, "", "psfont: fault 2\n")),
     ("font", (&["font"], b"", b"run"), (2, "", USAGE)),
     ("lenient", (&["lenient"], b"", b"run"), (2, "", USAGE)),
     ("run x", (&["run", "x"], b"", b"run"), (2, "", USAGE)),
     ("run", (&["run"], b"", b"run"), (2, "", USAGE)),
-    (
-        "font x y",
-        (&["font", "x", "y"], b"", b"run"),
-        (2, "", USAGE),
-    ),
-    (
-        "lenient x y",
-        (&["lenient", "x", "y"], b"", b"run"),
-        (2, "", USAGE),
-    ),
-    (
-        "one glyph",
-        (&["font", "font.cff"], FONT, b"run"),
-        (0, ONE_GLYPH, ""),
-    ),
-    (
-        "no names",
-        (&["font", "font.cff"], NO_NAMES, b"run"),
-        (0, NOTHING, ""),
-    ),
-    (
-        "cut short",
-        (&["font", "font.cff"], &[0, 0, 0, 0, 0, 0, 0], b"run"),
-        (1, "", "psfont: fault 1\n"),
-    ),
-    (
-        "no bytes",
-        (&["font", "font.cff"], b"", b"run"),
-        (1, "", "psfont: fault 1\n"),
-    ),
-    (
-        "long offsets",
-        (&["font", "font.cff"], LONG_OFFSETS, b"run"),
-        (1, "", "psfont: fault 5\n"),
-    ),
-    (
-        "long offsets, lenient",
-        (&["lenient", "font.cff"], LONG_OFFSETS, b"run"),
-        (1, "", "psfont: fault 5\n"),
-    ),
-    (
-        "no locals",
-        (&["font", "font.cff"], NO_LOCALS, b"run"),
-        (1, "", "psfont: fault 14\n"),
-    ),
-    (
-        "no locals, lenient",
-        (&["lenient", "font.cff"], NO_LOCALS, b"run"),
-        (0, ONE_GLYPH, ""),
-    ),
+    ("font x y", (&["font", "x", "y"], b"", b"run"), (2, "", USAGE)),
+    ("lenient x y", (&["lenient", "x", "y"], b"", b"run"), (2, "", USAGE)),
+    ("one glyph", (&["font", "font.cff"], FONT, b"run"), (0, ONE_GLYPH, "")),
+    ("no names", (&["font", "font.cff"], NO_NAMES, b"run"), (0, NOTHING, "")),
+    ("cut short", (&["font", "font.cff"], &[0, 0, 0, 0, 0, 0, 0], b"run"), (1, "", "psfont: fault 1\n")),
+    ("no bytes", (&["font", "font.cff"], b"", b"run"), (1, "", "psfont: fault 1\n")),
+    ("long offsets", (&["font", "font.cff"], LONG_OFFSETS, b"run"), (1, "", "psfont: fault 5\n")),
+    ("long offsets, lenient", (&["lenient", "font.cff"], LONG_OFFSETS, b"run"), (1, "", "psfont: fault 5\n")),
+    ("no locals", (&["font", "font.cff"], NO_LOCALS, b"run"), (1, "", "psfont: fault 14\n")),
+    ("no locals, lenient", (&["lenient", "font.cff"], NO_LOCALS, b"run"), (0, ONE_GLYPH, "")),
 ];
 
 /// Words as texts.
-fn texts(alloc: Global, words: &[&str]) -> Result<Vec<String>, AllocError> {
+fn texts<R: Abort>(rt: &R, alloc: Global, words: &[&str]) -> Vec<String> {
     let mut texts = Vec::new(alloc);
     for word in words {
-        texts.push(String::from_str(alloc, word)?)?;
+        let text = String::from_str(alloc, word).expect(rt, "memory");
+        texts.push(text).expect(rt, "memory");
     }
-    Ok(texts)
+    texts
 }
 
 /// Whether the start with what is given has this outcome. What is not flushed does not count as printed.
-fn comes_to(rt: &HostRuntime, given: &Given, outcome: &Outcome) -> Result<bool, Fail> {
-    let (words, file, input) = *given;
-    let (status, output, told) = *outcome;
-    fs::write(rt, "font.cff", file)?;
-    let words = texts(rt.alloc(), words)?;
-    let mut reader = input;
-    let mut writer = BufWriter::new(rt.alloc(), Vec::new(rt.alloc()))?;
-    let mut errors = Vec::new(rt.alloc());
-    let ended = start(rt, words.as_slice(), &mut reader, &mut writer, &mut errors);
-    Ok(
-        (ended, writer.get_ref().as_slice(), errors.as_slice())
-            == (status, output.as_bytes(), told.as_bytes()),
-    )
+fn comes_to<R: Files + AllocGlobal + Abort>(rt: &R, given: &Given, outcome: &Outcome) -> bool {
+    let alloc = rt.alloc();
+    let words = texts(rt, alloc, given.0);
+    let mut reader = given.2;
+    let writer = BufWriter::new(alloc, Vec::new(alloc));
+    let mut writer = writer.expect(rt, "memory");
+    let mut errors = Vec::new(alloc);
+    let status = start(rt, words.as_slice(), &mut reader, &mut writer, &mut errors);
+    status == outcome.0
+        && writer.get_ref().as_slice() == outcome.1.as_bytes()
+        && errors.as_slice() == outcome.2.as_bytes()
 }
 
 #[test]
-fn starts_by_its_words(rt: HostRuntime) -> Result<(), Fail> {
+fn starts_by_its_words(rt: HostRuntime) {
     for (what, given, outcome) in STARTS {
-        assert!(rt; comes_to(&rt, given, outcome)?, "at {what}");
+        fs::write(&rt, "font.cff", given.1).expect(&rt, "a file");
+        holds(&rt, comes_to(&rt, given, outcome), what);
     }
-    Ok(fs::remove_file(&rt, "font.cff")?)
+    fs::remove_file(&rt, "font.cff").expect(&rt, "a file");
 }
