@@ -1,5 +1,5 @@
 //! Fonts: what is read of them, and what they are refused with.
-use crate::checks::{bytes_of, changed, holds, holds_at, is_text, put, put_shown, read};
+use crate::checks::{bytes_of, changed, code_of, holds, holds_at, is_text, put, put_shown, read};
 use crate::tapes::{Trouble, TroubledTape};
 use postscript::compact1::{FontSet, Header};
 use postscript::{Result, Tape};
@@ -161,11 +161,33 @@ fn is_row<R: Abort>(rt: &R, alloc: Global, row: &Row) -> bool {
     text.as_str() == row.2 && row.3.unwrap_or(tape.position()) == tape.position()
 }
 
+/// Whether a check answers where a text tells a font, and else is refused with the fault that the text tells.
+pub fn is_told<R: Abort>(rt: &R, alloc: Global, checked: Result<()>, wanted: &str) -> bool {
+    match checked {
+        Ok(()) => !wanted.starts_with("fault"),
+        Err(e) => {
+            let mut text = String::new(alloc);
+            put_shown(rt, &mut text, "fault ", &e.code());
+            text.as_str() == wanted
+        }
+    }
+}
+
+/// Checks a row, and compares the next place where there is a font.
+fn is_checked<R: Abort>(rt: &R, alloc: Global, row: &Row) -> bool {
+    let bytes = bytes_of(rt, alloc, row.0);
+    let mut tape = Cursor::new(bytes.as_slice());
+    tape.set_position(row.1);
+    let checked = FontSet::check(alloc, &mut tape);
+    is_told(rt, alloc, checked, row.2) && row.3.unwrap_or(tape.position()) == tape.position()
+}
+
 #[test]
 fn rows_of_fonts(rt: HostRuntime) {
     let alloc = rt.alloc();
     for (i, row) in ROWS.iter().enumerate() {
         holds_at(&rt, is_row(&rt, alloc, row), "row", i);
+        holds_at(&rt, is_checked(&rt, alloc, row), "checked row", i);
     }
 }
 
@@ -185,6 +207,8 @@ fn changed_and_cut_fonts(rt: HostRuntime) {
     for length in 0..bytes.len() {
         let text = told_of(&rt, alloc, &bytes.as_slice()[..length]);
         holds_at(&rt, text.as_str() == "fault 1", "a font cut to", length);
+        let checked = FontSet::check(alloc, &mut Cursor::new(&bytes.as_slice()[..length]));
+        holds_at(&rt, code_of(checked) == 1, "a check cut to", length);
     }
 }
 
@@ -236,6 +260,17 @@ fn is_failing<R: Abort>(rt: &R, alloc: Global, font: &[u8], calls: u32) -> bool 
     }
 }
 
+/// The same of a check, which makes fewer calls.
+fn is_check_failing(alloc: Global, font: &[u8], calls: u32) -> bool {
+    let mut tape = TroubledTape::new(font, Trouble::FailsAfter(calls));
+    let code = code_of(FontSet::check(alloc, &mut tape));
+    match tape.failures() {
+        0 => calls > 0 && code == 0,
+        1 => calls < 79 && code == 2,
+        _ => false,
+    }
+}
+
 #[test]
 fn io_without_failure(rt: HostRuntime) {
     let alloc = rt.alloc();
@@ -243,5 +278,12 @@ fn io_without_failure(rt: HostRuntime) {
     for calls in 0..80u32 {
         let is_so = is_failing(&rt, alloc, font.as_slice(), calls);
         holds_at(&rt, is_so, "so many calls passed:", calls as usize);
+        let is_so = is_check_failing(alloc, font.as_slice(), calls);
+        holds_at(
+            &rt,
+            is_so,
+            "so many calls of a check passed:",
+            calls as usize,
+        );
     }
 }

@@ -1,6 +1,6 @@
 //! Fonts that lack private dictionaries or local subroutines, by both readings.
 use crate::checks::{changed, holds_at, is_text, put_shown, read};
-use crate::fonts::{FONT, TWO_DICTIONARIES, told};
+use crate::fonts::{FONT, TWO_DICTIONARIES, is_told, told};
 use postscript::Result;
 use postscript::compact1::{FontSet, Operations, Operator};
 use std::alloc::Global;
@@ -90,5 +90,19 @@ fn fonts_by_both_readings(rt: HostRuntime) {
         let found = FontSet::read_lenient(alloc, &mut Cursor::new(bytes.as_slice()));
         let text = told_long(&rt, alloc, &found);
         holds_at(&rt, text.as_str() == *lenient, "lenient row", row);
+        let checked = FontSet::check(alloc, &mut Cursor::new(bytes.as_slice()));
+        holds_at(
+            &rt,
+            is_told(&rt, alloc, checked, strict),
+            "checked row",
+            row,
+        );
+        let checked = FontSet::check_lenient(alloc, &mut Cursor::new(bytes.as_slice()));
+        holds_at(
+            &rt,
+            is_told(&rt, alloc, checked, lenient),
+            "leniently checked row",
+            row,
+        );
     }
 }
