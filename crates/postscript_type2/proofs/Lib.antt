@@ -6,6 +6,7 @@ pub mod Fits
 pub mod Places
 pub mod Bytes
 pub mod Pieces
+pub mod Alone
 pub mod Fronts
 pub mod Remains
 pub mod Strides

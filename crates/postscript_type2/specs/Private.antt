@@ -1,4 +1,5 @@
 -- What private contracts and the proofs alone name: no public clause needs it.
+pub mod Alone
 pub mod Refused
 pub mod Slices
 pub mod Suffixes

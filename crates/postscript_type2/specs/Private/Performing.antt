@@ -4,7 +4,7 @@ use Rattle.postscript_type2.specs.declared.refused.Refused.{Refused}
 use Rattle.postscript_type2.specs.declared.refused.Refused.TheVariants.{Memory}
 use Rattle.postscript_base.specs.Refusal.{Refusal}
 use Rattle.postscript_type2.specs.Private.Refused.{reason}
-use Rattle.postscript_type2.specs.Operation.Kinds.{Kind, Draws, Works}
+use Rattle.postscript_type2.specs.Operation.Kinds.{Kind, Draws, IsRefused, Stores, Works}
 use Rattle.postscript_type2.specs.Program.StackWork.{Work}
 
 -- From the old stack to the new one the code does a work and gives its value, or it refuses what the work refuses.
@@ -24,6 +24,14 @@ PerformsKind (Works work) old (Some result) new = Performs work old result new
 PerformsKind (Works work) old None new = ⊥
 PerformsKind kind old (Some result) new = ⊥
 PerformsKind kind old None new = new ≡ old
+
+-- the kinds of the operators that neither declare stems, nor are masks, nor call, return or end the glyph
+abbrev pub IsRare : Kind → Type 0
+IsRare (Works work) = Unit {0}
+IsRare (Draws takes) = Unit {0}
+IsRare (Stores work) = Unit {0}
+IsRare (IsRefused part) = Unit {0}
+IsRare kind = ⊥
 
 -- the kinds of the operators that work on the stack alone or draw
 abbrev pub WorksOrDraws : Kind → Type 0

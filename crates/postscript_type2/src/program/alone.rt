@@ -1,0 +1,117 @@
+//! Numbers of one byte, eight bytes at a time.
+ghost use Rattle.std.specs.List.{prefix_len};
+ghost use Rattle.std.specs.Prelude.{◌≡◌, ◌≤◌, ◌+◌, ◌∷◌, ◌++◌, true, length, take, drop, map, IfOk, IfErr};
+ghost use Rattle.postscript_type2.specs.declared.refused.Refused.TheVariants as cases;
+ghost use Rattle.postscript_type2.specs.Private.Alone.{alone as the_alone, is_alone as the_is_alone, PutsAlone};
+
+use crate::operation::Operand;
+use crate::refused::Result;
+use std::simd::prelude::*;
+
+/// How many bytes are looked at at once.
+const AT_ONCE: usize = 8;
+
+/// Whether a byte is a number by itself, as most are (Technical Note 5177, "Charstring Number Encoding").
+#[inline(always)]
+pub(super) fn is_alone(first: u8) -> bool
+    ensures { result ≡ the_is_alone first }
+{
+    32 <= first && first < 247
+}
+
+/// How many of these bytes, from the first on, are numbers by themselves.
+#[inline(always)]
+fn alone_front(bytes: u8x8) -> usize
+    ensures count { result ≡ prefix_len the_is_alone bytes }
+    ensures room { result ≤ 8 }
+{
+    // those from 247 on and those below 32
+    let others = (bytes - u8x8::splat(247))
+        .simd_lt(u8x8::splat(41))
+        .to_bitmask();
+    if others == 0 {
+        AT_ONCE
+    } else {
+        others.trailing_zeros() as usize
+    }
+}
+
+/// The number that a byte is by itself.
+#[inline(always)]
+fn alone(byte: u8) -> Operand
+    ensures { result ≡ the_alone byte }
+{
+    Operand::from_int(i16::from(byte) - 139)
+}
+
+/// What eight bytes are, each by itself.
+#[inline(always)]
+fn all_alone(bytes: [u8; AT_ONCE]) -> [Operand; AT_ONCE]
+    ensures { result ≡ map the_alone bytes }
+{
+    let [a, b, c, d, e, f, g, h] = bytes;
+    [
+        alone(a),
+        alone(b),
+        alone(c),
+        alone(d),
+        alone(e),
+        alone(f),
+        alone(g),
+        alone(h),
+    ]
+}
+
+/// Whether eight more operands need no more memory.
+#[inline(always)]
+fn has_room(stack: &Vec<Operand>) -> bool {
+    stack.capacity().wrapping_sub(stack.len()) >= AT_ONCE
+}
+
+/// Puts the front of eight bytes onto the stack, as far as they are numbers by themselves, and answers how many.
+#[inline(always)]
+fn put_front(bytes: u8x8, stack: &mut Vec<Operand>) -> Result<usize>
+    ensures count { IfOk result (λ count. count ≡ prefix_len the_is_alone bytes) }
+    ensures stack { IfOk result (λ count. stack.new.items ≡ stack.old.items ++ map the_alone (take count bytes)) }
+    ensures room { IfOk result (λ count. count ≤ 8) }
+    ensures refused { IfErr result (λ e. e ≡ cases.Memory) }
+{
+    stack.extend_from_slice(&all_alone(bytes.to_array()))?;
+    let count = alone_front(bytes);
+    let behind = AT_ONCE - count;
+    stack.truncate(stack.len() - behind);
+    Ok(count)
+}
+
+/// The bytes from a place on.
+#[inline(always)]
+fn rest_at(code: &[u8], place: usize) -> &[u8]
+    requires { place ≤ length code.now }
+    ensures { result.now ≡ drop place code.now }
+{
+    &code[place..]
+}
+
+/// Puts numbers of one byte onto the stack, of which the first is at a place: those of the next eight bytes, where as many are left,
+/// the first three are such numbers, and eight operands need no more memory; and else that one. Answers the place behind them.
+#[inline(always)]
+pub(super) fn put_alone(
+    code: &[u8],
+    place: usize,
+    first: u8,
+    stack: &mut Vec<Operand>,
+) -> Result<usize>
+    requires first { drop place code.now ≡ first ∷ drop (place + 1) code.now }
+    requires alone { the_is_alone first ≡ true }
+    ensures puts { IfOk result (λ next. PutsAlone (drop place code.now) place stack.old.items next stack.new.items) }
+    ensures room { IfOk result (λ next. next ≤ length code.now) }
+    ensures refused { IfErr result (λ e. e ≡ cases.Memory) }
+{
+    let rest = rest_at(code, place);
+    if rest.len() >= AT_ONCE && is_alone(rest[1]) && is_alone(rest[2]) && has_room(stack) {
+        let count = put_front(u8x8::from_slice(rest), stack)?;
+        return Ok(place + count);
+    }
+    stack.push(alone(first))?;
+    Ok(place + 1)
+}
