@@ -45,14 +45,29 @@ impl Pen {
             Operator::VHCurveTo => self.curves_in_turn(Axis::Vertical, operands, sink, fault),
             Operator::RCurveLine => self.curves_then_line(operands, sink, fault),
             Operator::RLineCurve => self.lines_then_curve(operands, sink, fault),
-            Operator::Flex | Operator::HFlex | Operator::HFlex1 | Operator::Flex1 => self.draw_all(
-                Strokes::of(operator, operands),
-                sink,
-                fault,
+            Operator::Flex | Operator::HFlex | Operator::HFlex1 | Operator::Flex1 => self.flexes(
+                operator, operands, sink, fault,
             ),
             // stems, masks and the operators of which no run tells
             _ => Some(()),
         }
+    }
+
+    /// What a flex draws. It stays a call, since few glyphs have one and strokes take much room.
+    #[inline(never)]
+    fn flexes<S: Sink>(
+        &mut self,
+        operator: Operator,
+        operands: &[Operand],
+        sink: &mut S,
+        fault: &mut Error,
+    ) -> Option<()>
+        ensures exact { DrawsInto (S.refuses sink.new) (drawing (the_strokes operator operands.now) (held self.old (S.given sink.old))) (ok_or result fault.new) (held self.new (S.given sink.new)) }
+        ensures refused { IfErr (ok_or result fault.new) (λ e. S.refuses sink.new e ⊎ (e ≡ errors.Overflow)) }
+        ensures kept { IsFront (S.given sink.old) (S.given sink.new) }
+        ensures front { OnErr (ok_or result fault.new) (IfOk (drawing (the_strokes operator operands.now) (held self.old (S.given sink.old))) (λ drawing. IsFront (S.given sink.new) drawing.segments)) }
+    {
+        self.draw_all(Strokes::of(operator, operands), sink, fault)
     }
 
     /// dx1 dy1
