@@ -3,11 +3,11 @@ ghost use Rattle.std.specs.Prelude.{◌≡◌, ◌≢◌, ℕ, List, option_map}
 ghost use Rattle.postscript_base.specs.Tape.Outcome.{Answers};
 ghost use Rattle.postscript_c.specs.Answers.{IsOf};
 ghost use Rattle.postscript_c.specs.CidAnswers.{IsOfCid};
-ghost use Rattle.postscript_c.specs.Glyphs.{drawn_at, drawn_by, drawn_if};
+ghost use Rattle.postscript_c.specs.Glyphs.{drawn_at, drawn_by, drawn_over as the_drawn};
 ghost use Rattle.postscript_c.specs.Shown.{found_shown, picture_shown};
 
 use crate::font::PsfFont;
-use crate::glyph::{part_at, program};
+use crate::glyph::{index_at, part_at};
 use crate::part::PsfPart;
 use crate::sketch::Sketch;
 use postscript_base::Result;
@@ -31,19 +31,29 @@ fn draw(alloc: Global, program: &mut Program<'_>) -> Result<Picture>
     Ok(Picture { sketch, width })
 }
 
-/// What a program draws, if there is one.
-#[tactic(auto, unfolding(crate::specs::Glyphs::drawn_if))]
-fn draw_if(alloc: Global, program: Option<Program<'_>>) -> Result<Option<Picture>>
-    ensures exact { (bytes : List ℕ) (place : ℕ) → Answers (option_map picture_shown) result place (drawn_if program.entry bytes place) }
+/// What a code draws over the subroutines at two places. None where there is no code. The program, which is large, stays
+/// where it is made.
+#[tactic(auto, unfolding(crate::specs::Glyphs::program_of, crate::specs::Glyphs::drawn_if, crate::specs::Glyphs::drawn_over))]
+fn drawn_over(
+    alloc: Global,
+    bytes: &[u8],
+    code: Option<&[u8]>,
+    global: u64,
+    local: u64,
+) -> Result<Option<Picture>>
+    ensures exact { (place : ℕ) → Answers (option_map picture_shown) result place (the_drawn (option_map (λ code. code.now) code.entry) global local bytes.now place) }
 {
-    let Some(mut program) = program else {
+    let Some(code) = code else {
         return Ok(None);
     };
+    let globals = index_at(bytes, global)?;
+    let locals = index_at(bytes, local)?;
+    let mut program = Program::over(alloc, code, globals, locals);
     Ok(Some(draw(alloc, &mut program)?))
 }
 
 /// The picture of a glyph. None where there is no such glyph.
-#[tactic(auto, unfolding(crate::specs::Glyphs::drawn_at))]
+#[tactic(auto, unfolding(crate::specs::Glyphs::drawn_at, crate::specs::Glyphs::program_at, crate::specs::Glyphs::drawn_over))]
 fn picture_of(
     alloc: Global,
     bytes: &[u8],
@@ -53,8 +63,14 @@ fn picture_of(
 ) -> Result<Option<Picture>>
     ensures exact { (place : ℕ) → Answers (option_map picture_shown) result place (drawn_at font.now part.now glyph bytes.now place) }
 {
-    let program = program(alloc, bytes, font, part, glyph)?;
-    draw_if(alloc, program)
+    let codes = index_at(bytes, font.char_strings)?;
+    drawn_over(
+        alloc,
+        bytes,
+        codes.get(glyph),
+        font.global_subroutines,
+        part.local_subroutines,
+    )
 }
 
 /// The picture of a glyph, and its part.
