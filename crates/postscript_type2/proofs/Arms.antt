@@ -122,24 +122,24 @@ no-caller lists left bytes rest st ys op more read does =
     (ap (λ run. run.answers) step, ap (λ run. run.end) step)
 
 -- EndChar, where the subroutines of the chain are used up and where they are not
-ended : (lists : Lists) (left : ℕ) (cs : List (List ℕ)) (bytes rest : List ℕ) (st : State) (ys : List ℤ) (op : Operator) (more : ℕ) (width : Option ℤ) (used_up : Bool) →
-    IsRead bytes rest st ys op more → effect lists op rest (stacked ys st) ≡ Ends width → used_up ≡ are_used_up rest cs →
-    still lists left bytes cs st ≡ with_phrase (said op more bytes) (at_end (if used_up then Finished width else Fault trailing_data))
-ended lists left cs bytes rest st ys op more width used_up read does is = stepped lists left cs bytes rest st ys op more (Ends width) read does
-    ∙ ap (λ after. with_phrase (said op more bytes) (at_end (if are_used_up after cs then Finished width else Fault trailing_data))) (sym read.behind)
-    ∙ ap (λ b. with_phrase (said op more bytes) (at_end (if b then Finished width else Fault trailing_data))) (sym is)
+ended : (lists : Lists) (left : ℕ) (cs : List (List ℕ)) (bytes rest : List ℕ) (st : State) (ys : List ℤ) (op : Operator) (more : ℕ) (taken : List ℤ) (width : Option ℤ) (used_up : Bool) →
+    IsRead bytes rest st ys op more → effect lists op rest (stacked ys st) ≡ Ends taken width → used_up ≡ are_used_up rest cs →
+    still lists left bytes cs st ≡ with_phrase (said op more bytes) (at_end (if used_up then Finished taken width else Fault trailing_data))
+ended lists left cs bytes rest st ys op more taken width used_up read does is = stepped lists left cs bytes rest st ys op more (Ends taken width) read does
+    ∙ ap (λ after. with_phrase (said op more bytes) (at_end (if are_used_up after cs then Finished taken width else Fault trailing_data))) (sym read.behind)
+    ∙ ap (λ b. with_phrase (said op more bytes) (at_end (if b then Finished taken width else Fault trailing_data))) (sym is)
 
-pub finished : (lists : Lists) (left : ℕ) (cs : List (List ℕ)) {bytes rest front : List ℕ} {st : State} {ys : List ℤ} {op : Operator} {more : ℕ} {width : Option ℤ} →
-    IsRead bytes rest st ys op more → effect lists op rest (stacked ys st) ≡ Ends width → true ≡ are_used_up rest cs → front ≡ take (length bytes - length rest) bytes →
-    still lists left bytes cs st ≡ with_phrase (with op front) (at_end (Finished width))
-finished lists left cs {bytes} {rest} {front} {st} {ys} {op} {more} {width} read does is is_front = ended lists left cs bytes rest st ys op more width true read does is
-    ∙ ap (λ front'. with_phrase (with op front') (at_end (Finished width))) (sym (front-of bytes rest front (more + 1) read.behind is_front))
+pub finished : (lists : Lists) (left : ℕ) (cs : List (List ℕ)) {bytes rest front : List ℕ} {st : State} {ys : List ℤ} {op : Operator} {more : ℕ} {taken : List ℤ} {width : Option ℤ} →
+    IsRead bytes rest st ys op more → effect lists op rest (stacked ys st) ≡ Ends taken width → true ≡ are_used_up rest cs → front ≡ take (length bytes - length rest) bytes →
+    still lists left bytes cs st ≡ with_phrase (with op front) (at_end (Finished taken width))
+finished lists left cs {bytes} {rest} {front} {st} {ys} {op} {more} {taken} {width} read does is is_front = ended lists left cs bytes rest st ys op more taken width true read does is
+    ∙ ap (λ front'. with_phrase (with op front') (at_end (Finished taken width))) (sym (front-of bytes rest front (more + 1) read.behind is_front))
 
-pub trailing : (lists : Lists) (left : ℕ) (cs : List (List ℕ)) {bytes rest : List ℕ} {st now : State} {ys : List ℤ} {op : Operator} {more : ℕ} {width : Option ℤ} →
-    IsRead bytes rest st ys op more → effect lists op rest (stacked ys st) ≡ Ends width → now ≡ after_move (effect lists op rest (stacked ys st)) (stacked ys st) → false ≡ are_used_up rest cs →
+pub trailing : (lists : Lists) (left : ℕ) (cs : List (List ℕ)) {bytes rest : List ℕ} {st now : State} {ys : List ℤ} {op : Operator} {more : ℕ} {taken : List ℤ} {width : Option ℤ} →
+    IsRead bytes rest st ys op more → effect lists op rest (stacked ys st) ≡ Ends taken width → now ≡ after_move (effect lists op rest (stacked ys st)) (stacked ys st) → false ≡ are_used_up rest cs →
     (((still lists left bytes cs st).answers ≡ []) × ((still lists left bytes cs st).end ≡ Fault trailing_data)) × (now.width ≡ st.width)
-trailing lists left cs {bytes} {rest} {st} {now} {ys} {op} {more} {width} read does after is =
-    let step = ended lists left cs bytes rest st ys op more width false read does is in
+trailing lists left cs {bytes} {rest} {st} {now} {ys} {op} {more} {taken} {width} read does after is =
+    let step = ended lists left cs bytes rest st ys op more taken width false read does is in
     ((ap (λ run. run.answers) step, ap (λ run. run.end) step), ap (λ (s : State). s.width) (after ∙ ap (λ move. after_move move (stacked ys st)) does))
 
 -- a refusal of the phrase

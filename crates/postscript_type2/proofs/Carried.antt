@@ -38,7 +38,7 @@ moved-past other (suc left) front x op more st (Calls routine stack) =
     past (λ t d. with_phrase (by op t) (still other left routine (d ∷ []) (stacked stack st))) front x (length front + more + 1) (more + 1) (omega arith)
 moved-past other left front x op more st Returns =
     past (λ t d. with_phrase (by op t) (at_end (Fault return_without_caller))) front x (length front + more + 1) (more + 1) (omega arith)
-moved-past other left front x op more st (Ends width) = past (λ t d. with_phrase (by op t) (at_end (Finished width))) front x (length front + more + 1) (more + 1) (omega arith)
+moved-past other left front x op more st (Ends taken width) = past (λ t d. with_phrase (by op t) (at_end (Finished taken width))) front x (length front + more + 1) (more + 1) (omega arith)
 moved-past other left front x op more st (Refuses e) = refl
 
 -- the state with numbers of both on its stack

@@ -29,7 +29,7 @@ abbrev pub InFlat : (other : Lists) (left : ℕ) → State → Stride → Type 0
 InFlat other left st (On said answer st' more) = Tells other left st (flat_said said) (λ x. with_any_answer answer (mean other left false x st'))
 InFlat other left st (Into said routine st' more) = Tells other left st (flat_said said) (λ x. mean other left false x st')
 InFlat other left st (Back said st') = Tells other left st (flat_said said) (λ x. mean other left false x st')
-InFlat other left st (Over said width more) = Tells other left st (flat_said said) (λ x. at_end (Finished width))
+InFlat other left st (Over said taken width more) = Tells other left st (flat_said said) (λ x. at_end (Finished taken width))
 InFlat other left st (Faults e) = Unit {0}
 
 -- the same by an operator's move, where it neither calls nor returns
@@ -39,7 +39,7 @@ MeansInFlat other left st said op st' (Clears taken stems width mask) =
     Tells other left st said (λ x. with_answer (record { operator = op; operands = taken; width = width }) (mean other left false x (cleared stems width st')))
 MeansInFlat other left st said op st' (Calls routine stack) = ⊥
 MeansInFlat other left st said op st' Returns = ⊥
-MeansInFlat other left st said op st' (Ends width) = Tells other left st said (λ x. at_end (Finished width))
+MeansInFlat other left st said op st' (Ends taken width) = Tells other left st said (λ x. at_end (Finished taken width))
 MeansInFlat other left st said op st' (Refuses e) = Unit {0}
 
 abbrev pub IsOwn : Move → Type 0
@@ -83,7 +83,7 @@ phrase-in other left bytes st ns op more move own reads does long = by_move move
         is x ∙ cut (λ t d. with_phrase (record { operator = op; bytes = t }) (with_answer (record { operator = op; operands = taken; width = width }) (mean other left false d (cleared stems width st)))) bytes x (more + mask + 1) l
     by_move (Calls routine stack) own l is = own
     by_move Returns own l is = own
-    by_move (Ends width) own l is = λ x. is x ∙ cut (λ t d. with_phrase (record { operator = op; bytes = t }) (at_end (Finished width))) bytes x (more + 1) l
+    by_move (Ends taken width) own l is = λ x. is x ∙ cut (λ t d. with_phrase (record { operator = op; bytes = t }) (at_end (Finished taken width))) bytes x (more + 1) l
     by_move (Refuses e) own l is = tt
 
 -- an operator that stands in flat code as it is
@@ -122,7 +122,7 @@ own-in other left b r st ns op more l move own flat room does =
     by_move (Clears taken stems width mask) own m = m
     by_move (Calls routine stack) own m = absurd own
     by_move Returns own m = absurd own
-    by_move (Ends width) own m = m
+    by_move (Ends taken width) own m = m
     by_move (Refuses e) own m = tt
 
 -- a call and Drop take the same number off the stack

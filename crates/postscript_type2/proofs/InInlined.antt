@@ -27,7 +27,7 @@ abbrev pub InInlined : (other : Lists) (left : ℕ) → State → Stride → Typ
 InInlined other left st (On said answer st' more) = (piece said ≡ Stands said) × Tells other left st said (λ x. with_any_answer answer (mean other left false x st'))
 InInlined other left st (Into said routine st' more) = InPiece other left st st' (piece said)
 InInlined other left st (Back said st') = InPiece other left st st' (piece said)
-InInlined other left st (Over said width more) = (piece said ≡ Stands said) × Tells other left st said (λ x. at_end (Finished width))
+InInlined other left st (Over said taken width more) = (piece said ≡ Stands said) × Tells other left st said (λ x. at_end (Finished taken width))
 InInlined other left st (Faults e) = Unit {0}
 
 own-tells : (other : Lists) (left : ℕ) (st : State) (op : Operator) (bytes : List ℕ) (k : Kind) → kind op ≡ k → stands_flat k ≡ true → (go : List ℕ → Run) →
@@ -40,7 +40,7 @@ own-in other left bytes st st' op more k is own (Keeps stack stored) o flat = ow
 own-in other left bytes st st' op more k is own (Clears taken stems width mask) o flat = grind (arith, own-tells)
 own-in other left bytes st st' op more k is own (Calls routine stack) o flat = absurd o
 own-in other left bytes st st' op more k is own Returns o flat = absurd o
-own-in other left bytes st st' op more k is own (Ends width) o flat = own-tells other left st op (take (more + 1) bytes) k is own (λ x. at_end (Finished width)) flat
+own-in other left bytes st st' op more k is own (Ends taken width) o flat = own-tells other left st op (take (more + 1) bytes) k is own (λ x. at_end (Finished taken width)) flat
 own-in other left bytes st st' op more k is own (Refuses e) o flat = tt
 
 mask-own : (st : State) (stems : ℕ) (short : Bool) (o : Option ℕ) → IsOwn (with_stems stems (if short then Refuses unexpected_eof else mask_clearing st stems o))

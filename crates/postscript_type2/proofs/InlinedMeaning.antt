@@ -16,20 +16,20 @@ use Rattle.postscript_type2.specs.Program.Routines.{Lists}
 use Rattle.postscript_type2.specs.Program.Runs.{Answer, Said, by, End, UsedUp, Returned, Finished, Fault, Run, fault_of}
 use Rattle.postscript_type2.proofs.Carried.{carried-text}
 use Rattle.postscript_type2.proofs.InInlined.{InPiece, InInlined, in-inlined}
-use Rattle.postscript_type2.proofs.Inlining.{followed-ends, flat_end, flat-fault, flat-width}
+use Rattle.postscript_type2.proofs.Inlining.{followed-ends, flat_end, flat-fault, flat-taken, flat-width}
 
 -- no fault, and the phrases that may follow: where the run goes on, those of a text that has a run of them
 abbrev MayFollow : (other : Lists) (left : ℕ) → End → List Said → Type 0
 MayFollow other left UsedUp next = next ≡ []
 MayFollow other left (Returned st) next = (mean other left false (text next) st).trace ≡ next
-MayFollow other left (Finished width) next = next ≡ []
+MayFollow other left (Finished taken width) next = next ≡ []
 MayFollow other left (Fault e) next = ⊥
 
 -- how inlined code goes on with phrases that follow it
 abbrev onward : Lists → (left : ℕ) → End → List Said → Run
 onward other left UsedUp next = at_end UsedUp
 onward other left (Returned st) next = mean other left false (text next) st
-onward other left (Finished width) next = at_end (Finished width)
+onward other left (Finished taken width) next = at_end (Finished taken width)
 onward other left (Fault e) next = at_end (Fault e)
 
 -- a run's answers and its inlined trace before these phrases, and then what another run has
@@ -87,7 +87,7 @@ inline-by other left (Some run) subs inner r st go next (Into said sub st' more)
 inline-by other left callee subs true r st go next (Back said st') means = inline-told other left st st' said (at_end (Returned st')) means
     (λ n m. ap (λ t. record { answers = (mean other left false (text n) st').answers; trace = t; end = (mean other left false (text n) st').end }) m)
 inline-by other left callee subs false r st go next (Back said st') means = λ n m. absurd m
-inline-by other left callee subs inner r st go next (Over said width more) means = grind (arith, inline-own, inline-told, inline-followed)
+inline-by other left callee subs inner r st go next (Over said taken width more) means = grind (arith, inline-own, inline-told, inline-followed)
 inline-by other left callee subs inner r st go next (Faults e) means = λ n m. absurd m
 
 inline-routine : (lists other : Lists) (left : ℕ) (callee : Callee) → AllInline other left callee → (inner : Bool) (k : ℕ) (r : List ℕ) (st : State) →
@@ -150,7 +150,7 @@ run-is lists code none other = of_run (run_of lists code) (inline-routine lists 
 -- It keeps its meaning.
 pub keeps_meaning : (lists : Lists) (code : List ℕ) → fault_of (run_of lists code).end ≡ None →
     (other : Lists) → KeepsMeaning other (inlined_text (run_of lists code).trace) (run_of lists code)
-keeps_meaning lists code h0 other = search (rules, run-is, flat_end, flat-width, flat-fault, all-flat, own-text)
+keeps_meaning lists code h0 other = search (rules, run-is, flat_end, flat-width, flat-taken, flat-fault, all-flat, own-text)
 
 pub law : InlinedTextKeepsMeaning
 law lists other code none = keeps_meaning lists code none other

@@ -12,21 +12,21 @@ use Rattle.postscript_type2.specs.Program.Evaluation.{at_end, followed, Stride, 
 use Rattle.postscript_type2.specs.Program.Flat.{flat_by, flat_said, flat_bytes, flat_text}
 use Rattle.postscript_type2.specs.Program.Inlining.{is_flat, KeepsMeaning, FlatTextKeepsMeaning}
 use Rattle.postscript_type2.specs.Program.Routines.{Lists}
-use Rattle.postscript_type2.specs.Program.Runs.{Answer, Said, End, UsedUp, Returned, Finished, Fault, Run, fault_of, width_by, width_of}
+use Rattle.postscript_type2.specs.Program.Runs.{Answer, Said, End, UsedUp, Returned, Finished, Fault, Run, fault_of, taken_by, width_by, width_of}
 use Rattle.postscript_type2.proofs.InFlat.{InFlat, in-flat}
 
 -- no fault, and where the run was used up nothing follows
 abbrev MayFollow : End → List ℕ → Type 0
 MayFollow UsedUp x = x ≡ []
 MayFollow (Returned st) x = Unit {0}
-MayFollow (Finished width) x = Unit {0}
+MayFollow (Finished taken width) x = Unit {0}
 MayFollow (Fault e) x = ⊥
 
 -- how flat code goes on with bytes that follow it
 abbrev onward : Lists → (left : ℕ) → End → List ℕ → Run
 onward other left UsedUp x = at_end UsedUp
 onward other left (Returned st) x = mean other left false x st
-onward other left (Finished width) x = at_end (Finished width)
+onward other left (Finished taken width) x = at_end (Finished taken width)
 onward other left (Fault e) x = at_end (Fault e)
 
 -- a run's answers and its flat trace, and then another run
@@ -106,6 +106,9 @@ flat-fault end = grind arith
 pub flat-width : (a : List Answer) (end : End) → width_by None a (flat_end end) ≡ width_by None a end
 flat-width a end = grind arith
 
+pub flat-taken : (end : End) → taken_by (flat_end end) ≡ taken_by end
+flat-taken end = grind arith
+
 -- with nothing behind it
 flat-alone : (other : Lists) (left : ℕ) (st : State) (a : List Answer) (t : List Said) (end : End) → Inlines other left st (record { answers = a; trace = t; end = end }) →
     fault_of end ≡ None → mean other left false (flat_text t) st ≡ record { answers = a; trace = map flat_said t; end = flat_end end }
@@ -115,7 +118,7 @@ flat-alone other left st a t end flat none = ap (λ bytes. mean other left false
         mean other left false (flat_text t ++ []) st ≡ record { answers = a; trace = map flat_said t; end = flat_end end }
     by_end UsedUp flat none = flat [] refl ∙ followed-ends a (map flat_said t) UsedUp UsedUp
     by_end (Returned st') flat none = flat [] tt ∙ followed-ends a (map flat_said t) UsedUp UsedUp
-    by_end (Finished width) flat none = flat [] tt ∙ followed-ends a (map flat_said t) UsedUp (Finished width)
+    by_end (Finished taken width) flat none = flat [] tt ∙ followed-ends a (map flat_said t) UsedUp (Finished taken width)
     by_end (Fault e) flat none = absurd (cc)
 
 -- The flat text of a faultless run keeps its meaning over any lists.
@@ -130,6 +133,7 @@ keeps_meaning lists code none other = of_run (run_of lists code) (inline-routine
         record {
           answers = ap (λ r. r.answers) same;
           width = ap width_of same ∙ flat-width run.answers run.end;
+          taken = ap (λ r. taken_by r.end) same ∙ flat-taken run.end;
           faultless = ap (λ r. fault_of r.end) same ∙ flat-fault run.end ∙ none;
           no_calls = subst (λ r. AllPass (λ said. is_flat said.operator) r.trace) (sym same) (all-flat run.trace);
           own_text = ap (λ r. flat_text r.trace) same ∙ flat-text run.trace;

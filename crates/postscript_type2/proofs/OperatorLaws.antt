@@ -15,7 +15,7 @@ use Rattle.postscript_type2.specs.declared.operation.Operator.TheVariants.{HintM
 use Rattle.postscript_type2.specs.Number.{whole, to_int}
 use Rattle.postscript_type2.specs.Operation.Kinds.{Kind, Draws, DeclaresStems, Masks, Works, Stores, CallsFrom, GoesBack, EndsGlyph, IsRefused, kind, lengths, taken as taken_of}
 use Rattle.postscript_type2.specs.Operation.Lengths.{exactly, greatest}
-use Rattle.postscript_type2.specs.Program.Effects.{State, Move, Keeps, Clears, Calls, Returns, Ends, Refuses, stacked, settled, last_of, clearing, stems_after, with_stems, mask_len, implied, mask_clearing, work_move, store_move, named, effect_of, effect}
+use Rattle.postscript_type2.specs.Program.Effects.{State, Move, Keeps, Clears, Calls, Returns, Ends, Refuses, stacked, settled, last_of, clearing, stems_after, with_stems, mask_len, implied, mask_clearing, taken_at_end, end_move, work_move, store_move, named, effect_of, effect}
 use Rattle.postscript_type2.specs.Program.FixedPoint.{cut, fit, absolute_value, opposite, root, sum, difference, product, quotient, truth, is_true, both, either, denial, same_bits}
 use Rattle.postscript_type2.specs.Program.OperatorRules.{IsHeld, HasResult, abs, neg, add, sub, mul, div, Leaves, result, sqrt, and, or, negated, eq, if_not_above, if_above, drop, exch, dup, index, roll as rolls, Makes, stored_stay, put, get, pops, NamesByTop, index_names, roll_names, put_names, get_names, HasNoWholeTop, empty, fraction, NamesNone, below_zero, past_last, IsRefusedOn, too_few, zero_divisor_on_top, root_of_negative, past_range, nothing_to_double, no_whole_top, index_too_deep, no_whole_span, span_below_zero, span_too_long, nothing_to_put, put_nowhere, get_nowhere, TakesMost, TakesNone, IsSettled, settled_before, operand_beneath, nothing_beneath, StemsAfter, in_pairs, TakesAtEnd, last_four, fewer, Does, makes, refused, without_meaning, draws, draws_none, declares, declares_none, declares_too_many, masks, masks_cut, masks_too_many, calls, calls_no_number, calls_nothing, returns, ends, OperatorsDoSo}
 use Rattle.postscript_type2.specs.Program.Routines.{Lists}
@@ -226,12 +226,20 @@ mask-is st stems beneath pairs width e few even h =
     ∙ ap (λ u. Clears [] stems (settled st.width st.stack u) (mask_len stems)) them
     ∙ ap (λ w. Clears [] stems w (mask_len stems)) (settled-is st.width st.stack beneath pairs width e h)
 
-end-is : (before : Option (Option ℤ)) (stack beneath : List ℤ) (width : Option ℤ) → TakesAtEnd stack beneath → IsSettled before beneath width →
-    settled before stack (if nat_lt (length stack) 4 then 0 else 4) ≡ width
-end-is before _ _ width (last_four beneath taken n) h = grind (arith, length-append, nat_tests, settled-is, append-nil)
-end-is before _ _ width (fewer stack few) h =
-    let test : nat_lt (length stack) 4 ≡ true = grind (arith, nat_tests) in
-    ap (λ t. settled before stack (if t then 0 else 4)) test ∙ settled-is before stack stack [] width (sym (append-nil stack)) h
+end-parts : (stack beneath taken : List ℤ) → TakesAtEnd stack beneath taken → stack ≡ beneath ++ taken
+end-parts _ _ _ (last_four beneath taken n) = refl
+end-parts _ _ _ (fewer stack few) = sym (append-nil stack)
+
+end-count : (stack beneath taken : List ℤ) → TakesAtEnd stack beneath taken → taken_at_end (length stack) ≡ length taken
+end-count _ _ _ (last_four beneath taken n) = grind (arith, length-append, nat_tests)
+end-count _ _ _ (fewer stack few) = grind (arith, nat_tests)
+
+end-is : (st : State) (beneath taken : List ℤ) (width : Option ℤ) → TakesAtEnd st.stack beneath taken → IsSettled st.width beneath width → end_move st ≡ Ends taken width
+end-is st beneath taken width h settles =
+    let parts = end-parts st.stack beneath taken h in
+    ap (λ n. Ends (last_of st.stack n) (settled st.width st.stack n)) (end-count st.stack beneath taken h)
+    ∙ ap (λ xs. Ends xs (settled st.width st.stack (length taken))) (last-is st.stack beneath taken parts)
+    ∙ ap (Ends taken) (settled-is st.width st.stack beneath taken width parts settles)
 
 does-on : (lists : Lists) (op : Operator) (behind : List ℕ) (st : State) (move : Move) → Does lists op behind st move → effect lists op behind st ≡ move
 does-on lists op behind st _ (makes beneath taken left new is e) = ap (on lists op behind st) e ∙ makes-on lists op behind st beneath taken left new is
@@ -261,7 +269,7 @@ does-on lists op behind st _ (calls routines beneath n routine k e there) = grin
 does-on lists op behind st _ (calls_no_number routines k h) = grind (arith, no-whole)
 does-on lists op behind st _ (calls_nothing routines beneath n k e missing) = grind (arith, whole-popped)
 does-on lists op behind st _ (returns k) = ap (λ k. effect_of k lists op behind st) k
-does-on lists op behind st _ (ends beneath width k h settles) = grind (arith, end-is)
+does-on lists op behind st _ (ends beneath taken width k h settles) = ap (λ k. effect_of k lists op behind st) k ∙ end-is st beneath taken width h settles
 
 -- Each operator does something from each state.
 abbrev Found : Lists → Operator → (behind : List ℕ) → State → Type 0
@@ -536,13 +544,13 @@ found-end : (lists : Lists) (op : Operator) (behind : List ℕ) (st : State) →
 found-end lists op behind st k = by_length (cases_lt (length st.stack) 4)
   where
     by_length : (length st.stack < 4) ⊎ (4 ≤ length st.stack) → Found lists op behind st
-    by_length (inl few) = let width = settle st.width st.stack in (Ends width.0, ends st.stack width.0 k (fewer st.stack few) width.1)
+    by_length (inl few) = let width = settle st.width st.stack in (Ends [] width.0, ends st.stack [] width.0 k (fewer st.stack few) width.1)
     by_length (inr there) =
         let front = take (length st.stack - 4) st.stack in
         let back = drop_of (length st.stack - 4) st.stack in
         let many : length back ≡ 4 = length-drop (length st.stack - 4) st.stack ∙ omega arith in
         let width = settle st.width front in
-        (Ends width.0, ends front width.0 k (subst (λ stack. TakesAtEnd stack front) (take-append-drop (length st.stack - 4) st.stack) (last_four front back many)) width.1)
+        (Ends back width.0, ends front back width.0 k (subst (λ stack. TakesAtEnd stack front back) (take-append-drop (length st.stack - 4) st.stack) (last_four front back many)) width.1)
 
 -- the operators that clear the stack, call, return, end the glyph or are refused for good
 abbrev IsOther : Kind → Type 0

@@ -13,7 +13,7 @@ use Rattle.postscript_type2.proofs.OperatorLaws.{law as operators-law}
 -- a move where the width is settled already
 abbrev MovesWith : Option ℤ → Move → Type 0
 MovesWith width (Clears taken stems last mask) = last ≡ width
-MovesWith width (Ends last) = last ≡ width
+MovesWith width (Ends taken last) = last ≡ width
 MovesWith width move = Unit {0}
 
 stays : (before : Option (Option ℤ)) (beneath : List ℤ) (last width : Option ℤ) → before ≡ Some width → IsSettled before beneath last → last ≡ width
@@ -23,7 +23,7 @@ does-with : (lists : Lists) (op : Operator) (behind : List ℕ) (st : State) (wi
 does-with lists op behind st width e _ (draws takes beneath taken last k h settles) = stays st.width beneath last width e settles
 does-with lists op behind st width e _ (declares takes beneath taken last stems k counts few h settles) = stays st.width beneath last width e settles
 does-with lists op behind st width e _ (masks beneath rest last stems k counts few bytes at small even settles) = stays st.width beneath last width e settles
-does-with lists op behind st width e _ (ends beneath last k h settles) = stays st.width beneath last width e settles
+does-with lists op behind st width e _ (ends beneath taken last k h settles) = stays st.width beneath last width e settles
 does-with lists op behind st width e _ _ = tt
 
 moves-with : (lists : Lists) (st : State) (phrase : List ℕ) (numbers : List ℤ) (op : Operator) (behind : List ℕ) (move : Move) (width : Option ℤ) → st.width ≡ Some width →
@@ -33,7 +33,7 @@ moves-with lists st phrase numbers op behind move width e m =
 
 -- what is left of a run where the width is settled
 abbrev EndsSettled : Option ℤ → End → Type 0
-EndsSettled width (Finished last) = last ≡ width
+EndsSettled width (Finished taken last) = last ≡ width
 EndsSettled width (Returned st) = st.width ≡ Some width
 EndsSettled width UsedUp = Unit {0}
 EndsSettled width (Fault e) = Unit {0}
@@ -42,8 +42,8 @@ record Keeping (width : Option ℤ) (answers : List Answer) (end : End) : Type 0
   pub each : All (λ answer. answer.width ≡ width) answers
   pub last : EndsSettled width end
 
-closes-with : (width last : Option ℤ) (depth : ℕ) (behind : List ℕ) (end : End) → last ≡ width → Closes last depth behind end → EndsSettled width end
-closes-with width last depth behind end e h1 = grind arith
+closes-with : (width : Option ℤ) (taken : List ℤ) (last : Option ℤ) (depth : ℕ) (behind : List ℕ) (end : End) → last ≡ width → Closes taken last depth behind end → EndsSettled width end
+closes-with width taken last depth behind end e h1 = grind arith
 
 keeping : (lists : Lists) (width : Option ℤ) (depth : ℕ) (rest : List ℕ) (st : State) (answers : List Answer) (trace : List Said) (end : End) →
     st.width ≡ Some width → Means lists depth rest st answers trace end → Keeping width answers end
@@ -59,18 +59,18 @@ keeping lists width _ _ _ _ _ _ e (calls_phrase depth phrase behind numbers op s
     record { each = All-append (λ answer. answer.width ≡ width) inner answers first.each rest.each; last = rest.last }
 keeping lists width _ _ _ _ _ _ e (calls_to_stop depth phrase behind numbers op st subroutine stack inner inner_trace end m few within stops) =
     keeping lists width (suc depth) subroutine (stacked stack st) inner inner_trace end e within
-keeping lists width _ _ _ _ _ _ e (calls_to_finish depth phrase behind numbers op st subroutine stack inner inner_trace last end m few within closes) =
-    let first = keeping lists width (suc depth) subroutine (stacked stack st) inner inner_trace (Finished last) e within in
-    record { each = first.each; last = closes-with width last depth behind end first.last closes }
+keeping lists width _ _ _ _ _ _ e (calls_to_finish depth phrase behind numbers op st subroutine stack inner inner_trace taken last end m few within closes) =
+    let first = keeping lists width (suc depth) subroutine (stacked stack st) inner inner_trace (Finished taken last) e within in
+    record { each = first.each; last = closes-with width taken last depth behind end first.last closes }
 keeping lists width _ _ _ _ _ _ e (returns_phrase depth phrase behind numbers op st m inner) = record { each = All-nil (λ answer. answer.width ≡ width); last = e }
-keeping lists width _ _ _ _ _ _ e (finishes depth phrase behind numbers op st last end m closes) =
-    let same : last ≡ width = moves-with lists st phrase numbers op behind (Ends last) width e m in
-    record { each = All-nil (λ answer. answer.width ≡ width); last = closes-with width last depth behind end same closes }
+keeping lists width _ _ _ _ _ _ e (finishes depth phrase behind numbers op st taken last end m closes) =
+    let same : last ≡ width = moves-with lists st phrase numbers op behind (Ends taken last) width e m in
+    record { each = All-nil (λ answer. answer.width ≡ width); last = closes-with width taken last depth behind end same closes }
 keeping lists width _ _ _ _ _ _ e _ = record { each = All-nil (λ answer. answer.width ≡ width); last = tt }
 
 -- what is left of a run where no width is settled yet: none is settled in it, or its first settles one
 abbrev NoneSettled : End → Type 0
-NoneSettled (Finished last) = ⊥
+NoneSettled (Finished taken last) = ⊥
 NoneSettled (Returned st) = st.width ≡ None
 NoneSettled UsedUp = Unit {0}
 NoneSettled (Fault e) = Unit {0}
@@ -79,10 +79,10 @@ data Left (lists : Lists) (depth : ℕ) (rest : List ℕ) (st : State) (answers 
   unsettled : answers ≡ [] → NoneSettled end → Left lists depth rest st answers end
   settles : (width : Option ℤ) → FirstSettles lists width depth rest st → Keeping width answers end → Left lists depth rest st answers end
 
-closes-left : (lists : Lists) (depth : ℕ) (phrase behind : List ℕ) (numbers : List ℤ) (op : Operator) (st : State) (last : Option ℤ) (end : End) →
-    Moves lists st phrase numbers op behind (Ends last) → Closes last depth behind end → Left lists depth (phrase ++ behind) st [] end
-closes-left lists depth phrase behind numbers op st last end m closes =
-    settles last (first_ends depth phrase behind numbers op st m) (record { each = All-nil (λ answer. answer.width ≡ last); last = closes-with last last depth behind end refl closes })
+closes-left : (lists : Lists) (depth : ℕ) (phrase behind : List ℕ) (numbers : List ℤ) (op : Operator) (st : State) (taken : List ℤ) (last : Option ℤ) (end : End) →
+    Moves lists st phrase numbers op behind (Ends taken last) → Closes taken last depth behind end → Left lists depth (phrase ++ behind) st [] end
+closes-left lists depth phrase behind numbers op st taken last end m closes =
+    settles last (first_ends depth phrase behind numbers op st taken m) (record { each = All-nil (λ answer. answer.width ≡ last); last = closes-with last taken last depth behind end refl closes })
 
 past-kept : (lists : Lists) (depth : ℕ) (phrase behind : List ℕ) (numbers : List ℤ) (op : Operator) (st : State) (stack stored : List ℤ) (answers : List Answer) (end : End) →
     Moves lists st phrase numbers op behind (Keeps stack stored) → Left lists depth behind (holding stack stored st) answers end → Left lists depth (phrase ++ behind) st answers end
@@ -116,8 +116,8 @@ past-call lists depth phrase behind numbers op st subroutine stack inner answers
         (subst (λ xs. Means lists (suc depth) subroutine (stacked stack st) xs inner_trace (Returned back)) none within) first)
         (record { each = subst (λ xs. All (λ answer. answer.width ≡ width) (xs ++ answers)) (sym none) rest.each; last = rest.last })
 
-closes-none : (last : Option ℤ) (end : End) → NoneSettled (Finished last) → NoneSettled end
-closes-none last end h = absurd h
+closes-none : (taken : List ℤ) (last : Option ℤ) (end : End) → NoneSettled (Finished taken last) → NoneSettled end
+closes-none taken last end h = absurd h
 
 left : (lists : Lists) (depth : ℕ) (rest : List ℕ) (st : State) (answers : List Answer) (trace : List Said) (end : End) →
     st.width ≡ None → Means lists depth rest st answers trace end → Left lists depth rest st answers end
@@ -134,11 +134,11 @@ left lists _ _ _ _ _ _ e (calls_phrase depth phrase behind numbers op st subrout
 left lists _ _ _ _ _ _ e (calls_to_stop depth phrase behind numbers op st subroutine stack inner inner_trace end m few within stops) =
     past-inner lists depth phrase behind numbers op st subroutine stack inner end end m few (λ h. h) (λ width h. h)
     (left lists (suc depth) subroutine (stacked stack st) inner inner_trace end e within)
-left lists _ _ _ _ _ _ e (calls_to_finish depth phrase behind numbers op st subroutine stack inner inner_trace last end m few within closes) =
-    past-inner lists depth phrase behind numbers op st subroutine stack inner (Finished last) end m few (closes-none last end) (λ width h. closes-with width last depth behind end h closes)
-    (left lists (suc depth) subroutine (stacked stack st) inner inner_trace (Finished last) e within)
+left lists _ _ _ _ _ _ e (calls_to_finish depth phrase behind numbers op st subroutine stack inner inner_trace taken last end m few within closes) =
+    past-inner lists depth phrase behind numbers op st subroutine stack inner (Finished taken last) end m few (closes-none taken last end) (λ width h. closes-with width taken last depth behind end h closes)
+    (left lists (suc depth) subroutine (stacked stack st) inner inner_trace (Finished taken last) e within)
 left lists _ _ _ _ _ _ e (returns_phrase depth phrase behind numbers op st m inner) = unsettled refl e
-left lists _ _ _ _ _ _ e (finishes depth phrase behind numbers op st last end m closes) = closes-left lists depth phrase behind numbers op st last end m closes
+left lists _ _ _ _ _ _ e (finishes depth phrase behind numbers op st taken last end m closes) = closes-left lists depth phrase behind numbers op st taken last end m closes
 left lists _ _ _ _ _ _ e _ = unsettled refl tt
 
 -- of the whole run
@@ -162,7 +162,7 @@ abbrev HasOneOrNone : Option ℤ → List Answer → End → Type 0
 HasOneOrNone width answers end = (width_by None answers end ≡ width) ⊎ ((answers ≡ []) × NeverFinished end × (width_by None answers end ≡ None))
 
 one-or-none : (width : Option ℤ) (answers : List Answer) (end : End) → Keeping width answers end → HasOneOrNone width answers end
-one-or-none width answers (Finished last) k = inl k.last
+one-or-none width answers (Finished taken last) k = inl k.last
 one-or-none width [] (Returned st) k = inr (refl, tt, refl)
 one-or-none width [] UsedUp k = inr (refl, tt, refl)
 one-or-none width [] (Fault e) k = inr (refl, tt, refl)

@@ -30,6 +30,6 @@ next_still lists zero behind callers (Into said routine st more) = with_phrase s
 next_still lists (suc left) behind callers (Into said routine st more) = with_phrase said (still lists left routine (behind more ∷ callers) st)
 next_still lists left behind [] (Back said st) = with_phrase said (at_end (Fault return_without_caller))
 next_still lists left behind (caller ∷ callers) (Back said st) = with_phrase said (still lists (suc left) caller callers st)
-next_still lists left behind callers (Over said width more) =
-    with_phrase said (at_end (if are_used_up (behind more) callers then Finished width else Fault trailing_data))
+next_still lists left behind callers (Over said taken width more) =
+    with_phrase said (at_end (if are_used_up (behind more) callers then Finished taken width else Fault trailing_data))
 next_still lists left behind callers (Faults e) = at_end (Fault e)

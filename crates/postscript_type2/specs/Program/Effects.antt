@@ -33,13 +33,13 @@ abbrev pub cleared : (stems : ℕ) → Option ℤ → State → State
 cleared stems width st = record { stack = []; stems = stems; width = Some width; stored = st.stored }
 
 -- What an operator does: it leaves a stack and stored numbers; it clears the stack, is answered with the operands taken, and so
--- many bytes of a mask are its own; it calls a routine; it returns; it ends the run; or it is refused.
+-- many bytes of a mask are its own; it calls a routine; it returns; it ends the run, with the operands taken; or it is refused.
 pub data Move : Type 0 where
   Keeps : (stack stored : List ℤ) → Move
   Clears : (taken : List ℤ) (stems : ℕ) (width : Option ℤ) (mask : ℕ) → Move
   Calls : (routine : List ℕ) (stack : List ℤ) → Move
   Returns : Move
-  Ends : (width : Option ℤ) → Move
+  Ends : (taken : List ℤ) (width : Option ℤ) → Move
   Refuses : Refusal → Move
 
 -- The width is settled once: the operand beneath the last u of the stack, or none where they are the whole stack
@@ -107,9 +107,13 @@ abbrev pub call_move : Result (List ℕ × List ℤ) Refusal → Move
 call_move (Ok done) = Calls done.0 done.1
 call_move (Err e) = Refuses e
 
--- EndChar takes four operands or none ("Operator for Finishing a Path")
+-- how many operands EndChar takes: four, or none where there are fewer ("Operator for Finishing a Path")
+abbrev pub taken_at_end : (count : ℕ) → ℕ
+taken_at_end count = if nat_lt count 4 then 0 else 4
+
+-- the four are those of an accented glyph (Appendix C), and the width is beneath them
 abbrev pub end_move : State → Move
-end_move st = Ends (settled st.width st.stack (if nat_lt (length st.stack) 4 then 0 else 4))
+end_move st = Ends (last_of st.stack (taken_at_end (length st.stack))) (settled st.width st.stack (taken_at_end (length st.stack)))
 
 -- an operator that draws ("Path Construction Operators")
 abbrev pub path_move : Operator → State → Move

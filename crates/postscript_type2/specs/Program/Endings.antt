@@ -1,5 +1,5 @@
 -- How runs end.
-use Rattle.std.specs.Prelude.{ℕ, List, [], ◌∷◌}
+use Rattle.std.specs.Prelude.{◌≡◌, ◌⊎◌, ℕ, ℤ, List, [], ◌∷◌, length}
 use Rattle.postscript_base.specs.Error.{IsOneOf}
 use Rattle.postscript_base.specs.Refusal.{number_of}
 use Rattle.postscript_type2.specs.Program.Evaluation.{run_of}
@@ -18,11 +18,15 @@ flatten_refusals = 3 ∷ run_refusals
 abbrev pub next_refusals : List ℕ
 next_refusals = 30 ∷ flatten_refusals
 
+-- the operands that EndChar takes ("Operator for Finishing a Path")
+abbrev pub AreFourOrNone : List ℤ → Type 0
+AreFourOrNone taken = (length taken ≡ 4) ⊎ (taken ≡ [])
+
 -- the end of a whole run: no return, and no other refusal
 abbrev pub IsRunsEnd : End → Type 0
 IsRunsEnd UsedUp = Unit {0}
 IsRunsEnd (Returned st) = ⊥
-IsRunsEnd (Finished width) = Unit {0}
+IsRunsEnd (Finished taken width) = AreFourOrNone taken
 IsRunsEnd (Fault e) = IsOneOf run_refusals (number_of e)
 
 -- a law of the definitions

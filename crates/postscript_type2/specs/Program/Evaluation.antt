@@ -34,15 +34,15 @@ is_empty [] = true
 is_empty (x ∷ xs) = false
 
 -- the end of a run at EndChar: in a subroutine no byte may follow
-abbrev pub finish : (inner : Bool) → (behind : List ℕ) → Option ℤ → End
-finish inner behind width = if inner && not (is_empty behind) then Fault trailing_data else Finished width
+abbrev pub finish : (inner : Bool) → (behind : List ℕ) → (taken : List ℤ) → Option ℤ → End
+finish inner behind taken width = if inner && not (is_empty behind) then Fault trailing_data else Finished taken width
 
 -- what comes of a call's end, where these bytes follow the call: where the routine returned, they are gone on with
 abbrev pub after_call : (inner : Bool) → (behind : List ℕ) → (State → Run) → End → Run
 after_call inner behind go (Returned st) = go st
 after_call inner behind go UsedUp = at_end UsedUp
 after_call inner behind go (Fault e) = at_end (Fault e)
-after_call inner behind go (Finished width) = at_end (finish inner behind width)
+after_call inner behind go (Finished taken width) = at_end (finish inner behind taken width)
 
 -- What a phrase does, told with it: the run goes on, goes into a routine, back to the caller, is over, or stops. more:
 -- how many bytes of the phrase follow its first one, those of a mask with them.
@@ -50,7 +50,7 @@ pub data Stride : Type 0 where
   On : Said → Option Answer → State → (more : ℕ) → Stride
   Into : Said → (routine : List ℕ) → State → (more : ℕ) → Stride
   Back : Said → State → Stride
-  Over : Said → (width : Option ℤ) → (more : ℕ) → Stride
+  Over : Said → (taken : List ℤ) → (width : Option ℤ) → (more : ℕ) → Stride
   Faults : Refusal → Stride
 
 abbrev pub said : Operator → (more : ℕ) → List ℕ → Said
@@ -63,7 +63,7 @@ moved op more bytes st (Clears taken stems width mask) =
     On (said op (more + mask) bytes) (Some (record { operator = op; operands = taken; width = width })) (cleared stems width st) (more + mask)
 moved op more bytes st (Calls routine stack) = Into (said op more bytes) routine (stacked stack st) more
 moved op more bytes st Returns = Back (said op more bytes) st
-moved op more bytes st (Ends width) = Over (said op more bytes) width more
+moved op more bytes st (Ends taken width) = Over (said op more bytes) taken width more
 moved op more bytes st (Refuses e) = Faults e
 
 abbrev pub stride_by : Lists → (bytes : List ℕ) → State → Phrase → Stride
@@ -89,7 +89,7 @@ abbrev pub paced : Callee → (inner : Bool) → (r : List ℕ) → (go : ℕ �
 paced callee inner r go (On said answer st more) = with_phrase said (with_any_answer answer (go more st))
 paced callee inner r go (Into said routine st more) = with_phrase said (called callee routine st (after_call inner (drop more r) (go more)))
 paced callee inner r go (Back said st) = with_phrase said (at_end (if inner then Returned st else Fault return_without_caller))
-paced callee inner r go (Over said width more) = with_phrase said (at_end (finish inner (drop more r) width))
+paced callee inner r go (Over said taken width more) = with_phrase said (at_end (finish inner (drop more r) taken width))
 paced callee inner r go (Faults e) = at_end (Fault e)
 
 -- what a routine means past its first k bytes

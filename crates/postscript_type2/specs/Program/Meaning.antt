@@ -13,10 +13,10 @@ abbrev pub answer : Operator → (taken : List ℤ) → (width : Option ℤ) →
 answer op taken width = record { operator = op; operands = taken; width = width }
 
 -- How the glyph is finished at EndChar, so many calls open and these bytes behind it: in a subroutine no byte may follow.
-pub data Closes (width : Option ℤ) : (depth : ℕ) → (behind : List ℕ) → End → Type 0 where
-  in_outermost : (behind : List ℕ) → Closes width 0 behind (Finished width)
-  at_last_byte : (depth : ℕ) → Closes width depth [] (Finished width)
-  with_bytes_behind : (depth : ℕ) (behind : List ℕ) → 0 < depth → behind ≢ [] → Closes width depth behind (Fault trailing_data)
+pub data Closes (taken : List ℤ) (width : Option ℤ) : (depth : ℕ) → (behind : List ℕ) → End → Type 0 where
+  in_outermost : (behind : List ℕ) → Closes taken width 0 behind (Finished taken width)
+  at_last_byte : (depth : ℕ) → Closes taken width depth [] (Finished taken width)
+  with_bytes_behind : (depth : ℕ) (behind : List ℕ) → 0 < depth → behind ≢ [] → Closes taken width depth behind (Fault trailing_data)
 
 -- the ends of a subroutine that are its callers' ends too
 pub data Stops : End → Type 0 where
@@ -72,9 +72,9 @@ pub data Means (lists : Lists) : (depth : ℕ) → (rest : List ℕ) → State �
       Means lists depth (phrase ++ behind) st inner (by op phrase ∷ inner_trace) end
   -- a call whose subroutine finishes the glyph
   calls_to_finish : (depth : ℕ) (phrase behind : List ℕ) (numbers : List ℤ) (op : Operator) (st : State)
-      (subroutine : List ℕ) (stack : List ℤ) (inner : List Answer) (inner_trace : List Said) (width : Option ℤ) (end : End) →
+      (subroutine : List ℕ) (stack : List ℤ) (inner : List Answer) (inner_trace : List Said) (taken : List ℤ) (width : Option ℤ) (end : End) →
       Moves lists st phrase numbers op behind (Calls subroutine stack) → depth < 10 →
-      Means lists (suc depth) subroutine (stacked stack st) inner inner_trace (Finished width) → Closes width depth behind end →
+      Means lists (suc depth) subroutine (stacked stack st) inner inner_trace (Finished taken width) → Closes taken width depth behind end →
       Means lists depth (phrase ++ behind) st inner (by op phrase ∷ inner_trace) end
   -- a return, in a subroutine and in the outermost code
   returns : (depth : ℕ) (phrase behind : List ℕ) (numbers : List ℤ) (op : Operator) (st : State) →
@@ -84,8 +84,8 @@ pub data Means (lists : Lists) : (depth : ℕ) → (rest : List ℕ) → State �
       Moves lists st phrase numbers op behind Returns →
       Means lists 0 (phrase ++ behind) st [] (by op phrase ∷ []) (Fault return_without_caller)
   -- the end of the glyph
-  finishes : (depth : ℕ) (phrase behind : List ℕ) (numbers : List ℤ) (op : Operator) (st : State) (width : Option ℤ) (end : End) →
-      Moves lists st phrase numbers op behind (Ends width) → Closes width depth behind end →
+  finishes : (depth : ℕ) (phrase behind : List ℕ) (numbers : List ℤ) (op : Operator) (st : State) (taken : List ℤ) (width : Option ℤ) (end : End) →
+      Moves lists st phrase numbers op behind (Ends taken width) → Closes taken width depth behind end →
       Means lists depth (phrase ++ behind) st [] (by op phrase ∷ []) end
 
 -- the same of a run, and of the run of a code

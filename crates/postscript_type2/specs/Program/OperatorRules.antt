@@ -128,9 +128,9 @@ pub data StemsAfter (st : State) : ℕ → Type 0 where
   in_pairs : (n odd : ℕ) → odd < 2 → length st.stack ≡ n * 2 + odd → StemsAfter st (st.stems + n)
 
 -- EndChar takes four operands, or none where there are fewer
-pub data TakesAtEnd : (stack beneath : List ℤ) → Type 0 where
-  last_four : (beneath taken : List ℤ) → length taken ≡ 4 → TakesAtEnd (beneath ++ taken) beneath
-  fewer : (stack : List ℤ) → length stack < 4 → TakesAtEnd stack stack
+pub data TakesAtEnd : (stack beneath taken : List ℤ) → Type 0 where
+  last_four : (beneath taken : List ℤ) → length taken ≡ 4 → TakesAtEnd (beneath ++ taken) beneath taken
+  fewer : (stack : List ℤ) → length stack < 4 → TakesAtEnd stack stack []
 
 -- What an operator does, from a state and where these bytes follow it.
 pub data Does (lists : Lists) (op : Operator) (behind : List ℕ) (st : State) : Move → Type 0 where
@@ -160,7 +160,8 @@ pub data Does (lists : Lists) (op : Operator) (behind : List ℕ) (st : State) :
   calls_nothing : (routines : Lists → List (List ℕ)) (beneath : List ℤ) (n : ℤ) → kind op ≡ CallsFrom routines → st.stack ≡ beneath ++ whole n ∷ [] →
       named (routines lists) n ≡ None → Does lists op behind st (Refuses missing_subroutine)
   returns : kind op ≡ GoesBack → Does lists op behind st Returns
-  ends : (beneath : List ℤ) (width : Option ℤ) → kind op ≡ EndsGlyph → TakesAtEnd st.stack beneath → IsSettled st.width beneath width → Does lists op behind st (Ends width)
+  ends : (beneath taken : List ℤ) (width : Option ℤ) → kind op ≡ EndsGlyph → TakesAtEnd st.stack beneath taken → IsSettled st.width beneath width →
+      Does lists op behind st (Ends taken width)
 
 -- A law of the definitions: an operator's move is the one that the lines above name, and no other.
 abbrev pub OperatorsDoSo : Type 0

@@ -1,11 +1,11 @@
 -- What a program still answers, as its callers see it.
-use Rattle.std.specs.Prelude.{◌≡◌, ◌⊎◌, Bool, true, false, ℤ, List, [], ◌∷◌, Option, Some, None, Result, Ok, Err, Vec}
+use Rattle.std.specs.Prelude.{◌≡◌, ◌⊎◌, Bool, true, false, ℤ, List, [], ◌∷◌, Option, Some, None, Result, Ok, Err, Vec, if◌then◌else◌}
 use Rattle.std.specs.declared.alloc.Global.{Global}
 use Rattle.postscript_base.specs.declared.error.Error.{Error}
 use Rattle.postscript_base.specs.declared.error.Error.TheVariants.{Memory, AlreadyFailed}
 use Rattle.postscript_base.specs.Refusal.{refusal_of}
 use Rattle.postscript_type2.specs.declared.operation.Operator.{Operator}
-use Rattle.postscript_type2.specs.Program.Runs.{Answer, End, UsedUp, Returned, Finished, Fault, Run}
+use Rattle.postscript_type2.specs.Program.Runs.{Answer, End, UsedUp, Returned, Finished, Fault, Run, taken_by}
 
 -- the answers that are left, the end behind them, the width so far, and whether the end has been told
 pub record Pending : Type 0 where
@@ -18,9 +18,13 @@ pub record Pending : Type 0 where
 abbrev pub begun : Run → Pending
 begun run = record { answers = run.answers; end = run.end; width = None; is_told = false }
 
--- after an end without fault was told
+-- after an end without fault was told, at which EndChar took these operands
+abbrev pub ended_over : (taken : List ℤ) → Option ℤ → Pending
+ended_over taken width = record { answers = []; end = Finished taken width; width = width; is_told = true }
+
+-- the same where it took none, or did not come
 abbrev pub ended : Option ℤ → Pending
-ended width = record { answers = []; end = UsedUp; width = width; is_told = true }
+ended width = ended_over [] width
 
 -- after a refusal was told
 abbrev pub failed : Option ℤ → Pending
@@ -29,15 +33,19 @@ failed width = record { answers = []; end = Fault (refusal_of AlreadyFailed); wi
 -- An end without fault: at EndChar the width is its own, and elsewhere it stays.
 abbrev pub IsLastWidth : End → Option ℤ → Option ℤ → Type 0
 IsLastWidth UsedUp width new = new ≡ width
-IsLastWidth (Finished last) width new = new ≡ last
+IsLastWidth (Finished taken last) width new = new ≡ last
 IsLastWidth (Returned st) width new = ⊥
 IsLastWidth (Fault e) width new = ⊥
 
+-- the operands that EndChar took, once the end was told
+abbrev pub told_at_end : Pending → List ℤ
+told_at_end pending = if pending.is_told then taken_by pending.end else []
+
 -- The head of what is left is answered, with the width beside it, and the tail is left. With no head, None is answered at
--- an end without fault, and the refusal at a fault; the width stays as it was before a refusal. Want of memory may come in
--- place of any answer.
+-- an end without fault, where the operands that EndChar took are kept, and the refusal at a fault; the width stays as it was
+-- before a refusal. Want of memory may come in place of any answer.
 abbrev pub Next : Pending → Result (Option (Operator × Vec ℤ Global)) Error → Pending → Type 0
 Next old (Ok (Some operation)) new =
     (old.answers ≡ record { operator = operation.0; operands = operation.1.items; width = new.width } ∷ new.answers) × (new.end ≡ old.end) × (new.is_told ≡ false)
-Next old (Ok None) new = (old.answers ≡ []) × IsLastWidth old.end old.width new.width × (new ≡ ended new.width)
+Next old (Ok None) new = (old.answers ≡ []) × IsLastWidth old.end old.width new.width × (new ≡ ended_over (taken_by old.end) new.width)
 Next old (Err e) new = ((e ≡ Memory) ⊎ ((old.answers ≡ []) × (old.end ≡ Fault (refusal_of e)))) × (new ≡ failed old.width)

@@ -18,11 +18,11 @@ pub record Said : Type 0 where
 abbrev pub by : Operator → (bytes : List ℕ) → Said
 by op bytes = record { operator = op; bytes = bytes }
 
--- a routine was used up; it returned; EndChar came; or something was refused
+-- a routine was used up; it returned; EndChar came, and took these operands; or something was refused
 pub data End : Type 0 where
   UsedUp : End
   Returned : State → End
-  Finished : (width : Option ℤ) → End
+  Finished : (taken : List ℤ) (width : Option ℤ) → End
   Fault : Refusal → End
 
 pub record Run : Type 0 where
@@ -39,6 +39,11 @@ abbrev pub fault_of : End → Option Refusal
 fault_of (Fault e) = Some e
 fault_of end = None
 
+-- the operands that EndChar took at this end, four or none, and none at another end
+abbrev pub taken_by : End → List ℤ
+taken_by (Finished taken width) = taken
+taken_by end = []
+
 -- the width after these answers
 abbrev pub last_width : Option ℤ → List Answer → Option ℤ
 last_width width [] = width
@@ -46,7 +51,7 @@ last_width width (answer ∷ answers) = last_width answer.width answers
 
 -- the width at this end, behind these answers and this width before them: that of EndChar, else that beside the last answer
 abbrev pub width_by : Option ℤ → List Answer → End → Option ℤ
-width_by width answers (Finished last) = last
+width_by width answers (Finished taken last) = last
 width_by width answers end = last_width width answers
 
 -- the width of a run, where none is settled before it

@@ -11,8 +11,8 @@ use Rattle.postscript_type2.specs.Program.Runs.{Said, End, UsedUp, Returned, Fin
 pub data FirstSettles (lists : Lists) (width : Option ℤ) : (depth : ℕ) → (rest : List ℕ) → State → Type 0 where
   clears : (depth : ℕ) (phrase behind : List ℕ) (numbers : List ℤ) (op : Operator) (st : State) (taken : List ℤ) (stems mask : ℕ) →
       Moves lists st phrase numbers op behind (Clears taken stems width mask) → FirstSettles lists width depth (phrase ++ behind) st
-  ends : (depth : ℕ) (phrase behind : List ℕ) (numbers : List ℤ) (op : Operator) (st : State) →
-      Moves lists st phrase numbers op behind (Ends width) → FirstSettles lists width depth (phrase ++ behind) st
+  ends : (depth : ℕ) (phrase behind : List ℕ) (numbers : List ℤ) (op : Operator) (st : State) (taken : List ℤ) →
+      Moves lists st phrase numbers op behind (Ends taken width) → FirstSettles lists width depth (phrase ++ behind) st
   behind_others : (depth : ℕ) (phrase behind : List ℕ) (numbers : List ℤ) (op : Operator) (st : State) (stack stored : List ℤ) →
       Moves lists st phrase numbers op behind (Keeps stack stored) → FirstSettles lists width depth behind (holding stack stored st) →
       FirstSettles lists width depth (phrase ++ behind) st
@@ -25,7 +25,7 @@ pub data FirstSettles (lists : Lists) (width : Option ℤ) : (depth : ℕ) → (
 
 -- every answer has this width, and so has the end of the glyph
 abbrev pub EndsWith : Option ℤ → End → Type 0
-EndsWith width (Finished last) = last ≡ width
+EndsWith width (Finished taken last) = last ≡ width
 EndsWith width (Returned st) = Unit {0}
 EndsWith width UsedUp = Unit {0}
 EndsWith width (Fault e) = Unit {0}
@@ -36,7 +36,7 @@ pub record HasWidth (run : Run) (width : Option ℤ) : Type 0 where
 
 -- the glyph was not finished
 abbrev pub NeverFinished : End → Type 0
-NeverFinished (Finished last) = ⊥
+NeverFinished (Finished taken last) = ⊥
 NeverFinished (Returned st) = Unit {0}
 NeverFinished UsedUp = Unit {0}
 NeverFinished (Fault e) = Unit {0}

@@ -1,10 +1,10 @@
 //! Operations that are lent.
 ghost use Rattle.std.specs.Borrow.{sem};
-ghost use Rattle.std.specs.Prelude.{◌≡◌};
+ghost use Rattle.std.specs.Prelude.{◌≡◌, ℤ, List};
 ghost use Rattle.postscript_base.specs.Error.{IsListed};
 ghost use Rattle.postscript_type2.specs.Program.Endings.{next_refusals};
 ghost use Rattle.postscript_type2.specs.Program.Lending.{LendsNext, IsHead};
-ghost use Rattle.postscript_type2.specs.Program.Programs.{ended, failed};
+ghost use Rattle.postscript_type2.specs.Program.Programs.{ended, ended_over, failed};
 
 use super::{Phase, Program};
 use crate::operation::{Operand, Operator};
@@ -33,6 +33,7 @@ impl<'l> Program<'l> {
         ensures head { IsHead self.old result }
         ensures listed { IsListed next_refusals result }
         ensures ended { self.old ≡ ended self.old.width → result ≡ Ok None }
+        ensures over { (operands : List ℤ) → self.old ≡ ended_over operands self.old.width → result ≡ Ok None }
         ensures failed { self.old ≡ failed self.old.width → result ≡ Err Error.AlreadyFailed }
     {
         match self.phase {

@@ -1,13 +1,19 @@
 use Rattle.std.proofs.Common.{eqb-true, arith, ◌≡◌, ◌∙◌, ◌-◌, ap, sym, refl, take, length, inr, add-one, ◌<◌}
+use Rattle.std.proofs.lemmas.List.{drop_all}
 use Rattle.std.proofs.lemmas.Result.{err_from_is_err_and}
 use Rattle.postscript_type2.specs.Private.Callers.{rests}
-use Rattle.postscript_type2.specs.Program.Effects.{State, cleared, stacked, settled}
+use Rattle.postscript_type2.specs.Program.Effects.{State, cleared, stacked, settled, last_of}
+use Rattle.postscript_type2.specs.Program.Evaluation.{at_end, with_phrase}
+use Rattle.postscript_type2.specs.Program.Runs.{by, Finished, UsedUp}
+use Rattle.postscript_type2.specs.Private.Machines.{still_of}
 use Rattle.postscript_type2.specs.Private.Working.{lists_of, state_of, move_of, after_move}
 use Rattle.postscript_type2.proofs.Arms.{IsRead, is-read, some-of, used-up, kept, answered, entered, too-deep-call, returned, no-caller, finished, trailing, refused-or-memory, unread-or-memory}
 use Rattle.postscript_type2.proofs.program.machine.Machine.advance.Goals as goal
 
 pub returns-then-is_empty-clause-advances : goal.returns-then-is_empty-clause-advances
-returns-then-is_empty-clause-advances c = grind (arith, used-up, eqb-true)
+returns-then-is_empty-clause-advances c =
+    let run : still_of c.args.self.now ≡ at_end UsedUp = grind (arith, used-up, eqb-true) in
+    (run, refl, drop_all (length c.args.self.now.state.stack.items - 0) c.args.self.now.state.stack.items (omega arith))
 
 pub returns-in_err-operator-clause-advances : goal.returns-in_err-operator-clause-advances
 returns-in_err-operator-clause-advances c =
@@ -97,4 +103,7 @@ returns-else-not-are_used_up-clause-advances c =
     is-read c.rest-rest.ensures c.if-is_empty.ensures c.in_ok-operator.ensures.1 c.in_ok-operator.ensures.2 in
     let front : c.passed-bytes.result.now ≡ take (length c.args.self.now.routine - length c.phrase.new.self) c.args.self.now.routine = rw (← c.rest-rest.ensures) c.passed-bytes.ensures in
     let does = c.in_ok-act.ensures.value c.phrase.new.self (sym c.len-behind.ensures) in
-    (_, finished _ c.args.self.now.left (rests c.args.self.now.callers) read (does.0 ∙ ap (λ done. move_of done (state_of c.act.new.self)) c.in-Ends.is) c.if-not-are_used_up.ensures front, ap (λ (s : State). s.width) c.settle.ensures)
+    let run = finished _ c.args.self.now.left (rests c.args.self.now.callers) read (does.0 ∙ ap (λ done. move_of done (state_of c.act.new.self)) c.in-Ends.is) c.if-not-are_used_up.ensures front in
+    let stays : (state_of c.act.new.self).stack ≡ (state_of c.settle.new.self).stack = sym (ap (λ (s : State). s.stack) c.settle.ensures) in
+    let width = settled (state_of c.act.new.self).width (state_of c.act.new.self).stack c.in-Ends.counted in
+    (width, run ∙ ap (λ stack. with_phrase (by c.in_ok-operator.operator c.passed-bytes.result.now) (at_end (Finished (last_of stack c.in-Ends.counted) width))) stays, ap (λ (s : State). s.width) c.settle.ensures)
