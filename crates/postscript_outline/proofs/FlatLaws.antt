@@ -15,7 +15,7 @@ faultless-finished : (end : End) → fault_of end ≡ None → (d : Drawing) →
 faultless-finished (Fault e) not d = cc
 faultless-finished UsedUp not d = refl
 faultless-finished (Returned st) not d = refl
-faultless-finished (Finished width) not d = refl
+faultless-finished (Finished taken width) not d = refl
 
 after-drawing : (r : Result Drawing Refusal) (this that : End) → fault_of this ≡ None → fault_of that ≡ None → r >>= finished this ≡ r >>= finished that
 after-drawing (Ok d) this that h k = faultless-finished this h d ∙ sym (faultless-finished that k d)

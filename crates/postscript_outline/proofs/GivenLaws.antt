@@ -11,10 +11,10 @@ use Rattle.postscript_outline.specs.declared.segment.Segment.TheVariants.{MoveTo
 use Rattle.postscript_outline.specs.declared.point.Point.{Point}
 use Rattle.postscript_outline.specs.declared.stroke.Stroke.{Stroke}
 use Rattle.postscript_outline.specs.declared.stroke.Stroke.TheVariants.{Move, Line, Curve}
-use Rattle.postscript_outline.specs.Drawing.{Drawing, ◌>>=◌, IsFront, begun, blank, closed, drawing, drawn, extended, held, reached}
-use Rattle.postscript_outline.specs.Given.{DrawsFrom, DrawsPending, IsFrontDrawn, IsGiven, outlined_from}
+use Rattle.postscript_outline.specs.Drawing.{Drawing, ◌>>=◌, IsFront, begun, blank, blank_at, closed, drawing, drawn, extended, held, reached}
+use Rattle.postscript_outline.specs.Given.{DrawsFrom, DrawsPending, DrawsPendingAt, IsFrontDrawn, IsGiven, outlined_from}
 use Rattle.postscript_outline.specs.Operators.{strokes}
-use Rattle.postscript_outline.specs.Outline.{drawing_of, finished, outlined}
+use Rattle.postscript_outline.specs.Outline.{drawing_of, finished, outlined, outlined_at}
 use Rattle.postscript_type2.specs.Program.Programs.{Pending}
 use Rattle.postscript_type2.specs.Program.Runs.{Answer, End, Fault, Finished, Returned, UsedUp}
 
@@ -142,7 +142,7 @@ finished-grows : (end : End) (d : Drawing) → IfOk (finished end d) (λ ss. IsF
 finished-grows (Fault e) d = tt
 finished-grows UsedUp d = closed-grows d.place d.is_open d.segments
 finished-grows (Returned st) d = closed-grows d.place d.is_open d.segments
-finished-grows (Finished width) d = closed-grows d.place d.is_open d.segments
+finished-grows (Finished taken width) d = closed-grows d.place d.is_open d.segments
 
 -- what has been given is a front of what is drawn from there
 pub front-of-all : (answers : List Answer) (end : End) (d : Drawing) → IfOk (outlined_from d answers end) (λ ss. IsFront d.segments ss)
@@ -164,7 +164,7 @@ finished-under : (xs : List Segment) (end : End) (d : Drawing) → finished end 
 finished-under xs (Fault e) d = refl
 finished-under xs UsedUp d = ap Ok (closed-under xs d.place d.is_open d.segments)
 finished-under xs (Returned st) d = ap Ok (closed-under xs d.place d.is_open d.segments)
-finished-under xs (Finished width) d = ap Ok (closed-under xs d.place d.is_open d.segments)
+finished-under xs (Finished taken width) d = ap Ok (closed-under xs d.place d.is_open d.segments)
 
 outlined-under : (xs : List Segment) (answers : List Answer) (end : End) → outlined_from (record { place = blank.place; is_open = blank.is_open; segments = xs }) answers end ≡ mapped (λ ss. xs ++ ss) (outlined answers end)
 outlined-under xs answers end =
@@ -188,6 +188,23 @@ refused-so f (Err d) e is = is
 front-drawn : (xs ys : List Segment) (r : Result (List Segment) Refusal) → IfOk (mapped (λ ss. xs ++ ss) r) (λ ss. IsFront ys ss) → IfOk r (λ ss. IsFront ys (xs ++ ss))
 front-drawn xs ys (Ok ss) h = h
 front-drawn xs ys (Err e) h = tt
+
+-- from a point, behind what was given before
+at-under : (origin : Point) (xs : List Segment) (answers : List Answer) (end : End) →
+    outlined_from (record { place = origin; is_open = false; segments = xs }) answers end ≡ mapped (λ ss. xs ++ ss) (outlined_at origin answers end)
+at-under origin xs answers end =
+    ap (λ v. outlined_from (record { place = origin; is_open = false; segments = v }) answers end) (sym (append-nil xs)) ∙ outlined_from-under xs answers end (blank_at origin)
+
+pub at-exact : (origin : Point) (xs ys : List Segment) (pending : Pending) (r : Result (Option ℤ) Error) (Refuses : Error → Type 0)
+    → MatchResult r (λ width. DrawsFrom (record { place = origin; is_open = false; segments = xs }) ys width pending)
+    (λ e. (e ≡ errors.Memory) ⊎ (outlined_from (record { place = origin; is_open = false; segments = xs }) pending.answers pending.end ≡ Err (refusal_of e)) ⊎ Refuses e)
+    → MatchResult r (λ width. DrawsPendingAt origin xs ys width pending) (λ e. (e ≡ errors.Memory) ⊎ (outlined_at origin pending.answers pending.end ≡ Err (refusal_of e)) ⊎ Refuses e)
+at-exact origin xs ys pending (Ok width) Refuses h =
+    record { segments = given-all xs ys (outlined_at origin pending.answers pending.end) (sym (at-under origin xs pending.answers pending.end) ∙ h.segments); width = h.width }
+at-exact origin xs ys pending (Err e) Refuses (inl memory) = inl memory
+at-exact origin xs ys pending (Err e) Refuses (inr (inl same)) =
+    inr (inl (refused-so (λ ss. xs ++ ss) (outlined_at origin pending.answers pending.end) (refusal_of e) (sym (at-under origin xs pending.answers pending.end) ∙ same)))
+at-exact origin xs ys pending (Err e) Refuses (inr (inr refused)) = inr (inr refused)
 
 -- the pen stands as at first
 abbrev pub IsNew : Pen → Type 0

@@ -1,9 +1,10 @@
 -- What a sink is given of a run.
 use Rattle.std.specs.Prelude.{◌≡◌, ℤ, List, ◌++◌, Option, Result, Ok, Err, IfOk}
 use Rattle.postscript_base.specs.Refusal.{Refusal}
+use Rattle.postscript_outline.specs.declared.point.Point.{Point}
 use Rattle.postscript_outline.specs.declared.segment.Segment.{Segment}
 use Rattle.postscript_outline.specs.Drawing.{Drawing, ◌>>=◌, IsFront}
-use Rattle.postscript_outline.specs.Outline.{drawing_of, finished, outline_of, outlined}
+use Rattle.postscript_outline.specs.Outline.{drawing_of, finished, outline_of, outlined, outlined_at}
 use Rattle.postscript_type2.specs.Program.Programs.{Pending}
 use Rattle.postscript_type2.specs.Program.Runs.{Answer, End, Run, UsedUp, width_by, width_of}
 
@@ -20,6 +21,11 @@ pub record DrawsRun (old new : List Segment) (answered : Option ℤ) (run : Run)
 -- the same of what a program still answers
 pub record DrawsPending (old new : List Segment) (answered : Option ℤ) (pending : Pending) : Type 0 where
   pub segments : IsGiven old new (outlined pending.answers pending.end)
+  pub width : answered ≡ width_by pending.width pending.answers pending.end
+
+-- the same, where the origin of the glyph is put here
+pub record DrawsPendingAt (origin : Point) (old new : List Segment) (answered : Option ℤ) (pending : Pending) : Type 0 where
+  pub segments : IsGiven old new (outlined_at origin pending.answers pending.end)
   pub width : answered ≡ width_by pending.width pending.answers pending.end
 
 -- what these operations and this end draw from here

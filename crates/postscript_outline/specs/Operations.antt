@@ -17,9 +17,9 @@ answer_of width operation = record { operator = operation.0; operands = operatio
 abbrev pub answers_of : Option ℤ → List (Operator × Vec ℤ Global) → List Answer
 answers_of width operations = map (answer_of width) operations
 
--- the run that answers these operations and then ends at EndChar, with this width
+-- the run that answers these operations and then ends at EndChar, which takes no operands, with this width
 abbrev pub run_telling : List (Operator × Vec ℤ Global) → Option ℤ → Run
-run_telling operations width = record { answers = answers_of width operations; trace = []; end = Finished width }
+run_telling operations width = record { answers = answers_of width operations; trace = []; end = Finished [] width }
 
 -- operations, applied one after another
 abbrev pub applied_all : List Answer → Drawing → Result Drawing Refusal

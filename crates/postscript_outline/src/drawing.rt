@@ -4,16 +4,17 @@ ghost use Rattle.postscript_base.specs.declared.error.Error.TheVariants as error
 ghost use Rattle.postscript_base.specs.Error.{code as number, IsOneOf};
 ghost use Rattle.postscript_base.specs.Refusal.{refusal_of};
 ghost use Rattle.postscript_outline.specs.Drawing.{IsFront, closed, held};
-ghost use Rattle.postscript_outline.specs.Given.{DrawsFrom, DrawsPending, DrawsRun, IsFrontDrawn, outlined_from};
-ghost use Rattle.postscript_outline.specs.Outline.{outline_of, outlined};
+ghost use Rattle.postscript_outline.specs.Given.{DrawsFrom, DrawsPending, DrawsPendingAt, DrawsRun, IsFrontDrawn, outlined_from};
+ghost use Rattle.postscript_outline.specs.Outline.{outline_of, outlined, outlined_at};
 ghost use Rattle.postscript_type2.specs.Program.Endings.{next_refusals};
 ghost use Rattle.postscript_type2.specs.Program.Evaluation.{run_of};
 ghost use Rattle.postscript_type2.specs.Program.Meaning.{IsRunOf};
-ghost use Rattle.postscript_type2.specs.Program.Programs.{ended};
+ghost use Rattle.postscript_type2.specs.Program.Programs.{ended_over};
 ghost use Rattle.postscript_type2.specs.Program.Routines.{subroutines};
-ghost use Rattle.postscript_type2.specs.Program.Runs.{Run, UsedUp};
+ghost use Rattle.postscript_type2.specs.Program.Runs.{Run, UsedUp, taken_by};
 
 use crate::pen::Pen;
+use crate::point::Point;
 use crate::sink::Sink;
 use postscript_base::{Error, Result};
 use postscript_type2::{Operand, Program};
@@ -50,12 +51,33 @@ pub fn draw<S: Sink>(
 pub fn draw_program<S: Sink>(program: &mut Program<'_>, sink: &mut S) -> Result<Option<Operand>>
     ensures kept { IsFront (S.given sink.old) (S.given sink.new) }
     ensures front { OnErr result (IsFrontDrawn (S.given sink.old) (S.given sink.new) program.old.answers) }
-    ensures ended { IfOk result (λ width. program.new ≡ ended width) }
+    ensures ended { IfOk result (λ width. program.new ≡ ended_over (taken_by program.old.end) width) }
     ensures exact { MatchResult result (λ width. DrawsPending (S.given sink.old) (S.given sink.new) width program.old)
         (λ e. (e ≡ errors.Memory) ⊎ (outlined program.old.answers program.old.end ≡ Err (refusal_of e)) ⊎ S.refuses sink.new e) }
     ensures listed { IfErr result (λ e. S.refuses sink.new e ⊎ IsOneOf next_refusals (number e)) }
 {
     draw_from(program, Pen::new(), sink)
+}
+
+/// The same, where the origin of the glyph is put at a point: the accent of an accented glyph is drawn so.
+///
+/// Refused: as `draw_program` is; `Overflow` where a coordinate leaves the range from there.
+pub fn draw_program_at<S: Sink>(
+    program: &mut Program<'_>,
+    origin: Point,
+    sink: &mut S,
+) -> Result<Option<Operand>>
+    ensures kept { IsFront (S.given sink.old) (S.given sink.new) }
+    ensures ended { IfOk result (λ width. program.new ≡ ended_over (taken_by program.old.end) width) }
+    ensures exact { MatchResult result (λ width. DrawsPendingAt origin (S.given sink.old) (S.given sink.new) width program.old)
+        (λ e. (e ≡ errors.Memory) ⊎ (outlined_at origin program.old.answers program.old.end ≡ Err (refusal_of e)) ⊎ S.refuses sink.new e) }
+    ensures listed { IfErr result (λ e. S.refuses sink.new e ⊎ IsOneOf next_refusals (number e)) }
+{
+    let pen = Pen {
+        at: origin,
+        is_open: false,
+    };
+    draw_from(program, pen, sink)
 }
 
 /// The same, from where a pen stands.
@@ -69,7 +91,7 @@ fn draw_from<S: Sink>(
     ensures kept { IsFront (S.given sink.old) (S.given sink.new) }
     ensures front { OnErr result (IfOk (outlined_from (held start (S.given sink.old)) program.old.answers UsedUp) (λ segments. IsFront (S.given sink.new) segments)) }
     ensures listed { IfErr result (λ e. S.refuses sink.new e ⊎ IsOneOf next_refusals (number e)) }
-    ensures ended { IfOk result (λ width. program.new ≡ ended width) }
+    ensures ended { IfOk result (λ width. program.new ≡ ended_over (taken_by program.old.end) width) }
 {
     let mut pen = start;
     let mut fault = Error::Overflow;

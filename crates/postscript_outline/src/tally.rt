@@ -6,8 +6,9 @@ ghost use Rattle.postscript_outline.specs.Drawing.{closed, held};
 ghost use Rattle.postscript_outline.specs.Outline.{outline_of, outlined};
 ghost use Rattle.postscript_outline.specs.Tally.{TalliesPending, TalliesRun};
 ghost use Rattle.postscript_type2.specs.Program.Evaluation.{run_of};
-ghost use Rattle.postscript_type2.specs.Program.Programs.{ended};
+ghost use Rattle.postscript_type2.specs.Program.Programs.{ended_over};
 ghost use Rattle.postscript_type2.specs.Program.Routines.{subroutines};
+ghost use Rattle.postscript_type2.specs.Program.Runs.{taken_by};
 
 use crate::outline::Outline;
 use crate::pen::Pen;
@@ -55,7 +56,7 @@ pub fn tally_program<T: Tally>(
     program: &mut Program<'_>,
     tally: &mut T,
 ) -> Result<Option<Operand>>
-    ensures ended { IfOk result (λ width. program.new ≡ ended width) }
+    ensures ended { IfOk result (λ width. program.new ≡ ended_over (taken_by program.old.end) width) }
     ensures exact { MatchResult result
         (λ width. TalliesPending T.after tally.old tally.new width program.old)
         (λ e. (e ≡ errors.Memory) ⊎ (outlined program.old.answers program.old.end ≡ Err (refusal_of e))) }
