@@ -1,134 +1,159 @@
 -- What a glyph by itself gives: a plain glyph, a component, or an accented one.
-use Rattle.std.proofs.Common.{◌≡◌, ◌⊎◌, ℕ, List, ◌++◌, map, append_assoc, Some, None, Result, Ok, Err, ap, inl, inr, subst, sym, ◌∙◌}
-use Rattle.std.specs.Prelude.{Any, IfErr, IfOk, IsErrAnd, OnOk}
+use Rattle.std.proofs.Common.{◌≡◌, ◌≢◌, ◌⊎◌, ℕ, ℤ, List, [], ◌++◌, length, append_assoc, Option, Some, None, Result, Ok, Err, ap, inl, inr, refl, subst, sym, ◌∙◌}
+use Rattle.std.specs.Prelude.{IfErr, IfOk, IsErrAnd, MatchOption, OnOk}
+use Rattle.postscript_base.specs.declared.error.Error.{Error as Cause}
 use Rattle.postscript_base.specs.declared.error.Error.TheVariants as causes
 use Rattle.postscript_items.specs.Lent.{items_of}
-use Rattle.postscript_outline.specs.Outline.{Outlines}
-use Rattle.postscript_outline.specs.declared.outline.Outline.{Outline}
+use Rattle.postscript_outline.specs.Drawing.{point}
+use Rattle.postscript_outline.specs.declared.point.Point.{Point}
 use Rattle.postscript_outline.specs.declared.segment.Segment.{Segment}
+use Rattle.postscript_type2.specs.Program.Endings.{AreFourOrNone, IsRunsEnd}
 use Rattle.postscript_type2.specs.Program.Evaluation.{run_of}
 use Rattle.postscript_type2.specs.Program.Routines.{lent}
+use Rattle.postscript_type2.specs.Program.Runs.{End, Fault, Finished, Returned, Run, UsedUp, taken_by, width_of}
 use Rattle.postscript_view.specs.Advances.{HasRun}
 use Rattle.postscript_view.specs.Glyphs.{HasGlyph}
 use Rattle.postscript_view.specs.declared.font.FontView.{FontView}
 use Rattle.postscript_view.specs.declared.font.Glyph.{Glyph}
-use Rattle.postscript_accent.specs.Accents.{IsTold, IsUnread}
+use Rattle.postscript_accent.specs.Accents.{IsAccent, IsTold, run_by}
 use Rattle.postscript_accent.specs.Components.{IsComponent}
-use Rattle.postscript_accent.specs.Drawn.{AddsComponents, DrawsComponent, HasOwn, IsDrawnAs}
-use Rattle.postscript_accent.specs.Ends.{run_by}
-use Rattle.postscript_accent.specs.Moving.{LeavesRange, moved_by}
-use Rattle.postscript_accent.specs.Refused.{AreRefused, IsAccented, IsComponentRefused, IsGlyphRefused, IsNested, IsRefused, IsUndrawn}
+use Rattle.postscript_accent.specs.Drawn.{DrawsAt, DrawsComponent, DrawsComponents, HasOwn, IsDrawnAs, zero_point}
+use Rattle.postscript_accent.specs.Refused.{AreRefused, IsAccented, IsComponentRefused, IsGlyphRefused, IsNested, IsOfSink, IsRefused, IsUndrawn, IsUnread}
 use Rattle.postscript_accent.specs.declared.accent.Accent.{Accent}
 use Rattle.postscript_accent.specs.declared.drawing.Own.{Own}
 use Rattle.postscript_accent.specs.declared.error.Error.{Error}
 use Rattle.postscript_accent.specs.declared.error.Error.TheVariants as errors
 
+-- these segments have been given
+abbrev pub Gives : (old new segments : List Segment) → Type 0
+Gives old new segments = new ≡ old ++ segments
+
+-- what is told of the operands that endchar took is told of the run
+four-or-none : (end : End) → IsRunsEnd end → AreFourOrNone (taken_by end)
+four-or-none UsedUp h = inr refl
+four-or-none (Returned st) h = absurd h
+four-or-none (Finished taken width) h = h
+four-or-none (Fault e) h = inr refl
+
+pub told-so : (accent : Option Accent) (operands : List ℤ) (run : Run) → operands ≡ taken_by run.end → IsRunsEnd run.end →
+    MatchOption accent (length operands ≢ 4) (λ found. IsAccent operands found) → IsTold accent run
+told-so None operands run same ends other = by_count (four-or-none run.end ends)
+  where
+    by_count : AreFourOrNone (taken_by run.end) → taken_by run.end ≡ []
+    by_count (inl four) = absurd (other (ap length same ∙ four))
+    by_count (inr none) = none
+told-so (Some found) operands run same ends is = subst (λ xs. IsAccent xs found) same is
+
 -- the run of a glyph that the font has is a run that the font's glyph has
-pub has_run : (font : FontView) (i : ℕ) (glyph : Glyph) → HasGlyph font i glyph.code.now glyph.part.now →
+pub has-run : (font : FontView) (i : ℕ) (glyph : Glyph) → HasGlyph font i glyph.code.now glyph.part.now →
     items_of glyph.global_subroutines ≡ items_of font.global_subroutines → HasRun font i glyph.part.now (run_by glyph)
-has_run font i glyph has same = record {
+has-run font i glyph has same = record {
   code = glyph.code.now;
   has = has;
   runs = ap (λ global. run_of (lent global (items_of glyph.part.now.subroutines)) glyph.code.now) same;
 }
 
-pub own_so : (r : Result Own Error) (font : FontView) (i : ℕ) (glyph : Glyph) → HasRun font i glyph.part.now (run_by glyph) →
-    IfOk r (λ own. Outlines own.outline (run_by glyph)) → IfOk r (λ own. IsTold own.accent (run_by glyph)) →
-    IfOk r (λ own. HasOwn font i own.outline own.accent)
-own_so (Ok own) font i glyph has outlines told = record { part = glyph.part.now; run = run_by glyph; has = has; outlines = outlines; told = told }
-own_so (Err e) font i glyph has outlines told = tt
+pub own-so : (r : Result Own Error) (font : FontView) (i : ℕ) (glyph : Glyph) (origin : Point) (old new : List Segment) → HasRun font i glyph.part.now (run_by glyph) →
+    IfOk r (λ own. (segments : List Segment) × DrawsAt origin (run_by glyph) segments × Gives old new segments) →
+    IfOk r (λ own. own.width ≡ width_of (run_by glyph)) → IfOk r (λ own. IsTold own.accent (run_by glyph)) →
+    IfOk r (λ own. (segments : List Segment) × HasOwn font i origin segments own.width own.accent × Gives old new segments)
+own-so (Ok own) font i glyph origin old new has drawn width told =
+    (drawn.0, record { part = glyph.part.now; run = run_by glyph; has = has; draws = drawn.1; width_is = width; told = told }, drawn.2)
+own-so (Err e) font i glyph origin old new has drawn width told = tt
 
-pub refused_so : (r : Result Own Error) (font : FontView) (i : ℕ) (glyph : Glyph) → HasRun font i glyph.part.now (run_by glyph) →
-    IfErr r (λ e. (e ≡ errors.Font causes.Memory) ⊎ IsUndrawn e (run_by glyph) ⊎ IsUnread e (run_by glyph)) →
-    IfErr r (λ e. (e ≡ errors.Font causes.Memory) ⊎ IsGlyphRefused font i e)
-refused_so (Ok own) font i glyph has why = tt
-refused_so (Err e) font i glyph has (inl memory) = inl memory
-refused_so (Err e) font i glyph has (inr why) = inr (inr (record { part = glyph.part.now; run = run_by glyph; has = has; why = why }))
+pub refused-so : (r : Result Own Error) (font : FontView) (i : ℕ) (glyph : Glyph) (origin : Point) (Refuses : Cause → Type 0) → HasRun font i glyph.part.now (run_by glyph) →
+    IfErr r (λ e. (e ≡ errors.Font causes.Memory) ⊎ IsUndrawn origin e (run_by glyph) ⊎ IsUnread e (run_by glyph) ⊎ IsOfSink Refuses e) →
+    IfErr r (λ e. (e ≡ errors.Font causes.Memory) ⊎ IsGlyphRefused font i origin e ⊎ IsOfSink Refuses e)
+refused-so (Ok own) font i glyph origin Refuses has why = tt
+refused-so (Err e) font i glyph origin Refuses has (inl memory) = inl memory
+refused-so (Err e) font i glyph origin Refuses has (inr (inl undrawn)) =
+    inr (inl (inr (record { part = glyph.part.now; run = run_by glyph; has = has; why = inl undrawn })))
+refused-so (Err e) font i glyph origin Refuses has (inr (inr (inl unread))) =
+    inr (inl (inr (record { part = glyph.part.now; run = run_by glyph; has = has; why = inr unread })))
+refused-so (Err e) font i glyph origin Refuses has (inr (inr (inr sink))) = inr (inr sink)
 
 -- a plain glyph is a component, and is drawn so
-pub draws_component : (font : FontView) (code glyph : ℕ) (outline : Outline) → IsComponent font code glyph → HasOwn font glyph outline None →
-    DrawsComponent font code outline.segments.items
-draws_component font code glyph outline component own = record {
+pub draws-component : (font : FontView) (code glyph : ℕ) (origin : Point) (segments : List Segment) (width : Option ℤ) → IsComponent font code glyph →
+    HasOwn font glyph origin segments width None → DrawsComponent font code origin segments
+draws-component font code glyph origin segments width component own = record {
   glyph = glyph;
   part = own.part;
   run = own.run;
   component = component;
   has = own.has;
   plain = own.told;
-  draws = own.outlines.segments;
+  draws = own.draws;
 }
 
-pub draws_plain : (font : FontView) (glyph : ℕ) (outline : Outline) → HasOwn font glyph outline None → IsDrawnAs font glyph outline
-draws_plain font glyph outline own = record {
+pub draws-plain : (font : FontView) (glyph : ℕ) (segments : List Segment) (width : Option ℤ) → HasOwn font glyph zero_point segments width None → IsDrawnAs font glyph segments width
+draws-plain font glyph segments width own = record {
   part = own.part;
   run = own.run;
   has = own.has;
-  segments = inl (record { plain = own.told; draws = own.outlines.segments });
-  width = own.outlines.width;
+  drawn = inl (record { plain = own.told; draws = own.draws });
+  width_is = own.width_is;
 }
 
 -- an accented one
-pub is_accented : (font : FontView) (glyph : ℕ) (outline : Outline) (accent : Accent) → HasOwn font glyph outline (Some accent) → IsAccented font glyph accent
-is_accented font glyph outline accent own = record { part = own.part; run = own.run; has = own.has; accented = own.told }
+pub is-accented : (font : FontView) (glyph : ℕ) (origin : Point) (segments : List Segment) (width : Option ℤ) (accent : Accent) →
+    HasOwn font glyph origin segments width (Some accent) → IsAccented font glyph accent
+is-accented font glyph origin segments width accent own = record { part = own.part; run = own.run; has = own.has; accented = own.told }
 
-pub is_nested : (font : FontView) (code glyph : ℕ) (outline : Outline) (accent : Accent) → IsComponent font code glyph →
-    HasOwn font glyph outline (Some accent) → IsNested font code
-is_nested font code glyph outline accent component own = record {
+pub is-nested : (font : FontView) (code glyph : ℕ) (origin : Point) (segments : List Segment) (width : Option ℤ) (accent : Accent) → IsComponent font code glyph →
+    HasOwn font glyph origin segments width (Some accent) → IsNested font code
+is-nested font code glyph origin segments width accent component own = record {
   glyph = glyph;
   accent = accent;
   component = component;
-  accented = is_accented font glyph outline accent own;
+  accented = is-accented font glyph origin segments width accent own;
 }
 
-pub draws_accented : (font : FontView) (glyph : ℕ) (old new : Outline) (accent : Accent) → HasOwn font glyph old (Some accent) →
-    AddsComponents font accent old.segments.items new.segments.items → new.width ≡ old.width → IsDrawnAs font glyph new
-draws_accented font glyph old new accent own adds same = record {
-  part = own.part;
-  run = own.run;
-  has = own.has;
-  segments = inr (record { accent = accent; own = old.segments.items; accented = own.told; draws_own = own.outlines.segments; adds = adds });
-  width = same ∙ own.outlines.width;
+pub draws-accented : (font : FontView) (glyph : ℕ) (own more : List Segment) (width : Option ℤ) (accent : Accent) →
+    HasOwn font glyph zero_point own width (Some accent) → DrawsComponents font accent more → IsDrawnAs font glyph (own ++ more) width
+draws-accented font glyph own more width accent has components = record {
+  part = has.part;
+  run = has.run;
+  has = has.has;
+  drawn = inr (record { accent = accent; own = own; more = more; accented = has.told; draws_own = has.draws; draws_more = components; all = refl });
+  width_is = has.width_is;
 }
+
+-- one thing given behind another
+pub given-both : (old middle new first second : List Segment) → Gives old middle first → Gives middle new second → Gives old new (first ++ second)
+given-both old middle new first second begun done = done ∙ ap (λ xs. xs ++ second) begun ∙ append_assoc old first second
 
 -- a refusal that is passed on
-pub passed_on : {A : Type 0} → (r : Result A Error) (e : Error) (P : Error → Type 0) → IsErrAnd r (λ x. x ≡ e) → P e → IfErr r P
-passed_on (Ok x) e P same holds = tt
-passed_on (Err x) e P same holds = subst P (sym same) holds
+pub passed-on : {A : Type 0} → (r : Result A Error) (e : Error) (P : Error → Type 0) → IsErrAnd r (λ x. x ≡ e) → P e → IfErr r P
+passed-on (Ok x) e P same holds = tt
+passed-on (Err x) e P same holds = subst P (sym same) holds
 
--- the accent as a component is refused
-pub accent_refused : (font : FontView) (accent : Accent) (e : Error) → (e ≡ errors.Font causes.Memory) ⊎ IsComponentRefused font accent.accent e →
-    (e ≡ errors.Font causes.Memory) ⊎ AreRefused font accent e
-accent_refused font accent e (inl memory) = inl memory
-accent_refused font accent e (inr why) = inr (inr (inl why))
+-- the base is drawn, and then the accent
+pub draws-both : (r : Result (Unit {0}) Error) (font : FontView) (accent : Accent) (old middle new base : List Segment) → DrawsComponent font accent.base zero_point base → Gives old middle base →
+    OnOk r ((above : List Segment) × DrawsComponent font accent.accent (point accent.dx accent.dy) above × Gives middle new above) →
+    OnOk r ((segments : List Segment) × DrawsComponents font accent segments × Gives old new segments)
+draws-both (Ok done) font accent old middle new base draws begun rest =
+    (base ++ rest.0, record { base = base; above = rest.0; draws_base = draws; draws_accent = rest.1; all = refl }, given-both old middle new base rest.0 begun rest.2)
+draws-both (Err e) font accent old middle new base draws begun rest = tt
 
--- the accent is refused as it is moved
-pub moved_refused : (r : Result (Unit {0}) Error) (font : FontView) (accent : Accent) (above added : List Segment) →
-    DrawsComponent font accent.accent above → added ≡ above →
-    IfErr r (λ e. (e ≡ errors.Font causes.Memory) ⊎ ((e ≡ errors.Font causes.Overflow) × Any (LeavesRange accent.dx accent.dy) added)) →
-    IfErr r (λ e. (e ≡ errors.Font causes.Memory) ⊎ AreRefused font accent e)
-moved_refused (Ok done) font accent above added draws same why = tt
-moved_refused (Err e) font accent above added draws same (inl memory) = inl memory
-moved_refused (Err e) font accent above added draws same (inr why) =
-    let P : List Segment → Type 0 = λ xs. Any (LeavesRange accent.dx accent.dy) xs in
-    inr (inr (inr (why.0, record { above = above; draws = draws; leaves = subst P same why.1 })))
+-- a component is refused: the base, or the accent
+pub base-refused : (font : FontView) (accent : Accent) (e : Error) (Refuses : Cause → Type 0) →
+    (e ≡ errors.Font causes.Memory) ⊎ IsComponentRefused font accent.base zero_point e ⊎ IsOfSink Refuses e → (e ≡ errors.Font causes.Memory) ⊎ AreRefused font accent e ⊎ IsOfSink Refuses e
+base-refused font accent e Refuses (inl memory) = inl memory
+base-refused font accent e Refuses (inr (inl why)) = inr (inl (inl why))
+base-refused font accent e Refuses (inr (inr sink)) = inr (inr sink)
 
--- base and accent are added
-pub adds_both : (r : Result (Unit {0}) Error) (font : FontView) (accent : Accent) (base above added old middle new : List Segment) →
-    DrawsComponent font accent.base base → DrawsComponent font accent.accent above → added ≡ above → middle ≡ old ++ base →
-    OnOk r (new ≡ middle ++ map (moved_by accent.dx accent.dy) added) → OnOk r (AddsComponents font accent old new)
-adds_both (Ok done) font accent base above added old middle new draws_base draws_accent same begun put = record {
-  base = base;
-  above = above;
-  draws_base = draws_base;
-  draws_accent = draws_accent;
-  all = put ∙ ap (λ xs. middle ++ map (moved_by accent.dx accent.dy) xs) same
-      ∙ ap (λ xs. xs ++ map (moved_by accent.dx accent.dy) above) begun ∙ append_assoc old base (map (moved_by accent.dx accent.dy) above);
-}
-adds_both (Err e) font accent base above added old middle new draws_base draws_accent same begun put = tt
+pub accent-refused : (r : Result (Unit {0}) Error) (font : FontView) (accent : Accent) (Refuses : Cause → Type 0) →
+    IfErr r (λ e. (e ≡ errors.Font causes.Memory) ⊎ IsComponentRefused font accent.accent (point accent.dx accent.dy) e ⊎ IsOfSink Refuses e) →
+    IfErr r (λ e. (e ≡ errors.Font causes.Memory) ⊎ AreRefused font accent e ⊎ IsOfSink Refuses e)
+accent-refused (Ok done) font accent Refuses why = tt
+accent-refused (Err e) font accent Refuses (inl memory) = inl memory
+accent-refused (Err e) font accent Refuses (inr (inl why)) = inr (inl (inr why))
+accent-refused (Err e) font accent Refuses (inr (inr sink)) = inr (inr sink)
 
 -- the components of an accented glyph are refused
-pub components_refused : (font : FontView) (glyph : ℕ) (outline : Outline) (accent : Accent) (e : Error) → HasOwn font glyph outline (Some accent) →
-    (e ≡ errors.Font causes.Memory) ⊎ AreRefused font accent e → IsRefused font glyph e
-components_refused font glyph outline accent e own (inl memory) = inl memory
-components_refused font glyph outline accent e own (inr why) =
-    inr (inr (record { accent = accent; accented = is_accented font glyph outline accent own; refused = why }))
+pub components-refused : (font : FontView) (glyph : ℕ) (origin : Point) (segments : List Segment) (width : Option ℤ) (accent : Accent) (e : Error) (Refuses : Cause → Type 0) →
+    HasOwn font glyph origin segments width (Some accent) → (e ≡ errors.Font causes.Memory) ⊎ AreRefused font accent e ⊎ IsOfSink Refuses e → IsRefused font glyph e ⊎ IsOfSink Refuses e
+components-refused font glyph origin segments width accent e Refuses own (inl memory) = inl (inl memory)
+components-refused font glyph origin segments width accent e Refuses own (inr (inl why)) =
+    inl (inr (inr (record { accent = accent; accented = is-accented font glyph origin segments width accent own; refused = why })))
+components-refused font glyph origin segments width accent e Refuses own (inr (inr sink)) = inr sink

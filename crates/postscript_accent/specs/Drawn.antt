@@ -1,7 +1,8 @@
 -- How a glyph is drawn: plain, or with a base and an accent (Technical Note 5177, Appendix C).
-use Rattle.std.specs.Prelude.{◌≡◌, ◌⊎◌, ℕ, List, ◌++◌, map, Option, Ok}
-use Rattle.postscript_outline.specs.Outline.{Outlines, outline_of}
-use Rattle.postscript_outline.specs.declared.outline.Outline.{Outline}
+use Rattle.std.specs.Prelude.{◌≡◌, ◌⊎◌, ℕ, ℤ, pos, List, ◌++◌, Option, Ok}
+use Rattle.postscript_outline.specs.Drawing.{point}
+use Rattle.postscript_outline.specs.Outline.{outlined_at}
+use Rattle.postscript_outline.specs.declared.point.Point.{Point}
 use Rattle.postscript_outline.specs.declared.segment.Segment.{Segment}
 use Rattle.postscript_type2.specs.Program.Runs.{Run, width_of}
 use Rattle.postscript_view.specs.Advances.{HasRun}
@@ -9,52 +10,61 @@ use Rattle.postscript_view.specs.declared.font.FontView.{FontView}
 use Rattle.postscript_view.specs.declared.part.Part.{Part}
 use Rattle.postscript_accent.specs.Accents.{IsAccentOf, IsPlain, IsTold}
 use Rattle.postscript_accent.specs.Components.{IsComponent}
-use Rattle.postscript_accent.specs.Moving.{moved_by}
 use Rattle.postscript_accent.specs.declared.accent.Accent.{Accent}
 
--- A glyph of the font by itself: the outline of its run, and what that ends over.
-pub record HasOwn (font : FontView) (glyph : ℕ) (outline : Outline) (accent : Option Accent) : Type 0 where
+abbrev pub zero_point : Point
+zero_point = point (pos 0) (pos 0)
+
+-- The run draws these segments, where the origin of the glyph is put at a point.
+abbrev pub DrawsAt : Point → Run → List Segment → Type 0
+DrawsAt origin run segments = outlined_at origin run.answers run.end ≡ Ok segments
+
+-- A glyph of the font by itself: the segments of its run, its width, and what its endchar names.
+pub record HasOwn (font : FontView) (glyph : ℕ) (origin : Point) (segments : List Segment) (width : Option ℤ) (accent : Option Accent) : Type 0 where
   pub part : Part
   pub run : Run
   pub has : HasRun font glyph part run
-  pub outlines : Outlines outline run
+  pub draws : DrawsAt origin run segments
+  pub width_is : width ≡ width_of run
   pub told : IsTold accent run
 
 -- A component is a plain glyph, and these are the segments of its run.
-pub record DrawsComponent (font : FontView) (code : ℕ) (segments : List Segment) : Type 0 where
+pub record DrawsComponent (font : FontView) (code : ℕ) (origin : Point) (segments : List Segment) : Type 0 where
   pub glyph : ℕ
   pub part : Part
   pub run : Run
   pub component : IsComponent font code glyph
   pub has : HasRun font glyph part run
   pub plain : IsPlain run
-  pub draws : outline_of run ≡ Ok segments
+  pub draws : DrawsAt origin run segments
 
 -- A plain glyph draws the segments of its run.
 pub record DrawsPlain (run : Run) (segments : List Segment) : Type 0 where
   pub plain : IsPlain run
-  pub draws : outline_of run ≡ Ok segments
+  pub draws : DrawsAt zero_point run segments
 
--- To segments those of the base are added, and those of the accent, moved.
-pub record AddsComponents (font : FontView) (accent : Accent) (own segments : List Segment) : Type 0 where
+-- The components: the base, and then the accent, whose origin is put at (adx, ady).
+pub record DrawsComponents (font : FontView) (accent : Accent) (segments : List Segment) : Type 0 where
   pub base : List Segment
   pub above : List Segment
-  pub draws_base : DrawsComponent font accent.base base
-  pub draws_accent : DrawsComponent font accent.accent above
-  pub all : segments ≡ own ++ (base ++ map (moved_by accent.dx accent.dy) above)
+  pub draws_base : DrawsComponent font accent.base zero_point base
+  pub draws_accent : DrawsComponent font accent.accent (point accent.dx accent.dy) above
+  pub all : segments ≡ base ++ above
 
--- An accented glyph draws the segments of its run, and its components.
+-- An accented glyph draws the segments of its run, and then its components.
 pub record DrawsAccented (font : FontView) (run : Run) (segments : List Segment) : Type 0 where
   pub accent : Accent
   pub own : List Segment
+  pub more : List Segment
   pub accented : IsAccentOf accent run
-  pub draws_own : outline_of run ≡ Ok own
-  pub adds : AddsComponents font accent own segments
+  pub draws_own : DrawsAt zero_point run own
+  pub draws_more : DrawsComponents font accent more
+  pub all : segments ≡ own ++ more
 
--- The outline of a glyph has these segments, and the width of its run.
-pub record IsDrawnAs (font : FontView) (glyph : ℕ) (outline : Outline) : Type 0 where
+-- A glyph draws these segments, and has the width of its run.
+pub record IsDrawnAs (font : FontView) (glyph : ℕ) (segments : List Segment) (width : Option ℤ) : Type 0 where
   pub part : Part
   pub run : Run
   pub has : HasRun font glyph part run
-  pub segments : DrawsPlain run outline.segments.items ⊎ DrawsAccented font run outline.segments.items
-  pub width : outline.width ≡ width_of run
+  pub drawn : DrawsPlain run segments ⊎ DrawsAccented font run segments
+  pub width_is : width ≡ width_of run

@@ -6,9 +6,8 @@ mod accent;
 mod component;
 mod drawing;
 mod error;
-mod moving;
 
-pub use accent::{Accent, accent_of};
+pub use accent::Accent;
 pub use component::component_of;
 pub use drawing::{draw_glyph, outline_of};
 pub use error::{Error, Result};
