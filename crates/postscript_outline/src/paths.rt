@@ -1,9 +1,7 @@
 //! Paths: what the operands of an operator spell is drawn as it is read, by one method for each pattern (Technical Note 5177,
 //! "Path Construction Operators"). Flexes are drawn by their strokes.
 ghost use Rattle.std.specs.Option.{ok_or};
-ghost use Rattle.std.specs.Prelude.{◌≡◌, ◌⊎◌, OnErr, IfOk, IfErr};
-ghost use Rattle.postscript_base.specs.declared.error.Error.TheVariants as errors;
-ghost use Rattle.postscript_outline.specs.Drawing.{DrawsInto, IsFront, drawing, held};
+ghost use Rattle.postscript_outline.specs.Drawing.{DrawsStrokes};
 ghost use Rattle.postscript_outline.specs.Operators.{strokes as the_strokes};
 ghost use Rattle.postscript_outline.specs.Strokes.{move as the_move, move_along as the_move_along, lines as the_lines, lines_in_turn as the_lines_in_turn, curves as the_curves, curves_along as the_curves_along, curves_level as the_curves_level, curves_in_turn as the_curves_in_turn, curves_then_line as the_curves_then_line, lines_then_curve as the_lines_then_curve};
 
@@ -26,10 +24,7 @@ impl Pen {
         sink: &mut S,
         fault: &mut Error,
     ) -> Option<()>
-        ensures exact { DrawsInto (S.refuses sink.new) (drawing (the_strokes operator operands.now) (held self.old (S.given sink.old))) (ok_or result fault.new) (held self.new (S.given sink.new)) }
-        ensures refused { IfErr (ok_or result fault.new) (λ e. S.refuses sink.new e ⊎ (e ≡ errors.Overflow)) }
-        ensures kept { IsFront (S.given sink.old) (S.given sink.new) }
-        ensures front { OnErr (ok_or result fault.new) (IfOk (drawing (the_strokes operator operands.now) (held self.old (S.given sink.old))) (λ drawing. IsFront (S.given sink.new) drawing.segments)) }
+        ensures { DrawsStrokes S.given S.refuses (the_strokes operator operands.now) self.old sink.old (ok_or result fault.new) self.new sink.new }
     {
         match operator {
             Operator::RMoveTo => self.go(operands, sink, fault),
@@ -62,20 +57,14 @@ impl Pen {
         sink: &mut S,
         fault: &mut Error,
     ) -> Option<()>
-        ensures exact { DrawsInto (S.refuses sink.new) (drawing (the_strokes operator operands.now) (held self.old (S.given sink.old))) (ok_or result fault.new) (held self.new (S.given sink.new)) }
-        ensures refused { IfErr (ok_or result fault.new) (λ e. S.refuses sink.new e ⊎ (e ≡ errors.Overflow)) }
-        ensures kept { IsFront (S.given sink.old) (S.given sink.new) }
-        ensures front { OnErr (ok_or result fault.new) (IfOk (drawing (the_strokes operator operands.now) (held self.old (S.given sink.old))) (λ drawing. IsFront (S.given sink.new) drawing.segments)) }
+        ensures { DrawsStrokes S.given S.refuses (the_strokes operator operands.now) self.old sink.old (ok_or result fault.new) self.new sink.new }
     {
         self.draw_all(Strokes::of(operator, operands), sink, fault)
     }
 
     /// dx1 dy1
     fn go<S: Sink>(&mut self, operands: &[Operand], sink: &mut S, fault: &mut Error) -> Option<()>
-        ensures exact { DrawsInto (S.refuses sink.new) (drawing (the_move operands.now) (held self.old (S.given sink.old))) (ok_or result fault.new) (held self.new (S.given sink.new)) }
-        ensures refused { IfErr (ok_or result fault.new) (λ e. S.refuses sink.new e ⊎ (e ≡ errors.Overflow)) }
-        ensures kept { IsFront (S.given sink.old) (S.given sink.new) }
-        ensures front { OnErr (ok_or result fault.new) (IfOk (drawing (the_move operands.now) (held self.old (S.given sink.old))) (λ drawing. IsFront (S.given sink.new) drawing.segments)) }
+        ensures { DrawsStrokes S.given S.refuses (the_move operands.now) self.old sink.old (ok_or result fault.new) self.new sink.new }
     {
         match operands {
             [dx1, dy1] => self.move_by(by(*dx1, *dy1), sink, fault),
@@ -91,10 +80,7 @@ impl Pen {
         sink: &mut S,
         fault: &mut Error,
     ) -> Option<()>
-        ensures exact { DrawsInto (S.refuses sink.new) (drawing (the_move_along axis operands.now) (held self.old (S.given sink.old))) (ok_or result fault.new) (held self.new (S.given sink.new)) }
-        ensures refused { IfErr (ok_or result fault.new) (λ e. S.refuses sink.new e ⊎ (e ≡ errors.Overflow)) }
-        ensures kept { IsFront (S.given sink.old) (S.given sink.new) }
-        ensures front { OnErr (ok_or result fault.new) (IfOk (drawing (the_move_along axis operands.now) (held self.old (S.given sink.old))) (λ drawing. IsFront (S.given sink.new) drawing.segments)) }
+        ensures { DrawsStrokes S.given S.refuses (the_move_along axis operands.now) self.old sink.old (ok_or result fault.new) self.new sink.new }
     {
         match operands {
             [d1] => self.move_by(axis.along(wide(*d1)), sink, fault),
@@ -110,10 +96,7 @@ impl Pen {
         sink: &mut S,
         fault: &mut Error,
     ) -> Option<()>
-        ensures exact { DrawsInto (S.refuses sink.new) (drawing (the_lines operands.now) (held self.old (S.given sink.old))) (ok_or result fault.new) (held self.new (S.given sink.new)) }
-        ensures refused { IfErr (ok_or result fault.new) (λ e. S.refuses sink.new e ⊎ (e ≡ errors.Overflow)) }
-        ensures kept { IsFront (S.given sink.old) (S.given sink.new) }
-        ensures front { OnErr (ok_or result fault.new) (IfOk (drawing (the_lines operands.now) (held self.old (S.given sink.old))) (λ drawing. IsFront (S.given sink.new) drawing.segments)) }
+        ensures { DrawsStrokes S.given S.refuses (the_lines operands.now) self.old sink.old (ok_or result fault.new) self.new sink.new }
     {
         let mut ahead = operands;
         while let Some((a, rest)) = vector(ahead) {
@@ -132,10 +115,7 @@ impl Pen {
         sink: &mut S,
         fault: &mut Error,
     ) -> Option<()>
-        ensures exact { DrawsInto (S.refuses sink.new) (drawing (the_lines_in_turn first operands.now) (held self.old (S.given sink.old))) (ok_or result fault.new) (held self.new (S.given sink.new)) }
-        ensures refused { IfErr (ok_or result fault.new) (λ e. S.refuses sink.new e ⊎ (e ≡ errors.Overflow)) }
-        ensures kept { IsFront (S.given sink.old) (S.given sink.new) }
-        ensures front { OnErr (ok_or result fault.new) (IfOk (drawing (the_lines_in_turn first operands.now) (held self.old (S.given sink.old))) (λ drawing. IsFront (S.given sink.new) drawing.segments)) }
+        ensures { DrawsStrokes S.given S.refuses (the_lines_in_turn first operands.now) self.old sink.old (ok_or result fault.new) self.new sink.new }
     {
         let mut ahead = operands;
         while let Some((a, behind)) = line_in_turn(first, ahead) {
@@ -157,10 +137,7 @@ impl Pen {
         sink: &mut S,
         fault: &mut Error,
     ) -> Option<()>
-        ensures exact { DrawsInto (S.refuses sink.new) (drawing (the_curves operands.now) (held self.old (S.given sink.old))) (ok_or result fault.new) (held self.new (S.given sink.new)) }
-        ensures refused { IfErr (ok_or result fault.new) (λ e. S.refuses sink.new e ⊎ (e ≡ errors.Overflow)) }
-        ensures kept { IsFront (S.given sink.old) (S.given sink.new) }
-        ensures front { OnErr (ok_or result fault.new) (IfOk (drawing (the_curves operands.now) (held self.old (S.given sink.old))) (λ drawing. IsFront (S.given sink.new) drawing.segments)) }
+        ensures { DrawsStrokes S.given S.refuses (the_curves operands.now) self.old sink.old (ok_or result fault.new) self.new sink.new }
     {
         let mut ahead = operands;
         while let Some(bend) = curve(ahead) {
@@ -178,10 +155,7 @@ impl Pen {
         sink: &mut S,
         fault: &mut Error,
     ) -> Option<()>
-        ensures exact { DrawsInto (S.refuses sink.new) (drawing (the_curves_level axis operands.now) (held self.old (S.given sink.old))) (ok_or result fault.new) (held self.new (S.given sink.new)) }
-        ensures refused { IfErr (ok_or result fault.new) (λ e. S.refuses sink.new e ⊎ (e ≡ errors.Overflow)) }
-        ensures kept { IsFront (S.given sink.old) (S.given sink.new) }
-        ensures front { OnErr (ok_or result fault.new) (IfOk (drawing (the_curves_level axis operands.now) (held self.old (S.given sink.old))) (λ drawing. IsFront (S.given sink.new) drawing.segments)) }
+        ensures { DrawsStrokes S.given S.refuses (the_curves_level axis operands.now) self.old sink.old (ok_or result fault.new) self.new sink.new }
     {
         let (first, rest) = first_aside(operands);
         self.curves_along(axis, first, rest, sink, fault)
@@ -197,10 +171,7 @@ impl Pen {
         sink: &mut S,
         fault: &mut Error,
     ) -> Option<()>
-        ensures exact { DrawsInto (S.refuses sink.new) (drawing (the_curves_along axis first operands.now) (held self.old (S.given sink.old))) (ok_or result fault.new) (held self.new (S.given sink.new)) }
-        ensures refused { IfErr (ok_or result fault.new) (λ e. S.refuses sink.new e ⊎ (e ≡ errors.Overflow)) }
-        ensures kept { IsFront (S.given sink.old) (S.given sink.new) }
-        ensures front { OnErr (ok_or result fault.new) (IfOk (drawing (the_curves_along axis first operands.now) (held self.old (S.given sink.old))) (λ drawing. IsFront (S.given sink.new) drawing.segments)) }
+        ensures { DrawsStrokes S.given S.refuses (the_curves_along axis first operands.now) self.old sink.old (ok_or result fault.new) self.new sink.new }
     {
         let mut off = first;
         let mut ahead = operands;
@@ -221,10 +192,7 @@ impl Pen {
         sink: &mut S,
         fault: &mut Error,
     ) -> Option<()>
-        ensures exact { DrawsInto (S.refuses sink.new) (drawing (the_curves_in_turn first operands.now) (held self.old (S.given sink.old))) (ok_or result fault.new) (held self.new (S.given sink.new)) }
-        ensures refused { IfErr (ok_or result fault.new) (λ e. S.refuses sink.new e ⊎ (e ≡ errors.Overflow)) }
-        ensures kept { IsFront (S.given sink.old) (S.given sink.new) }
-        ensures front { OnErr (ok_or result fault.new) (IfOk (drawing (the_curves_in_turn first operands.now) (held self.old (S.given sink.old))) (λ drawing. IsFront (S.given sink.new) drawing.segments)) }
+        ensures { DrawsStrokes S.given S.refuses (the_curves_in_turn first operands.now) self.old sink.old (ok_or result fault.new) self.new sink.new }
     {
         let mut ahead = operands;
         while let Some(bend) = curve_in_turn(first, ahead) {
@@ -245,10 +213,7 @@ impl Pen {
         sink: &mut S,
         fault: &mut Error,
     ) -> Option<()>
-        ensures exact { DrawsInto (S.refuses sink.new) (drawing (the_curves_then_line operands.now) (held self.old (S.given sink.old))) (ok_or result fault.new) (held self.new (S.given sink.new)) }
-        ensures refused { IfErr (ok_or result fault.new) (λ e. S.refuses sink.new e ⊎ (e ≡ errors.Overflow)) }
-        ensures kept { IsFront (S.given sink.old) (S.given sink.new) }
-        ensures front { OnErr (ok_or result fault.new) (IfOk (drawing (the_curves_then_line operands.now) (held self.old (S.given sink.old))) (λ drawing. IsFront (S.given sink.new) drawing.segments)) }
+        ensures { DrawsStrokes S.given S.refuses (the_curves_then_line operands.now) self.old sink.old (ok_or result fault.new) self.new sink.new }
     {
         let (these, those) = operands.split_at(operands.len().saturating_sub(2));
         self.curves(these, sink, fault)?;
@@ -262,10 +227,7 @@ impl Pen {
         sink: &mut S,
         fault: &mut Error,
     ) -> Option<()>
-        ensures exact { DrawsInto (S.refuses sink.new) (drawing (the_lines_then_curve operands.now) (held self.old (S.given sink.old))) (ok_or result fault.new) (held self.new (S.given sink.new)) }
-        ensures refused { IfErr (ok_or result fault.new) (λ e. S.refuses sink.new e ⊎ (e ≡ errors.Overflow)) }
-        ensures kept { IsFront (S.given sink.old) (S.given sink.new) }
-        ensures front { OnErr (ok_or result fault.new) (IfOk (drawing (the_lines_then_curve operands.now) (held self.old (S.given sink.old))) (λ drawing. IsFront (S.given sink.new) drawing.segments)) }
+        ensures { DrawsStrokes S.given S.refuses (the_lines_then_curve operands.now) self.old sink.old (ok_or result fault.new) self.new sink.new }
     {
         let (these, those) = operands.split_at(operands.len().saturating_sub(6));
         self.lines(these, sink, fault)?;

@@ -1,17 +1,19 @@
-use Rattle.std.proofs.Common.{◌≡◌, ◌∷◌, IfOk, rules}
+use Rattle.std.proofs.Common.{◌≡◌, ◌∷◌, None, rules}
 use Rattle.postscript_outline.specs.declared.stroke.Stroke.{Stroke}
 use Rattle.postscript_outline.specs.declared.stroke.Stroke.TheVariants.{Curve}
-use Rattle.postscript_outline.specs.Drawing.{Drawing, IsFront, drawn, held}
+use Rattle.postscript_outline.specs.Drawing.{Drawing, drawing, held}
 use Rattle.postscript_outline.specs.Strokes.{curves}
-use Rattle.postscript_outline.proofs.GivenLaws.{front-of-first}
+use Rattle.postscript_outline.proofs.DrawsLaws.{first-refused}
 use Rattle.postscript_outline.proofs.pen.Pen.curves.Goals as goal
 
-pub returns-in_err-curve_by-clause-front : goal.returns-in_err-curve_by-clause-front
-returns-in_err-curve_by-clause-front g c =
-    let now = g.S.Sink.given c.curve_by.new.sink in
+pub returns-in_err-curve_by : goal.returns-in_err-curve_by
+returns-in_err-curve_by g c =
+    let start : Drawing = held c.args.self.now (g.S.Sink.given c.args.sink.now) in
     let here : Drawing = held c.loop-bend.self (g.S.Sink.given c.loop-bend.sink) in
+    let new : Drawing = held c.curve_by.new.self (g.S.Sink.given c.curve_by.new.sink) in
     let stroke : Stroke = Curve c.in-Some.bend.a c.in-Some.bend.b c.in-Some.bend.c in
-    let first : IfOk (drawn stroke here) (λ d. IsFront now d.segments) = search rules in
     let all : curves c.loop-bend.ahead.now ≡ stroke ∷ curves c.in-Some.bend.rest.now = search rules in
-    let whole = front-of-first now stroke (curves c.in-Some.bend.rest.now) (curves c.loop-bend.ahead.now) here _ all c.loop-bend.invariant.same first in
-    search rules
+    let no : c.curve_by.result ≡ None = search rules in
+    let none : c.from_residual.result ≡ None = search rules in
+    first-refused (g.S.Sink.refuses c.curve_by.new.sink) stroke (curves c.in-Some.bend.rest.now) (curves c.loop-bend.ahead.now) start here new (drawing (curves c.args.operands.now) start)
+    c.curve_by.new.fault c.curve_by.result c.from_residual.result no none all c.loop-bend.invariant.same c.loop-bend.invariant.kept c.curve_by.ensures

@@ -1,50 +1,28 @@
-use Rattle.std.proofs.Common.{◌≡◌, ◌++◌, Ok, Err, IfOk, OnErr, sym, subst, rules}
+use Rattle.std.proofs.Common.{◌≡◌, ◌++◌, None, rules}
 use Rattle.std.specs.Option.{ok_or}
-use Rattle.postscript_outline.specs.Drawing.{Drawing, DrawsInto, IsFront, drawing, held}
+use Rattle.postscript_outline.specs.Drawing.{Drawing, held}
 use Rattle.postscript_outline.specs.Strokes.{curves, curves_then_line, lines}
-use Rattle.postscript_outline.proofs.JoinedLaws.{drawing-behind, front-in-joined, refused-in-first}
+use Rattle.postscript_outline.proofs.DrawsLaws.{joined-drawn, joined-refused}
 use Rattle.postscript_outline.proofs.pen.Pen.curves_then_line.Goals as goal
 
-pub returns-in_err-curves-clause-exact : goal.returns-in_err-curves-clause-exact
-returns-in_err-curves-clause-exact g c =
+pub returns-in_err-curves : goal.returns-in_err-curves
+returns-in_err-curves g c =
     let here : Drawing = held c.args.self.now (g.S.Sink.given c.args.sink.now) in
     let there : Drawing = held c.curves.new.self (g.S.Sink.given c.curves.new.sink) in
     let these = curves c.split_at.result.0.now in
     let those = lines c.split_at.result.1.now in
     let is : curves_then_line c.args.operands.now ≡ these ++ those = search rules in
-    let first : DrawsInto (g.S.Sink.refuses c.curves.new.sink) (drawing these here) (Err c.curves.new.fault) there = search rules in
-    let whole = refused-in-first (g.S.Sink.refuses c.curves.new.sink) these those (curves_then_line c.args.operands.now) here there c.curves.new.fault is first in
-    search rules
+    let no : c.curves.result ≡ None = search rules in
+    let none : c.from_residual.result ≡ None = search rules in
+    joined-refused (g.S.Sink.refuses c.curves.new.sink) these those (curves_then_line c.args.operands.now) here there c.curves.new.fault c.curves.result c.from_residual.result no none is c.curves.ensures
 
-pub returns-in_err-curves-clause-front : goal.returns-in_err-curves-clause-front
-returns-in_err-curves-clause-front g c =
-    let now = g.S.Sink.given c.curves.new.sink in
-    let here : Drawing = held c.args.self.now (g.S.Sink.given c.args.sink.now) in
-    let these = curves c.split_at.result.0.now in
-    let those = lines c.split_at.result.1.now in
-    let is : curves_then_line c.args.operands.now ≡ these ++ those = search rules in
-    let first : IfOk (drawing these here) (λ d. IsFront now d.segments) = search rules in
-    let whole = front-in-joined now these those (curves_then_line c.args.operands.now) here is first in
-    search rules
-
-pub returns-clause-exact : goal.returns-clause-exact
-returns-clause-exact g c =
+pub returns : goal.returns
+returns g c =
     let here : Drawing = held c.args.self.now (g.S.Sink.given c.args.sink.now) in
     let there : Drawing = held c.curves.new.self (g.S.Sink.given c.curves.new.sink) in
+    let new : Drawing = held c.lines.new.self (g.S.Sink.given c.lines.new.sink) in
     let these = curves c.split_at.result.0.now in
     let those = lines c.split_at.result.1.now in
     let is : curves_then_line c.args.operands.now ≡ these ++ those = search rules in
-    let first : drawing these here ≡ Ok there = search rules in
-    let same = drawing-behind these those (curves_then_line c.args.operands.now) here there is first in
-    subst (λ r. DrawsInto (g.S.Sink.refuses c.lines.new.sink) r (ok_or c.lines.result c.lines.new.fault) (held c.lines.new.self (g.S.Sink.given c.lines.new.sink))) (sym same) c.lines.ensures.exact
-
-pub returns-clause-front : goal.returns-clause-front
-returns-clause-front g c =
-    let here : Drawing = held c.args.self.now (g.S.Sink.given c.args.sink.now) in
-    let there : Drawing = held c.curves.new.self (g.S.Sink.given c.curves.new.sink) in
-    let these = curves c.split_at.result.0.now in
-    let those = lines c.split_at.result.1.now in
-    let is : curves_then_line c.args.operands.now ≡ these ++ those = search rules in
-    let first : drawing these here ≡ Ok there = search rules in
-    let same = drawing-behind these those (curves_then_line c.args.operands.now) here there is first in
-    subst (λ r. OnErr (ok_or c.lines.result c.lines.new.fault) (IfOk r (λ d. IsFront (g.S.Sink.given c.lines.new.sink) d.segments))) (sym same) c.lines.ensures.front
+    joined-drawn (g.S.Sink.refuses c.curves.new.sink) (g.S.Sink.refuses c.lines.new.sink) these those (curves_then_line c.args.operands.now) here there new c.curves.new.fault c.curves.result c.in_ok-curves.field-0
+    (ok_or c.lines.result c.lines.new.fault) c.in_ok-curves.was is c.curves.ensures c.lines.ensures

@@ -1,17 +1,16 @@
-use Rattle.std.proofs.Common.{◌≡◌, ◌∷◌, IfOk, sym, subst, rules}
-use Rattle.postscript_outline.specs.Drawing.{Drawing, IsFront, drawing, drawn, held}
+use Rattle.std.proofs.Common.{◌≡◌, ◌∷◌, None, rules}
+use Rattle.postscript_outline.specs.Drawing.{Drawing, drawing, held}
 use Rattle.postscript_outline.specs.Left.{left}
-use Rattle.postscript_outline.proofs.GivenLaws.{drawing-front}
+use Rattle.postscript_outline.proofs.DrawsLaws.{first-refused}
 use Rattle.postscript_outline.proofs.pen.Pen.draw_all.Goals as goal
 
-pub returns-in_err-draw-clause-front : goal.returns-in_err-draw-clause-front
-returns-in_err-draw-clause-front g c =
-    let now = g.S.Sink.given c.draw.new.sink in
+pub returns-in_err-draw : goal.returns-in_err-draw
+returns-in_err-draw g c =
+    let start : Drawing = held c.args.self.now (g.S.Sink.given c.args.sink.now) in
     let here : Drawing = held c.loop-stroke.self (g.S.Sink.given c.loop-stroke.sink) in
-    let first : IfOk (drawn c.in-Some.stroke here) (λ d. IsFront now d.segments) = search rules in
+    let new : Drawing = held c.draw.new.self (g.S.Sink.given c.draw.new.sink) in
     let all : left c.loop-stroke.ahead ≡ c.in-Some.stroke ∷ left c.in-Some.behind = search rules in
-    let rest = drawing-front now c.in-Some.stroke (left c.in-Some.behind) here first in
-    let last : IfOk (drawing (left c.loop-stroke.ahead) here) (λ d. IsFront now d.segments) =
-    subst (λ v. IfOk (drawing v here) (λ d. IsFront now d.segments)) (sym all) rest in
-    let whole = subst (λ r. IfOk r (λ d. IsFront now d.segments)) c.loop-stroke.invariant.same last in
-    search rules
+    let no : c.draw.result ≡ None = search rules in
+    let none : c.from_residual.result ≡ None = search rules in
+    first-refused (g.S.Sink.refuses c.draw.new.sink) c.in-Some.stroke (left c.in-Some.behind) (left c.loop-stroke.ahead) start here new (drawing (left c.args.strokes) start)
+    c.draw.new.fault c.draw.result c.from_residual.result no none all c.loop-stroke.invariant.same c.loop-stroke.invariant.kept c.draw.ensures

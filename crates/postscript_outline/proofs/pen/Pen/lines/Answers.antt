@@ -1,17 +1,19 @@
-use Rattle.std.proofs.Common.{◌≡◌, ◌∷◌, IfOk, rules}
+use Rattle.std.proofs.Common.{◌≡◌, ◌∷◌, None, rules}
 use Rattle.postscript_outline.specs.declared.stroke.Stroke.{Stroke}
 use Rattle.postscript_outline.specs.declared.stroke.Stroke.TheVariants.{Line}
-use Rattle.postscript_outline.specs.Drawing.{Drawing, IsFront, drawn, held}
+use Rattle.postscript_outline.specs.Drawing.{Drawing, drawing, held}
 use Rattle.postscript_outline.specs.Strokes.{lines}
-use Rattle.postscript_outline.proofs.GivenLaws.{front-of-first}
+use Rattle.postscript_outline.proofs.DrawsLaws.{first-refused}
 use Rattle.postscript_outline.proofs.pen.Pen.lines.Goals as goal
 
-pub returns-in_err-line_by-clause-front : goal.returns-in_err-line_by-clause-front
-returns-in_err-line_by-clause-front g c =
-    let now = g.S.Sink.given c.line_by.new.sink in
+pub returns-in_err-line_by : goal.returns-in_err-line_by
+returns-in_err-line_by g c =
+    let start : Drawing = held c.args.self.now (g.S.Sink.given c.args.sink.now) in
     let here : Drawing = held c.loop-a.self (g.S.Sink.given c.loop-a.sink) in
+    let new : Drawing = held c.line_by.new.self (g.S.Sink.given c.line_by.new.sink) in
     let stroke : Stroke = Line c.in-Some.a in
-    let first : IfOk (drawn stroke here) (λ d. IsFront now d.segments) = search rules in
     let all : lines c.loop-a.ahead.now ≡ stroke ∷ lines c.in-Some.rest.now = search rules in
-    let whole = front-of-first now stroke (lines c.in-Some.rest.now) (lines c.loop-a.ahead.now) here _ all c.loop-a.invariant.same first in
-    search rules
+    let no : c.line_by.result ≡ None = search rules in
+    let none : c.from_residual.result ≡ None = search rules in
+    first-refused (g.S.Sink.refuses c.line_by.new.sink) stroke (lines c.in-Some.rest.now) (lines c.loop-a.ahead.now) start here new (drawing (lines c.args.operands.now) start)
+    c.line_by.new.fault c.line_by.result c.from_residual.result no none all c.loop-a.invariant.same c.loop-a.invariant.kept c.line_by.ensures
