@@ -135,13 +135,7 @@ draws-both (Ok done) font accent old middle new base draws begun rest =
     (base ++ rest.0, record { base = base; above = rest.0; draws_base = draws; draws_accent = rest.1; all = refl }, given-both old middle new base rest.0 begun rest.2)
 draws-both (Err e) font accent old middle new base draws begun rest = tt
 
--- a component is refused: the base, or the accent
-pub base-refused : (font : FontView) (accent : Accent) (e : Error) (Refuses : Cause → Type 0) →
-    (e ≡ errors.Font causes.Memory) ⊎ IsComponentRefused font accent.base zero_point e ⊎ IsOfSink Refuses e → (e ≡ errors.Font causes.Memory) ⊎ AreRefused font accent e ⊎ IsOfSink Refuses e
-base-refused font accent e Refuses (inl memory) = inl memory
-base-refused font accent e Refuses (inr (inl why)) = inr (inl (inl why))
-base-refused font accent e Refuses (inr (inr sink)) = inr (inr sink)
-
+-- the accent as a component is refused
 pub accent-refused : (r : Result (Unit {0}) Error) (font : FontView) (accent : Accent) (Refuses : Cause → Type 0) →
     IfErr r (λ e. (e ≡ errors.Font causes.Memory) ⊎ IsComponentRefused font accent.accent (point accent.dx accent.dy) e ⊎ IsOfSink Refuses e) →
     IfErr r (λ e. (e ≡ errors.Font causes.Memory) ⊎ AreRefused font accent e ⊎ IsOfSink Refuses e)
