@@ -1,5 +1,6 @@
 //! Accented glyphs: a font whose glyphs name others by their codes in the standard encoding.
-use crate::checks::{bytes_of, is_text, put_shown};
+use crate::checks::{bytes_of, holds, holds_at, is_text, put_shown};
+use postscript::type2::{Operand, Program};
 use postscript_accent::{draw_glyph, outline_of};
 use postscript_outline::Segment;
 use postscript_view::FontView;
@@ -85,6 +86,54 @@ fn an_accented_glyph_is_given_to_a_sink(rt: HostRuntime) {
         &rt,
         if width.is_none() { "" } else { "a width" },
         "",
+        "the width",
+    );
+}
+
+/// Codes, and how many operands their `endchar` takes: four, none of three, none where the code is used up or is refused.
+const ENDS: [(&str, usize); 5] = [
+    ("a963ccf7560e", 4),
+    ("90169393058b8bccf7560e", 4),
+    ("8c8d8e0e", 0),
+    ("8c8d8e8f", 0),
+    ("8c8d8e8f00", 0),
+];
+
+/// The program at its end, or at its refusal.
+fn at_end<'l>(alloc: Global, code: &'l [u8]) -> Program<'l> {
+    let mut program = Program::new(alloc, code, &[], &[]);
+    for _ in 0..code.len() {
+        match program.step() {
+            Ok(Some(_)) => {}
+            Ok(None) | Err(_) => break,
+        }
+    }
+    program
+}
+
+#[test]
+fn operands_at_the_end(rt: HostRuntime) {
+    let alloc = rt.alloc();
+    for (i, (code, count)) in ENDS.iter().enumerate() {
+        let bytes = bytes_of(&rt, alloc, code);
+        let before = Program::new(alloc, bytes.as_slice(), &[], &[]);
+        holds_at(&rt, before.operands_at_end().is_empty(), "before", i);
+        let program = at_end(alloc, bytes.as_slice());
+        holds_at(&rt, program.operands_at_end().len() == *count, "the end", i);
+    }
+    // a width lies beneath the four
+    let bytes = bytes_of(&rt, alloc, "c2a963ccf7560e");
+    let program = at_end(alloc, bytes.as_slice());
+    let wanted = [30, -40, 65, 194];
+    let operands = program.operands_at_end();
+    let same = operands
+        .iter()
+        .map(|operand| operand.to_int())
+        .eq(wanted.iter().map(|n| Some(*n)));
+    holds(&rt, same, "the operands");
+    holds(
+        &rt,
+        program.width() == Some(Operand::from_int(55)),
         "the width",
     );
 }
