@@ -15,4 +15,4 @@ shown_part font number part h = slice_get-map part_shown font.parts.items number
 
 -- what keeps the meaning of a run draws what it draws
 pub draws_as : (lists : Lists) (flat : List ℕ) (run : Run) → KeepsMeaning lists flat run → DrawsAs lists flat run
-draws_as lists flat run h = record { answers = h.answers; width = h.width; faultless = h.faultless; no_calls = h.no_calls }
+draws_as lists flat run h = record { answers = h.answers; width = h.width; taken = h.taken; faultless = h.faultless; no_calls = h.no_calls }

@@ -4,7 +4,7 @@ use Rattle.std.specs.Prelude.{◌≡◌, ◌≢◌, ◌⊎◌, ℕ, ◌<◌, Lis
 use Rattle.postscript_type2.specs.Program.Evaluation.{run_of}
 use Rattle.postscript_type2.specs.Program.Inlining.{is_flat}
 use Rattle.postscript_type2.specs.Program.Routines.{Lists, lent}
-use Rattle.postscript_type2.specs.Program.Runs.{Run, fault_of, width_of}
+use Rattle.postscript_type2.specs.Program.Runs.{Run, fault_of, taken_by, width_of}
 use Rattle.postscript_view.specs.Order.{View, Part}
 use Rattle.postscript_view.specs.Select.{IsSelected}
 
@@ -18,11 +18,12 @@ pub record HasPart (bytes : List ℕ) (font : View) (glyph number : ℕ) : Type 
 abbrev pub run_in : View → Part → List ℕ → Run
 run_in font part code = run_of (lent font.tables.subroutines part.subroutines) code
 
--- Over these lists a code draws what a run drew: it answers the same operations, with the same width; no fault ends it; and it
--- neither calls a subroutine nor returns.
+-- Over these lists a code draws what a run drew: it answers the same operations, with the same width; its endchar takes the same
+-- operands, so that an accented glyph stays one; no fault ends it; and it neither calls a subroutine nor returns.
 pub record DrawsAs (lists : Lists) (code : List ℕ) (run : Run) : Type 0 where
   pub answers : (run_of lists code).answers ≡ run.answers
   pub width : width_of (run_of lists code) ≡ width_of run
+  pub taken : taken_by (run_of lists code).end ≡ taken_by run.end
   pub faultless : fault_of (run_of lists code).end ≡ None
   pub no_calls : AllPass (λ said. is_flat said.operator) (run_of lists code).trace
 
