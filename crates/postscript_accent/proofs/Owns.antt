@@ -1,7 +1,6 @@
 -- What a glyph by itself gives: a plain glyph, a component, or an accented one.
 use Rattle.std.proofs.Common.{◌≡◌, ◌≢◌, ◌⊎◌, ℕ, ℤ, List, [], ◌++◌, length, append_assoc, Option, Some, None, Result, Ok, Err, ap, inl, inr, refl, subst, sym, ◌∙◌}
 use Rattle.std.specs.Prelude.{IfErr, IfOk, IsErrAnd, MatchOption, OnOk}
-use Rattle.postscript_base.specs.declared.error.Error.{Error as Cause}
 use Rattle.postscript_base.specs.declared.error.Error.TheVariants as causes
 use Rattle.postscript_items.specs.Lent.{items_of}
 use Rattle.postscript_outline.specs.Drawing.{point}
@@ -18,7 +17,7 @@ use Rattle.postscript_view.specs.declared.font.Glyph.{Glyph}
 use Rattle.postscript_accent.specs.Accents.{IsAccent, IsTold, run_by}
 use Rattle.postscript_accent.specs.Components.{IsComponent}
 use Rattle.postscript_accent.specs.Drawn.{DrawsAt, DrawsComponent, DrawsComponents, HasOwn, IsDrawnAs, zero_point}
-use Rattle.postscript_accent.specs.Refused.{AreRefused, IsAccented, IsComponentRefused, IsGlyphRefused, IsNested, IsOfSink, IsRefused, IsUndrawn, IsUnread}
+use Rattle.postscript_accent.specs.Refused.{AreRefused, IsAccented, IsComponentRefused, IsGlyphRefused, IsNested, IsRefused, IsUndrawn, IsUnread}
 use Rattle.postscript_accent.specs.declared.accent.Accent.{Accent}
 use Rattle.postscript_accent.specs.declared.drawing.Own.{Own}
 use Rattle.postscript_accent.specs.declared.error.Error.{Error}
@@ -61,16 +60,15 @@ own-so (Ok own) font i glyph origin old new has drawn width told =
     (drawn.0, record { part = glyph.part.now; run = run_by glyph; has = has; draws = drawn.1; width_is = width; told = told }, drawn.2)
 own-so (Err e) font i glyph origin old new has drawn width told = tt
 
-pub refused-so : (r : Result Own Error) (font : FontView) (i : ℕ) (glyph : Glyph) (origin : Point) (Refuses : Cause → Type 0) → HasRun font i glyph.part.now (run_by glyph) →
-    IfErr r (λ e. (e ≡ errors.Font causes.Memory) ⊎ IsUndrawn origin e (run_by glyph) ⊎ IsUnread e (run_by glyph) ⊎ IsOfSink Refuses e) →
-    IfErr r (λ e. (e ≡ errors.Font causes.Memory) ⊎ IsGlyphRefused font i origin e ⊎ IsOfSink Refuses e)
-refused-so (Ok own) font i glyph origin Refuses has why = tt
-refused-so (Err e) font i glyph origin Refuses has (inl memory) = inl memory
-refused-so (Err e) font i glyph origin Refuses has (inr (inl undrawn)) =
-    inr (inl (inr (record { part = glyph.part.now; run = run_by glyph; has = has; why = inl undrawn })))
-refused-so (Err e) font i glyph origin Refuses has (inr (inr (inl unread))) =
-    inr (inl (inr (record { part = glyph.part.now; run = run_by glyph; has = has; why = inr unread })))
-refused-so (Err e) font i glyph origin Refuses has (inr (inr (inr sink))) = inr (inr sink)
+pub refused-so : (r : Result Own Error) (font : FontView) (i : ℕ) (glyph : Glyph) (origin : Point) → HasRun font i glyph.part.now (run_by glyph) →
+    IfErr r (λ e. (e ≡ errors.Font causes.Memory) ⊎ IsUndrawn origin e (run_by glyph) ⊎ IsUnread e (run_by glyph)) →
+    IfErr r (λ e. (e ≡ errors.Font causes.Memory) ⊎ IsGlyphRefused font i origin e)
+refused-so (Ok own) font i glyph origin has why = tt
+refused-so (Err e) font i glyph origin has (inl memory) = inl memory
+refused-so (Err e) font i glyph origin has (inr (inl undrawn)) =
+    inr (inr (record { part = glyph.part.now; run = run_by glyph; has = has; why = inl undrawn }))
+refused-so (Err e) font i glyph origin has (inr (inr unread)) =
+    inr (inr (record { part = glyph.part.now; run = run_by glyph; has = has; why = inr unread }))
 
 -- a plain glyph is a component, and is drawn so
 pub draws-component : (font : FontView) (code glyph : ℕ) (origin : Point) (segments : List Segment) (width : Option ℤ) → IsComponent font code glyph →
@@ -136,18 +134,16 @@ draws-both (Ok done) font accent old middle new base draws begun rest =
 draws-both (Err e) font accent old middle new base draws begun rest = tt
 
 -- the accent as a component is refused
-pub accent-refused : (r : Result (Unit {0}) Error) (font : FontView) (accent : Accent) (Refuses : Cause → Type 0) →
-    IfErr r (λ e. (e ≡ errors.Font causes.Memory) ⊎ IsComponentRefused font accent.accent (point accent.dx accent.dy) e ⊎ IsOfSink Refuses e) →
-    IfErr r (λ e. (e ≡ errors.Font causes.Memory) ⊎ AreRefused font accent e ⊎ IsOfSink Refuses e)
-accent-refused (Ok done) font accent Refuses why = tt
-accent-refused (Err e) font accent Refuses (inl memory) = inl memory
-accent-refused (Err e) font accent Refuses (inr (inl why)) = inr (inl (inr why))
-accent-refused (Err e) font accent Refuses (inr (inr sink)) = inr (inr sink)
+pub accent-refused : (r : Result (Unit {0}) Error) (font : FontView) (accent : Accent) →
+    IfErr r (λ e. (e ≡ errors.Font causes.Memory) ⊎ IsComponentRefused font accent.accent (point accent.dx accent.dy) e) →
+    IfErr r (λ e. (e ≡ errors.Font causes.Memory) ⊎ AreRefused font accent e)
+accent-refused (Ok done) font accent why = tt
+accent-refused (Err e) font accent (inl memory) = inl memory
+accent-refused (Err e) font accent (inr why) = inr (inr why)
 
 -- the components of an accented glyph are refused
-pub components-refused : (font : FontView) (glyph : ℕ) (origin : Point) (segments : List Segment) (width : Option ℤ) (accent : Accent) (e : Error) (Refuses : Cause → Type 0) →
-    HasOwn font glyph origin segments width (Some accent) → (e ≡ errors.Font causes.Memory) ⊎ AreRefused font accent e ⊎ IsOfSink Refuses e → IsRefused font glyph e ⊎ IsOfSink Refuses e
-components-refused font glyph origin segments width accent e Refuses own (inl memory) = inl (inl memory)
-components-refused font glyph origin segments width accent e Refuses own (inr (inl why)) =
-    inl (inr (inr (record { accent = accent; accented = is-accented font glyph origin segments width accent own; refused = why })))
-components-refused font glyph origin segments width accent e Refuses own (inr (inr sink)) = inr sink
+pub components-refused : (font : FontView) (glyph : ℕ) (origin : Point) (segments : List Segment) (width : Option ℤ) (accent : Accent) (e : Error) →
+    HasOwn font glyph origin segments width (Some accent) → (e ≡ errors.Font causes.Memory) ⊎ AreRefused font accent e → IsRefused font glyph e
+components-refused font glyph origin segments width accent e own (inl memory) = inl memory
+components-refused font glyph origin segments width accent e own (inr why) =
+    inr (inr (record { accent = accent; accented = is-accented font glyph origin segments width accent own; refused = why }))

@@ -80,9 +80,3 @@ pub record HasComponentsRefused (font : FontView) (glyph : ℕ) (e : Error) : Ty
 -- Why a glyph is not drawn: want of memory, the glyph by itself, or its components.
 abbrev pub IsRefused : FontView → (glyph : ℕ) → Error → Type 0
 IsRefused font glyph e = (e ≡ Font causes.Memory) ⊎ IsGlyphRefused font glyph zero_point e ⊎ HasComponentsRefused font glyph e
-
--- it is what a sink refuses a segment with
-pub record IsOfSink (Refuses : Cause → Type 0) (e : Error) : Type 0 where
-  pub cause : Cause
-  pub is : e ≡ Font cause
-  pub refused : Refuses cause

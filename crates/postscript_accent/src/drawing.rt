@@ -5,7 +5,7 @@ ghost use Rattle.postscript_outline.specs.Drawing.{point};
 ghost use Rattle.postscript_outline.specs.declared.segment.Segment.{Segment as ASegment};
 ghost use Rattle.postscript_accent.specs.Accents.{IsTold, run_by};
 ghost use Rattle.postscript_accent.specs.Drawn.{DrawsAt, DrawsComponent, DrawsComponents, HasOwn, IsDrawnAs};
-ghost use Rattle.postscript_accent.specs.Refused.{AreRefused, IsComponentRefused, IsGlyphRefused, IsOfSink, IsRefused, IsUndrawn, IsUnread};
+ghost use Rattle.postscript_accent.specs.Refused.{AreRefused, IsComponentRefused, IsGlyphRefused, IsRefused, IsUndrawn, IsUnread};
 ghost use Rattle.postscript_accent.specs.declared.error.Error.TheVariants as errors;
 ghost use Rattle.postscript_type2.specs.Program.Runs.{width_of};
 
@@ -40,8 +40,8 @@ pub fn outline_of(alloc: Global, font: &FontView<'_>, glyph: usize) -> Result<Ou
 ///
 /// Refused: `NoSuchGlyph`; `NoCode`, as `Accent::named_by` is; `NoAccents` and `MissingComponent`, as `component_of` is, for the
 /// base or the accent; `NestedAccent` where one of these is accented itself; `Font` with what a run or the char set is refused
-/// with, with `Overflow` where a coordinate leaves the range, with what the sink refuses a segment with, and with `Memory`. The
-/// sink has been given the segments up to there.
+/// with, with `Overflow` where a coordinate leaves the range, and with `Memory`, also where the sink takes no more. The sink has
+/// been given the segments up to there.
 pub fn draw_glyph<S: Sink>(
     alloc: Global,
     font: &FontView<'_>,
@@ -49,7 +49,7 @@ pub fn draw_glyph<S: Sink>(
     sink: &mut S,
 ) -> Result<Option<Operand>>
     ensures drawn { IfOk result (λ width. (segments : List ASegment) × IsDrawnAs font.now glyph segments width × (S.given sink.new ≡ S.given sink.old ++ segments)) }
-    ensures why { IfErr result (λ e. IsRefused font.now glyph e ⊎ IsOfSink (S.refuses sink.new) e) }
+    ensures why { IfErr result (λ e. IsRefused font.now glyph e) }
 {
     let Own { width, accent } = draw_own(alloc, font, glyph, Point::ORIGIN, sink)?;
     match accent {
@@ -87,7 +87,7 @@ fn draw_own<S: Sink>(
     sink: &mut S,
 ) -> Result<Own>
     ensures own { IfOk result (λ own. (segments : List ASegment) × HasOwn font.now glyph origin segments own.width own.accent × (S.given sink.new ≡ S.given sink.old ++ segments)) }
-    ensures why { IfErr result (λ e. (e ≡ errors.Font causes.Memory) ⊎ IsGlyphRefused font.now glyph origin e ⊎ IsOfSink (S.refuses sink.new) e) }
+    ensures why { IfErr result (λ e. (e ≡ errors.Font causes.Memory) ⊎ IsGlyphRefused font.now glyph origin e) }
 {
     match font.glyph(glyph) {
         Some(found) => draw_run(alloc, &found, origin, sink),
@@ -105,7 +105,7 @@ fn draw_run<S: Sink>(
     ensures drawn { IfOk result (λ own. (segments : List ASegment) × DrawsAt origin (run_by glyph.now) segments × (S.given sink.new ≡ S.given sink.old ++ segments)) }
     ensures width { IfOk result (λ own. own.width ≡ width_of (run_by glyph.now)) }
     ensures told { IfOk result (λ own. IsTold own.accent (run_by glyph.now)) }
-    ensures why { IfErr result (λ e. (e ≡ errors.Font causes.Memory) ⊎ IsUndrawn origin e (run_by glyph.now) ⊎ IsUnread e (run_by glyph.now) ⊎ IsOfSink (S.refuses sink.new) e) }
+    ensures why { IfErr result (λ e. (e ≡ errors.Font causes.Memory) ⊎ IsUndrawn origin e (run_by glyph.now) ⊎ IsUnread e (run_by glyph.now)) }
 {
     runs_end_so();
     let mut program = glyph.program(alloc);
@@ -122,7 +122,7 @@ fn draw_components<S: Sink>(
     sink: &mut S,
 ) -> Result<()>
     ensures drawn { OnOk result ((segments : List ASegment) × DrawsComponents font.now accent.now segments × (S.given sink.new ≡ S.given sink.old ++ segments)) }
-    ensures why { IfErr result (λ e. (e ≡ errors.Font causes.Memory) ⊎ AreRefused font.now accent.now e ⊎ IsOfSink (S.refuses sink.new) e) }
+    ensures why { IfErr result (λ e. (e ≡ errors.Font causes.Memory) ⊎ AreRefused font.now accent.now e) }
 {
     draw_component(alloc, font, accent.base, Point::ORIGIN, sink)?;
     draw_component(alloc, font, accent.accent, place_of(accent), sink)
@@ -137,7 +137,7 @@ fn draw_component<S: Sink>(
     sink: &mut S,
 ) -> Result<()>
     ensures drawn { OnOk result ((segments : List ASegment) × DrawsComponent font.now code origin segments × (S.given sink.new ≡ S.given sink.old ++ segments)) }
-    ensures why { IfErr result (λ e. (e ≡ errors.Font causes.Memory) ⊎ IsComponentRefused font.now code origin e ⊎ IsOfSink (S.refuses sink.new) e) }
+    ensures why { IfErr result (λ e. (e ≡ errors.Font causes.Memory) ⊎ IsComponentRefused font.now code origin e) }
 {
     let glyph = component_of(font, code)?;
     let own = draw_own(alloc, font, glyph, origin, sink)?;

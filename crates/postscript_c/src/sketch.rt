@@ -1,5 +1,5 @@
 //! What a glyph draws, as C holds it.
-ghost use Rattle.std.specs.Prelude.{◌≡◌, ◌∷◌, ◌++◌, [], None, IfErr, IfOk, OnOk, fold, map};
+ghost use Rattle.std.specs.Prelude.{◌≡◌, ◌∷◌, ◌++◌, [], None, IfErr, IfOk, OnErr, OnOk, fold, map};
 ghost use Rattle.std.specs.Coded.{Coded-set};
 ghost use Rattle.postscript_base.specs.declared.error.Error.TheVariants as errors;
 ghost use Rattle.postscript_c.specs.Segments.{AreShown, AreShown-prop, meant};
@@ -8,7 +8,7 @@ ghost use Rattle.postscript_outline.specs.Bounds.{IsBoundsOf, points, taking};
 use crate::fill::{PsfSegment, shown};
 use postscript_base::Result;
 use postscript_outline::laws::bounds_take_in_points;
-use postscript_outline::{Bounds, Point, Segment, Sink, Tally};
+use postscript_outline::{Bounds, Given, Point, Segment, Sink, Tally};
 use std::alloc::Global;
 
 /// For how many segments there is room at first: nearly all glyphs have fewer.
@@ -45,9 +45,9 @@ impl Sketch {
 
     /// Takes in one more segment.
     #[inline(always)]
-    fn add(&mut self, segment: Segment) -> Result<()>
+    fn add(&mut self, segment: Segment) -> Given
         ensures given { OnOk result (map meant self.new.segments.items ≡ map meant self.old.segments.items ++ segment ∷ []) }
-        ensures refused { IfErr result (λ e. (e ≡ errors.Memory) × (map meant self.new.segments.items ≡ map meant self.old.segments.items)) }
+        ensures full { OnErr result (map meant self.new.segments.items ≡ map meant self.old.segments.items) }
     {
         self.segments.push(shown(segment))?;
         self.bounds.add(segment);
@@ -56,31 +56,28 @@ impl Sketch {
 }
 
 impl Sink for Sketch {
-    ghost use Rattle.std.specs.Prelude.{◌≡◌, map};
-    ghost use Rattle.postscript_base.specs.declared.error.Error.TheVariants as errors;
+    ghost use Rattle.std.specs.Prelude.{map};
     ghost use Rattle.postscript_c.specs.Segments.{meant};
 
     ghost given = { λ sketch. map meant sketch.segments.items };
 
-    ghost refuses = { λ _ e. e ≡ errors.Memory };
-
     #[inline(always)]
-    fn move_to(&mut self, to: Point) -> Result<()> {
+    fn move_to(&mut self, to: Point) -> Given {
         self.add(Segment::MoveTo(to))
     }
 
     #[inline(always)]
-    fn line_to(&mut self, to: Point) -> Result<()> {
+    fn line_to(&mut self, to: Point) -> Given {
         self.add(Segment::LineTo(to))
     }
 
     #[inline(always)]
-    fn curve_to(&mut self, first: Point, second: Point, to: Point) -> Result<()> {
+    fn curve_to(&mut self, first: Point, second: Point, to: Point) -> Given {
         self.add(Segment::CurveTo(first, second, to))
     }
 
     #[inline(always)]
-    fn close(&mut self) -> Result<()> {
+    fn close(&mut self) -> Given {
         self.add(Segment::Close)
     }
 }

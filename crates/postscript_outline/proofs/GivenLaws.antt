@@ -195,16 +195,15 @@ at-under : (origin : Point) (xs : List Segment) (answers : List Answer) (end : E
 at-under origin xs answers end =
     ap (λ v. outlined_from (record { place = origin; is_open = false; segments = v }) answers end) (sym (append-nil xs)) ∙ outlined_from-under xs answers end (blank_at origin)
 
-pub at-exact : (origin : Point) (xs ys : List Segment) (pending : Pending) (r : Result (Option ℤ) Error) (Refuses : Error → Type 0)
+pub at-exact : (origin : Point) (xs ys : List Segment) (pending : Pending) (r : Result (Option ℤ) Error)
     → MatchResult r (λ width. DrawsFrom (record { place = origin; is_open = false; segments = xs }) ys width pending)
-    (λ e. (e ≡ errors.Memory) ⊎ (outlined_from (record { place = origin; is_open = false; segments = xs }) pending.answers pending.end ≡ Err (refusal_of e)) ⊎ Refuses e)
-    → MatchResult r (λ width. DrawsPendingAt origin xs ys width pending) (λ e. (e ≡ errors.Memory) ⊎ (outlined_at origin pending.answers pending.end ≡ Err (refusal_of e)) ⊎ Refuses e)
-at-exact origin xs ys pending (Ok width) Refuses h =
+    (λ e. (e ≡ errors.Memory) ⊎ (outlined_from (record { place = origin; is_open = false; segments = xs }) pending.answers pending.end ≡ Err (refusal_of e)))
+    → MatchResult r (λ width. DrawsPendingAt origin xs ys width pending) (λ e. (e ≡ errors.Memory) ⊎ (outlined_at origin pending.answers pending.end ≡ Err (refusal_of e)))
+at-exact origin xs ys pending (Ok width) h =
     record { segments = given-all xs ys (outlined_at origin pending.answers pending.end) (sym (at-under origin xs pending.answers pending.end) ∙ h.segments); width = h.width }
-at-exact origin xs ys pending (Err e) Refuses (inl memory) = inl memory
-at-exact origin xs ys pending (Err e) Refuses (inr (inl same)) =
-    inr (inl (refused-so (λ ss. xs ++ ss) (outlined_at origin pending.answers pending.end) (refusal_of e) (sym (at-under origin xs pending.answers pending.end) ∙ same)))
-at-exact origin xs ys pending (Err e) Refuses (inr (inr refused)) = inr (inr refused)
+at-exact origin xs ys pending (Err e) (inl memory) = inl memory
+at-exact origin xs ys pending (Err e) (inr same) =
+    inr (refused-so (λ ss. xs ++ ss) (outlined_at origin pending.answers pending.end) (refusal_of e) (sym (at-under origin xs pending.answers pending.end) ∙ same))
 
 -- the pen stands as at first
 abbrev pub IsNew : Pen → Type 0
@@ -216,15 +215,14 @@ from-new pen xs new = ap (λ d. record { place = d.place; is_open = d.is_open; s
 new-under : (pen : Pen) (xs : List Segment) (answers : List Answer) (end : End) → IsNew pen → outlined_from (held pen xs) answers end ≡ mapped (λ ss. xs ++ ss) (outlined answers end)
 new-under pen xs answers end new = ap (λ d. outlined_from d answers end) (from-new pen xs new) ∙ outlined-under xs answers end
 
-pub of-exact : (pen : Pen) (xs ys : List Segment) (pending : Pending) (r : Result (Option ℤ) Error) (Refuses : Error → Type 0) → IsNew pen
-    → MatchResult r (λ width. DrawsFrom (held pen xs) ys width pending) (λ e. (e ≡ errors.Memory) ⊎ (outlined_from (held pen xs) pending.answers pending.end ≡ Err (refusal_of e)) ⊎ Refuses e)
-    → MatchResult r (λ width. DrawsPending xs ys width pending) (λ e. (e ≡ errors.Memory) ⊎ (outlined pending.answers pending.end ≡ Err (refusal_of e)) ⊎ Refuses e)
-of-exact pen xs ys pending (Ok width) Refuses new h =
+pub of-exact : (pen : Pen) (xs ys : List Segment) (pending : Pending) (r : Result (Option ℤ) Error) → IsNew pen
+    → MatchResult r (λ width. DrawsFrom (held pen xs) ys width pending) (λ e. (e ≡ errors.Memory) ⊎ (outlined_from (held pen xs) pending.answers pending.end ≡ Err (refusal_of e)))
+    → MatchResult r (λ width. DrawsPending xs ys width pending) (λ e. (e ≡ errors.Memory) ⊎ (outlined pending.answers pending.end ≡ Err (refusal_of e)))
+of-exact pen xs ys pending (Ok width) new h =
     record { segments = given-all xs ys (outlined pending.answers pending.end) (sym (new-under pen xs pending.answers pending.end new) ∙ h.segments); width = h.width }
-of-exact pen xs ys pending (Err e) Refuses new (inl memory) = inl memory
-of-exact pen xs ys pending (Err e) Refuses new (inr (inl same)) =
-    inr (inl (refused-so (λ ss. xs ++ ss) (outlined pending.answers pending.end) (refusal_of e) (sym (new-under pen xs pending.answers pending.end new) ∙ same)))
-of-exact pen xs ys pending (Err e) Refuses new (inr (inr refused)) = inr (inr refused)
+of-exact pen xs ys pending (Err e) new (inl memory) = inl memory
+of-exact pen xs ys pending (Err e) new (inr same) =
+    inr (refused-so (λ ss. xs ++ ss) (outlined pending.answers pending.end) (refusal_of e) (sym (new-under pen xs pending.answers pending.end new) ∙ same))
 
 drawn-front : (pen : Pen) (xs ys : List Segment) (answers : List Answer) → IsNew pen → IfOk (outlined_from (held pen xs) answers UsedUp) (λ ss. IsFront ys ss) → IsFrontDrawn xs ys answers
 drawn-front pen xs ys answers new h =

@@ -1,9 +1,10 @@
 -- What one list of strokes draws after another.
-use Rattle.std.proofs.Common.{◌≡◌, inl, inr, List, [], ◌∷◌, ◌++◌, Result, Ok, Err, IfOk, refl, sym, ap, subst, ◌∙◌}
-use Rattle.postscript_base.specs.declared.error.Error.{Error}
+use Rattle.std.proofs.Common.{◌≡◌, List, [], ◌∷◌, ◌++◌, Result, Ok, Err, IfOk, refl, sym, ap, subst, ◌∙◌}
 use Rattle.postscript_base.specs.Refusal.{Refusal}
 use Rattle.postscript_outline.specs.declared.segment.Segment.{Segment}
 use Rattle.postscript_outline.specs.declared.stroke.Stroke.{Stroke}
+use Rattle.postscript_outline.specs.declared.undrawn.Undrawn.{Undrawn}
+use Rattle.postscript_outline.specs.declared.undrawn.Undrawn.TheVariants.{Overflow, Full}
 use Rattle.postscript_outline.specs.Drawing.{Drawing, ◌>>=◌, DrawsInto, IsFront, drawing, drawn}
 use Rattle.postscript_outline.proofs.GivenLaws.{drawing-grows, front-through}
 
@@ -23,10 +24,10 @@ pub drawing-behind : (xs ys all : List Stroke) (d e : Drawing) → all ≡ xs ++
 drawing-behind xs ys all d e is first = drawing-joined xs ys all d is ∙ ap (λ r. r >>= drawing ys) first
 
 -- refused in the first
-pub refused-in-first : (Refuses : Error → Type 0) (xs ys all : List Stroke) (d new : Drawing) (e : Error) → all ≡ xs ++ ys
-    → DrawsInto Refuses (drawing xs d) (Err e) new → DrawsInto Refuses (drawing all d) (Err e) new
-refused-in-first Refuses xs ys all d new e is (inl refused) = inl refused
-refused-in-first Refuses xs ys all d new e is (inr same) = inr (drawing-joined xs ys all d is ∙ ap (λ r. r >>= drawing ys) same)
+pub refused-in-first : (xs ys all : List Stroke) (d new : Drawing) (e : Undrawn) → all ≡ xs ++ ys
+    → DrawsInto (drawing xs d) (Err e) new → DrawsInto (drawing all d) (Err e) new
+refused-in-first xs ys all d new Full is wanted = tt
+refused-in-first xs ys all d new Overflow is wanted = drawing-joined xs ys all d is ∙ ap (λ r. r >>= drawing ys) wanted
 
 -- a front of what the first draw
 pub front-in-joined : (now : List Segment) (xs ys all : List Stroke) (d : Drawing) → all ≡ xs ++ ys

@@ -1,9 +1,9 @@
 //! Drawing into sinks.
-ghost use Rattle.std.specs.Prelude.{◌≡◌, ◌⊎◌, Err, IfErr, IfOk, OnErr, MatchResult};
+ghost use Rattle.std.specs.Prelude.{◌≡◌, ◌⊎◌, Err, IfOk, OnErr, MatchResult};
 ghost use Rattle.postscript_base.specs.declared.error.Error.TheVariants as errors;
-ghost use Rattle.postscript_base.specs.Error.{code as number, IsOneOf};
+ghost use Rattle.postscript_base.specs.Error.{IsListed};
 ghost use Rattle.postscript_base.specs.Refusal.{refusal_of};
-ghost use Rattle.postscript_outline.specs.Drawing.{IsFront, closed, held};
+ghost use Rattle.postscript_outline.specs.Drawing.{IsFront, held};
 ghost use Rattle.postscript_outline.specs.Given.{DrawsFrom, DrawsPending, DrawsPendingAt, DrawsRun, IsFrontDrawn, outlined_from};
 ghost use Rattle.postscript_outline.specs.Outline.{outline_of, outlined, outlined_at};
 ghost use Rattle.postscript_type2.specs.Program.Endings.{next_refusals};
@@ -16,7 +16,7 @@ ghost use Rattle.postscript_type2.specs.Program.Runs.{Run, UsedUp, taken_by};
 use crate::pen::Pen;
 use crate::point::Point;
 use crate::sink::Sink;
-use postscript_base::{Error, Result};
+use postscript_base::Result;
 use postscript_type2::{Operand, Program};
 use std::alloc::Global;
 
@@ -24,7 +24,7 @@ use std::alloc::Global;
 /// another, and answers the width. Takes no memory but the program's.
 ///
 /// Refused: with what the run is refused with, as `Program::next` is; `Overflow` also where a coordinate leaves the range;
-/// `Memory`; and with what the sink refuses a segment with. The sink has been given the segments up to there.
+/// `Memory`; `Memory` also where the sink takes no more. The sink has been given the segments up to there.
 pub fn draw<S: Sink>(
     alloc: Global,
     code: &[u8],
@@ -38,7 +38,7 @@ pub fn draw<S: Sink>(
     ensures meant { IfOk result (λ width. (run : Run) × IsRunOf (subroutines global.now local.now) code.now run × DrawsRun (S.given sink.old) (S.given sink.new) width run) }
     ensures exact { let run = run_of (subroutines global.now local.now) code.now in
         MatchResult result (λ width. DrawsRun (S.given sink.old) (S.given sink.new) width run)
-        (λ e. (e ≡ errors.Memory) ⊎ (outline_of run ≡ Err (refusal_of e)) ⊎ S.refuses sink.new e) }
+        (λ e. (e ≡ errors.Memory) ⊎ (outline_of run ≡ Err (refusal_of e))) }
 {
     draw_program(&mut Program::new(alloc, code, global, local), sink)
 }
@@ -47,14 +47,14 @@ pub fn draw<S: Sink>(
 /// the width. The program is at its end then. Takes no memory but the program's.
 ///
 /// Refused: with what the program is refused with, as `Program::next` is; `Overflow` also where a coordinate leaves the
-/// range; and with what the sink refuses a segment with. The sink has been given the segments up to there.
+/// range; `Memory` also where the sink takes no more. The sink has been given the segments up to there.
 pub fn draw_program<S: Sink>(program: &mut Program<'_>, sink: &mut S) -> Result<Option<Operand>>
     ensures kept { IsFront (S.given sink.old) (S.given sink.new) }
     ensures front { OnErr result (IsFrontDrawn (S.given sink.old) (S.given sink.new) program.old.answers) }
     ensures ended { IfOk result (λ width. program.new ≡ ended_over (taken_by program.old.end) width) }
     ensures exact { MatchResult result (λ width. DrawsPending (S.given sink.old) (S.given sink.new) width program.old)
-        (λ e. (e ≡ errors.Memory) ⊎ (outlined program.old.answers program.old.end ≡ Err (refusal_of e)) ⊎ S.refuses sink.new e) }
-    ensures listed { IfErr result (λ e. S.refuses sink.new e ⊎ IsOneOf next_refusals (number e)) }
+        (λ e. (e ≡ errors.Memory) ⊎ (outlined program.old.answers program.old.end ≡ Err (refusal_of e))) }
+    ensures listed { IsListed next_refusals result }
 {
     draw_from(program, Pen::new(), sink)
 }
@@ -70,8 +70,8 @@ pub fn draw_program_at<S: Sink>(
     ensures kept { IsFront (S.given sink.old) (S.given sink.new) }
     ensures ended { IfOk result (λ width. program.new ≡ ended_over (taken_by program.old.end) width) }
     ensures exact { MatchResult result (λ width. DrawsPendingAt origin (S.given sink.old) (S.given sink.new) width program.old)
-        (λ e. (e ≡ errors.Memory) ⊎ (outlined_at origin program.old.answers program.old.end ≡ Err (refusal_of e)) ⊎ S.refuses sink.new e) }
-    ensures listed { IfErr result (λ e. S.refuses sink.new e ⊎ IsOneOf next_refusals (number e)) }
+        (λ e. (e ≡ errors.Memory) ⊎ (outlined_at origin program.old.answers program.old.end ≡ Err (refusal_of e))) }
+    ensures listed { IsListed next_refusals result }
 {
     let pen = Pen {
         at: origin,
@@ -87,31 +87,16 @@ fn draw_from<S: Sink>(
     sink: &mut S,
 ) -> Result<Option<Operand>>
     ensures exact { MatchResult result (λ width. DrawsFrom (held start (S.given sink.old)) (S.given sink.new) width program.old)
-        (λ e. (e ≡ errors.Memory) ⊎ (outlined_from (held start (S.given sink.old)) program.old.answers program.old.end ≡ Err (refusal_of e)) ⊎ S.refuses sink.new e) }
+        (λ e. (e ≡ errors.Memory) ⊎ (outlined_from (held start (S.given sink.old)) program.old.answers program.old.end ≡ Err (refusal_of e))) }
     ensures kept { IsFront (S.given sink.old) (S.given sink.new) }
     ensures front { OnErr result (IfOk (outlined_from (held start (S.given sink.old)) program.old.answers UsedUp) (λ segments. IsFront (S.given sink.new) segments)) }
-    ensures listed { IfErr result (λ e. S.refuses sink.new e ⊎ IsOneOf next_refusals (number e)) }
+    ensures listed { IsListed next_refusals result }
     ensures ended { IfOk result (λ width. program.new ≡ ended_over (taken_by program.old.end) width) }
 {
     let mut pen = start;
-    let mut fault = Error::Overflow;
     while let Some((operator, operands)) = program.step()? {
-        match pen.draw_path(operator, operands, sink, &mut fault) {
-            Some(()) => {}
-            None => return Err(fault),
-        }
+        pen.draw_path(operator, operands, sink)?;
     }
-    Ok(end(program, &mut pen, sink)?)
-}
-
-/// Ends the contour, if one is open, and answers the width.
-#[inline(always)]
-fn end<S: Sink>(program: &Program<'_>, pen: &mut Pen, sink: &mut S) -> Result<Option<Operand>>
-    ensures ok { IfOk result (λ width. held pen.new (S.given sink.new) ≡ closed (held pen.old (S.given sink.old))) }
-    ensures width { IfOk result (λ width. width ≡ program.now.width) }
-    ensures err { IfErr result (λ e. S.refuses sink.new e × (S.given sink.new ≡ S.given sink.old)) }
-    ensures kept { IsFront (S.given sink.old) (S.given sink.new) }
-{
     pen.end(sink)?;
     Ok(program.width())
 }

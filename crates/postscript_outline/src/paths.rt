@@ -1,6 +1,5 @@
 //! Paths: what the operands of an operator spell is drawn as it is read, by one method for each pattern (Technical Note 5177,
 //! "Path Construction Operators"). Flexes are drawn by their strokes.
-ghost use Rattle.std.specs.Option.{ok_or};
 ghost use Rattle.postscript_outline.specs.Drawing.{DrawsStrokes};
 ghost use Rattle.postscript_outline.specs.Operators.{strokes as the_strokes};
 ghost use Rattle.postscript_outline.specs.Strokes.{move as the_move, move_along as the_move_along, lines as the_lines, lines_in_turn as the_lines_in_turn, curves as the_curves, curves_along as the_curves_along, curves_level as the_curves_level, curves_in_turn as the_curves_in_turn, curves_then_line as the_curves_then_line, lines_then_curve as the_lines_then_curve};
@@ -10,155 +9,119 @@ use crate::operators::{curve, curve_along, curve_in_turn, first_aside, line_in_t
 use crate::pen::Pen;
 use crate::sink::Sink;
 use crate::stroke::{Axis, Strokes};
-use postscript_base::Error;
+use crate::undrawn::Drawn;
 use postscript_type2::{Operand, Operator};
 
 impl Pen {
-    /// What an operator with these operands draws: those that are too few for one more stroke draw nothing. None where a
-    /// coordinate leaves the range, or the sink refuses; `fault` is with what then. An error is large, so it is not handed on.
+    /// What an operator with these operands draws: those that are too few for one more stroke draw nothing.
     #[inline(always)]
     pub(crate) fn draw_path<S: Sink>(
         &mut self,
         operator: Operator,
         operands: &[Operand],
         sink: &mut S,
-        fault: &mut Error,
-    ) -> Option<()>
-        ensures { DrawsStrokes S.given S.refuses (the_strokes operator operands.now) self.old sink.old (ok_or result fault.new) self.new sink.new }
+    ) -> Drawn
+        ensures { DrawsStrokes S.given (the_strokes operator operands.now) self.old sink.old result self.new sink.new }
     {
         match operator {
-            Operator::RMoveTo => self.go(operands, sink, fault),
-            Operator::HMoveTo => self.go_along(Axis::Horizontal, operands, sink, fault),
-            Operator::VMoveTo => self.go_along(Axis::Vertical, operands, sink, fault),
-            Operator::RLineTo => self.lines(operands, sink, fault),
-            Operator::HLineTo => self.lines_in_turn(Axis::Horizontal, operands, sink, fault),
-            Operator::VLineTo => self.lines_in_turn(Axis::Vertical, operands, sink, fault),
-            Operator::RRCurveTo => self.curves(operands, sink, fault),
-            Operator::HHCurveTo => self.curves_level(Axis::Horizontal, operands, sink, fault),
-            Operator::VVCurveTo => self.curves_level(Axis::Vertical, operands, sink, fault),
-            Operator::HVCurveTo => self.curves_in_turn(Axis::Horizontal, operands, sink, fault),
-            Operator::VHCurveTo => self.curves_in_turn(Axis::Vertical, operands, sink, fault),
-            Operator::RCurveLine => self.curves_then_line(operands, sink, fault),
-            Operator::RLineCurve => self.lines_then_curve(operands, sink, fault),
+            Operator::RMoveTo => self.go(operands, sink),
+            Operator::HMoveTo => self.go_along(Axis::Horizontal, operands, sink),
+            Operator::VMoveTo => self.go_along(Axis::Vertical, operands, sink),
+            Operator::RLineTo => self.lines(operands, sink),
+            Operator::HLineTo => self.lines_in_turn(Axis::Horizontal, operands, sink),
+            Operator::VLineTo => self.lines_in_turn(Axis::Vertical, operands, sink),
+            Operator::RRCurveTo => self.curves(operands, sink),
+            Operator::HHCurveTo => self.curves_level(Axis::Horizontal, operands, sink),
+            Operator::VVCurveTo => self.curves_level(Axis::Vertical, operands, sink),
+            Operator::HVCurveTo => self.curves_in_turn(Axis::Horizontal, operands, sink),
+            Operator::VHCurveTo => self.curves_in_turn(Axis::Vertical, operands, sink),
+            Operator::RCurveLine => self.curves_then_line(operands, sink),
+            Operator::RLineCurve => self.lines_then_curve(operands, sink),
             Operator::Flex | Operator::HFlex | Operator::HFlex1 | Operator::Flex1 => self.flexes(
-                operator, operands, sink, fault,
+                operator, operands, sink,
             ),
             // stems, masks and the operators of which no run tells
-            _ => Some(()),
+            _ => Ok(()),
         }
     }
 
     /// What a flex draws. It stays a call, since few glyphs have one and strokes take much room.
     #[inline(never)]
-    fn flexes<S: Sink>(
-        &mut self,
-        operator: Operator,
-        operands: &[Operand],
-        sink: &mut S,
-        fault: &mut Error,
-    ) -> Option<()>
-        ensures { DrawsStrokes S.given S.refuses (the_strokes operator operands.now) self.old sink.old (ok_or result fault.new) self.new sink.new }
+    fn flexes<S: Sink>(&mut self, operator: Operator, operands: &[Operand], sink: &mut S) -> Drawn
+        ensures { DrawsStrokes S.given (the_strokes operator operands.now) self.old sink.old result self.new sink.new }
     {
-        self.draw_all(Strokes::of(operator, operands), sink, fault)
+        self.draw_all(Strokes::of(operator, operands), sink)
     }
 
     /// dx1 dy1
-    fn go<S: Sink>(&mut self, operands: &[Operand], sink: &mut S, fault: &mut Error) -> Option<()>
-        ensures { DrawsStrokes S.given S.refuses (the_move operands.now) self.old sink.old (ok_or result fault.new) self.new sink.new }
+    fn go<S: Sink>(&mut self, operands: &[Operand], sink: &mut S) -> Drawn
+        ensures { DrawsStrokes S.given (the_move operands.now) self.old sink.old result self.new sink.new }
     {
         match operands {
-            [dx1, dy1] => self.move_by(by(*dx1, *dy1), sink, fault),
-            _ => Some(()),
+            [dx1, dy1] => self.move_by(by(*dx1, *dy1), sink),
+            _ => Ok(()),
         }
     }
 
     /// d1
-    fn go_along<S: Sink>(
-        &mut self,
-        axis: Axis,
-        operands: &[Operand],
-        sink: &mut S,
-        fault: &mut Error,
-    ) -> Option<()>
-        ensures { DrawsStrokes S.given S.refuses (the_move_along axis operands.now) self.old sink.old (ok_or result fault.new) self.new sink.new }
+    fn go_along<S: Sink>(&mut self, axis: Axis, operands: &[Operand], sink: &mut S) -> Drawn
+        ensures { DrawsStrokes S.given (the_move_along axis operands.now) self.old sink.old result self.new sink.new }
     {
         match operands {
-            [d1] => self.move_by(axis.along(wide(*d1)), sink, fault),
-            _ => Some(()),
+            [d1] => self.move_by(axis.along(wide(*d1)), sink),
+            _ => Ok(()),
         }
     }
 
     /// {dxa dya}+
     #[inline(always)]
-    fn lines<S: Sink>(
-        &mut self,
-        operands: &[Operand],
-        sink: &mut S,
-        fault: &mut Error,
-    ) -> Option<()>
-        ensures { DrawsStrokes S.given S.refuses (the_lines operands.now) self.old sink.old (ok_or result fault.new) self.new sink.new }
+    fn lines<S: Sink>(&mut self, operands: &[Operand], sink: &mut S) -> Drawn
+        ensures { DrawsStrokes S.given (the_lines operands.now) self.old sink.old result self.new sink.new }
     {
         let mut ahead = operands;
         while let Some((a, rest)) = vector(ahead) {
-            self.line_by(a, sink, fault)?;
+            self.line_by(a, sink)?;
             ahead = rest;
         }
-        Some(())
+        Ok(())
     }
 
     /// {da}+: a round draws one line along each axis.
     #[inline(always)]
-    fn lines_in_turn<S: Sink>(
-        &mut self,
-        first: Axis,
-        operands: &[Operand],
-        sink: &mut S,
-        fault: &mut Error,
-    ) -> Option<()>
-        ensures { DrawsStrokes S.given S.refuses (the_lines_in_turn first operands.now) self.old sink.old (ok_or result fault.new) self.new sink.new }
+    fn lines_in_turn<S: Sink>(&mut self, first: Axis, operands: &[Operand], sink: &mut S) -> Drawn
+        ensures { DrawsStrokes S.given (the_lines_in_turn first operands.now) self.old sink.old result self.new sink.new }
     {
         let mut ahead = operands;
         while let Some((a, behind)) = line_in_turn(first, ahead) {
-            self.line_by(a, sink, fault)?;
+            self.line_by(a, sink)?;
             let Some((b, rest)) = line_in_turn(first.other(), behind) else {
-                return Some(());
+                return Ok(());
             };
-            self.line_by(b, sink, fault)?;
+            self.line_by(b, sink)?;
             ahead = rest;
         }
-        Some(())
+        Ok(())
     }
 
     /// {dxa dya dxb dyb dxc dyc}+
     #[inline(always)]
-    fn curves<S: Sink>(
-        &mut self,
-        operands: &[Operand],
-        sink: &mut S,
-        fault: &mut Error,
-    ) -> Option<()>
-        ensures { DrawsStrokes S.given S.refuses (the_curves operands.now) self.old sink.old (ok_or result fault.new) self.new sink.new }
+    fn curves<S: Sink>(&mut self, operands: &[Operand], sink: &mut S) -> Drawn
+        ensures { DrawsStrokes S.given (the_curves operands.now) self.old sink.old result self.new sink.new }
     {
         let mut ahead = operands;
         while let Some(bend) = curve(ahead) {
-            self.curve_by(bend.a, bend.b, bend.c, sink, fault)?;
+            self.curve_by(bend.a, bend.b, bend.c, sink)?;
             ahead = bend.rest;
         }
-        Some(())
+        Ok(())
     }
 
     /// d1? {da dxb dyb dc}+
-    fn curves_level<S: Sink>(
-        &mut self,
-        axis: Axis,
-        operands: &[Operand],
-        sink: &mut S,
-        fault: &mut Error,
-    ) -> Option<()>
-        ensures { DrawsStrokes S.given S.refuses (the_curves_level axis operands.now) self.old sink.old (ok_or result fault.new) self.new sink.new }
+    fn curves_level<S: Sink>(&mut self, axis: Axis, operands: &[Operand], sink: &mut S) -> Drawn
+        ensures { DrawsStrokes S.given (the_curves_level axis operands.now) self.old sink.old result self.new sink.new }
     {
         let (first, rest) = first_aside(operands);
-        self.curves_along(axis, first, rest, sink, fault)
+        self.curves_along(axis, first, rest, sink)
     }
 
     /// {da dxb dyb dc}+
@@ -169,68 +132,51 @@ impl Pen {
         first: i64,
         operands: &[Operand],
         sink: &mut S,
-        fault: &mut Error,
-    ) -> Option<()>
-        ensures { DrawsStrokes S.given S.refuses (the_curves_along axis first operands.now) self.old sink.old (ok_or result fault.new) self.new sink.new }
+    ) -> Drawn
+        ensures { DrawsStrokes S.given (the_curves_along axis first operands.now) self.old sink.old result self.new sink.new }
     {
         let mut off = first;
         let mut ahead = operands;
         while let Some(bend) = curve_along(axis, off, ahead) {
-            self.curve_by(bend.a, bend.b, bend.c, sink, fault)?;
+            self.curve_by(bend.a, bend.b, bend.c, sink)?;
             off = 0;
             ahead = bend.rest;
         }
-        Some(())
+        Ok(())
     }
 
     /// {da dxb dyb dc}+ de?: a round draws one curve that begins along each axis.
     #[inline(always)]
-    fn curves_in_turn<S: Sink>(
-        &mut self,
-        first: Axis,
-        operands: &[Operand],
-        sink: &mut S,
-        fault: &mut Error,
-    ) -> Option<()>
-        ensures { DrawsStrokes S.given S.refuses (the_curves_in_turn first operands.now) self.old sink.old (ok_or result fault.new) self.new sink.new }
+    fn curves_in_turn<S: Sink>(&mut self, first: Axis, operands: &[Operand], sink: &mut S) -> Drawn
+        ensures { DrawsStrokes S.given (the_curves_in_turn first operands.now) self.old sink.old result self.new sink.new }
     {
         let mut ahead = operands;
         while let Some(bend) = curve_in_turn(first, ahead) {
-            self.curve_by(bend.a, bend.b, bend.c, sink, fault)?;
+            self.curve_by(bend.a, bend.b, bend.c, sink)?;
             let Some(turned) = curve_in_turn(first.other(), bend.rest) else {
-                return Some(());
+                return Ok(());
             };
-            self.curve_by(turned.a, turned.b, turned.c, sink, fault)?;
+            self.curve_by(turned.a, turned.b, turned.c, sink)?;
             ahead = turned.rest;
         }
-        Some(())
+        Ok(())
     }
 
     /// {dxa dya dxb dyb dxc dyc}+ dxd dyd
-    fn curves_then_line<S: Sink>(
-        &mut self,
-        operands: &[Operand],
-        sink: &mut S,
-        fault: &mut Error,
-    ) -> Option<()>
-        ensures { DrawsStrokes S.given S.refuses (the_curves_then_line operands.now) self.old sink.old (ok_or result fault.new) self.new sink.new }
+    fn curves_then_line<S: Sink>(&mut self, operands: &[Operand], sink: &mut S) -> Drawn
+        ensures { DrawsStrokes S.given (the_curves_then_line operands.now) self.old sink.old result self.new sink.new }
     {
         let (these, those) = operands.split_at(operands.len().saturating_sub(2));
-        self.curves(these, sink, fault)?;
-        self.lines(those, sink, fault)
+        self.curves(these, sink)?;
+        self.lines(those, sink)
     }
 
     /// {dxa dya}+ dxb dyb dxc dyc dxd dyd
-    fn lines_then_curve<S: Sink>(
-        &mut self,
-        operands: &[Operand],
-        sink: &mut S,
-        fault: &mut Error,
-    ) -> Option<()>
-        ensures { DrawsStrokes S.given S.refuses (the_lines_then_curve operands.now) self.old sink.old (ok_or result fault.new) self.new sink.new }
+    fn lines_then_curve<S: Sink>(&mut self, operands: &[Operand], sink: &mut S) -> Drawn
+        ensures { DrawsStrokes S.given (the_lines_then_curve operands.now) self.old sink.old result self.new sink.new }
     {
         let (these, those) = operands.split_at(operands.len().saturating_sub(6));
-        self.lines(these, sink, fault)?;
-        self.curves(those, sink, fault)
+        self.lines(these, sink)?;
+        self.curves(those, sink)
     }
 }

@@ -65,7 +65,7 @@ pub fn tally_program<T: Tally>(
     let mut pen = Pen::new();
     while let Some((operator, operands)) = program.step()? {
         segments.truncate(0);
-        pen.draw_operator(operator, operands, &mut segments)?;
+        pen.draw_path(operator, operands, &mut segments)?;
         add_all(&segments, tally);
     }
     end(&mut pen, &mut segments, tally)?;

@@ -5,7 +5,7 @@ use crate::checks::{bytes_of, holds, is_text};
 use postscript::type2::{Operand, Operator, Program, run};
 use postscript::{Error, Result};
 use postscript_outline::{
-    Bounds, Outline, Pen, Point, Segment, Sink, Tally, draw, draw_program, tally_code,
+    Bounds, Full, Given, Outline, Pen, Point, Segment, Sink, Tally, draw, draw_program, tally_code,
 };
 use std::alloc::Global;
 use std::process::Abort;
@@ -384,7 +384,7 @@ struct Few {
 
 impl Few {
     /// Takes one more.
-    fn take(&mut self, segment: Segment) -> Result<()>
+    fn take(&mut self, segment: Segment) -> Given
         ensures given { OnOk result (self.new.segments.items ≡ self.old.segments.items ++ segment ∷ []) }
         ensures refused { OnErr result (self.new.segments.items ≡ self.old.segments.items) }
     {
@@ -394,7 +394,7 @@ impl Few {
                 self.left = left;
                 Ok(())
             }
-            None => Err(Error::TrailingData),
+            None => Err(Full),
         }
     }
 }
@@ -402,21 +402,19 @@ impl Few {
 impl Sink for Few {
     ghost given = { λ few. few.segments.items };
 
-    ghost refuses = { λ _ _. Unit {0} };
-
-    fn move_to(&mut self, to: Point) -> Result<()> {
+    fn move_to(&mut self, to: Point) -> Given {
         self.take(Segment::MoveTo(to))
     }
 
-    fn line_to(&mut self, to: Point) -> Result<()> {
+    fn line_to(&mut self, to: Point) -> Given {
         self.take(Segment::LineTo(to))
     }
 
-    fn curve_to(&mut self, first: Point, second: Point, to: Point) -> Result<()> {
+    fn curve_to(&mut self, first: Point, second: Point, to: Point) -> Given {
         self.take(Segment::CurveTo(first, second, to))
     }
 
-    fn close(&mut self) -> Result<()> {
+    fn close(&mut self) -> Given {
         self.take(Segment::Close)
     }
 }
@@ -433,7 +431,7 @@ fn a_sink_of_ones_own(rt: HostRuntime) {
     let number = refusal.map(|e| e.code());
     holds(
         &rt,
-        number == Some(Error::TrailingData.code()),
+        number == Some(Error::Memory.code()),
         "the sink's refusal",
     );
     let segments = few.segments;

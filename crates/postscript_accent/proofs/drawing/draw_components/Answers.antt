@@ -4,7 +4,7 @@ use Rattle.postscript_base.specs.declared.error.Error.TheVariants as causes
 use Rattle.postscript_outline.specs.declared.point.Point.{Point}
 use Rattle.postscript_outline.specs.declared.segment.Segment.{Segment}
 use Rattle.postscript_accent.specs.Drawn.{DrawsComponent}
-use Rattle.postscript_accent.specs.Refused.{IsComponentRefused, IsOfSink}
+use Rattle.postscript_accent.specs.Refused.{IsComponentRefused}
 use Rattle.postscript_accent.specs.declared.error.Error.TheVariants as errors
 use Rattle.postscript_accent.proofs.Owns.{Gives, accent-refused, draws-both}
 use Rattle.postscript_accent.proofs.drawing.draw_components.Goals as goal
@@ -24,6 +24,5 @@ pub returns-clause-why : goal.returns-clause-why
 returns-clause-why g c =
     let font = c.args.font.now in
     let accent = c.args.accent.now in
-    let P : Point → Type 0 = λ origin. IfErr c.draw_component-2.result (λ e. (e ≡ errors.Font causes.Memory) ⊎ IsComponentRefused font accent.accent origin e
-    ⊎ IsOfSink (g.S.Sink.refuses c.draw_component-2.new.sink) e) in
-    accent-refused c.draw_component-2.result font accent (g.S.Sink.refuses c.draw_component-2.new.sink) (subst P c.place_of.ensures c.draw_component-2.ensures.why)
+    let P : Point → Type 0 = λ origin. IfErr c.draw_component-2.result (λ e. (e ≡ errors.Font causes.Memory) ⊎ IsComponentRefused font accent.accent origin e) in
+    accent-refused c.draw_component-2.result font accent (subst P c.place_of.ensures c.draw_component-2.ensures.why)

@@ -31,4 +31,4 @@ returns-in_err-draw_components-in-Some-clause-why g c =
     let P : Option Accent → Type 0 = λ accent. HasOwn c.args.font.now c.args.glyph zero_point own.0 width accent in
     let has = subst P c.in-Some.is own.1 in
     passed-on c.from_residual-in_err-draw_components-in-Some.result e _ c.from_residual-in_err-draw_components-in-Some.ensures.1
-    (components-refused c.args.font.now c.args.glyph zero_point own.0 width c.in-Some.accent e (g.S.Sink.refuses c.draw_components.new.sink) has c.in_err-draw_components-in-Some.ensures.why)
+    (components-refused c.args.font.now c.args.glyph zero_point own.0 width c.in-Some.accent e has c.in_err-draw_components-in-Some.ensures.why)

@@ -10,4 +10,4 @@ returns-in-Some-clause-own g c =
 pub returns-in-Some-clause-why : goal.returns-in-Some-clause-why
 returns-in-Some-clause-why g c =
     let has = has-run c.args.font.now c.args.glyph c.in-Some.found c.in-Some.ensures.found c.in-Some.ensures.subroutines in
-    refused-so c.draw_run.result c.args.font.now c.args.glyph c.in-Some.found c.args.origin (g.S.Sink.refuses c.draw_run.new.sink) has c.draw_run.ensures.why
+    refused-so c.draw_run.result c.args.font.now c.args.glyph c.in-Some.found c.args.origin has c.draw_run.ensures.why

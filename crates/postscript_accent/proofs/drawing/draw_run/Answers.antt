@@ -1,4 +1,4 @@
-use Rattle.std.proofs.Common.{◌≡◌, ◌∙◌, ap, inl, inr, subst}
+use Rattle.std.proofs.Common.{◌≡◌, ◌∙◌, ap, inr, subst}
 use Rattle.postscript_items.specs.Lent.{items_of}
 use Rattle.postscript_type2.specs.Program.Programs.{told_at_end}
 use Rattle.postscript_type2.specs.Program.Routines.{lent}
@@ -12,7 +12,7 @@ returns-in_err-accent-clause-why g c =
     let same : c.operands_at_end.result.now ≡ taken_by (run_by c.args.glyph.now).end =
     c.operands_at_end.ensures ∙ ap told_at_end c.in_ok-width.ensures.ended ∙ ap (λ p. taken_by p.end) c.program-program.ensures in
     passed-on c.from_residual-in_err-accent.result c.in_err-accent.field-0.0 _ c.from_residual-in_err-accent.ensures.1
-    (inr (inr (inl (c.in_err-accent.ensures.why.0, subst HasNoCodes same c.in_err-accent.ensures.why.1))))
+    (inr (inr (c.in_err-accent.ensures.why.0, subst HasNoCodes same c.in_err-accent.ensures.why.1)))
 
 pub returns-clause-told : goal.returns-clause-told
 returns-clause-told g c =

@@ -7,7 +7,7 @@ use Rattle.postscript_c.specs.Glyphs.{drawn_by}
 use Rattle.postscript_c.specs.Segments.{meant}
 use Rattle.postscript_c.specs.Shown.{picture_shown}
 use Rattle.postscript_c.specs.declared.picture.Picture.{Picture}
-use Rattle.postscript_c.proofs.Telling.{refuses, sketches, tells}
+use Rattle.postscript_c.proofs.Telling.{sketches, tells}
 use Rattle.postscript_c.proofs.picture.draw.Goals as goal
 
 pub returns : goal.returns
@@ -26,5 +26,5 @@ returns-in_err-width c =
     record {
       exact = λ bytes place.
           let P : Result Picture Error → Type 0 = λ r. Answers picture_shown r place (drawn_by c.args.program.now bytes place) in
-          subst P (sym error.1) (subst (λ e. P (Err e)) (sym error.2) (tells picture_shown (Err c.in_err-width.field-0.0) c.args.program.now bytes place (refuses c.in_err-width.ensures.exact)));
+          subst P (sym error.1) (subst (λ e. P (Err e)) (sym error.2) (tells picture_shown (Err c.in_err-width.field-0.0) c.args.program.now bytes place c.in_err-width.ensures.exact));
     }

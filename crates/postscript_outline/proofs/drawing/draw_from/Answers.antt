@@ -16,8 +16,8 @@ returns-in_err-operator-clause-front g c =
     let whole = subst Fronts c.loop-operator.invariant.same (front-of-all c.loop-operator.program.answers UsedUp here) in
     search rules
 
-pub returns-in-None-clause-front : goal.returns-in-None-clause-front
-returns-in-None-clause-front g c =
+pub returns-in_err-draw_path-clause-front : goal.returns-in_err-draw_path-clause-front
+returns-in_err-draw_path-clause-front g c =
     let now = g.S.Sink.given c.draw_path.new.sink in
     let here : Drawing = held c.loop-operator.pen (g.S.Sink.given c.loop-operator.sink) in
     let Fronts : Result Drawing Refusal → Type 0 = λ r. IfOk (r >>= finished UsedUp) (λ segments. IsFront now segments) in

@@ -3,8 +3,8 @@ use Rattle.postscript_outline.specs.Drawing.{IsFront}
 use Rattle.postscript_outline.proofs.GivenLaws.{front-take}
 use Rattle.postscript_outline.proofs.outline.Outline.give.Goals as goal
 
-pub returns-in_err-give-clause-refused : goal.returns-in_err-give-clause-refused
-returns-in_err-give-clause-refused g c =
+pub returns-in_err-give-clause-front : goal.returns-in_err-give-clause-front
+returns-in_err-give-clause-front g c =
     let before = g.S.Sink.given c.args.sink.now in
     let all = c.args.self.now.segments.items in
     let same : before ++ take c.loop-segment.segment-index all ≡ g.S.Sink.given c.give.new.sink = search rules in

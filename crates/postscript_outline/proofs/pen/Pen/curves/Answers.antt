@@ -1,9 +1,9 @@
-use Rattle.std.proofs.Common.{◌≡◌, ◌∷◌, None, rules}
+use Rattle.std.proofs.Common.{◌≡◌, ◌∷◌, rules}
 use Rattle.postscript_outline.specs.declared.stroke.Stroke.{Stroke}
 use Rattle.postscript_outline.specs.declared.stroke.Stroke.TheVariants.{Curve}
 use Rattle.postscript_outline.specs.Drawing.{Drawing, drawing, held}
 use Rattle.postscript_outline.specs.Strokes.{curves}
-use Rattle.postscript_outline.proofs.DrawsLaws.{first-refused}
+use Rattle.postscript_outline.proofs.DrawsLaws.{first-refused, passed-on}
 use Rattle.postscript_outline.proofs.pen.Pen.curves.Goals as goal
 
 pub returns-in_err-curve_by : goal.returns-in_err-curve_by
@@ -13,7 +13,6 @@ returns-in_err-curve_by g c =
     let new : Drawing = held c.curve_by.new.self (g.S.Sink.given c.curve_by.new.sink) in
     let stroke : Stroke = Curve c.in-Some.bend.a c.in-Some.bend.b c.in-Some.bend.c in
     let all : curves c.loop-bend.ahead.now ≡ stroke ∷ curves c.in-Some.bend.rest.now = search rules in
-    let no : c.curve_by.result ≡ None = search rules in
-    let none : c.from_residual.result ≡ None = search rules in
-    first-refused (g.S.Sink.refuses c.curve_by.new.sink) stroke (curves c.in-Some.bend.rest.now) (curves c.loop-bend.ahead.now) start here new (drawing (curves c.args.operands.now) start)
-    c.curve_by.new.fault c.curve_by.result c.from_residual.result no none all c.loop-bend.invariant.same c.loop-bend.invariant.kept c.curve_by.ensures
+    let back = c.from_residual in
+    passed-on back.result c.in_err-curve_by.field-0.0 back.ensures.1
+    (first-refused stroke (curves c.in-Some.bend.rest.now) (curves c.loop-bend.ahead.now) start here new (drawing (curves c.args.operands.now) start) c.in_err-curve_by.field-0.0 all c.loop-bend.invariant.same c.loop-bend.invariant.kept c.in_err-curve_by.ensures)

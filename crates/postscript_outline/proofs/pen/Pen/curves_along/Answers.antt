@@ -1,9 +1,9 @@
-use Rattle.std.proofs.Common.{◌≡◌, ◌∷◌, None, pos, rules}
+use Rattle.std.proofs.Common.{◌≡◌, ◌∷◌, pos, rules}
 use Rattle.postscript_outline.specs.declared.stroke.Stroke.{Stroke}
 use Rattle.postscript_outline.specs.declared.stroke.Stroke.TheVariants.{Curve}
 use Rattle.postscript_outline.specs.Drawing.{Drawing, drawing, held}
 use Rattle.postscript_outline.specs.Strokes.{curves_along}
-use Rattle.postscript_outline.proofs.DrawsLaws.{first-refused}
+use Rattle.postscript_outline.proofs.DrawsLaws.{first-refused, passed-on}
 use Rattle.postscript_outline.proofs.pen.Pen.curves_along.Goals as goal
 
 pub returns-in_err-curve_by : goal.returns-in_err-curve_by
@@ -17,7 +17,6 @@ returns-in_err-curve_by g c =
     let whole = drawing (curves_along c.args.axis c.args.first c.args.operands.now) start in
     let all : left ≡ stroke ∷ rest = search rules in
     let same : drawing left here ≡ whole = search rules in
-    let no : c.curve_by.result ≡ None = search rules in
-    let none : c.from_residual.result ≡ None = search rules in
-    first-refused (g.S.Sink.refuses c.curve_by.new.sink) stroke rest left start here new whole
-    c.curve_by.new.fault c.curve_by.result c.from_residual.result no none all same c.loop-bend.invariant.kept c.curve_by.ensures
+    let back = c.from_residual in
+    passed-on back.result c.in_err-curve_by.field-0.0 back.ensures.1
+    (first-refused stroke rest left start here new whole c.in_err-curve_by.field-0.0 all same c.loop-bend.invariant.kept c.in_err-curve_by.ensures)

@@ -1,9 +1,9 @@
-use Rattle.std.proofs.Common.{◌≡◌, ◌∷◌, None, rules}
+use Rattle.std.proofs.Common.{◌≡◌, ◌∷◌, rules}
 use Rattle.postscript_outline.specs.declared.stroke.Stroke.{Stroke}
 use Rattle.postscript_outline.specs.declared.stroke.Stroke.TheVariants.{Line}
 use Rattle.postscript_outline.specs.Drawing.{Drawing, drawing, held}
 use Rattle.postscript_outline.specs.Strokes.{lines}
-use Rattle.postscript_outline.proofs.DrawsLaws.{first-refused}
+use Rattle.postscript_outline.proofs.DrawsLaws.{first-refused, passed-on}
 use Rattle.postscript_outline.proofs.pen.Pen.lines.Goals as goal
 
 pub returns-in_err-line_by : goal.returns-in_err-line_by
@@ -13,7 +13,6 @@ returns-in_err-line_by g c =
     let new : Drawing = held c.line_by.new.self (g.S.Sink.given c.line_by.new.sink) in
     let stroke : Stroke = Line c.in-Some.a in
     let all : lines c.loop-a.ahead.now ≡ stroke ∷ lines c.in-Some.rest.now = search rules in
-    let no : c.line_by.result ≡ None = search rules in
-    let none : c.from_residual.result ≡ None = search rules in
-    first-refused (g.S.Sink.refuses c.line_by.new.sink) stroke (lines c.in-Some.rest.now) (lines c.loop-a.ahead.now) start here new (drawing (lines c.args.operands.now) start)
-    c.line_by.new.fault c.line_by.result c.from_residual.result no none all c.loop-a.invariant.same c.loop-a.invariant.kept c.line_by.ensures
+    let back = c.from_residual in
+    passed-on back.result c.in_err-line_by.field-0.0 back.ensures.1
+    (first-refused stroke (lines c.in-Some.rest.now) (lines c.loop-a.ahead.now) start here new (drawing (lines c.args.operands.now) start) c.in_err-line_by.field-0.0 all c.loop-a.invariant.same c.loop-a.invariant.kept c.in_err-line_by.ensures)

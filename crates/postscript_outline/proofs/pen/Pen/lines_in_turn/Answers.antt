@@ -1,9 +1,9 @@
-use Rattle.std.proofs.Common.{◌≡◌, ◌∷◌, None, rules}
+use Rattle.std.proofs.Common.{◌≡◌, ◌∷◌, rules}
 use Rattle.postscript_outline.specs.declared.stroke.Stroke.{Stroke}
 use Rattle.postscript_outline.specs.declared.stroke.Stroke.TheVariants.{Line}
 use Rattle.postscript_outline.specs.Drawing.{Drawing, drawing, held}
 use Rattle.postscript_outline.specs.Strokes.{lines_in_turn, other}
-use Rattle.postscript_outline.proofs.DrawsLaws.{first-refused}
+use Rattle.postscript_outline.proofs.DrawsLaws.{first-refused, passed-on}
 use Rattle.postscript_outline.proofs.GivenLaws.{front-trans}
 use Rattle.postscript_outline.proofs.pen.Pen.lines_in_turn.Goals as goal
 
@@ -16,10 +16,9 @@ returns-in_err-line_by g c =
     let rest = lines_in_turn (other c.args.first) c.in-Some.behind.now in
     let left = lines_in_turn c.args.first c.loop-a.ahead.now in
     let all : left ≡ stroke ∷ rest = search rules in
-    let no : c.line_by.result ≡ None = search rules in
-    let none : c.from_residual.result ≡ None = search rules in
-    first-refused (g.S.Sink.refuses c.line_by.new.sink) stroke rest left start here new (drawing (lines_in_turn c.args.first c.args.operands.now) start)
-    c.line_by.new.fault c.line_by.result c.from_residual.result no none all c.loop-a.invariant.same c.loop-a.invariant.kept c.line_by.ensures
+    let back = c.from_residual in
+    passed-on back.result c.in_err-line_by.field-0.0 back.ensures.1
+    (first-refused stroke rest left start here new (drawing (lines_in_turn c.args.first c.args.operands.now) start) c.in_err-line_by.field-0.0 all c.loop-a.invariant.same c.loop-a.invariant.kept c.in_err-line_by.ensures)
 
 pub returns-in_err-line_by-2 : goal.returns-in_err-line_by-2
 returns-in_err-line_by-2 g c =
@@ -34,7 +33,6 @@ returns-in_err-line_by-2 g c =
     let all : left ≡ stroke ∷ rest = search rules in
     let same : drawing left here ≡ whole = search rules in
     let kept = front-trans start.segments before.segments here.segments c.loop-a.invariant.kept c.line_by.ensures.kept in
-    let no : c.line_by-in-Some.result ≡ None = search rules in
-    let none : c.from_residual-in_err-line_by-2.result ≡ None = search rules in
-    first-refused (g.S.Sink.refuses c.line_by-in-Some.new.sink) stroke rest left start here new whole
-    c.line_by-in-Some.new.fault c.line_by-in-Some.result c.from_residual-in_err-line_by-2.result no none all same kept c.line_by-in-Some.ensures
+    let back = c.from_residual-in_err-line_by-2 in
+    passed-on back.result c.in_err-line_by-2.field-0.0 back.ensures.1
+    (first-refused stroke rest left start here new whole c.in_err-line_by-2.field-0.0 all same kept c.in_err-line_by-2.ensures)

@@ -1,8 +1,7 @@
-use Rattle.std.proofs.Common.{◌≡◌, ◌++◌, None, rules}
-use Rattle.std.specs.Option.{ok_or}
+use Rattle.std.proofs.Common.{◌≡◌, ◌++◌, rules}
 use Rattle.postscript_outline.specs.Drawing.{Drawing, held}
 use Rattle.postscript_outline.specs.Strokes.{curves, lines_then_curve, lines}
-use Rattle.postscript_outline.proofs.DrawsLaws.{joined-drawn, joined-refused}
+use Rattle.postscript_outline.proofs.DrawsLaws.{joined-drawn, joined-refused, passed-on}
 use Rattle.postscript_outline.proofs.pen.Pen.lines_then_curve.Goals as goal
 
 pub returns-in_err-lines : goal.returns-in_err-lines
@@ -12,9 +11,8 @@ returns-in_err-lines g c =
     let these = lines c.split_at.result.0.now in
     let those = curves c.split_at.result.1.now in
     let is : lines_then_curve c.args.operands.now ≡ these ++ those = search rules in
-    let no : c.lines.result ≡ None = search rules in
-    let none : c.from_residual.result ≡ None = search rules in
-    joined-refused (g.S.Sink.refuses c.lines.new.sink) these those (lines_then_curve c.args.operands.now) here there c.lines.new.fault c.lines.result c.from_residual.result no none is c.lines.ensures
+    passed-on c.from_residual.result c.in_err-lines.field-0.0 c.from_residual.ensures.1
+    (joined-refused these those (lines_then_curve c.args.operands.now) here there c.in_err-lines.field-0.0 is c.in_err-lines.ensures)
 
 pub returns : goal.returns
 returns g c =
@@ -24,5 +22,4 @@ returns g c =
     let these = lines c.split_at.result.0.now in
     let those = curves c.split_at.result.1.now in
     let is : lines_then_curve c.args.operands.now ≡ these ++ those = search rules in
-    joined-drawn (g.S.Sink.refuses c.lines.new.sink) (g.S.Sink.refuses c.curves.new.sink) these those (lines_then_curve c.args.operands.now) here there new c.lines.new.fault c.lines.result c.in_ok-lines.field-0
-    (ok_or c.curves.result c.curves.new.fault) c.in_ok-lines.was is c.lines.ensures c.curves.ensures
+    joined-drawn these those (lines_then_curve c.args.operands.now) here there new c.in_ok-lines.field-0 c.curves.result is c.in_ok-lines.ensures c.curves.ensures
