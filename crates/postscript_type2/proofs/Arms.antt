@@ -10,9 +10,10 @@ use Rattle.postscript_type2.specs.Private.Refused.{reason}
 use Rattle.postscript_type2.specs.declared.operation.Operator.{Operator}
 use Rattle.postscript_type2.specs.Program.Effects.{State, Move, Keeps, Clears, Calls, Returns, Ends, Refuses, effect, stacked, holding, cleared}
 use Rattle.postscript_type2.specs.Program.Evaluation.{with_phrase, with_answer, at_end, said, moved, stride}
+use Rattle.postscript_type2.specs.Program.Fuel.{IsLast}
 use Rattle.postscript_type2.specs.Program.Parsing.{Complete, NoPhrase, phrase, fronted}
 use Rattle.postscript_type2.specs.Program.Routines.{Lists}
-use Rattle.postscript_type2.specs.Program.Runs.{Answer, Said, UsedUp, Finished, Fault}
+use Rattle.postscript_type2.specs.Program.Runs.{Answer, Said, UsedUp, Finished, Fault, Run}
 use Rattle.postscript_type2.specs.Private.Remaining.{still, next_still, are_used_up}
 use Rattle.postscript_type2.specs.Private.Working.{after_move}
 use Rattle.postscript_type2.proofs.Remains.{still_end}
@@ -164,3 +165,36 @@ unread-or-memory lists left cs bytes st e some h1 = grind (arith, unread)
 pub used-up : (lists : Lists) (left : ℕ) (cs : List (List ℕ)) (bytes : List ℕ) (st : State) → length bytes ≡ 0 → still lists left bytes cs st ≡ at_end UsedUp
 used-up lists left cs [] st is = still_end lists left cs st
 used-up lists left cs (b ∷ r) st is = absurd (omega arith)
+
+-- where a run is refused at a phrase, no phrase is behind that one
+
+none-left : IsLast []
+none-left = omega arith
+
+one-left : (said : Said) → IsLast (said ∷ [])
+one-left said = omega arith
+
+last-by : {run run' : Run} → run ≡ run' → IsLast run'.trace → IsLast run.trace
+last-by {run} {run'} same h = subst (λ (r : Run). IsLast r.trace) (sym same) h
+
+pub unread-is-last : (lists : Lists) (left : ℕ) (cs : List (List ℕ)) (bytes : List ℕ) (st : State) (e : Refused) → 0 < length bytes →
+    (e ≡ Memory) ⊎ (phrase bytes ≡ NoPhrase (reason e)) → (e ≡ Memory) ⊎ IsLast (still lists left bytes cs st).trace
+unread-is-last lists left cs bytes st e some (inl memory) = inl memory
+unread-is-last lists left cs bytes st e some (inr bad) =
+    let step : still lists left bytes cs st ≡ at_end (Fault (reason e)) = grind (arith, still_step-at) in inr (last-by step none-left)
+
+pub refused-is-last : (lists : Lists) (left : ℕ) (cs : List (List ℕ)) {bytes rest : List ℕ} {st : State} {ys : List ℤ} {op : Operator} {more : ℕ} {e : Refused} →
+    IsRead bytes rest st ys op more → (e ≡ Memory) ⊎ (effect lists op rest (stacked ys st) ≡ Refuses (reason e)) → (e ≡ Memory) ⊎ IsLast (still lists left bytes cs st).trace
+refused-is-last lists left cs read (inl memory) = inl memory
+refused-is-last lists left cs {bytes} {rest} {st} {ys} {op} {more} {e} read (inr does) =
+    inr (last-by (stepped lists left cs bytes rest st ys op more (Refuses (reason e)) read does) none-left)
+
+pub too-deep-is-last : (lists : Lists) (cs : List (List ℕ)) {bytes rest routine : List ℕ} {st : State} {ys left : List ℤ} {op : Operator} {more : ℕ} →
+    IsRead bytes rest st ys op more → effect lists op rest (stacked ys st) ≡ Calls routine left → IsLast (still lists 0 bytes cs st).trace
+too-deep-is-last lists cs {bytes} {rest} {routine} {st} {ys} {left} {op} {more} read does =
+    last-by (stepped lists 0 cs bytes rest st ys op more (Calls routine left) read does) (one-left (said op more bytes))
+
+pub trailing-is-last : (lists : Lists) (left : ℕ) (cs : List (List ℕ)) {bytes rest : List ℕ} {st : State} {ys : List ℤ} {op : Operator} {more : ℕ} {taken : List ℤ} {width : Option ℤ} →
+    IsRead bytes rest st ys op more → effect lists op rest (stacked ys st) ≡ Ends taken width → false ≡ are_used_up rest cs → IsLast (still lists left bytes cs st).trace
+trailing-is-last lists left cs {bytes} {rest} {st} {ys} {op} {more} {taken} {width} read does is =
+    last-by (ended lists left cs bytes rest st ys op more taken width false read does is) (one-left (said op more bytes))

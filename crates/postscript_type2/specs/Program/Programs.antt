@@ -5,22 +5,23 @@ use Rattle.postscript_base.specs.declared.error.Error.{Error}
 use Rattle.postscript_base.specs.declared.error.Error.TheVariants.{Memory, AlreadyFailed}
 use Rattle.postscript_base.specs.Refusal.{refusal_of}
 use Rattle.postscript_type2.specs.declared.operation.Operator.{Operator}
-use Rattle.postscript_type2.specs.Program.Runs.{Answer, End, UsedUp, Returned, Finished, Fault, Run, taken_by}
+use Rattle.postscript_type2.specs.Program.Runs.{Answer, Said, End, UsedUp, Returned, Finished, Fault, Run, taken_by}
 
--- the answers that are left, the end behind them, the width so far, and whether the end has been told
+-- the answers that are left, the phrases that are left, the end behind them, the width so far, and whether the end has been told
 pub record Pending : Type 0 where
   pub answers : List Answer
+  pub trace : List Said
   pub end : End
   pub width : Option ℤ
   pub is_told : Bool
 
 -- before the first answer of a run
 abbrev pub begun : Run → Pending
-begun run = record { answers = run.answers; end = run.end; width = None; is_told = false }
+begun run = record { answers = run.answers; trace = run.trace; end = run.end; width = None; is_told = false }
 
 -- after an end without fault was told, at which EndChar took these operands
 abbrev pub ended_over : (taken : List ℤ) → Option ℤ → Pending
-ended_over taken width = record { answers = []; end = Finished taken width; width = width; is_told = true }
+ended_over taken width = record { answers = []; trace = []; end = Finished taken width; width = width; is_told = true }
 
 -- the same where it took none, or did not come
 abbrev pub ended : Option ℤ → Pending
@@ -28,7 +29,7 @@ ended width = ended_over [] width
 
 -- after a refusal was told
 abbrev pub failed : Option ℤ → Pending
-failed width = record { answers = []; end = Fault (refusal_of AlreadyFailed); width = width; is_told = true }
+failed width = record { answers = []; trace = []; end = Fault (refusal_of AlreadyFailed); width = width; is_told = true }
 
 -- An end without fault: at EndChar the width is its own, and elsewhere it stays.
 abbrev pub IsLastWidth : End → Option ℤ → Option ℤ → Type 0

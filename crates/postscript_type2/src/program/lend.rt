@@ -38,6 +38,7 @@ impl<'l> Program<'l> {
     {
         match self.phase {
             Phase::Running => self.machine.empty(),
+            Phase::Paused => self.phase = Phase::Running,
             Phase::Ended => return Ok(None),
             Phase::Failed => return Err(Error::AlreadyFailed),
         }

@@ -7,7 +7,7 @@ use Rattle.postscript_type2.specs.Program.Evaluation.{at_end, with_phrase}
 use Rattle.postscript_type2.specs.Program.Runs.{by, Finished, UsedUp}
 use Rattle.postscript_type2.specs.Private.Machines.{still_of}
 use Rattle.postscript_type2.specs.Private.Working.{lists_of, state_of, move_of, after_move}
-use Rattle.postscript_type2.proofs.Arms.{IsRead, is-read, some-of, used-up, kept, answered, entered, too-deep-call, returned, no-caller, finished, trailing, refused-or-memory, unread-or-memory}
+use Rattle.postscript_type2.proofs.Arms.{IsRead, is-read, some-of, used-up, kept, answered, entered, too-deep-call, returned, no-caller, finished, trailing, refused-or-memory, unread-or-memory, unread-is-last, refused-is-last, too-deep-is-last, trailing-is-last}
 use Rattle.postscript_type2.proofs.program.machine.Machine.advance.Goals as goal
 
 pub returns-then-is_empty-clause-advances : goal.returns-then-is_empty-clause-advances
@@ -20,6 +20,34 @@ returns-in_err-operator-clause-advances c =
     let some : 0 < length c.args.self.now.routine = rw (← c.rest-rest.ensures) (some-of (length c.rest-rest.result.now) c.if-is_empty.ensures) in
     let error = err_from_is_err_and c.from_residual.result c.from_residual.ensures.1 in
     rw (error.1, error.2) (unread-or-memory (lists_of c.args.self.now.lists) c.args.self.now.left (rests c.args.self.now.callers) c.args.self.now.routine (state_of c.args.self.now.state) c.in_err-operator.field-0.0 some c.in_err-operator.ensures, refl)
+
+pub returns-in_err-operator-clause-last : goal.returns-in_err-operator-clause-last
+returns-in_err-operator-clause-last c =
+    let some : 0 < length c.args.self.now.routine = rw (← c.rest-rest.ensures) (some-of (length c.rest-rest.result.now) c.if-is_empty.ensures) in
+    let error = err_from_is_err_and c.from_residual.result c.from_residual.ensures.1 in
+    rw (error.1, error.2) (unread-is-last (lists_of c.args.self.now.lists) c.args.self.now.left (rests c.args.self.now.callers) c.args.self.now.routine (state_of c.args.self.now.state) c.in_err-operator.field-0.0 some c.in_err-operator.ensures)
+
+pub returns-in_err-act-clause-last : goal.returns-in_err-act-clause-last
+returns-in_err-act-clause-last c =
+    let read : IsRead c.args.self.now.routine c.phrase.new.self (state_of c.args.self.now.state) c.phrase.new.stack.items c.in_ok-operator.operator c.in_ok-operator.ensures.0 =
+    is-read c.rest-rest.ensures c.if-is_empty.ensures c.in_ok-operator.ensures.1 c.in_ok-operator.ensures.2 in
+    let does = c.in_err-act.ensures.value c.phrase.new.self (sym c.len-behind.ensures) in
+    let error = err_from_is_err_and c.from_residual-in_err-act.result c.from_residual-in_err-act.ensures.1 in
+    rw (error.1, error.2) (refused-is-last _ c.args.self.now.left (rests c.args.self.now.callers) read does.0)
+
+pub returns-then-self-eq0-clause-last : goal.returns-then-self-eq0-clause-last
+returns-then-self-eq0-clause-last c =
+    let read : IsRead c.args.self.now.routine c.phrase.new.self (state_of c.args.self.now.state) c.phrase.new.stack.items c.in_ok-operator.operator c.in_ok-operator.ensures.0 =
+    is-read c.rest-rest.ensures c.if-is_empty.ensures c.in_ok-operator.ensures.1 c.in_ok-operator.ensures.2 in
+    let does = c.in_ok-act.ensures.value c.phrase.new.self (sym c.len-behind.ensures) in
+    inr (rw c.if-self-eq0.true (too-deep-is-last _ (rests c.args.self.now.callers) read (does.0 ∙ ap (λ done. move_of done (state_of c.act.new.self)) c.in-Calls.is)))
+
+pub returns-then-not-are_used_up-clause-last : goal.returns-then-not-are_used_up-clause-last
+returns-then-not-are_used_up-clause-last c =
+    let read : IsRead c.args.self.now.routine c.phrase.new.self (state_of c.args.self.now.state) c.phrase.new.stack.items c.in_ok-operator.operator c.in_ok-operator.ensures.0 =
+    is-read c.rest-rest.ensures c.if-is_empty.ensures c.in_ok-operator.ensures.1 c.in_ok-operator.ensures.2 in
+    let does = c.in_ok-act.ensures.value c.phrase.new.self (sym c.len-behind.ensures) in
+    inr (trailing-is-last _ c.args.self.now.left (rests c.args.self.now.callers) read (does.0 ∙ ap (λ done. move_of done (state_of c.act.new.self)) c.in-Ends.is) c.if-not-are_used_up.ensures)
 
 pub returns-in_err-act-clause-advances : goal.returns-in_err-act-clause-advances
 returns-in_err-act-clause-advances c =
