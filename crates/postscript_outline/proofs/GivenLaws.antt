@@ -224,7 +224,7 @@ of-exact pen xs ys pending (Err e) new (inl memory) = inl memory
 of-exact pen xs ys pending (Err e) new (inr same) =
     inr (refused-so (λ ss. xs ++ ss) (outlined pending.answers pending.end) (refusal_of e) (sym (new-under pen xs pending.answers pending.end new) ∙ same))
 
-drawn-front : (pen : Pen) (xs ys : List Segment) (answers : List Answer) → IsNew pen → IfOk (outlined_from (held pen xs) answers UsedUp) (λ ss. IsFront ys ss) → IsFrontDrawn xs ys answers
+pub drawn-front : (pen : Pen) (xs ys : List Segment) (answers : List Answer) → IsNew pen → IfOk (outlined_from (held pen xs) answers UsedUp) (λ ss. IsFront ys ss) → IsFrontDrawn xs ys answers
 drawn-front pen xs ys answers new h =
     front-drawn xs ys (outlined answers UsedUp) (subst (λ r. IfOk r (λ ss. IsFront ys ss)) (new-under pen xs answers UsedUp new) h)
 

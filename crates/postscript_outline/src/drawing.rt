@@ -1,11 +1,13 @@
 //! Drawing into sinks.
-ghost use Rattle.std.specs.Prelude.{◌≡◌, ◌⊎◌, Err, IfOk, OnErr, MatchResult};
+ghost use Rattle.std.specs.Prelude.{◌≡◌, ◌≢◌, ◌<◌, ◌⊎◌, Ok, Err, IfOk, OnErr, MatchResult};
 ghost use Rattle.postscript_base.specs.declared.error.Error.TheVariants as errors;
 ghost use Rattle.postscript_base.specs.Error.{IsListed};
 ghost use Rattle.postscript_base.specs.Refusal.{refusal_of};
 ghost use Rattle.postscript_outline.specs.Drawing.{IsFront, held};
 ghost use Rattle.postscript_outline.specs.Given.{DrawsFrom, DrawsPending, DrawsPendingAt, DrawsRun, IsFrontDrawn, outlined_from};
 ghost use Rattle.postscript_outline.specs.Outline.{outline_of, outlined, outlined_at};
+ghost use Rattle.postscript_outline.specs.Within.{DrawsAtWithin, DrawsFromWithin, DrawsWithin, IsEnded, IsSpent};
+ghost use Rattle.postscript_type2.specs.Program.Fuel.{cost};
 ghost use Rattle.postscript_type2.specs.Program.Endings.{next_refusals};
 ghost use Rattle.postscript_type2.specs.Program.Evaluation.{run_of};
 ghost use Rattle.postscript_type2.specs.Program.Meaning.{IsRunOf};
@@ -17,7 +19,7 @@ use crate::pen::Pen;
 use crate::point::Point;
 use crate::sink::Sink;
 use postscript_base::Result;
-use postscript_type2::{Operand, Program};
+use postscript_type2::{Operand, Program, Within};
 use std::alloc::Global;
 
 /// Draws a code into a sink, with the global and the local subroutines: gives it the segments of its outline, one after
@@ -99,4 +101,88 @@ fn draw_from<S: Sink>(
     }
     pen.end(sink)?;
     Ok(program.width())
+}
+
+/// What a drawing comes to with its fuel.
+#[derive(Clone, Copy)]
+pub enum Drawn {
+    /// All has been drawn, and this is the width of the glyph, as `Program::width` gives it.
+    Whole(Option<Operand>),
+    /// The fuel was used up before the end.
+    Stopped,
+}
+
+/// Draws what a program still answers into a sink, as `draw_program` does, while fuel is left: `Program::step_within` says
+/// what it is spent on. Where it is used up before the end, the sink has been given the segments up to there. A program that
+/// costs less than the fuel is drawn whole.
+///
+/// Refused: as `draw_program` is.
+pub fn draw_program_within<S: Sink>(
+    program: &mut Program<'_>,
+    fuel: &mut u64,
+    sink: &mut S,
+) -> Result<Drawn>
+    ensures kept { IsFront (S.given sink.old) (S.given sink.new) }
+    ensures front { IsFrontDrawn (S.given sink.old) (S.given sink.new) program.old.answers }
+    ensures ended { IfOk result (λ drawn. IsEnded drawn program.old program.new) }
+    ensures exact { MatchResult result (λ drawn. DrawsWithin (S.given sink.old) (S.given sink.new) drawn program.old fuel.new)
+        (λ e. (e ≡ errors.Memory) ⊎ (outlined program.old.answers program.old.end ≡ Err (refusal_of e))) }
+    ensures spends { IsSpent fuel.old program.old.trace fuel.new result }
+    ensures suffices { cost program.old.trace < fuel.old → result ≢ Ok Drawn.Stopped }
+    ensures listed { IsListed next_refusals result }
+{
+    draw_from_within(program, Pen::new(), fuel, sink)
+}
+
+/// The same, where the origin of the glyph is put at a point.
+///
+/// Refused: as `draw_program_at` is.
+pub fn draw_program_at_within<S: Sink>(
+    program: &mut Program<'_>,
+    origin: Point,
+    fuel: &mut u64,
+    sink: &mut S,
+) -> Result<Drawn>
+    ensures kept { IsFront (S.given sink.old) (S.given sink.new) }
+    ensures ended { IfOk result (λ drawn. IsEnded drawn program.old program.new) }
+    ensures exact { MatchResult result (λ drawn. DrawsAtWithin origin (S.given sink.old) (S.given sink.new) drawn program.old fuel.new)
+        (λ e. (e ≡ errors.Memory) ⊎ (outlined_at origin program.old.answers program.old.end ≡ Err (refusal_of e))) }
+    ensures spends { IsSpent fuel.old program.old.trace fuel.new result }
+    ensures suffices { cost program.old.trace < fuel.old → result ≢ Ok Drawn.Stopped }
+    ensures listed { IsListed next_refusals result }
+{
+    let pen = Pen {
+        at: origin,
+        is_open: false,
+    };
+    draw_from_within(program, pen, fuel, sink)
+}
+
+/// The same, from where a pen stands.
+fn draw_from_within<S: Sink>(
+    program: &mut Program<'_>,
+    start: Pen,
+    fuel: &mut u64,
+    sink: &mut S,
+) -> Result<Drawn>
+    ensures exact { MatchResult result (λ drawn. DrawsFromWithin (held start (S.given sink.old)) (S.given sink.new) drawn program.old fuel.new)
+        (λ e. (e ≡ errors.Memory) ⊎ (outlined_from (held start (S.given sink.old)) program.old.answers program.old.end ≡ Err (refusal_of e))) }
+    ensures kept { IsFront (S.given sink.old) (S.given sink.new) }
+    ensures front { IfOk (outlined_from (held start (S.given sink.old)) program.old.answers UsedUp) (λ segments. IsFront (S.given sink.new) segments) }
+    ensures spends { IsSpent fuel.old program.old.trace fuel.new result }
+    ensures suffices { cost program.old.trace < fuel.old → result ≢ Ok Drawn.Stopped }
+    ensures listed { IsListed next_refusals result }
+    ensures ended { IfOk result (λ drawn. IsEnded drawn program.old program.new) }
+{
+    let mut pen = start;
+    loop {
+        match program.step_within(fuel)? {
+            Within::Operation(operator, operands) => pen.draw_path(operator, operands, sink)?,
+            Within::End => {
+                pen.end(sink)?;
+                return Ok(Drawn::Whole(program.width()));
+            }
+            Within::Paused => return Ok(Drawn::Stopped),
+        }
+    }
 }
