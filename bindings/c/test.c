@@ -179,15 +179,23 @@ static void check_refused(const uint8_t *cff, size_t size) {
     holds(refusal.glyph == 2 && refusal.cause == PSF_RETURN_WITHOUT_CALLER, "which, and why");
 }
 
+static void check_fits(const uint8_t *cff, size_t size) {
+    uint64_t fuel = 1000;
+    holds(psf_font_fits(cff, size, &fuel) == PSF_OK && fuel > 0 && fuel < 1000, "all glyphs come to their ends");
+    fuel = 1;
+    holds(psf_font_fits(cff, size, &fuel) == PSF_TOO_LONG && fuel == 0, "not with so little fuel");
+    holds(psf_font_fits(cff, 2, &fuel) == PSF_UNEXPECTED_EOF, "nor where the font is cut");
+}
+
 static void check_texts(void) {
     uint8_t text[80];
     size_t count = 0;
     holds(psf_version() == PSF_VERSION, "the version of the header");
-    for (int32_t status = 0; status <= PSF_TOO_LARGE; status++)
+    for (int32_t status = 0; status <= PSF_TOO_LONG; status++)
         holds(psf_status_text(status, text, sizeof text, &count) == PSF_OK && count > 0, "a text");
     holds(psf_status_text(PSF_NO_GLYPH, text, sizeof text, &count) == PSF_OK && memcmp(text, "no such glyph", 13) == 0, "its words");
     holds(psf_status_text(PSF_NO_GLYPH, text, 3, &count) == PSF_NO_ROOM && count == 13, "no room for a text");
-    holds(psf_status_text(PSF_TOO_LARGE + 1, text, sizeof text, &count) == PSF_NO_STATUS, "no text");
+    holds(psf_status_text(PSF_TOO_LONG + 1, text, sizeof text, &count) == PSF_NO_STATUS, "no text");
     holds(psf_status_text(-1, text, sizeof text, &count) == PSF_NO_STATUS, "no text below 0");
 }
 
@@ -212,6 +220,7 @@ int main(int argc, char **argv) {
     holds(psf_font_open(file + place, size, &font) == PSF_OK && font.glyphs == 4 && font.is_cid == 0, "four glyphs");
     holds(psf_font_open(file + place, 2, &font) == PSF_UNEXPECTED_EOF && font.glyphs == 4, "a cut font");
     holds(psf_font_open(file, 0, &font) == PSF_UNEXPECTED_EOF, "no bytes");
+    check_fits(file + place, size);
     check_outline(file + place, size, &font);
     check_spoiled(file + place, size, &font);
     check_names(file + place, size);

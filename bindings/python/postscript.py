@@ -109,6 +109,7 @@ class Status(enum.IntEnum):
     NO_GLYPHS = 43
     NOT_READ_BACK = 44
     TOO_LARGE = 45
+    TOO_LONG = 46
 
 
 def _status(number: int) -> Union[Status, int]:
@@ -208,6 +209,7 @@ for _name, _arguments in {
     "psf_file_table": [_bytes, _size, _size, c_uint32, _sizes, _sizes],
     "psf_map_glyph": [_bytes, _size, c_uint32, _sizes],
     "psf_font_open": [_bytes, _size, POINTER(_Font)],
+    "psf_font_fits": [_bytes, _size, POINTER(c_uint64)],
     "psf_glyph_outline": [_bytes, _size, POINTER(_Font), _size, POINTER(_Segment), _size, _sizes, POINTER(_Glyph)],
     "psf_glyph_bounds": [_bytes, _size, POINTER(_Font), _size, POINTER(_Bounds)],
     "psf_glyph_flat": [_bytes, _size, POINTER(_Font), _size, _room, _size, _sizes],
@@ -318,6 +320,16 @@ class Font:
     def is_cid_keyed(self) -> bool:
         """Whether the glyphs have numbers in place of names."""
         return bool(self._font.is_cid)
+
+    def fits(self, fuel: int) -> bool:
+        """Whether the runs of all glyphs come to their ends with so much fuel, which they share. An operator takes a unit for each of
+        its bytes, with the numbers before it, and a roll 4096 more. Ask it of a font that you do not trust before you draw: a few
+        bytes may name more calls of subroutines than can be run in years."""
+        status = _library.psf_font_fits(self._cff, len(self._cff), byref(c_uint64(fuel)))
+        if status == Status.TOO_LONG:
+            return False
+        _checked(status)
+        return True
 
     def flat(self) -> bytes:
         """The table `CFF ` of the same glyphs without subroutines: each draws what it drew, with the same advance, name or CID, and

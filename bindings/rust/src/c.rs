@@ -102,6 +102,7 @@ extern "C" {
     ) -> i32;
     fn psf_map_glyph(cmap: *const u8, length: usize, character: u32, glyph: *mut usize) -> i32;
     fn psf_font_open(cff: *const u8, length: usize, font: *mut Font) -> i32;
+    fn psf_font_fits(cff: *const u8, length: usize, fuel: *mut u64) -> i32;
     fn psf_glyph_outline(
         cff: *const u8,
         length: usize,
@@ -242,6 +243,11 @@ pub fn open(cff: &[u8]) -> Result<Font> {
     let mut font = Font::default();
     let status = unsafe { psf_font_open(cff.as_ptr(), cff.len(), &mut font) };
     answered(status, font)
+}
+
+pub fn fits(cff: &[u8], fuel: &mut u64) -> Result<()> {
+    let status = unsafe { psf_font_fits(cff.as_ptr(), cff.len(), fuel) };
+    answered(status, ())
 }
 
 pub fn outline(cff: &[u8], font: &Font, glyph: usize, segments: &mut Vec<Segment>) -> Result<Glyph> {

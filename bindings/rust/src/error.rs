@@ -90,12 +90,14 @@ pub enum Error {
     NotReadBack = 44,
     /// What is to be written is too large.
     TooLarge = 45,
+    /// The runs of the glyphs do not come to their ends with so much fuel.
+    TooLong = 46,
     /// A status that this crate does not know.
     Other = -1,
 }
 
 /// All that have a number.
-const ERRORS: [Error; 40] = [
+const ERRORS: [Error; 41] = [
     Error::UnexpectedEof,
     Error::Memory,
     Error::MalformedOffset,
@@ -136,6 +138,7 @@ const ERRORS: [Error; 40] = [
     Error::NoGlyphs,
     Error::NotReadBack,
     Error::TooLarge,
+    Error::TooLong,
 ];
 
 impl Error {

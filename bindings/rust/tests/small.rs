@@ -49,6 +49,7 @@ fn glyphs_one_after_another() {
     let bytes = bytes();
     let font = Font::from_file(&bytes, 0).unwrap();
     assert_eq!(font.outlines().len(), 4);
+    assert_eq!((font.fits(&mut 1), font.fits(&mut 1000)), (Ok(false), Ok(true)));
     let advances: Vec<f64> = font.outlines().map(|outline| outline.unwrap().advance).collect();
     assert_eq!(advances, [500.0, 250.0, 500.0, 450.0]);
     assert_eq!(font.outline(1).unwrap().bounds, None);
