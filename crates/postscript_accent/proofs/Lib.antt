@@ -1,2 +1,3 @@
 pub mod AccentRows
 pub mod Owns
+pub mod Spending

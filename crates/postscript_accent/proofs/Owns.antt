@@ -1,6 +1,6 @@
 -- What a glyph by itself gives: a plain glyph, a component, or an accented one.
 use Rattle.std.proofs.Common.{◌≡◌, ◌≢◌, ◌⊎◌, ℕ, ℤ, List, [], ◌++◌, length, append_assoc, Option, Some, None, Result, Ok, Err, ap, inl, inr, refl, subst, sym, ◌∙◌}
-use Rattle.std.specs.Prelude.{IfErr, IfOk, IsErrAnd, MatchOption, OnOk}
+use Rattle.std.specs.Prelude.{IfErr, IfOk, IfSome, IsErrAnd, MatchOption, OnOk}
 use Rattle.postscript_base.specs.declared.error.Error.TheVariants as causes
 use Rattle.postscript_items.specs.Lent.{items_of}
 use Rattle.postscript_outline.specs.Drawing.{point}
@@ -60,7 +60,7 @@ own-so (Ok own) font i glyph origin old new has drawn width told =
     (drawn.0, record { part = glyph.part.now; run = run_by glyph; has = has; draws = drawn.1; width_is = width; told = told }, drawn.2)
 own-so (Err e) font i glyph origin old new has drawn width told = tt
 
-pub refused-so : (r : Result Own Error) (font : FontView) (i : ℕ) (glyph : Glyph) (origin : Point) → HasRun font i glyph.part.now (run_by glyph) →
+pub refused-so : {A : Type 0} (r : Result A Error) (font : FontView) (i : ℕ) (glyph : Glyph) (origin : Point) → HasRun font i glyph.part.now (run_by glyph) →
     IfErr r (λ e. (e ≡ errors.Font causes.Memory) ⊎ IsUndrawn origin e (run_by glyph) ⊎ IsUnread e (run_by glyph)) →
     IfErr r (λ e. (e ≡ errors.Font causes.Memory) ⊎ IsGlyphRefused font i origin e)
 refused-so (Ok own) font i glyph origin has why = tt
@@ -134,7 +134,7 @@ draws-both (Ok done) font accent old middle new base draws begun rest =
 draws-both (Err e) font accent old middle new base draws begun rest = tt
 
 -- the accent as a component is refused
-pub accent-refused : (r : Result (Unit {0}) Error) (font : FontView) (accent : Accent) →
+pub accent-refused : {A : Type 0} (r : Result A Error) (font : FontView) (accent : Accent) →
     IfErr r (λ e. (e ≡ errors.Font causes.Memory) ⊎ IsComponentRefused font accent.accent (point accent.dx accent.dy) e) →
     IfErr r (λ e. (e ≡ errors.Font causes.Memory) ⊎ AreRefused font accent e)
 accent-refused (Ok done) font accent why = tt
@@ -147,3 +147,46 @@ pub components-refused : (font : FontView) (glyph : ℕ) (origin : Point) (segme
 components-refused font glyph origin segments width accent e own (inl memory) = inl memory
 components-refused font glyph origin segments width accent e own (inr why) =
     inr (inr (record { accent = accent; accented = is-accented font glyph origin segments width accent own; refused = why }))
+
+-- a glyph by itself is refused, as a component
+pub component-undrawn : (font : FontView) (code glyph : ℕ) (origin : Point) (e : Error) → IsComponent font code glyph →
+    (e ≡ errors.Font causes.Memory) ⊎ IsGlyphRefused font glyph origin e → (e ≡ errors.Font causes.Memory) ⊎ IsComponentRefused font code origin e
+component-undrawn font code glyph origin e component (inl memory) = inl memory
+component-undrawn font code glyph origin e component (inr refused) = inr (inr (inl (record { glyph = glyph; component = component; refused = refused })))
+
+-- with fuel: what is found of a glyph by itself, or the fuel is used up
+abbrev pub OwnFound : FontView → (glyph : ℕ) → (origin : Point) → (old new : List Segment) → (left : ℕ) → Option Own → Type 0
+OwnFound font glyph origin old new left found =
+    MatchOption found (left ≡ 0) (λ own. (segments : List Segment) × HasOwn font glyph origin segments own.width own.accent × Gives old new segments)
+
+pub own-so-within : (r : Result (Option Own) Error) (font : FontView) (i : ℕ) (glyph : Glyph) (origin : Point) (old new : List Segment) (left : ℕ) → HasRun font i glyph.part.now (run_by glyph) →
+    IfOk r (λ found. MatchOption found (left ≡ 0) (λ own. (segments : List Segment) × DrawsAt origin (run_by glyph) segments × Gives old new segments)) →
+    IfOk r (λ found. IfSome found (λ own. own.width ≡ width_of (run_by glyph))) → IfOk r (λ found. IfSome found (λ own. IsTold own.accent (run_by glyph))) →
+    IfOk r (λ found. OwnFound font i origin old new left found)
+own-so-within (Ok (Some own)) font i glyph origin old new left has drawn width told =
+    (drawn.0, record { part = glyph.part.now; run = run_by glyph; has = has; draws = drawn.1; width_is = width; told = told }, drawn.2)
+own-so-within (Ok None) font i glyph origin old new left has drawn width told = drawn
+own-so-within (Err e) font i glyph origin old new left has drawn width told = tt
+
+pub own-with : (accent : Option Accent) (font : FontView) (glyph : ℕ) (origin : Point) (old new : List Segment) (left : ℕ) (found : Option Own) (own : Own) → found ≡ Some own → own.accent ≡ accent →
+    OwnFound font glyph origin old new left found → (segments : List Segment) × HasOwn font glyph origin segments own.width accent × Gives old new segments
+own-with accent font glyph origin old new left found own is told h =
+    let all = subst (OwnFound font glyph origin old new left) is h in
+    (all.0, subst (λ (a : Option Accent). HasOwn font glyph origin all.0 own.width a) told all.1, all.2)
+
+-- the same of a component, and of both
+abbrev pub ComponentFound : FontView → (code : ℕ) → (origin : Point) → (old new : List Segment) → (left : ℕ) → Option (Unit {0}) → Type 0
+ComponentFound font code origin old new left found =
+    MatchOption found (left ≡ 0) (λ done. (segments : List Segment) × DrawsComponent font code origin segments × Gives old new segments)
+
+abbrev pub ComponentsFound : FontView → Accent → (old new : List Segment) → (left : ℕ) → Option (Unit {0}) → Type 0
+ComponentsFound font accent old new left found =
+    MatchOption found (left ≡ 0) (λ done. (segments : List Segment) × DrawsComponents font accent segments × Gives old new segments)
+
+pub draws-both-within : (r : Result (Option (Unit {0})) Error) (font : FontView) (accent : Accent) (old middle new base : List Segment) (left : ℕ) →
+    DrawsComponent font accent.base zero_point base → Gives old middle base →
+    IfOk r (λ found. ComponentFound font accent.accent (point accent.dx accent.dy) middle new left found) → IfOk r (λ found. ComponentsFound font accent old new left found)
+draws-both-within (Ok (Some done)) font accent old middle new base left draws begun rest =
+    (base ++ rest.0, record { base = base; above = rest.0; draws_base = draws; draws_accent = rest.1; all = refl }, given-both old middle new base rest.0 begun rest.2)
+draws-both-within (Ok None) font accent old middle new base left draws begun rest = rest
+draws-both-within (Err e) font accent old middle new base left draws begun rest = tt

@@ -2,3 +2,4 @@ pub mod Accents
 pub mod Components
 pub mod Drawn
 pub mod Refused
+pub mod Within

@@ -62,7 +62,7 @@ pub fn draw_glyph<S: Sink>(
 }
 
 /// Where the origin of the accent is put.
-fn place_of(accent: &Accent) -> Point
+pub(crate) fn place_of(accent: &Accent) -> Point
     ensures { result ≡ point accent.now.dx accent.now.dy }
 {
     Point {
@@ -73,9 +73,9 @@ fn place_of(accent: &Accent) -> Point
 
 /// What the run of a glyph tells but its segments: the width, and what it names.
 #[derive(Drop)]
-struct Own {
-    width: Option<Operand>,
-    accent: Option<Accent>,
+pub(crate) struct Own {
+    pub(crate) width: Option<Operand>,
+    pub(crate) accent: Option<Accent>,
 }
 
 /// Draws a glyph of a font by itself, from a point.

@@ -6,8 +6,10 @@ mod accent;
 mod component;
 mod drawing;
 mod error;
+mod within;
 
 pub use accent::Accent;
 pub use component::component_of;
 pub use drawing::{draw_glyph, outline_of};
 pub use error::{Error, Result};
+pub use within::draw_glyph_within;
