@@ -12,3 +12,6 @@ pub mod Making
 pub mod Marks
 pub mod Renamed
 mod StringRows
+pub mod Uniqueness
+pub mod Accented
+pub mod Subsets

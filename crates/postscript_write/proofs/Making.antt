@@ -20,8 +20,8 @@ use Rattle.postscript_view.specs.declared.font.FontView.{FontView}
 use Rattle.postscript_write.specs.Fonts.{IsMade}
 use Rattle.postscript_write.specs.Glyphs.{AreCodesOf, AreNumbersOf, HasPartFor, IsCodeFor, Sources, run_in}
 use Rattle.postscript_write.specs.Parts.{SameParts}
-use Rattle.postscript_write.specs.Refusals.{AreSound, FontRefusedBy, IsFaultless, IsRefusedBy, IsSubsetRefusedBy}
-use Rattle.postscript_write.specs.Steps.{IsLate, IsNotChosen, IsNotOpened, RefusedBy, RefusedFor}
+use Rattle.postscript_write.specs.Refusals.{AreSound, FontRefusedBy, IsFaultless, IsRefusedBy}
+use Rattle.postscript_write.specs.Steps.{IsLate, IsNotOpened, RefusedBy, RefusedFor}
 use Rattle.postscript_write.specs.declared.error.Error.{Error}
 use Rattle.postscript_write.specs.declared.error.Error.TheVariants.{Refused, Glyph, SeveralFonts, MissingGlyph, MissingPart, MissingName, NoGlyphs, TooLarge, NotReadBack}
 
@@ -148,28 +148,6 @@ not_opened sources bytes (MissingName glyph) h = absurd h
 not_opened sources bytes NoGlyphs h = absurd h
 not_opened sources bytes TooLarge h = absurd h
 not_opened sources bytes NotReadBack h = absurd h
-
-pub not_chosen : (named : List ℕ) (sources : (glyphs : ℕ) → Sources) (bytes : List ℕ) (font : View) (e : Error) → view bytes 0 ≡ Got font 0 → IsNotChosen named (length font.char_strings) e → IsSubsetRefusedBy named sources bytes e
-not_chosen named sources bytes font (Glyph glyph cause) is h = absurd h
-not_chosen named sources bytes font (Refused cause) is h = λ n. absurd (n h)
-not_chosen named sources bytes font SeveralFonts is h = absurd h
-not_chosen named sources bytes font (MissingGlyph glyph) is h = (font, is, h)
-not_chosen named sources bytes font (MissingPart glyph) is h = absurd h
-not_chosen named sources bytes font (MissingName glyph) is h = absurd h
-not_chosen named sources bytes font NoGlyphs is h = absurd h
-not_chosen named sources bytes font TooLarge is h = absurd h
-not_chosen named sources bytes font NotReadBack is h = absurd h
-
-pub of_subset : (named : List ℕ) (sources : (glyphs : ℕ) → Sources) (bytes : List ℕ) (e : Error) → IsRefusedBy sources bytes e → IsSubsetRefusedBy named sources bytes e
-of_subset named sources bytes (Glyph glyph cause) h = h
-of_subset named sources bytes (Refused cause) h = h
-of_subset named sources bytes SeveralFonts h = h
-of_subset named sources bytes (MissingGlyph glyph) h = absurd h.2
-of_subset named sources bytes (MissingPart glyph) h = h
-of_subset named sources bytes (MissingName glyph) h = h
-of_subset named sources bytes NoGlyphs h = absurd h.2
-of_subset named sources bytes TooLarge h = h
-of_subset named sources bytes NotReadBack h = h
 
 -- the refusal of a glyph, want of memory aside
 pub run_refused : (font : View) (glyph number : ℕ) (code : List ℕ) (part : Part) (cause : base.Error) (e : Error) → slice_get font.char_strings glyph ≡ Some code → slice_get font.parts number ≡ Some part →

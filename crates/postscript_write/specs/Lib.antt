@@ -8,5 +8,6 @@ pub mod Naming
 pub mod Strings
 pub mod Fonts
 pub mod Sources
+pub mod Components
 pub mod Refusals
 pub mod Steps

@@ -11,6 +11,7 @@ use Rattle.postscript_view.specs.Naming.{Names}
 use Rattle.postscript_view.specs.Order.{View, Part, fonts, view}
 use Rattle.postscript_view.specs.declared.char_set.CharSetView.{CharSetView}
 use Rattle.postscript_view.specs.declared.encoding.EncodingView.{EncodingView}
+use Rattle.postscript_write.specs.Components.{AreClosed}
 use Rattle.postscript_write.specs.Glyphs.{AreNumbersOf, HasPart, Sources, run_in}
 use Rattle.postscript_write.specs.declared.error.Error.{Error}
 use Rattle.postscript_write.specs.declared.error.Error.TheVariants.{Refused, Glyph, SeveralFonts, MissingGlyph, MissingPart, MissingName, NoGlyphs, TooLarge, NotReadBack}
@@ -113,8 +114,11 @@ pub record IsFirstPast (named : List ℕ) (glyphs glyph : ℕ) : Type 0 where
   pub past : glyphs ≤ glyph
   pub before : (i : ℕ) → i < place → slice_index_or named i 0 < glyphs
 
--- what a refusal of a subset says of the glyphs that are named, and else of the bytes
-abbrev pub IsSubsetRefusedBy : (named : List ℕ) → ((glyphs : ℕ) → Sources) → List ℕ → Error → Type 0
+-- What a refusal of a subset says: of the glyphs that are named; of the bytes; or of the font, from which these are taken and their
+-- components.
+abbrev pub IsSubsetRefusedBy : (named : List ℕ) → (sources : (closed : List ℕ) (glyphs : ℕ) → Sources) → List ℕ → Error → Type 0
 IsSubsetRefusedBy named sources bytes NoGlyphs = named ≡ []
 IsSubsetRefusedBy named sources bytes (MissingGlyph glyph) = OfFont bytes (λ old. IsFirstPast named (length old.char_strings) glyph)
-IsSubsetRefusedBy named sources bytes e = IsRefusedBy sources bytes e
+IsSubsetRefusedBy named sources bytes SeveralFonts = IsRefusedBy (sources named) bytes SeveralFonts
+IsSubsetRefusedBy named sources bytes (Refused cause) = IsRefusedBy (sources named) bytes (Refused cause)
+IsSubsetRefusedBy named sources bytes e = (closed : List ℕ) × AreClosed bytes named closed × IsRefusedBy (sources closed) bytes e

@@ -3,11 +3,13 @@ ghost use Rattle.std.specs.Prelude.{◌≡◌, [], true, false, Err, length, IfO
 ghost use Rattle.postscript_base.specs.Tape.Outcome.{Got};
 ghost use Rattle.postscript_view.specs.Order.{View, fonts as the_fonts, view as the_view};
 ghost use Rattle.postscript_view.specs.Value.{view_shown};
+ghost use Rattle.postscript_write.specs.Components.{IsSubset};
 ghost use Rattle.postscript_write.specs.Refusals.{IsRefusedBy, IsSubsetRefusedBy};
 ghost use Rattle.postscript_write.specs.Sources.{AreThere, IsWritten, chosen as the_chosen, every as the_every, keeping as the_keeping};
 ghost use Rattle.postscript_write.specs.Steps.{IsNotOpened};
 ghost use Rattle.postscript_write.specs.declared.error.Error.TheVariants as errors;
 
+use crate::components::with_components;
 use crate::error::{Error, Result};
 use crate::sources::{chosen, every, keeping};
 use crate::whole::font_of;
@@ -53,9 +55,9 @@ pub fn flat_font(alloc: Global, bytes: &[u8]) -> Result<Vec<u8>>
 /// Refused: `NoGlyphs` where none is named; `MissingGlyph` with a number that no glyph has; `MissingName` where the char set
 /// has no identifier for a glyph; and as `flat_font` is, but only for these glyphs.
 pub fn subset(alloc: Global, bytes: &[u8], named: &[usize]) -> Result<Vec<u8>>
-    ensures written { IfOk result (λ flat. IsWritten false (the_chosen named.now) bytes.now flat.items) }
+    ensures written { IfOk result (λ flat. IsSubset false the_chosen named.now bytes.now flat.items) }
     ensures one { OnOk result (the_fonts bytes.now 0 ≡ Got 1 0) }
-    ensures refused { IfErr result (λ e. IsSubsetRefusedBy named.now (the_chosen named.now) bytes.now e) }
+    ensures refused { IfErr result (λ e. IsSubsetRefusedBy named.now the_chosen bytes.now e) }
     ensures there { OnOk result ((font : View) → the_view bytes.now 0 ≡ Got font 0 → AreThere named.now (length font.char_strings)) }
     ensures none { named.now ≡ [] → result ≡ Err errors.NoGlyphs }
 {
@@ -63,7 +65,8 @@ pub fn subset(alloc: Global, bytes: &[u8], named: &[usize]) -> Result<Vec<u8>>
         return Err(Error::NoGlyphs);
     }
     let font = only_font(alloc, bytes)?;
-    let sources = chosen(alloc, named, font.char_strings.len())?;
+    let closed = with_components(alloc, &font, named)?;
+    let sources = chosen(alloc, &closed, font.char_strings.len())?;
     font_of(alloc, &font, &sources, false)
 }
 
@@ -73,9 +76,9 @@ pub fn subset(alloc: Global, bytes: &[u8], named: &[usize]) -> Result<Vec<u8>>
 /// Refused: `NoGlyphs` where none is named; `MissingGlyph` with a number that no glyph has; and as `flat_font` is, but only for
 /// these glyphs.
 pub fn subset_keeping(alloc: Global, bytes: &[u8], named: &[usize]) -> Result<Vec<u8>>
-    ensures written { IfOk result (λ flat. IsWritten true (the_keeping named.now) bytes.now flat.items) }
+    ensures written { IfOk result (λ flat. IsSubset true the_keeping named.now bytes.now flat.items) }
     ensures one { OnOk result (the_fonts bytes.now 0 ≡ Got 1 0) }
-    ensures refused { IfErr result (λ e. IsSubsetRefusedBy named.now (the_keeping named.now) bytes.now e) }
+    ensures refused { IfErr result (λ e. IsSubsetRefusedBy named.now the_keeping bytes.now e) }
     ensures there { OnOk result ((font : View) → the_view bytes.now 0 ≡ Got font 0 → AreThere named.now (length font.char_strings)) }
     ensures none { named.now ≡ [] → result ≡ Err errors.NoGlyphs }
 {
@@ -83,6 +86,7 @@ pub fn subset_keeping(alloc: Global, bytes: &[u8], named: &[usize]) -> Result<Ve
         return Err(Error::NoGlyphs);
     }
     let font = only_font(alloc, bytes)?;
-    let sources = keeping(alloc, named, font.char_strings.len())?;
+    let closed = with_components(alloc, &font, named)?;
+    let sources = keeping(alloc, &closed, font.char_strings.len())?;
     font_of(alloc, &font, &sources, true)
 }

@@ -2,6 +2,7 @@
 #![tactic(auto)]
 
 mod alike;
+mod components;
 mod dictionaries;
 mod error;
 mod fonts;

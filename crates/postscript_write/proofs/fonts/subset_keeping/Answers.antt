@@ -1,56 +1,62 @@
-use Rattle.std.proofs.Common.{◌≡◌, ◌∙◌, sym, ap, subst, List, length}
-use Rattle.std.specs.Prelude.{Option, true, ℕ}
-use Rattle.postscript_view.specs.Value.{view_shown}
-use Rattle.postscript_write.specs.Fonts.{IsFontOf}
-use Rattle.postscript_write.specs.Refusals.{FontRefusedBy}
+use Rattle.std.proofs.Common.{◌≡◌, ◌∙◌, ap, subst, sym, List, length, ℕ}
+use Rattle.std.specs.Prelude.{true}
+use Rattle.std.proofs.lemmas.Result.{err_from_is_err_and}
 use Rattle.postscript_base.specs.Tape.Outcome.{Got}
 use Rattle.postscript_view.specs.Order.{View}
+use Rattle.postscript_view.specs.Value.{view_shown}
+use Rattle.postscript_accent.specs.Components.{glyphs_of}
+use Rattle.postscript_write.specs.Components.{IsOpened}
 use Rattle.postscript_write.specs.Sources.{AreThere, keeping}
-use Rattle.std.proofs.lemmas.Result.{err_from_is_err_and}
 use Rattle.postscript_write.specs.Steps.{IsNotChosen}
 use Rattle.postscript_write.specs.declared.error.Error.{Error}
-use Rattle.postscript_write.proofs.Making.{if_ok, if_err, is_refused, not_chosen, not_opened, of_subset}
+use Rattle.postscript_write.proofs.Making.{if_ok}
+use Rattle.postscript_write.proofs.Subsets.{closed-so, named-there, not-chosen, not-opened, subset-made, subset-refused, untold}
 use Rattle.postscript_write.proofs.fonts.subset_keeping.Goals as goal
 
 pub returns-clause-written : goal.returns-clause-written
 returns-clause-written c =
-    let old = view_shown c.in_ok-font.font in
-    let bytes = c.in_ok-font.ensures.bytes in
-    let are : c.deref.result.now ≡ keeping c.args.named.now (length old.char_strings) = c.deref.ensures.value ∙ c.in_ok-sources.ensures.sources ∙ ap (λ n. keeping c.args.named.now n) c.len.ensures in
-    if_ok c.font_of.result (λ flat made. record {
-      old = old;
-      new = made.0;
-      was = c.in_ok-font.ensures.is;
-      is = made.1;
-      made = subst (λ (s : List (Option ℕ)). IsFontOf true s c.args.bytes.now old flat.items made.0) are
-          (subst (λ (bs : List ℕ). IsFontOf true c.deref.result.now bs old flat.items made.0) bytes made.2);
-    }) c.font_of.ensures.font
+    let font = c.in_ok-font.font in
+    let opened : IsOpened c.args.bytes.now font = record { shown = c.in_ok-font.ensures.is; there = c.in_ok-font.ensures.bytes } in
+    let closed = c.in_ok-closed.closed.items in
+    let same = c.deref-2.ensures.value ∙ c.in_ok-sources.ensures.sources ∙ ap (λ n. keeping c.deref.result.now n) c.len.ensures ∙ ap (λ xs. keeping xs (glyphs_of font)) c.deref.ensures.value in
+    subset-made c.font_of.result true keeping font c.args.bytes.now c.args.named.now closed c.deref-2.result.now opened
+    (closed-so c.args.bytes.now c.args.named.now closed font opened c.in_ok-closed.ensures.closed) same c.font_of.ensures.font
 
 pub returns-clause-refused : goal.returns-clause-refused
 returns-clause-refused c =
-    let old = view_shown c.in_ok-font.font in
-    let bytes = c.in_ok-font.ensures.bytes in
-    let are : c.deref.result.now ≡ keeping c.args.named.now (length old.char_strings) = c.deref.ensures.value ∙ c.in_ok-sources.ensures.sources ∙ ap (λ n. keeping c.args.named.now n) c.len.ensures in
-    if_err c.font_of.result (λ e h.
-    of_subset c.args.named.now (keeping c.args.named.now) c.args.bytes.now e (is_refused (keeping c.args.named.now) c.args.bytes.now old e c.in_ok-font.ensures.is
-    (subst (λ (s : List (Option ℕ)). FontRefusedBy c.args.bytes.now old s e) are (subst (λ (bs : List ℕ). FontRefusedBy bs old c.deref.result.now e) bytes h)))) c.font_of.ensures.refused
+    let font = c.in_ok-font.font in
+    let opened : IsOpened c.args.bytes.now font = record { shown = c.in_ok-font.ensures.is; there = c.in_ok-font.ensures.bytes } in
+    let closed = c.in_ok-closed.closed.items in
+    let same = c.deref-2.ensures.value ∙ c.in_ok-sources.ensures.sources ∙ ap (λ n. keeping c.deref.result.now n) c.len.ensures ∙ ap (λ xs. keeping xs (glyphs_of font)) c.deref.ensures.value in
+    subset-refused c.font_of.result keeping font c.args.bytes.now c.args.named.now closed c.deref-2.result.now opened
+    (closed-so c.args.bytes.now c.args.named.now closed font opened c.in_ok-closed.ensures.closed) same c.font_of.ensures.refused
 
 pub returns-clause-there : goal.returns-clause-there
 returns-clause-there c =
-    let there : AreThere c.args.named.now (length (view_shown c.in_ok-font.font).char_strings) = subst (λ (n : ℕ). AreThere c.args.named.now n) c.len.ensures c.in_ok-sources.ensures.there in
+    let named = c.args.named.now in
+    let there : AreThere c.deref.result.now (length (view_shown c.in_ok-font.font).char_strings) = subst (λ (n : ℕ). AreThere c.deref.result.now n) c.len.ensures c.in_ok-sources.ensures.there in
+    let all = c.in_ok-closed.ensures.closed in
+    let are = named-there named all.0 c.deref.result.now _ (c.deref.ensures.value ∙ all.2) there in
     if_ok c.font_of.result (λ flat made font is.
     let both : Got (view_shown c.in_ok-font.font) 0 ≡ Got font 0 = sym c.in_ok-font.ensures.is ∙ is in
     let same : view_shown c.in_ok-font.font ≡ font = cc in
-    subst (λ (v : View). AreThere c.args.named.now (length v.char_strings)) same there) c.font_of.ensures.font
+    subst (λ (v : View). AreThere named (length v.char_strings)) same are) c.font_of.ensures.font
 
 pub returns-in_err-font-clause-refused : goal.returns-in_err-font-clause-refused
 returns-in_err-font-clause-refused c =
     let error = err_from_is_err_and c.from_residual.result c.from_residual.ensures.1 in
-    rw (error.1, error.2) (of_subset c.args.named.now (keeping c.args.named.now) c.args.bytes.now _ (not_opened (keeping c.args.named.now) c.args.bytes.now _ c.in_err-font.ensures.refused))
+    rw (error.1, error.2) (not-opened c.args.named.now keeping c.args.bytes.now _ c.in_err-font.ensures.refused)
+
+pub returns-in_err-closed-clause-refused : goal.returns-in_err-closed-clause-refused
+returns-in_err-closed-clause-refused c =
+    let error = err_from_is_err_and c.from_residual-in_err-closed.result c.from_residual-in_err-closed.ensures.1 in
+    let opened : IsOpened c.args.bytes.now c.in_ok-font.font = record { shown = c.in_ok-font.ensures.is; there = c.in_ok-font.ensures.bytes } in
+    rw (error.1, error.2) (untold c.args.named.now keeping c.args.bytes.now c.in_ok-font.font _ opened c.in_err-closed.ensures.untold)
 
 pub returns-in_err-sources-clause-refused : goal.returns-in_err-sources-clause-refused
 returns-in_err-sources-clause-refused c =
     let error = err_from_is_err_and c.from_residual-in_err-sources.result c.from_residual-in_err-sources.ensures.1 in
-    let same : (e : Error) → IsNotChosen c.args.named.now c.len.result e → IsNotChosen c.args.named.now (length (view_shown c.in_ok-font.font).char_strings) e = λ e h. subst (λ (n : ℕ). IsNotChosen c.args.named.now n e) c.len.ensures h in
-    rw (error.1, error.2) (not_chosen c.args.named.now (keeping c.args.named.now) c.args.bytes.now (view_shown c.in_ok-font.font) _ c.in_ok-font.ensures.is
+    let opened : IsOpened c.args.bytes.now c.in_ok-font.font = record { shown = c.in_ok-font.ensures.is; there = c.in_ok-font.ensures.bytes } in
+    let same : (e : Error) → IsNotChosen c.deref.result.now c.len.result e → IsNotChosen c.in_ok-closed.closed.items (glyphs_of c.in_ok-font.font) e = λ e h. subst (λ (xs : List ℕ). IsNotChosen xs (glyphs_of c.in_ok-font.font) e) c.deref.ensures.value (subst (λ (n : ℕ). IsNotChosen c.deref.result.now n e) c.len.ensures h) in
+    rw (error.1, error.2) (not-chosen c.args.named.now c.in_ok-closed.closed.items keeping c.args.bytes.now c.in_ok-font.font _ opened c.in_ok-closed.ensures.closed
     (same _ c.in_err-sources.ensures.refused))

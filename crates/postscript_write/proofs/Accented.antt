@@ -1,0 +1,167 @@
+-- What is told of the components of glyphs.
+use Rattle.std.proofs.Common.{◌≡◌, ◌≢◌, refl, sym, ap, subst, ◌∙◌, inl, inr, ℕ, zero, suc, ◌<◌, ℤ, List, [], ◌∷◌, ◌++◌, append_assoc, length, slice_index_or, Option, Some, None, Result, Ok, Err, true, false, Bool, arith}
+use Rattle.std.specs.Prelude.{◌⊎◌, ◌==◌, ◌||◌, IfOk, IfErr, OnOk, MatchOption, option_to_list}
+use Rattle.std.specs.List.{Contains}
+use Rattle.std.proofs.lemmas.Bool.{eqb-true, eq-eqb}
+use Rattle.std.proofs.lemmas.List.Elements.{Contains-append_left, Contains-append_right, Contains-append_cases}
+use Rattle.postscript_accent.specs.Accents.{IsAccent, IsAccentOf, run_by}
+use Rattle.postscript_accent.specs.Components.{HasNoComponent, IsComponent, glyphs_of}
+use Rattle.postscript_accent.specs.Refused.{IsAccented}
+use Rattle.postscript_accent.specs.declared.accent.Accent.{Accent}
+use Rattle.postscript_accent.specs.declared.error.Error as accents
+use Rattle.postscript_accent.specs.declared.error.Error.TheVariants.{Font, NoSuchGlyph, NoCode, NoAccents, MissingComponent, NestedAccent}
+use Rattle.postscript_base.specs.Refusal.{Refusal}
+use Rattle.postscript_items.specs.Lent.{items_of}
+use Rattle.postscript_type2.specs.Program.Evaluation.{run_of}
+use Rattle.postscript_type2.specs.Program.Routines.{lent}
+use Rattle.postscript_type2.specs.Program.Runs.{End, UsedUp, Returned, Finished, Fault, Run, fault_of, taken_by}
+use Rattle.postscript_view.specs.Advances.{HasRun}
+use Rattle.postscript_view.specs.Glyphs.{HasGlyph}
+use Rattle.postscript_view.specs.declared.font.FontView.{FontView}
+use Rattle.postscript_view.specs.declared.font.Glyph.{Glyph}
+use Rattle.postscript_write.specs.Components.{AreComponents, AreComponentsOf, IsComponentOf, IsComponentOfOne, IsFound, IsSaid, IsSaidOf, IsUntold}
+use Rattle.postscript_write.specs.Sources.{is_kept}
+use Rattle.postscript_write.specs.declared.error.Error.{Error}
+use Rattle.postscript_write.proofs.Uniqueness.{first-of, one-accent, one-component, one-run}
+
+-- nothing is named where a run is refused
+pub none-taken : (end : End) (refusal : Refusal) → fault_of end ≡ Some refusal → taken_by end ≡ []
+none-taken UsedUp refusal h = refl
+none-taken (Returned st) refusal h = refl
+none-taken (Finished taken width) refusal h = let never : None ≡ Some refusal = h in absurd (cc)
+none-taken (Fault e) refusal h = refl
+
+pub names-none : (operands : List ℤ) → operands ≡ [] → (accent : Accent) → IsAccent operands accent → ⊥
+names-none operands none accent is = let never : [] ≡ accent.dx ∷ accent.dy ∷ is.bchar ∷ is.achar ∷ [] = sym none ∙ is.four in absurd (cc)
+
+pub has-run : (font : FontView) (i : ℕ) (glyph : Glyph) → HasGlyph font i glyph.code.now glyph.part.now → items_of glyph.global_subroutines ≡ items_of font.global_subroutines → HasRun font i glyph.part.now (run_by glyph)
+has-run font i glyph has same = record {
+  code = glyph.code.now;
+  has = has;
+  runs = ap (λ global. run_of (lent global (items_of glyph.part.now.subroutines)) glyph.code.now) same;
+}
+
+pub said-so : (font : FontView) (i : ℕ) (glyph : Glyph) (found : Option Accent) → HasRun font i glyph.part.now (run_by glyph) → IsSaid found (run_by glyph) → IsSaidOf font i found
+said-so font i glyph None has said = λ accent is.
+    said accent (subst (λ run. IsAccentOf accent run) (one-run font i glyph.part.now is.part (run_by glyph) is.run has is.has) is.accented)
+said-so font i glyph (Some accent) has said = record { part = glyph.part.now; run = run_by glyph; has = has; accented = said }
+
+pub said-if : (r : Result (Option Accent) Error) (font : FontView) (i : ℕ) (glyph : Glyph) → HasRun font i glyph.part.now (run_by glyph) → IfOk r (λ found. IsSaid found (run_by glyph)) → IfOk r (λ found. IsSaidOf font i found)
+said-if (Ok found) font i glyph has said = said-so font i glyph found has said
+said-if (Err e) font i glyph has said = tt
+
+-- no glyph is found where none is told
+pub none-found : (e : accents.Error) (font : FontView) (code : ℕ) → ((cause : _) → e ≢ Font cause) → HasNoComponent e font code → (glyph : ℕ) → IsComponent font code glyph → ⊥
+none-found NoAccents font code other why glyph is = is.not_keyed why
+none-found (MissingComponent missing) font code other why glyph is =
+    let first = first-of is.set why.1.set font.bytes.now font.dictionary (glyphs_of font) _ glyph is.is_set why.1.is_set is.first in
+    why.1.none glyph first.there first.names
+none-found (Font e) font code other why glyph is = absurd (other e refl)
+none-found NoCode font code other why glyph is = why
+none-found (NoSuchGlyph missing) font code other why glyph is = why
+none-found (NestedAccent nested) font code other why glyph is = why
+
+-- the components of a plain glyph: none
+pub none-of : (font : FontView) (from : ℕ) → IsSaidOf font from None → AreComponentsOf font from []
+none-of font from said glyph = (λ has. absurd (omega (arith, has.1)), λ is. absurd (said is.accent is.accented))
+
+-- what is in a list of one glyph or none
+in-option : (font : FontView) (code : ℕ) (found : Option ℕ) (glyph : ℕ) → IsFound font code found → Contains (option_to_list found) glyph → IsComponent font code glyph
+in-option font code None glyph is has = absurd (omega (arith, has.1))
+in-option font code (Some one) glyph is has = by has.0 has.1 has.2
+  where
+    by : (k : ℕ) → k < 1 → slice_index_or (one ∷ []) k glyph ≡ glyph → IsComponent font code glyph
+    by zero less same = subst (λ g. IsComponent font code g) same is
+    by (suc k) less same = absurd (omega (arith, less))
+
+to-option : (font : FontView) (code : ℕ) (found : Option ℕ) (glyph : ℕ) → IsFound font code found → IsComponent font code glyph → Contains (option_to_list found) glyph
+to-option font code None glyph is component = absurd (is glyph component)
+to-option font code (Some one) glyph is component = (0, omega arith, one-component font code one glyph is component)
+
+-- the components of an accented glyph: its base and its accent
+pub both-of : (font : FontView) (from : ℕ) (accent : Accent) (base above : Option ℕ) → IsAccented font from accent → IsFound font accent.base base → IsFound font accent.accent above →
+    AreComponentsOf font from (option_to_list base ++ option_to_list above)
+both-of font from accent base above accented has_base has_above glyph = (
+  λ has. elim (Contains-append_cases (option_to_list base) (option_to_list above) glyph has) [
+    | inl h ↦ record { accent = accent; accented = accented; named = inl (in-option font accent.base base glyph has_base h) }
+    | inr h ↦ record { accent = accent; accented = accented; named = inr (in-option font accent.accent above glyph has_above h) }
+  ],
+  λ is.
+      let same = one-run font from accented.part is.accented.part accented.run is.accented.run accented.has is.accented.has in
+      let codes = one-accent _ is.accent accent (subst (λ run. IsAccentOf is.accent run) same is.accented.accented) accented.accented in
+      elim is.named [
+        | inl h ↦ Contains-append_left (option_to_list base) (option_to_list above) glyph (to-option font accent.base base glyph has_base (subst (λ c. IsComponent font c glyph) codes.0 h))
+        | inr h ↦ Contains-append_right (option_to_list base) (option_to_list above) glyph (to-option font accent.accent above glyph has_above (subst (λ c. IsComponent font c glyph) codes.1 h))
+      ],
+)
+
+-- those of .notdef, where none is named
+pub of-notdef : (font : FontView) (components : List ℕ) → AreComponentsOf font 0 components → AreComponents font [] components
+of-notdef font components are glyph = (
+  λ has. (0, refl, (are glyph).0 has),
+  λ is. (are glyph).1 (subst (λ from. IsComponentOf font from glyph) (eqb-true is.0 0 is.1) is.2),
+)
+
+or-split : (a b : Bool) → (a || b) ≡ true → (a ≡ true) ⊎ (b ≡ true)
+or-split true b h = inl refl
+or-split false b h = inr h
+
+or-left : (a b : Bool) → a ≡ true → (a || b) ≡ true
+or-left true b h = refl
+or-left false b h = let never : false ≡ true = h in absurd (cc)
+
+or-right : (a b : Bool) → b ≡ true → (a || b) ≡ true
+or-right true b h = refl
+or-right false b h = h
+
+kept-front : (named : List ℕ) (one from : ℕ) → is_kept named from ≡ true → is_kept (named ++ one ∷ []) from ≡ true
+kept-front [] one from h = or-right (one == from) (from == 0) h
+kept-front (x ∷ named) one from h = elim (or-split (x == from) (is_kept named from) h) [
+  | inl a ↦ or-left (x == from) (is_kept (named ++ one ∷ []) from) a
+  | inr b ↦ or-right (x == from) (is_kept (named ++ one ∷ []) from) (kept-front named one from b)
+]
+
+kept-last : (named : List ℕ) (one : ℕ) → is_kept (named ++ one ∷ []) one ≡ true
+kept-last [] one = or-left (one == one) (one == 0) (eq-eqb one one refl)
+kept-last (x ∷ named) one = or-right (x == one) (is_kept (named ++ one ∷ []) one) (kept-last named one)
+
+kept-cases : (named : List ℕ) (one from : ℕ) → is_kept (named ++ one ∷ []) from ≡ true → (is_kept named from ≡ true) ⊎ (one ≡ from)
+kept-cases [] one from h = elim (or-split (one == from) (from == 0) h) [
+  | inl a ↦ inr (eqb-true one from a)
+  | inr b ↦ inl b
+]
+kept-cases (x ∷ named) one from h = elim (or-split (x == from) (is_kept (named ++ one ∷ []) from) h) [
+  | inl a ↦ inl (or-left (x == from) (is_kept named from) a)
+  | inr b ↦ elim (kept-cases named one from b) [
+    | inl c ↦ inl (or-right (x == from) (is_kept named from) c)
+    | inr d ↦ inr d
+  ]
+]
+
+-- those of one glyph more
+pub one-more : (font : FontView) (named components added : List ℕ) (one : ℕ) → AreComponents font named components → AreComponentsOf font one added → AreComponents font (named ++ one ∷ []) (components ++ added)
+one-more font named components added one before are glyph = (
+  λ has. elim (Contains-append_cases components added glyph has) [
+    | inl h ↦ let is = (before glyph).0 h in (is.0, kept-front named one is.0 is.1, is.2)
+    | inr h ↦ (one, kept-last named one, (are glyph).0 h)
+  ],
+  λ is. elim (kept-cases named one is.0 is.1) [
+    | inl h ↦ Contains-append_left components added glyph ((before glyph).1 (is.0, h, is.2))
+    | inr same ↦ Contains-append_right components added glyph ((are glyph).1 (subst (λ from. IsComponentOf font from glyph) (sym same) is.2))
+  ],
+)
+
+-- what is appended of one glyph
+pub pushed-so : (r : Result (Unit {0}) Error) (font : FontView) (from : ℕ) (accent : Accent) (old new : List ℕ) → IsAccented font from accent →
+    OnOk r ((base above : Option ℕ) × IsFound font accent.base base × IsFound font accent.accent above × (new ≡ old ++ (option_to_list base ++ option_to_list above))) →
+    OnOk r ((added : List ℕ) × AreComponentsOf font from added × (new ≡ old ++ added))
+pushed-so (Ok done) font from accent old new accented h =
+    (option_to_list h.0 ++ option_to_list h.1, both-of font from accent h.0 h.1 accented h.2 h.3, h.4)
+pushed-so (Err e) font from accent old new accented h = tt
+
+pub both-if : (r : Result (Unit {0}) Error) (font : FontView) (accent : Accent) (base above : Option ℕ) (old middle new : List ℕ) → IsFound font accent.base base → IsFound font accent.accent above →
+    middle ≡ old ++ option_to_list base → OnOk r (new ≡ middle ++ option_to_list above) →
+    OnOk r ((base above : Option ℕ) × IsFound font accent.base base × IsFound font accent.accent above × (new ≡ old ++ (option_to_list base ++ option_to_list above)))
+both-if (Ok done) font accent base above old middle new has_base has_above first second =
+    (base, above, has_base, has_above, second ∙ ap (λ xs. xs ++ option_to_list above) first ∙ append_assoc old (option_to_list base) (option_to_list above))
+both-if (Err e) font accent base above old middle new has_base has_above first second = tt

@@ -1,0 +1,12 @@
+use Rattle.std.proofs.Common.{◌≡◌, ◌∙◌, ap, subst}
+use Rattle.std.specs.Prelude.{MatchOption}
+use Rattle.postscript_accent.specs.Accents.{IsAccent, run_by}
+use Rattle.postscript_accent.specs.declared.accent.Accent.{Accent}
+use Rattle.postscript_type2.specs.Program.Runs.{taken_by}
+use Rattle.postscript_write.proofs.components.said_by.Goals as goal
+
+pub returns-in-Ok-clause-said : goal.returns-in-Ok-clause-said
+returns-in-Ok-clause-said c =
+    let same : c.operands_at_end.result.now ≡ taken_by (run_by c.args.glyph.now).end =
+    c.operands_at_end.ensures ∙ c.in-Ok.ensures.taken ∙ ap (λ p. taken_by p.end) c.program-program.ensures in
+    subst (λ xs. MatchOption c.named_by.result ((accent : Accent) → IsAccent xs accent → ⊥) (λ accent. IsAccent xs accent)) same c.named_by.ensures

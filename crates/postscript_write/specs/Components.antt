@@ -1,0 +1,74 @@
+-- The components of accented glyphs, which are kept with them (Technical Note 5177, Appendix C, "Compatibility and Deprecated
+-- Operators").
+use Rattle.std.specs.Prelude.{◌≡◌, ◌≢◌, ◌⊎◌, ◌↔◌, ℕ, List, ◌++◌, Bool, Option, true}
+use Rattle.std.specs.List.{Contains}
+use Rattle.std.specs.Option.{MatchOption}
+use Rattle.postscript_accent.specs.Accents.{IsAccentOf}
+use Rattle.postscript_accent.specs.Components.{HasCharSet, IsComponent}
+use Rattle.postscript_accent.specs.Refused.{IsAccented}
+use Rattle.postscript_accent.specs.declared.accent.Accent.{Accent}
+use Rattle.postscript_base.specs.Tape.Outcome.{Got}
+use Rattle.postscript_base.specs.declared.error.Error.TheVariants.{Memory}
+use Rattle.postscript_type2.specs.Program.Runs.{Run}
+use Rattle.postscript_view.specs.Order.{view}
+use Rattle.postscript_view.specs.Value.{view_shown}
+use Rattle.postscript_view.specs.declared.char_set.CharSetView.{CharSetView}
+use Rattle.postscript_view.specs.declared.font.FontView.{FontView}
+use Rattle.postscript_write.specs.Glyphs.{Sources}
+use Rattle.postscript_write.specs.Sources.{IsWritten, is_kept}
+use Rattle.postscript_write.specs.declared.error.Error.{Error}
+use Rattle.postscript_write.specs.declared.error.Error.TheVariants.{Refused}
+
+-- A glyph is accented, and this one is the base or the accent that it names.
+pub record IsComponentOf (font : FontView) (from glyph : ℕ) : Type 0 where
+  pub accent : Accent
+  pub accented : IsAccented font from accent
+  pub named : IsComponent font accent.base glyph ⊎ IsComponent font accent.accent glyph
+
+-- it is a component of a glyph that is named, or of .notdef
+abbrev pub IsComponentOfOne : FontView → (named : List ℕ) → (glyph : ℕ) → Type 0
+IsComponentOfOne font named glyph = (from : ℕ) × (is_kept named from ≡ true) × IsComponentOf font from glyph
+
+-- the components of the glyphs that are named and of .notdef, and no other glyphs
+abbrev pub AreComponents : FontView → (named components : List ℕ) → Type 0
+AreComponents font named components = (glyph : ℕ) → Contains components glyph ↔ IsComponentOfOne font named glyph
+
+-- The font that bytes begin with, opened in place.
+pub record IsOpened (bytes : List ℕ) (font : FontView) : Type 0 where
+  pub shown : view bytes 0 ≡ Got (view_shown font) 0
+  pub there : font.bytes.now ≡ bytes
+
+-- Behind the glyphs that are named stand their components and those of .notdef, in the font that the bytes begin with.
+pub record AreClosed (bytes named closed : List ℕ) : Type 0 where
+  pub font : FontView
+  pub opened : IsOpened bytes font
+  pub components : List ℕ
+  pub are : AreComponents font named components
+  pub all : closed ≡ named ++ components
+
+-- The new font is made of the glyphs that this gives for those that are named and their components.
+pub record IsSubset (kept : Bool) (sources : (closed : List ℕ) (glyphs : ℕ) → Sources) (named bytes flat : List ℕ) : Type 0 where
+  pub closed : List ℕ
+  pub are : AreClosed bytes named closed
+  pub written : IsWritten kept (sources closed) bytes flat
+
+-- what is told of a run: it is accented so, or it names no codes
+abbrev pub IsSaid : Option Accent → Run → Type 0
+IsSaid found run = MatchOption found ((accent : Accent) → IsAccentOf accent run → ⊥) (λ accent. IsAccentOf accent run)
+
+-- what is told of a glyph
+abbrev pub IsSaidOf : FontView → (glyph : ℕ) → Option Accent → Type 0
+IsSaidOf font glyph found = MatchOption found ((accent : Accent) → IsAccented font glyph accent → ⊥) (λ accent. IsAccented font glyph accent)
+
+-- what is told of a code: its glyph, or that the font has none
+abbrev pub IsFound : FontView → (code : ℕ) → Option ℕ → Type 0
+IsFound font code found = MatchOption found ((glyph : ℕ) → IsComponent font code glyph → ⊥) (λ glyph. IsComponent font code glyph)
+
+-- these are the components of a glyph
+abbrev pub AreComponentsOf : FontView → (from : ℕ) → List ℕ → Type 0
+AreComponentsOf font from components = (glyph : ℕ) → Contains components glyph ↔ IsComponentOf font from glyph
+
+-- why components are not told: the font has no char set
+abbrev pub IsUntold : FontView → Error → Type 0
+IsUntold font (Refused cause) = cause ≢ Memory → (set : CharSetView) → HasCharSet font set → ⊥
+IsUntold font _ = ⊥

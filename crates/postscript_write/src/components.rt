@@ -1,0 +1,154 @@
+//! The components of accented glyphs, which are kept with them (Technical Note 5177, Appendix C).
+ghost use Rattle.std.specs.Prelude.{◌≡◌, ◌⊎◌, ◌++◌, ℕ, List, Option, Some, IfOk, IfErr, OnOk, MatchOption, option_to_list};
+ghost use Rattle.postscript_accent.specs.Accents.{IsAccent, run_by};
+ghost use Rattle.postscript_accent.specs.declared.accent.Accent.{Accent as AnAccent};
+ghost use Rattle.postscript_base.specs.Refusal.{refusal_of};
+ghost use Rattle.postscript_base.specs.declared.error.Error.TheVariants as causes;
+ghost use Rattle.postscript_type2.specs.Program.Programs.{told_at_end};
+ghost use Rattle.postscript_type2.specs.Program.Runs.{fault_of, taken_by};
+ghost use Rattle.postscript_write.specs.Components.{AreComponents, AreComponentsOf, IsFound, IsSaid, IsSaidOf, IsUntold};
+ghost use Rattle.postscript_write.specs.declared.error.Error.TheVariants as errors;
+
+use crate::error::{Error, Result};
+use postscript_accent::{Accent, Error as Undrawn, component_of};
+use postscript_base::Error as Cause;
+use postscript_type2::{Operand, Program};
+use postscript_view::{FontView, Glyph};
+use std::alloc::Global;
+
+/// Runs a program up to its end.
+fn run_to_end(program: &mut Program<'_>) -> postscript_base::Result<()>
+    ensures taken { OnOk result (told_at_end program.new ≡ taken_by program.old.end) }
+    ensures refused { IfErr result (λ e. (e ≡ causes.Memory) ⊎ (fault_of program.old.end ≡ Some (refusal_of e))) }
+{
+    loop {
+        match program.next()? {
+            Some(_operation) => {}
+            None => return Ok(()),
+        }
+    }
+}
+
+/// What operands of `endchar` name, where they name a base and an accent.
+fn named_by(operands: &[Operand]) -> Option<Accent>
+    ensures { MatchOption result ((accent : AnAccent) → IsAccent operands.now accent → ⊥) (λ accent. IsAccent operands.now accent) }
+{
+    match Accent::named_by(operands) {
+        Ok(found) => found,
+        Err(_) => None,
+    }
+}
+
+/// What the run of a glyph names, where it is accented. A run that is refused names nothing: that is told where its code is
+/// written.
+fn said_by(alloc: Global, glyph: &Glyph<'_, '_>) -> Result<Option<Accent>>
+    ensures said { IfOk result (λ found. IsSaid found (run_by glyph.now)) }
+    ensures memory { IfErr result (λ e. e ≡ errors.Refused causes.Memory) }
+{
+    let mut program = glyph.program(alloc);
+    match run_to_end(&mut program) {
+        Ok(()) => Ok(named_by(program.operands_at_end())),
+        Err(Cause::Memory) => Err(Error::Refused(Cause::Memory)),
+        Err(_) => Ok(None),
+    }
+}
+
+/// What a glyph of a font names, where it is accented.
+fn accent_of(alloc: Global, font: &FontView<'_>, glyph: usize) -> Result<Option<Accent>>
+    ensures said { IfOk result (λ found. IsSaidOf font.now glyph found) }
+    ensures memory { IfErr result (λ e. e ≡ errors.Refused causes.Memory) }
+{
+    match font.glyph(glyph) {
+        Some(found) => said_by(alloc, &found),
+        None => Ok(None),
+    }
+}
+
+/// The glyph of a code, where the font has one.
+fn found_by(font: &FontView<'_>, code: u8) -> Result<Option<usize>>
+    ensures found { IfOk result (λ found. IsFound font.now code found) }
+    ensures untold { IfErr result (λ e. IsUntold font.now e) }
+{
+    match component_of(font, code) {
+        Ok(glyph) => Ok(Some(glyph)),
+        Err(Undrawn::Font(cause)) => Err(Error::Refused(cause)),
+        Err(Undrawn::NoAccents) => Ok(None),
+        Err(Undrawn::MissingComponent(_)) => Ok(None),
+        Err(Undrawn::NoCode) => Ok(None),
+        Err(Undrawn::NoSuchGlyph(_)) => Ok(None),
+        Err(Undrawn::NestedAccent(_)) => Ok(None),
+    }
+}
+
+/// Appends a glyph, where there is one.
+fn push_some(components: &mut Vec<usize>, found: Option<usize>) -> Result<()>
+    ensures pushed { OnOk result (components.new.items ≡ components.old.items ++ option_to_list found) }
+    ensures memory { IfErr result (λ e. e ≡ errors.Refused causes.Memory) }
+{
+    if let Some(glyph) = found {
+        components.push(glyph)?;
+    }
+    Ok(())
+}
+
+/// Appends the base and the accent: those that the font has.
+fn push_both(font: &FontView<'_>, accent: &Accent, components: &mut Vec<usize>) -> Result<()>
+    ensures pushed { OnOk result ((base above : Option ℕ) × IsFound font.now accent.now.base base × IsFound font.now accent.now.accent above
+        × (components.new.items ≡ components.old.items ++ (option_to_list base ++ option_to_list above))) }
+    ensures untold { IfErr result (λ e. IsUntold font.now e) }
+{
+    let base = found_by(font, accent.base)?;
+    let above = found_by(font, accent.accent)?;
+    push_some(components, base)?;
+    push_some(components, above)
+}
+
+/// Appends the components of a glyph: those that the font has.
+fn push_components(
+    alloc: Global,
+    font: &FontView<'_>,
+    glyph: usize,
+    components: &mut Vec<usize>,
+) -> Result<()>
+    ensures pushed { OnOk result ((added : List ℕ) × AreComponentsOf font.now glyph added × (components.new.items ≡ components.old.items ++ added)) }
+    ensures untold { IfErr result (λ e. IsUntold font.now e) }
+{
+    let said = accent_of(alloc, font, glyph)?;
+    match said {
+        Some(accent) => push_both(font, &accent, components),
+        None => Ok(()),
+    }
+}
+
+/// The components of the glyphs that are named, and of `.notdef`.
+pub(crate) fn components_of(
+    alloc: Global,
+    font: &FontView<'_>,
+    named: &[usize],
+) -> Result<Vec<usize>>
+    ensures are { IfOk result (λ components. AreComponents font.now named.now components.items) }
+    ensures untold { IfErr result (λ e. IsUntold font.now e) }
+{
+    let mut components = Vec::new(alloc);
+    push_components(alloc, font, 0, &mut components)?;
+    for i in 0..named.len() {
+        push_components(alloc, font, named[i], &mut components)?;
+    }
+    Ok(components)
+}
+
+/// Glyphs that are named, and their components behind them.
+pub(crate) fn with_components(
+    alloc: Global,
+    font: &FontView<'_>,
+    named: &[usize],
+) -> Result<Vec<usize>>
+    ensures closed { IfOk result (λ closed. (components : List ℕ) × AreComponents font.now named.now components × (closed.items ≡ named.now ++ components)) }
+    ensures untold { IfErr result (λ e. IsUntold font.now e) }
+{
+    let components = components_of(alloc, font, named)?;
+    let mut closed = Vec::new(alloc);
+    closed.extend_from_slice(named)?;
+    closed.extend_from_slice(&components)?;
+    Ok(closed)
+}
