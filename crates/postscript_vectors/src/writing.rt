@@ -2,6 +2,7 @@
 use crate::checks::{bytes_of, holds, holds_at, is_text};
 use crate::views::rows::{CID, PLAIN, SELECTIONS};
 use crate::views::{codes_of, joined, told};
+use postscript_accent::outline_of;
 use postscript_view::FontView;
 use postscript_write::{Error, flat_font, index, subset, subset_keeping};
 use std::alloc::Global;
@@ -133,4 +134,58 @@ fn an_index_written(rt: HostRuntime) {
     let written = index(alloc, items.as_slice()).expect(&rt, "an INDEX");
     let wanted = bytes_of(&rt, alloc, "0003 01 01030304 0a0b0c");
     holds(&rt, written == wanted, "an INDEX");
+}
+
+/// A font of `.notdef`, A, grave, and an accented glyph of both: `3 4 65 193 endchar`.
+const ACCENTED: &str = "010004040001020001000246000102000100181d0000002e0f1d00000035 \
+    111d000000021d000000591200000000000022007c00ab00040200010002000a00120018 \
+    0e959515bd06bd070e9f9f15c706c7070e8e8fccf7550e9214";
+
+/// A glyph of a font has an outline of so many segments.
+fn draws<R: Abort>(rt: &R, alloc: Global, bytes: &[u8], glyph: usize, segments: usize) {
+    let font = FontView::read(alloc, bytes).expect(rt, "a font");
+    let outline = outline_of(alloc, &font, glyph).expect(rt, "an outline");
+    holds_at(rt, outline.segments.len() == segments, "segments", glyph);
+}
+
+/// A font has so many glyphs.
+fn has_glyphs<R: Abort>(rt: &R, alloc: Global, bytes: &[u8], glyphs: usize) {
+    let font = FontView::read(alloc, bytes).expect(rt, "a font");
+    holds_at(rt, font.char_strings.len() == glyphs, "glyphs", glyphs);
+}
+
+/// The base and the accent of an accented glyph are kept with it.
+#[test]
+fn components_kept(rt: HostRuntime) {
+    let alloc = rt.alloc();
+    let bytes = bytes_of(&rt, alloc, ACCENTED);
+    draws(&rt, alloc, bytes.as_slice(), 3, 8);
+    let cut = subset(alloc, bytes.as_slice(), &[3]).expect(&rt, "a subset");
+    has_glyphs(&rt, alloc, cut.as_slice(), 4);
+    draws(&rt, alloc, cut.as_slice(), 3, 8);
+    let kept = subset_keeping(alloc, bytes.as_slice(), &[3]).expect(&rt, "a subset");
+    draws(&rt, alloc, kept.as_slice(), 3, 8);
+    draws(&rt, alloc, kept.as_slice(), 1, 4);
+    let base = subset(alloc, bytes.as_slice(), &[2]).expect(&rt, "a subset");
+    has_glyphs(&rt, alloc, base.as_slice(), 2);
+}
+
+/// A component that the font does not have is not kept, and the glyph is refused as before.
+#[test]
+fn components_wanting(rt: HostRuntime) {
+    let alloc = rt.alloc();
+    let mut bytes = bytes_of(&rt, alloc, ACCENTED);
+    // the accent is that of the code 194, which no glyph has
+    if let Some(code) = bytes.get_mut(87) {
+        *code = 0x56;
+    }
+    let cut = subset(alloc, bytes.as_slice(), &[3]).expect(&rt, "a subset");
+    has_glyphs(&rt, alloc, cut.as_slice(), 3);
+    let font = FontView::read(alloc, cut.as_slice()).expect(&rt, "a font");
+    let refused = outline_of(alloc, &font, 2);
+    holds(
+        &rt,
+        matches!(refused, Err(postscript_accent::Error::MissingComponent(194))),
+        "no accent",
+    );
 }

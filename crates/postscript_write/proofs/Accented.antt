@@ -1,6 +1,6 @@
 -- What is told of the components of glyphs.
-use Rattle.std.proofs.Common.{◌≡◌, ◌≢◌, refl, sym, ap, subst, ◌∙◌, inl, inr, ℕ, zero, suc, ◌<◌, ℤ, List, [], ◌∷◌, ◌++◌, append_assoc, length, slice_index_or, Option, Some, None, Result, Ok, Err, true, false, Bool, arith}
-use Rattle.std.specs.Prelude.{◌⊎◌, ◌==◌, ◌||◌, IfOk, IfErr, OnOk, MatchOption, option_to_list}
+use Rattle.std.proofs.Common.{◌≡◌, ◌≢◌, refl, sym, ap, subst, ◌∙◌, inl, inr, ℕ, zero, suc, ◌<◌, ℤ, List, [], ◌∷◌, ◌++◌, append_assoc, slice_index_or, Option, Some, None, Result, Ok, Err, true, false, Bool, arith}
+use Rattle.std.specs.Prelude.{◌⊎◌, ◌==◌, ◌||◌, IfOk, OnOk, option_to_list}
 use Rattle.std.specs.List.{Contains}
 use Rattle.std.proofs.lemmas.Bool.{eqb-true, eq-eqb}
 use Rattle.std.proofs.lemmas.List.Elements.{Contains-append_left, Contains-append_right, Contains-append_cases}
@@ -14,12 +14,12 @@ use Rattle.postscript_base.specs.Refusal.{Refusal}
 use Rattle.postscript_items.specs.Lent.{items_of}
 use Rattle.postscript_type2.specs.Program.Evaluation.{run_of}
 use Rattle.postscript_type2.specs.Program.Routines.{lent}
-use Rattle.postscript_type2.specs.Program.Runs.{End, UsedUp, Returned, Finished, Fault, Run, fault_of, taken_by}
+use Rattle.postscript_type2.specs.Program.Runs.{End, UsedUp, Returned, Finished, Fault, fault_of, taken_by}
 use Rattle.postscript_view.specs.Advances.{HasRun}
 use Rattle.postscript_view.specs.Glyphs.{HasGlyph}
 use Rattle.postscript_view.specs.declared.font.FontView.{FontView}
 use Rattle.postscript_view.specs.declared.font.Glyph.{Glyph}
-use Rattle.postscript_write.specs.Components.{AreComponents, AreComponentsOf, IsComponentOf, IsComponentOfOne, IsFound, IsSaid, IsSaidOf, IsUntold}
+use Rattle.postscript_write.specs.Components.{AreComponents, AreComponentsOf, IsComponentOf, IsFound, IsSaid, IsSaidOf}
 use Rattle.postscript_write.specs.Sources.{is_kept}
 use Rattle.postscript_write.specs.declared.error.Error.{Error}
 use Rattle.postscript_write.proofs.Uniqueness.{first-of, one-accent, one-component, one-run}

@@ -1,5 +1,5 @@
 -- Fonts that are made of glyphs that are named and of their components.
-use Rattle.std.proofs.Common.{◌≡◌, ◌≢◌, refl, sym, ap, subst, ◌∙◌, inl, inr, ℕ, ◌-◌, ◌<◌, ◌≤◌, List, ◌++◌, length, get_or, arith}
+use Rattle.std.proofs.Common.{◌≡◌, refl, sym, ap, subst, ◌∙◌, inl, inr, ℕ, ◌-◌, ◌<◌, ◌≤◌, List, ◌++◌, length, get_or, arith}
 use Rattle.std.specs.Prelude.{Bool, Result, Ok, Err, IfOk, IfErr, Vec}
 use Rattle.std.specs.declared.alloc.Global.{Global}
 use Rattle.std.proofs.lemmas.List.{get_or_append_left, get_or-append_right, get_or_default, length-append}
@@ -8,7 +8,7 @@ use Rattle.postscript_view.specs.CharSets.{IsCharSetOf}
 use Rattle.postscript_view.specs.Order.{View, view}
 use Rattle.postscript_view.specs.Value.{view_shown}
 use Rattle.postscript_view.specs.declared.font.FontView.{FontView}
-use Rattle.postscript_accent.specs.Components.{IsComponent, glyphs_of}
+use Rattle.postscript_accent.specs.Components.{glyphs_of}
 use Rattle.postscript_write.specs.Components.{AreClosed, AreComponents, IsComponentOf, IsOpened, IsSubset, IsUntold}
 use Rattle.postscript_write.specs.Fonts.{IsFontOf}
 use Rattle.postscript_write.specs.Glyphs.{Sources}

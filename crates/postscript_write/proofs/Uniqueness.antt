@@ -1,6 +1,6 @@
 -- A glyph has one code, one part and one run; a code has one glyph; and a run names one accent.
-use Rattle.std.proofs.Common.{◌≡◌, ◌≢◌, refl, sym, ap, subst, ◌∙◌, inl, inr, ℕ, ◌+◌, ◌*◌, ◌<◌, ℤ, pos, List, [], ◌∷◌, length, slice_get, arith}
-use Rattle.std.specs.Prelude.{◌⊎◌, Option, Some, None}
+use Rattle.std.proofs.Common.{◌≡◌, ◌≢◌, sym, ap, subst, ◌∙◌, inl, inr, ℕ, ◌+◌, ◌*◌, ◌<◌, ℤ, pos, List, [], ◌∷◌, length, slice_get, arith}
+use Rattle.std.specs.Prelude.{◌⊎◌, Option, Some}
 use Rattle.postscript_accent.specs.Accents.{IsAccent, IsCode}
 use Rattle.postscript_accent.specs.Components.{IsComponent, glyphs_of, standard_identifier}
 use Rattle.postscript_accent.specs.declared.accent.Accent.{Accent}
@@ -13,9 +13,8 @@ use Rattle.postscript_type2.specs.Program.Routines.{lent}
 use Rattle.postscript_type2.specs.Program.Runs.{Run}
 use Rattle.postscript_view.specs.Advances.{HasRun}
 use Rattle.postscript_view.specs.CharSets.{IsCharSetOf, IsNamedBy, StandsAt}
-use Rattle.postscript_view.specs.Glyphs.{HasGlyph, IsPartNumber}
-use Rattle.postscript_view.specs.Naming.{IsFirstNamed, Names, NamesBehind}
-use Rattle.postscript_view.specs.Select.{IsFirstRange, IsInRanges, IsListed, IsSelected, Selects}
+use Rattle.postscript_view.specs.Naming.{IsFirstNamed, Names}
+use Rattle.postscript_view.specs.Select.{IsFirstRange, IsSelected, Selects}
 use Rattle.postscript_view.specs.declared.char_set.CharSetView.{CharSetView}
 use Rattle.postscript_view.specs.declared.char_set.CharSetView.TheVariants.{ISOAdobe, Expert, ExpertSubset, Listed, Ranges1, Ranges2}
 use Rattle.postscript_view.specs.declared.font.FontView.{FontView}

@@ -1,4 +1,4 @@
-use Rattle.std.proofs.Common.{◌≡◌, ◌∙◌, ◌++◌, ap}
+use Rattle.std.proofs.Common.{◌∙◌, ◌++◌, ap}
 use Rattle.postscript_write.proofs.components.with_components.Goals as goal
 
 pub returns-clause-closed : goal.returns-clause-closed
