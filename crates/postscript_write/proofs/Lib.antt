@@ -15,3 +15,6 @@ mod StringRows
 pub mod Uniqueness
 pub mod Accented
 pub mod Subsets
+pub mod Carried
+pub mod Places
+pub mod Drawings

@@ -9,5 +9,6 @@ pub mod Strings
 pub mod Fonts
 pub mod Sources
 pub mod Components
+pub mod Drawings
 pub mod Refusals
 pub mod Steps

@@ -1,0 +1,313 @@
+-- What the glyphs of a subset draw.
+use Rattle.std.proofs.Common.{◌≡◌, refl, sym, ap, subst, ◌∙◌, inl, inr, ℕ, zero, suc, ◌+◌, ◌<◌, ◌≤◌, ◌-◌, ℤ, List, [], ◌∷◌, ◌++◌, length, get_or, slice_get, arith, Bool, true, false}
+use Rattle.std.specs.Prelude.{◌⊎◌, ◌↔◌, ◌&&◌, ◌==◌, ◌||◌, Option, Some, None, option_map, nat_le, nat_lt, if◌then◌else◌, All}
+use Rattle.std.specs.List.{Contains, list_all}
+use Rattle.std.proofs.lemmas.Bool.{eq-eqb, leb-true, ltb-true}
+use Rattle.std.proofs.lemmas.List.{length-map}
+use Rattle.std.proofs.lemmas.Option.{slice_get-map, slice_get_within}
+use Rattle.std.specs.Option.{IsSome}
+use Rattle.postscript_accent.specs.Accents.{IsAccent}
+use Rattle.postscript_accent.specs.Components.{IsComponent, glyphs_of, standard_identifier}
+use Rattle.postscript_accent.specs.Refused.{IsAccented}
+use Rattle.postscript_accent.specs.declared.accent.Accent.{Accent}
+use Rattle.postscript_base.specs.Tape.Outcome.{Got}
+use Rattle.postscript_items.specs.Lent.{items_of}
+use Rattle.postscript_type2.specs.Program.Runs.{Run, fault_of}
+use Rattle.postscript_type2.specs.Program.Routines.{lent}
+use Rattle.postscript_view.specs.Advances.{HasRun}
+use Rattle.postscript_view.specs.CharSets.{IsCharSetOf}
+use Rattle.postscript_view.specs.Cids.{IsCidKeyed}
+use Rattle.postscript_view.specs.Glyphs as view
+use Rattle.postscript_view.specs.Order.{View, Part as ShownPart, view as the_view}
+use Rattle.postscript_view.specs.Naming.{IsFirstNamed, Names}
+use Rattle.postscript_view.specs.Select.{IsSelected}
+use Rattle.postscript_view.specs.Value.{part_shown, parts_shown, view_shown}
+use Rattle.postscript_view.specs.declared.font.FontView.{FontView}
+use Rattle.postscript_view.specs.declared.part.Part.{Part}
+use Rattle.postscript_write.specs.Components.{AreClosed, AreComponents, IsComponentOf, IsOpened, IsSubset}
+use Rattle.postscript_write.specs.Drawings.{DrawsTheSame, KeepsDrawings, SubsetsDrawTheSame}
+use Rattle.postscript_write.specs.Fonts.{HasGlyph, IsMade, IsMadeOf, IsFontOf}
+use Rattle.postscript_write.specs.Glyphs.{HasPart, Sources, run_in}
+use Rattle.postscript_write.specs.Sources.{chosen, is_kept}
+use Rattle.postscript_write.proofs.Carried.{Carries, CarriesCode, CarriesComponents, HasSame, SameRuns, carried, turned}
+use Rattle.postscript_write.proofs.Accented.{or-left as or_intro_left, or-right as or_intro_right}
+use Rattle.postscript_write.proofs.Places.{Rises, StandsAt, Takes, chosen-rises, first-back, first-forth}
+use Rattle.postscript_write.proofs.Uniqueness.{first-of, one-run}
+use Rattle.postscript_base.specs.declared.compact1.operator.Operator.TheVariants.{ROS}
+use Rattle.postscript_compact1.specs.Computed.Encodings.{Run as EncodingRun, are_standard, has_code, in_runs, runs_of}
+use Rattle.postscript_compact1.specs.declared.encoding.Encoding.TheVariants.{Standard}
+use Rattle.postscript_view.specs.declared.char_set.CharSetView.{CharSetView}
+use Rattle.postscript_write.specs.Naming.{SameName}
+use Rattle.postscript_write.specs.Strings.{SameStrings, SameText, keeps_strings}
+
+-- A glyph of the shown font has this run.
+pub record RunAt (bytes : List ℕ) (font : View) (glyph : ℕ) (run : Run) : Type 0 where
+  pub code : List ℕ
+  pub number : ℕ
+  pub part : ShownPart
+  pub has : HasGlyph bytes font glyph code number part
+  pub runs : run ≡ run_in font part code
+
+to-shown : (font : FontView) (glyph : ℕ) (part : Part) (run : Run) → HasRun font glyph part run → RunAt font.bytes.now (view_shown font) glyph run
+to-shown font glyph part run h =
+    let many : length (parts_shown font.parts.items) ≡ length font.parts.items = length-map font.parts.items part_shown in
+    let number = h.has.number in
+    record {
+      code = h.code;
+      number = number;
+      part = part_shown part;
+      has = record {
+        has_code = h.has.has_code;
+        has_part = slice_get-map part_shown font.parts.items number ∙ ap (option_map part_shown) h.has.has_part;
+        is_its = record {
+          there = subst (λ n. number < n) (sym many) h.has.has_number.part_there;
+          selected = subst (λ n. ((n ≡ 1) × (number ≡ 0)) ⊎ ((n ≡ 1 → ⊥) × IsSelected font.bytes.now font.dictionary (glyphs_of font) glyph number)) (sym many) h.has.has_number.selected;
+        };
+      };
+      runs = h.runs;
+    }
+
+from-shown : (font : FontView) (glyph : ℕ) (run : Run) → RunAt font.bytes.now (view_shown font) glyph run → (part : Part) × HasRun font glyph part run
+from-shown font glyph run h = by (slice_get font.parts.items h.number) refl
+  where
+    many : length (parts_shown font.parts.items) ≡ length font.parts.items
+    many = length-map font.parts.items part_shown
+
+    by : (o : Option Part) → slice_get font.parts.items h.number ≡ o → (part : Part) × HasRun font glyph part run
+    by None e = let never : None ≡ Some h.part = sym (slice_get-map part_shown font.parts.items h.number ∙ ap (option_map part_shown) e) ∙ h.has.has_part in absurd (cc)
+    by (Some part) e =
+        let both : Some (part_shown part) ≡ Some h.part = sym (slice_get-map part_shown font.parts.items h.number ∙ ap (option_map part_shown) e) ∙ h.has.has_part in
+        let same : part_shown part ≡ h.part = cc in (
+          part,
+          record {
+            code = h.code;
+            has = record {
+              number = h.number;
+              has_number = record {
+                glyph_there = slice_get_within (items_of font.char_strings) glyph h.code h.has.has_code;
+                part_there = subst (λ n. h.number < n) many h.has.is_its.there;
+                selected = subst (λ n. ((n ≡ 1) × (h.number ≡ 0)) ⊎ ((n ≡ 1 → ⊥) × IsSelected font.bytes.now font.dictionary (glyphs_of font) glyph h.number)) many h.has.is_its.selected;
+              };
+              has_part = e;
+              has_code = h.has.has_code;
+            };
+            runs = subst (λ (p : ShownPart). run ≡ run_in (view_shown font) p h.code) (sym same) h.runs;
+          },
+        )
+
+-- a font that is opened shows the view of its bytes
+shows : (bytes : List ℕ) (font : FontView) (v : View) → IsOpened bytes font → the_view bytes 0 ≡ Got v 0 → view_shown font ≡ v
+shows bytes font v opened is = let both : Got (view_shown font) 0 ≡ Got v 0 = sym opened.shown ∙ is in cc
+
+run-at : (bytes : List ℕ) (font : FontView) (v : View) (glyph : ℕ) (part : Part) (run : Run) → IsOpened bytes font → the_view bytes 0 ≡ Got v 0 → HasRun font glyph part run → RunAt bytes v glyph run
+run-at bytes font v glyph part run opened is has =
+    subst (λ (v : View). RunAt bytes v glyph run) (shows bytes font v opened is) (subst (λ (bs : List ℕ). RunAt bs (view_shown font) glyph run) opened.there (to-shown font glyph part run has))
+
+run-from : (bytes : List ℕ) (font : FontView) (v : View) (glyph : ℕ) (run : Run) → IsOpened bytes font → the_view bytes 0 ≡ Got v 0 → RunAt bytes v glyph run → (part : Part) × HasRun font glyph part run
+run-from bytes font v glyph run opened is at =
+    from-shown font glyph run (subst (λ (bs : List ℕ). RunAt bs (view_shown font) glyph run) (sym opened.there) (subst (λ (v : View). RunAt bytes v glyph run) (sym (shows bytes font v opened is)) at))
+
+-- the glyph of a code in the shown font
+record ComponentAt (bytes : List ℕ) (font : View) (code glyph : ℕ) : Type 0 where
+  pub not_keyed : IsCidKeyed font.tables.dictionary → ⊥
+  pub set : CharSetView
+  pub is_set : IsCharSetOf set bytes font.tables.dictionary (length font.char_strings)
+  pub first : IsFirstNamed set (standard_identifier code) (length font.char_strings) glyph
+
+component-at : (bytes : List ℕ) (font : FontView) (v : View) (code glyph : ℕ) → IsOpened bytes font → the_view bytes 0 ≡ Got v 0 → IsComponent font code glyph → ComponentAt bytes v code glyph
+component-at bytes font v code glyph opened is c =
+    subst (λ (v : View). ComponentAt bytes v code glyph) (shows bytes font v opened is) (subst (λ (bs : List ℕ). ComponentAt bs (view_shown font) code glyph) opened.there
+    (record { not_keyed = c.not_keyed; set = c.set; is_set = c.is_set; first = c.first }))
+
+component-from : (bytes : List ℕ) (font : FontView) (v : View) (code glyph : ℕ) → IsOpened bytes font → the_view bytes 0 ≡ Got v 0 → ComponentAt bytes v code glyph → IsComponent font code glyph
+component-from bytes font v code glyph opened is at = by (subst (λ (bs : List ℕ). ComponentAt bs (view_shown font) code glyph) (sym opened.there) (subst (λ (v : View). ComponentAt bytes v code glyph) (sym (shows bytes font v opened is)) at))
+  where
+    by : ComponentAt font.bytes.now (view_shown font) code glyph → IsComponent font code glyph
+    by c = record { not_keyed = c.not_keyed; set = c.set; is_set = c.is_set; first = c.first }
+
+-- the runs of a glyph and of the one that it is made of
+record MadeRuns (old new : FontView) (glyph i : ℕ) : Type 0 where
+  pub old_part : Part
+  pub new_part : Part
+  pub run : Run
+  pub other : Run
+  pub was : HasRun old glyph old_part run
+  pub is : HasRun new i new_part other
+  pub same : SameRuns run other
+
+made-runs : (bytes flat : List ℕ) (old new : FontView) (ov nv : View) (glyph i : ℕ) → IsOpened bytes old → IsOpened flat new → the_view bytes 0 ≡ Got ov 0 → the_view flat 0 ≡ Got nv 0 →
+    IsMadeOf bytes ov glyph flat nv i → MadeRuns old new glyph i
+made-runs bytes flat old new ov nv glyph i o n was is m =
+    let first = run-from bytes old ov glyph (run_in ov m.old_part m.old_code) o was (record { code = m.old_code; number = m.number; part = m.old_part; has = m.was; runs = refl }) in
+    let second = run-from flat new nv i (run_in nv m.new_part m.new_code) n is (record { code = m.new_code; number = m.number; part = m.new_part; has = m.is; runs = refl }) in
+    let draws = m.draws (lent nv.tables.subroutines m.new_part.subroutines) in
+    record {
+      old_part = first.0;
+      new_part = second.0;
+      run = run_in ov m.old_part m.old_code;
+      other = run_in nv m.new_part m.new_code;
+      was = first.1;
+      is = second.1;
+      same = record { answers = draws.answers; width = draws.width; taken = draws.taken; faultless = m.faultless; other_faultless = draws.faultless };
+    }
+
+carries-forth : (old new : FontView) (glyph i : ℕ) → MadeRuns old new glyph i → Carries old new glyph i
+carries-forth old new glyph i m part run has = record {
+  part = m.new_part;
+  other = m.other;
+  has = m.is;
+  same = subst (λ r. SameRuns r m.other) (sym (one-run old glyph m.old_part part m.run run m.was has)) m.same;
+}
+
+carries-back : (old new : FontView) (glyph i : ℕ) → MadeRuns old new glyph i → Carries new old i glyph
+carries-back old new glyph i m part run has = record {
+  part = m.old_part;
+  other = m.run;
+  has = m.was;
+  same = turned m.run run (subst (λ r. SameRuns m.run r) (sym (one-run new i m.new_part part m.other run m.is has)) m.same);
+}
+
+-- a glyph that is accented is accented in the other font
+accented-so : (old new : FontView) (glyph i : ℕ) (accent : Accent) → Carries old new glyph i → IsAccented old glyph accent → IsAccented new i accent
+accented-so old new glyph i accent carries is =
+    let run = carries is.part is.run is.has in
+    record { part = run.part; run = run.other; has = run.has; accented = subst (λ taken. IsAccent taken accent) (sym run.same.taken) is.accented }
+
+-- each identifier of the standard encoding is that of a standard string
+and-both : (a b : Bool) → (a && b) ≡ true → (a ≡ true) × (b ≡ true)
+and-both true b h = (refl, h)
+and-both false b h = let never : false ≡ true = h in absurd (cc)
+
+in-run : (run : EncodingRun) (runs : List EncodingRun) (code : ℕ) (b : Bool) → has_code code run ≡ b → run.2 + (run.1 - run.0) < 391 → in_runs runs code < 391 → in_runs (run ∷ runs) code < 391
+in-run run runs code true e small rest =
+    let within = and-both (nat_le run.0 code) (nat_le code run.1) e in
+    let from = leb-true run.0 code within.0 in
+    let to = leb-true code run.1 within.1 in
+    subst (λ n. n < 391) (sym (ap (λ b. if b then run.2 + (code - run.0) else in_runs runs code) e)) (omega (arith, from, to, small))
+in-run run runs code false e small rest = subst (λ n. n < 391) (sym (ap (λ b. if b then run.2 + (code - run.0) else in_runs runs code) e)) rest
+
+in-runs : (runs : List EncodingRun) (code : ℕ) → are_standard runs ≡ true → in_runs runs code < 391
+in-runs [] code h = omega arith
+in-runs (run ∷ runs) code h =
+    let both = and-both (nat_lt (run.2 + (run.1 - run.0)) 391) (are_standard runs) h in
+    in-run run runs code (has_code code run) refl (ltb-true (run.2 + (run.1 - run.0)) 391 both.0) (in-runs runs code both.1)
+
+standard : (code : ℕ) → standard_identifier code < 391
+standard code = in-runs (runs_of Standard) code refl
+
+-- what names glyphs of the standard strings
+names-kept : (keeps : Bool) (sources : Sources) (ov : View) (old_set : CharSetView) (nv : View) (new_set : CharSetView) (i glyph identifier : ℕ) → SameStrings keeps sources ov old_set nv new_set → StandsAt sources i glyph →
+    identifier < 391 → Names old_set glyph identifier ↔ Names new_set i identifier
+names-kept true sources ov old_set nv new_set i glyph identifier s at small = subst (λ o. SameName old_set o new_set i) at.is (s.glyphs i at.there) identifier
+names-kept false sources ov old_set nv new_set i glyph identifier s at small = (subst (λ o. SameText old_set ov.tables.strings o new_set nv.tables.strings i) at.is (s.glyphs i at.there)).standard identifier small
+
+abbrev glyph-of : Option ℕ → ℕ
+glyph-of None = 0
+glyph-of (Some glyph) = glyph
+
+in-list : (xs : List ℕ) (k glyph : ℕ) → k < length xs → get_or xs k glyph ≡ glyph → is_kept xs glyph ≡ true
+in-list [] k glyph less same = absurd (omega (arith, less))
+in-list (x ∷ xs) zero glyph less same = or_intro_left (x == glyph) (is_kept xs glyph) (eq-eqb x glyph same)
+in-list (x ∷ xs) (suc k) glyph less same = or_intro_right (x == glyph) (is_kept xs glyph) (in-list xs k glyph (omega (arith, less)) same)
+
+contains-kept : (named components : List ℕ) (glyph : ℕ) → Contains components glyph → is_kept (named ++ components) glyph ≡ true
+contains-kept [] components glyph h = in-list components h.0 glyph h.1 h.2
+contains-kept (x ∷ named) components glyph h = or_intro_right (x == glyph) (is_kept (named ++ components) glyph) (contains-kept named components glyph h)
+
+pub subsets : SubsetsDrawTheSame
+subsets named bytes flat subset old new glyph i was is named_one less stands segments width =
+    (carried old new glyph i segments width (carries-forth old new glyph i (runs glyph i at)) codes-forth, carried new old i glyph segments width (carries-back old new glyph i (runs glyph i at)) codes-back)
+  where
+    ov : View
+    ov = subset.written.old
+
+    nv : View
+    nv = subset.written.new
+
+    n : ℕ
+    n = length ov.char_strings
+
+    sources : Sources
+    sources = chosen subset.closed n
+
+    made : IsFontOf false sources bytes ov flat nv
+    made = subset.written.made
+
+    at : StandsAt sources i glyph
+    at = record { there = less; is = stands }
+
+    rises : Rises subset.closed sources n
+    rises = chosen-rises subset.closed n
+
+    runs : (g j : ℕ) → StandsAt sources j g → MadeRuns old new g j
+    runs g j there = made-runs bytes flat old new ov nv g j was is subset.written.was subset.written.is (subst (λ o. IsMade bytes ov o flat nv j) there.is (made.glyphs j there.there))
+
+    -- the glyph of a code that a glyph names is kept
+    kept : (from : ℕ) (accent : Accent) (code one : ℕ) → is_kept named from ≡ true → IsAccented old from accent → (code ≡ accent.base) ⊎ (code ≡ accent.accent) → ComponentAt bytes ov code one → is_kept subset.closed one ≡ true
+    kept from accent code one from_named accented is_code component =
+        let own = subset.are.font in
+        let opened = subset.are.opened in
+        let moved = run-from bytes own ov from accented.run opened subset.written.was (run-at bytes old ov from accented.part accented.run was subset.written.was accented.has) in
+        let again : IsAccented own from accent = record { part = moved.0; run = accented.run; has = moved.1; accented = accented.accented } in
+        let here = component-from bytes own ov code one opened subset.written.was component in
+        let of : IsComponentOf own from one = record {
+          accent = accent;
+          accented = again;
+          named = elim is_code [
+            | inl e ↦ inl (subst (λ c. IsComponent own c one) e here)
+            | inr e ↦ inr (subst (λ c. IsComponent own c one) e here)
+          ];
+        } in
+        subst (λ (xs : List ℕ). is_kept xs one ≡ true) (sym subset.are.all) (contains-kept named subset.are.components one ((subset.are.are one).1 (from, from_named, of)))
+
+    takes : (code : ℕ) → Takes (λ g. is_kept subset.closed g ≡ true) made.naming.old_set made.naming.new_set (standard_identifier code) n (length sources) (λ j. glyph-of (get_or sources j None))
+    takes code = record {
+      names = λ j there.
+          let one = rises.some j there in
+          subst (λ g. Names made.naming.old_set g (standard_identifier code) ↔ Names made.naming.new_set j (standard_identifier code)) (sym (ap glyph-of one.1.is))
+          (names-kept (keeps_strings false ov.tables.dictionary) sources ov made.naming.old_set nv made.naming.new_set j one.0 (standard_identifier code) made.naming.strings one.1 (standard code));
+      rise = λ j k before there.
+          let one = rises.some j (omega (arith, before, there)) in
+          let other = rises.some k there in
+          let less = rises.rise j k one.0 other.0 before one.1 other.1 in
+          subst (λ g. g < glyph-of (get_or sources k None)) (sym (ap glyph-of one.1.is)) (subst (λ g. one.0 < g) (sym (ap glyph-of other.1.is)) less);
+      below = λ j there. let one = rises.some j there in subst (λ g. g < n) (sym (ap glyph-of one.1.is)) (rises.below j one.0 one.1);
+      place = λ g is_one below. let one = rises.all g is_one below in (one.0, one.1.there, ap glyph-of one.1.is);
+    }
+
+    keyed : IsCidKeyed nv.tables.dictionary → IsCidKeyed ov.tables.dictionary
+    keyed h = subst (λ o. IsSome o) (made.repeats.dictionary 31 ROS (omega arith)) h
+
+    unkeyed : IsCidKeyed ov.tables.dictionary → IsCidKeyed nv.tables.dictionary
+    unkeyed h = subst (λ o. IsSome o) (sym (made.repeats.dictionary 31 ROS (omega arith))) h
+
+    codes-forth : CarriesComponents old new glyph
+    codes-forth accent code one accented is_code component =
+        let c = component-at bytes old ov code one was subset.written.was component in
+        let place = rises.all one (kept glyph accent code one named_one accented is_code c) c.first.there in
+        let first = first-of c.set made.naming.old_set bytes ov.tables.dictionary n (standard_identifier code) one c.is_set made.naming.was c.first in
+        let new_first = first-forth _ made.naming.old_set made.naming.new_set (standard_identifier code) n (length sources) _ one place.0 (takes code) place.1.there (ap glyph-of place.1.is) first in
+        let there : ComponentAt flat nv code place.0 = record {
+          not_keyed = λ h. c.not_keyed (keyed h);
+          set = made.naming.new_set;
+          is_set = made.naming.is;
+          first = subst (λ m. IsFirstNamed made.naming.new_set (standard_identifier code) m place.0) (sym made.many) new_first;
+        } in
+        (place.0, component-from flat new nv code place.0 is subset.written.is there, carries-forth old new one place.0 (runs one place.0 place.1))
+
+    codes-back : CarriesComponents new old i
+    codes-back accent code j accented is_code component =
+        let c = component-at flat new nv code j is subset.written.is component in
+        let before : IsAccented old glyph accent = accented-so new old i glyph accent (carries-back old new glyph i (runs glyph i at)) accented in
+        let first = first-of c.set made.naming.new_set flat nv.tables.dictionary (length nv.char_strings) (standard_identifier code) j c.is_set made.naming.is c.first in
+        let first_m = subst (λ m. IsFirstNamed made.naming.new_set (standard_identifier code) m j) made.many first in
+        let closed = λ (g : ℕ) (f : IsFirstNamed made.naming.old_set (standard_identifier code) n g). kept glyph accent code g named_one before is_code (record { not_keyed = λ h. c.not_keyed (unkeyed h); set = made.naming.old_set; is_set = made.naming.was; first = f }) in
+        let old_first = first-back _ made.naming.old_set made.naming.new_set (standard_identifier code) n (length sources) _ j (takes code) closed first_m in
+        let one = rises.some j first_m.there in
+        let here : ComponentAt bytes ov code one.0 = record {
+          not_keyed = λ h. c.not_keyed (unkeyed h);
+          set = made.naming.old_set;
+          is_set = made.naming.was;
+          first = subst (λ g. IsFirstNamed made.naming.old_set (standard_identifier code) n g) (ap glyph-of one.1.is) old_first;
+        } in
+        (one.0, component-from bytes old ov code one.0 was subset.written.was here, carries-back old new one.0 j (runs one.0 j one.1))

@@ -1,0 +1,146 @@
+-- Where the glyphs that are chosen stand, and what the first one of a name becomes.
+use Rattle.std.proofs.Common.{◌≡◌, refl, sym, ap, subst, ◌∙◌, inl, inr, ℕ, zero, suc, ◌+◌, ◌<◌, ◌≤◌, List, [], ◌∷◌, ◌++◌, length, get_or, add-one, arith, Bool, true, false}
+use Rattle.std.specs.Prelude.{◌⊎◌, ◌↔◌, Option, Some, None, nat_lt, if◌then◌else◌}
+use Rattle.std.proofs.lemmas.Bool.{ltb-true, ltb-false}
+use Rattle.std.proofs.lemmas.List.{append-nil, get_or_append_left, get_or_push, length-append}
+use Rattle.std.proofs.lemmas.List.FromFn.{filter_of_map_range_with_len_more}
+use Rattle.postscript_view.specs.Naming.{IsFirstNamed, Names}
+use Rattle.postscript_view.specs.declared.char_set.CharSetView.{CharSetView}
+use Rattle.postscript_write.specs.Glyphs.{Sources}
+use Rattle.postscript_write.specs.Sources.{chosen, is_chosen, is_kept}
+
+nat_cases : (a b : ℕ) → (a < b) ⊎ (b ≤ a)
+nat_cases a b = by (nat_lt a b) refl
+  where
+    by : (t : Bool) → nat_lt a b ≡ t → (a < b) ⊎ (b ≤ a)
+    by true e = inl (ltb-true a b e)
+    by false e = inr (ltb-false a b e)
+
+-- at a place stands a glyph
+pub record StandsAt (sources : Sources) (i glyph : ℕ) : Type 0 where
+  pub there : i < length sources
+  pub is : get_or sources i None ≡ Some glyph
+
+-- Glyphs below so many, in ascending order, each of them one that is kept, and all that are kept.
+pub record Rises (named : List ℕ) (sources : Sources) (glyphs : ℕ) : Type 0 where
+  pub some : (i : ℕ) → i < length sources → (glyph : ℕ) × StandsAt sources i glyph
+  pub below : (i glyph : ℕ) → StandsAt sources i glyph → glyph < glyphs
+  pub rise : (i j a b : ℕ) → i < j → StandsAt sources i a → StandsAt sources j b → a < b
+  pub all : (glyph : ℕ) → is_kept named glyph ≡ true → glyph < glyphs → (i : ℕ) × StandsAt sources i glyph
+
+stands-left : (s more : Sources) (i glyph : ℕ) → StandsAt s i glyph → StandsAt (s ++ more) i glyph
+stands-left s more i glyph h = record { there = let less = h.there in omega (arith, less, length-append s more); is = get_or_append_left s more None i h.there ∙ h.is }
+
+-- what stands in a list with one more: in the list, or at its end
+stands-cases : (s : Sources) (one i glyph : ℕ) → StandsAt (s ++ Some one ∷ []) i glyph → StandsAt s i glyph ⊎ ((i ≡ length s) × (one ≡ glyph))
+stands-cases s one i glyph h = by
+  where
+    last : i ≡ length s → one ≡ glyph
+    last e = let both : Some one ≡ Some glyph = sym (get_or_push s (Some one) None i (sym e)) ∙ h.is in cc
+
+    before : i < length s → StandsAt s i glyph
+    before less = record { there = less; is = sym (get_or_append_left s (Some one ∷ []) None i less) ∙ h.is }
+
+    by : StandsAt s i glyph ⊎ ((i ≡ length s) × (one ≡ glyph))
+    by = elim (nat_cases i (length s)) [
+      | inl less ↦ inl (before less)
+      | inr far ↦ (let there = h.there in let e : i ≡ length s = omega (arith, there, far, length-append s (Some one ∷ [])) in inr (e, last e))
+    ]
+
+kept-one : (named : List ℕ) (s : Sources) (n : ℕ) → Rises named s n → Rises named (s ++ Some n ∷ []) (n + 1)
+kept-one named s n r = record {
+  some = λ i less. elim (nat_cases i (length s)) [
+    | inl before ↦ let one = r.some i before in (one.0, stands-left s (Some n ∷ []) i one.0 one.1)
+    | inr far ↦ (n, here i (omega (arith, less, far, length-append s (Some n ∷ []))))
+  ];
+  below = λ i glyph h. elim (stands-cases s n i glyph h) [
+    | inl old ↦ let less = r.below i glyph old in omega (arith, less)
+    | inr new ↦ (let same = new.1 in omega (arith, same))
+  ];
+  rise = λ i j a b less x y. elim (stands-cases s n i a x) [
+    | inl old ↦ elim (stands-cases s n j b y) [
+      | inl also ↦ r.rise i j a b less old also
+      | inr new ↦ (let below = r.below i a old in let same = new.1 in omega (arith, below, same))
+    ]
+    | inr last ↦ (let past = last.0 in let there = y.there in absurd (omega (arith, less, past, there, length-append s (Some n ∷ []))))
+  ];
+  all = λ glyph kept below. elim (nat_cases glyph n) [
+    | inl less ↦ let at = r.all glyph kept less in (at.0, stands-left s (Some n ∷ []) at.0 glyph at.1)
+    | inr far ↦ (let same : n ≡ glyph = omega (arith, below, far) in (length s, subst (λ g. StandsAt (s ++ Some n ∷ []) (length s) g) same (here (length s) refl)))
+  ];
+}
+  where
+    here : (i : ℕ) → i ≡ length s → StandsAt (s ++ Some n ∷ []) i n
+    here i e = record { there = omega (arith, e, length-append s (Some n ∷ [])); is = get_or_push s (Some n) None i (sym e) }
+
+left-out : (named : List ℕ) (s : Sources) (n : ℕ) → is_kept named n ≡ false → Rises named s n → Rises named s (n + 1)
+left-out named s n out r = record {
+  some = r.some;
+  below = λ i glyph h. let less = r.below i glyph h in omega (arith, less);
+  rise = r.rise;
+  all = λ glyph kept below. elim (nat_cases glyph n) [
+    | inl less ↦ r.all glyph kept less
+    | inr far ↦ (let same : n ≡ glyph = omega (arith, below, far) in let never : false ≡ true = sym out ∙ ap (is_kept named) same ∙ kept in absurd (cc))
+  ];
+}
+
+one-step : (named : List ℕ) (s : Sources) (n : ℕ) (b : Bool) → is_kept named n ≡ b → Rises named s n → Rises named (s ++ (if b then Some n ∷ [] else [])) (n + 1)
+one-step named s n true e r = kept-one named s n r
+one-step named s n false e r = subst (λ (xs : Sources). Rises named xs (n + 1)) (sym (append-nil s)) (left-out named s n e r)
+
+none-rises : (named : List ℕ) → Rises named [] 0
+none-rises named = record {
+  some = λ i less. absurd (omega (arith, less));
+  below = λ i glyph h. (let less = h.there in absurd (omega (arith, less)));
+  rise = λ i j a b less x y. (let there = x.there in absurd (omega (arith, there)));
+  all = λ glyph kept below. absurd (omega (arith, below));
+}
+
+pub chosen-rises : (named : List ℕ) (n : ℕ) → Rises named (chosen named n) n
+chosen-rises named zero = none-rises named
+chosen-rises named (suc n) =
+    let more : chosen named (n + 1) ≡ chosen named n ++ (if is_kept named n then Some n ∷ [] else []) = filter_of_map_range_with_len_more (is_chosen named) Some 0 n n (omega arith) in
+    let all : Rises named (chosen named (n + 1)) (n + 1) = subst (λ (xs : Sources). Rises named xs (n + 1)) (sym more) (one-step named (chosen named n) n (is_kept named n) refl (chosen-rises named n)) in
+    subst (λ m. Rises named (chosen named m) m) (add-one n) all
+
+-- What two char sets say of glyphs that are taken over, and of the place of each in the new font.
+pub record Takes (kept : ℕ → Type 0) (old_set new_set : CharSetView) (identifier n m : ℕ) (origin : ℕ → ℕ) : Type 0 where
+  pub names : (i : ℕ) → i < m → Names old_set (origin i) identifier ↔ Names new_set i identifier
+  pub rise : (i j : ℕ) → i < j → j < m → origin i < origin j
+  pub below : (i : ℕ) → i < m → origin i < n
+  pub place : (glyph : ℕ) → kept glyph → glyph < n → (i : ℕ) × (i < m) × (origin i ≡ glyph)
+
+pub first-forth : (kept : ℕ → Type 0) (old_set new_set : CharSetView) (identifier n m : ℕ) (origin : ℕ → ℕ) (glyph i : ℕ) → Takes kept old_set new_set identifier n m origin → i < m → origin i ≡ glyph →
+    IsFirstNamed old_set identifier n glyph → IsFirstNamed new_set identifier m i
+first-forth kept old_set new_set identifier n m origin glyph i t less is first = record {
+  there = less;
+  names = (t.names i less).0 (subst (λ g. Names old_set g identifier) (sym is) first.names);
+  none_before = λ other before named.
+      let rises = t.rise other i before less in
+      first.none_before (origin other) (subst (λ g. origin other < g) is rises) ((t.names other (omega (arith, before, less))).1 named);
+}
+
+-- Where the first glyph of a name is kept, the first one in the new font was the first one.
+pub first-back : (kept : ℕ → Type 0) (old_set new_set : CharSetView) (identifier n m : ℕ) (origin : ℕ → ℕ) (i : ℕ) → Takes kept old_set new_set identifier n m origin →
+    ((glyph : ℕ) → IsFirstNamed old_set identifier n glyph → kept glyph) → IsFirstNamed new_set identifier m i → IsFirstNamed old_set identifier n (origin i)
+first-back kept old_set new_set identifier n m origin i t closed first = record {
+  there = t.below i first.there;
+  names = (t.names i first.there).1 first.names;
+  none_before = λ other before named. none (other + 1) other (omega arith) before named;
+}
+  where
+    none : (bound other : ℕ) → other < bound → other < origin i → Names old_set other identifier → ⊥
+    none zero other less before named = absurd (omega (arith, less))
+    none (suc bound) other less before named =
+        let within = t.below i first.there in
+        let is : IsFirstNamed old_set identifier n other = record {
+          there = omega (arith, before, within);
+          names = named;
+          none_before = λ lower below again. none bound lower (omega (arith, below, less)) (omega (arith, below, before)) again;
+        } in
+        let at = t.place other (closed other is) (omega (arith, before, within)) in
+        let there = at.1 in
+        let same = at.2 in
+        let past : i < at.0 → ⊥ = λ h. (let rises = t.rise i at.0 h there in omega (arith, rises, same, before)) in
+        let equal : at.0 ≡ i → ⊥ = λ e. (let moved : origin at.0 ≡ origin i = ap origin e in omega (arith, moved, same, before)) in
+        first.none_before at.0 (omega (arith, past, equal)) ((t.names at.0 there).0 (subst (λ g. Names old_set g identifier) (sym same) named))
