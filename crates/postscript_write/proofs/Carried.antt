@@ -1,17 +1,17 @@
 -- What a glyph of one font draws, a glyph of another one draws, where its run and those of its components say the same.
-use Rattle.std.proofs.Common.{◌≡◌, refl, sym, ap, subst, ◌∙◌, inl, inr, ℕ, ℤ, List, [], Option, Some, None, Result, Ok, Err}
+use Rattle.std.proofs.Common.{◌≡◌, refl, sym, ap, subst, ◌∙◌, inl, inr, ℕ, ℤ, List, Option, Some, None, Result, Ok, Err}
 use Rattle.std.specs.Prelude.{◌⊎◌}
-use Rattle.postscript_accent.specs.Accents.{IsAccentOf, IsAccent, IsPlain}
+use Rattle.postscript_accent.specs.Accents.{IsAccent}
 use Rattle.postscript_accent.specs.Components.{IsComponent}
-use Rattle.postscript_accent.specs.Drawn.{DrawsAccented, DrawsAt, DrawsComponent, DrawsComponents, DrawsPlain, IsDrawnAs, zero_point}
+use Rattle.postscript_accent.specs.Drawn.{DrawsAt, DrawsComponent, IsDrawnAs, zero_point}
 use Rattle.postscript_accent.specs.Refused.{IsAccented}
 use Rattle.postscript_accent.specs.declared.accent.Accent.{Accent}
 use Rattle.postscript_base.specs.Refusal.{Refusal}
 use Rattle.postscript_outline.specs.Drawing.{Drawing, ◌>>=◌, blank_at, closed, point}
-use Rattle.postscript_outline.specs.Outline.{drawing_of, finished, outlined_at}
+use Rattle.postscript_outline.specs.Outline.{drawing_of, finished}
 use Rattle.postscript_outline.specs.declared.point.Point.{Point}
 use Rattle.postscript_outline.specs.declared.segment.Segment.{Segment}
-use Rattle.postscript_type2.specs.Program.Runs.{Answer, End, UsedUp, Returned, Finished, Fault, Run, fault_of, taken_by, width_of}
+use Rattle.postscript_type2.specs.Program.Runs.{End, UsedUp, Returned, Finished, Fault, Run, fault_of, taken_by, width_of}
 use Rattle.postscript_view.specs.Advances.{HasRun}
 use Rattle.postscript_view.specs.declared.font.FontView.{FontView}
 use Rattle.postscript_view.specs.declared.part.Part.{Part}

@@ -1,7 +1,7 @@
 -- What the glyphs of a subset draw.
-use Rattle.std.proofs.Common.{◌≡◌, refl, sym, ap, subst, ◌∙◌, inl, inr, ℕ, zero, suc, ◌+◌, ◌<◌, ◌≤◌, ◌-◌, ℤ, List, [], ◌∷◌, ◌++◌, length, get_or, slice_get, arith, Bool, true, false}
-use Rattle.std.specs.Prelude.{◌⊎◌, ◌↔◌, ◌&&◌, ◌==◌, ◌||◌, Option, Some, None, option_map, nat_le, nat_lt, if◌then◌else◌, All}
-use Rattle.std.specs.List.{Contains, list_all}
+use Rattle.std.proofs.Common.{◌≡◌, refl, sym, ap, subst, ◌∙◌, inl, inr, ℕ, zero, suc, ◌+◌, ◌<◌, ◌-◌, List, [], ◌∷◌, ◌++◌, length, get_or, slice_get, arith, Bool, true, false}
+use Rattle.std.specs.Prelude.{◌⊎◌, ◌↔◌, ◌&&◌, ◌==◌, Option, Some, None, option_map, nat_le, nat_lt, if◌then◌else◌}
+use Rattle.std.specs.List.{Contains}
 use Rattle.std.proofs.lemmas.Bool.{eq-eqb, leb-true, ltb-true}
 use Rattle.std.proofs.lemmas.List.{length-map}
 use Rattle.std.proofs.lemmas.Option.{slice_get-map, slice_get_within}
@@ -12,24 +12,23 @@ use Rattle.postscript_accent.specs.Refused.{IsAccented}
 use Rattle.postscript_accent.specs.declared.accent.Accent.{Accent}
 use Rattle.postscript_base.specs.Tape.Outcome.{Got}
 use Rattle.postscript_items.specs.Lent.{items_of}
-use Rattle.postscript_type2.specs.Program.Runs.{Run, fault_of}
+use Rattle.postscript_type2.specs.Program.Runs.{Run}
 use Rattle.postscript_type2.specs.Program.Routines.{lent}
 use Rattle.postscript_view.specs.Advances.{HasRun}
 use Rattle.postscript_view.specs.CharSets.{IsCharSetOf}
 use Rattle.postscript_view.specs.Cids.{IsCidKeyed}
-use Rattle.postscript_view.specs.Glyphs as view
 use Rattle.postscript_view.specs.Order.{View, Part as ShownPart, view as the_view}
 use Rattle.postscript_view.specs.Naming.{IsFirstNamed, Names}
 use Rattle.postscript_view.specs.Select.{IsSelected}
 use Rattle.postscript_view.specs.Value.{part_shown, parts_shown, view_shown}
 use Rattle.postscript_view.specs.declared.font.FontView.{FontView}
 use Rattle.postscript_view.specs.declared.part.Part.{Part}
-use Rattle.postscript_write.specs.Components.{AreClosed, AreComponents, IsComponentOf, IsOpened, IsSubset}
-use Rattle.postscript_write.specs.Drawings.{DrawsTheSame, KeepsDrawings, SubsetsDrawTheSame}
+use Rattle.postscript_write.specs.Components.{IsComponentOf, IsOpened}
+use Rattle.postscript_write.specs.Drawings.{SubsetsDrawTheSame}
 use Rattle.postscript_write.specs.Fonts.{HasGlyph, IsMade, IsMadeOf, IsFontOf}
-use Rattle.postscript_write.specs.Glyphs.{HasPart, Sources, run_in}
+use Rattle.postscript_write.specs.Glyphs.{Sources, run_in}
 use Rattle.postscript_write.specs.Sources.{chosen, is_kept}
-use Rattle.postscript_write.proofs.Carried.{Carries, CarriesCode, CarriesComponents, HasSame, SameRuns, carried, turned}
+use Rattle.postscript_write.proofs.Carried.{Carries, CarriesComponents, SameRuns, carried, turned}
 use Rattle.postscript_write.proofs.Accented.{or-left as or_intro_left, or-right as or_intro_right}
 use Rattle.postscript_write.proofs.Places.{Rises, StandsAt, Takes, chosen-rises, first-back, first-forth}
 use Rattle.postscript_write.proofs.Uniqueness.{first-of, one-run}

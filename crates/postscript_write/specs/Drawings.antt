@@ -1,5 +1,5 @@
 -- What the glyphs of a subset draw (Technical Note 5177, Appendix C).
-use Rattle.std.specs.Prelude.{◌≡◌, ◌↔◌, ℕ, ℤ, ◌<◌, List, Bool, true, false, Option, Some, None, length, slice_index_or}
+use Rattle.std.specs.Prelude.{◌≡◌, ◌↔◌, ℕ, ℤ, ◌<◌, List, true, false, Option, Some, None, length, slice_index_or}
 use Rattle.postscript_accent.specs.Drawn.{IsDrawnAs}
 use Rattle.postscript_outline.specs.declared.segment.Segment.{Segment}
 use Rattle.postscript_view.specs.declared.font.FontView.{FontView}
