@@ -185,7 +185,10 @@ fn components_wanting(rt: HostRuntime) {
     let refused = outline_of(alloc, &font, 2);
     holds(
         &rt,
-        matches!(refused, Err(postscript_accent::Error::MissingComponent(194))),
+        matches!(
+            refused,
+            Err(postscript_accent::Error::MissingComponent(194))
+        ),
         "no accent",
     );
 }

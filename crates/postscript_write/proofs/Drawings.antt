@@ -1,9 +1,11 @@
 -- What the glyphs of a subset draw.
 use Rattle.std.proofs.Common.{◌≡◌, refl, sym, ap, subst, ◌∙◌, inl, inr, ℕ, zero, suc, ◌+◌, ◌<◌, ◌-◌, List, [], ◌∷◌, ◌++◌, length, get_or, slice_get, arith, Bool, true, false}
-use Rattle.std.specs.Prelude.{◌⊎◌, ◌↔◌, ◌&&◌, ◌==◌, Option, Some, None, option_map, nat_le, nat_lt, if◌then◌else◌}
+use Rattle.std.specs.Prelude.{◌⊎◌, ◌↔◌, ◌&&◌, ◌==◌, ◌||◌, Option, Some, None, Result, Ok, Err, Vec, IfOk, option_map, nat_le, nat_lt, if◌then◌else◌}
 use Rattle.std.specs.List.{Contains}
 use Rattle.std.proofs.lemmas.Bool.{eq-eqb, leb-true, ltb-true}
 use Rattle.std.proofs.lemmas.List.{length-map}
+use Rattle.postscript_write.specs.declared.error.Error.{Error}
+use Rattle.std.specs.declared.alloc.Global.{Global}
 use Rattle.std.proofs.lemmas.Option.{slice_get-map, slice_get_within}
 use Rattle.std.specs.Option.{IsSome}
 use Rattle.postscript_accent.specs.Accents.{IsAccent}
@@ -23,14 +25,14 @@ use Rattle.postscript_view.specs.Select.{IsSelected}
 use Rattle.postscript_view.specs.Value.{part_shown, parts_shown, view_shown}
 use Rattle.postscript_view.specs.declared.font.FontView.{FontView}
 use Rattle.postscript_view.specs.declared.part.Part.{Part}
-use Rattle.postscript_write.specs.Components.{IsComponentOf, IsOpened}
-use Rattle.postscript_write.specs.Drawings.{SubsetsDrawTheSame}
+use Rattle.postscript_write.specs.Components.{AreClosed, IsComponentOf, IsOpened, IsSubset}
+use Rattle.postscript_write.specs.Drawings.{DrawsNamed, DrawsTheSame, StandsAt}
 use Rattle.postscript_write.specs.Fonts.{HasGlyph, IsMade, IsMadeOf, IsFontOf}
 use Rattle.postscript_write.specs.Glyphs.{Sources, run_in}
-use Rattle.postscript_write.specs.Sources.{chosen, is_kept}
+use Rattle.postscript_write.specs.Sources.{chosen, is_kept, keeping, kept_or_none}
 use Rattle.postscript_write.proofs.Carried.{Carries, CarriesComponents, SameRuns, carried, turned}
 use Rattle.postscript_write.proofs.Accented.{or-left as or_intro_left, or-right as or_intro_right}
-use Rattle.postscript_write.proofs.Places.{Rises, StandsAt, Takes, chosen-rises, first-back, first-forth}
+use Rattle.postscript_write.proofs.Places.{Placed, Takes, chosen-placed, chosen-rises, first-back, first-forth, glyph_or, keeping-at, keeping-many, keeping-placed, one-place}
 use Rattle.postscript_write.proofs.Uniqueness.{first-of, one-run}
 use Rattle.postscript_base.specs.declared.compact1.operator.Operator.TheVariants.{ROS}
 use Rattle.postscript_compact1.specs.Computed.Encodings.{Run as EncodingRun, are_standard, has_code, in_runs, runs_of}
@@ -195,14 +197,8 @@ standard : (code : ℕ) → standard_identifier code < 391
 standard code = in-runs (runs_of Standard) code refl
 
 -- what names glyphs of the standard strings
-names-kept : (keeps : Bool) (sources : Sources) (ov : View) (old_set : CharSetView) (nv : View) (new_set : CharSetView) (i glyph identifier : ℕ) → SameStrings keeps sources ov old_set nv new_set → StandsAt sources i glyph →
-    identifier < 391 → Names old_set glyph identifier ↔ Names new_set i identifier
-names-kept true sources ov old_set nv new_set i glyph identifier s at small = subst (λ o. SameName old_set o new_set i) at.is (s.glyphs i at.there) identifier
-names-kept false sources ov old_set nv new_set i glyph identifier s at small = (subst (λ o. SameText old_set ov.tables.strings o new_set nv.tables.strings i) at.is (s.glyphs i at.there)).standard identifier small
-
-abbrev glyph-of : Option ℕ → ℕ
-glyph-of None = 0
-glyph-of (Some glyph) = glyph
+abbrev pub NamesKept : (sources : Sources) (old_set new_set : CharSetView) (origin : ℕ → ℕ) → Type 0
+NamesKept sources old_set new_set origin = (identifier i : ℕ) → identifier < 391 → i < length sources → Names old_set (origin i) identifier ↔ Names new_set i identifier
 
 in-list : (xs : List ℕ) (k glyph : ℕ) → k < length xs → get_or xs k glyph ≡ glyph → is_kept xs glyph ≡ true
 in-list [] k glyph less same = absurd (omega (arith, less))
@@ -213,43 +209,28 @@ contains-kept : (named components : List ℕ) (glyph : ℕ) → Contains compone
 contains-kept [] components glyph h = in-list components h.0 glyph h.1 h.2
 contains-kept (x ∷ named) components glyph h = or_intro_right (x == glyph) (is_kept (named ++ components) glyph) (contains-kept named components glyph h)
 
-pub subsets : SubsetsDrawTheSame
-subsets named bytes flat subset old new glyph i was is named_one less stands segments width =
+-- What a font draws that is made of these glyphs, where each place stands for one of the old font.
+draws : (kept_numbers : Bool) (named closed : List ℕ) (bytes flat : List ℕ) (ov nv : View) (sources : Sources) → the_view bytes 0 ≡ Got ov 0 → the_view flat 0 ≡ Got nv 0 →
+    (made : IsFontOf kept_numbers sources bytes ov flat nv) → AreClosed bytes named closed → (origin : ℕ → ℕ) → Placed closed sources (length ov.char_strings) origin → NamesKept sources made.naming.old_set made.naming.new_set origin →
+    (old new : FontView) (glyph i : ℕ) → IsOpened bytes old → IsOpened flat new → is_kept named glyph ≡ true → StandsAt sources i glyph → DrawsTheSame old new glyph i
+draws kept_numbers named closed bytes flat ov nv sources shown_old shown_new made are origin placed names old new glyph i was is named_one at segments width =
     (carried old new glyph i segments width (carries-forth old new glyph i (runs glyph i at)) codes-forth, carried new old i glyph segments width (carries-back old new glyph i (runs glyph i at)) codes-back)
   where
-    ov : View
-    ov = subset.written.old
-
-    nv : View
-    nv = subset.written.new
-
     n : ℕ
     n = length ov.char_strings
 
-    sources : Sources
-    sources = chosen subset.closed n
-
-    made : IsFontOf false sources bytes ov flat nv
-    made = subset.written.made
-
-    at : StandsAt sources i glyph
-    at = record { there = less; is = stands }
-
-    rises : Rises subset.closed sources n
-    rises = chosen-rises subset.closed n
-
     runs : (g j : ℕ) → StandsAt sources j g → MadeRuns old new g j
-    runs g j there = made-runs bytes flat old new ov nv g j was is subset.written.was subset.written.is (subst (λ o. IsMade bytes ov o flat nv j) there.is (made.glyphs j there.there))
+    runs g j there = made-runs bytes flat old new ov nv g j was is shown_old shown_new (subst (λ o. IsMade bytes ov o flat nv j) there.is (made.glyphs j there.there))
 
     -- the glyph of a code that a glyph names is kept
-    kept : (from : ℕ) (accent : Accent) (code one : ℕ) → is_kept named from ≡ true → IsAccented old from accent → (code ≡ accent.base) ⊎ (code ≡ accent.accent) → ComponentAt bytes ov code one → is_kept subset.closed one ≡ true
-    kept from accent code one from_named accented is_code component =
-        let own = subset.are.font in
-        let opened = subset.are.opened in
-        let moved = run-from bytes own ov from accented.run opened subset.written.was (run-at bytes old ov from accented.part accented.run was subset.written.was accented.has) in
-        let again : IsAccented own from accent = record { part = moved.0; run = accented.run; has = moved.1; accented = accented.accented } in
-        let here = component-from bytes own ov code one opened subset.written.was component in
-        let of : IsComponentOf own from one = record {
+    kept : (accent : Accent) (code one : ℕ) → IsAccented old glyph accent → (code ≡ accent.base) ⊎ (code ≡ accent.accent) → ComponentAt bytes ov code one → is_kept closed one ≡ true
+    kept accent code one accented is_code component =
+        let own = are.font in
+        let opened = are.opened in
+        let moved = run-from bytes own ov glyph accented.run opened shown_old (run-at bytes old ov glyph accented.part accented.run was shown_old accented.has) in
+        let again : IsAccented own glyph accent = record { part = moved.0; run = accented.run; has = moved.1; accented = accented.accented } in
+        let here = component-from bytes own ov code one opened shown_old component in
+        let of : IsComponentOf own glyph one = record {
           accent = accent;
           accented = again;
           named = elim is_code [
@@ -257,21 +238,14 @@ subsets named bytes flat subset old new glyph i was is named_one less stands seg
             | inr e ↦ inr (subst (λ c. IsComponent own c one) e here)
           ];
         } in
-        subst (λ (xs : List ℕ). is_kept xs one ≡ true) (sym subset.are.all) (contains-kept named subset.are.components one ((subset.are.are one).1 (from, from_named, of)))
+        subst (λ (xs : List ℕ). is_kept xs one ≡ true) (sym are.all) (contains-kept named are.components one ((are.are one).1 (glyph, named_one, of)))
 
-    takes : (code : ℕ) → Takes (λ g. is_kept subset.closed g ≡ true) made.naming.old_set made.naming.new_set (standard_identifier code) n (length sources) (λ j. glyph-of (get_or sources j None))
+    takes : (code : ℕ) → Takes (λ g. is_kept closed g ≡ true) made.naming.old_set made.naming.new_set (standard_identifier code) n (length sources) origin
     takes code = record {
-      names = λ j there.
-          let one = rises.some j there in
-          subst (λ g. Names made.naming.old_set g (standard_identifier code) ↔ Names made.naming.new_set j (standard_identifier code)) (sym (ap glyph-of one.1.is))
-          (names-kept (keeps_strings false ov.tables.dictionary) sources ov made.naming.old_set nv made.naming.new_set j one.0 (standard_identifier code) made.naming.strings one.1 (standard code));
-      rise = λ j k before there.
-          let one = rises.some j (omega (arith, before, there)) in
-          let other = rises.some k there in
-          let less = rises.rise j k one.0 other.0 before one.1 other.1 in
-          subst (λ g. g < glyph-of (get_or sources k None)) (sym (ap glyph-of one.1.is)) (subst (λ g. one.0 < g) (sym (ap glyph-of other.1.is)) less);
-      below = λ j there. let one = rises.some j there in subst (λ g. g < n) (sym (ap glyph-of one.1.is)) (rises.below j one.0 one.1);
-      place = λ g is_one below. let one = rises.all g is_one below in (one.0, one.1.there, ap glyph-of one.1.is);
+      names = λ j there. names (standard_identifier code) j (standard code) there;
+      rise = placed.rise;
+      below = placed.below;
+      place = λ g is_one less. let one = placed.all g is_one less in (one.0, one.1.there, one.2);
     }
 
     keyed : IsCidKeyed nv.tables.dictionary → IsCidKeyed ov.tables.dictionary
@@ -282,31 +256,93 @@ subsets named bytes flat subset old new glyph i was is named_one less stands seg
 
     codes-forth : CarriesComponents old new glyph
     codes-forth accent code one accented is_code component =
-        let c = component-at bytes old ov code one was subset.written.was component in
-        let place = rises.all one (kept glyph accent code one named_one accented is_code c) c.first.there in
+        let c = component-at bytes old ov code one was shown_old component in
+        let place = placed.all one (kept accent code one accented is_code c) c.first.there in
         let first = first-of c.set made.naming.old_set bytes ov.tables.dictionary n (standard_identifier code) one c.is_set made.naming.was c.first in
-        let new_first = first-forth _ made.naming.old_set made.naming.new_set (standard_identifier code) n (length sources) _ one place.0 (takes code) place.1.there (ap glyph-of place.1.is) first in
+        let new_first = first-forth _ made.naming.old_set made.naming.new_set (standard_identifier code) n (length sources) origin one place.0 (takes code) place.1.there place.2 first in
         let there : ComponentAt flat nv code place.0 = record {
           not_keyed = λ h. c.not_keyed (keyed h);
           set = made.naming.new_set;
           is_set = made.naming.is;
           first = subst (λ m. IsFirstNamed made.naming.new_set (standard_identifier code) m place.0) (sym made.many) new_first;
         } in
-        (place.0, component-from flat new nv code place.0 is subset.written.is there, carries-forth old new one place.0 (runs one place.0 place.1))
+        (place.0, component-from flat new nv code place.0 is shown_new there, carries-forth old new one place.0 (runs one place.0 place.1))
 
     codes-back : CarriesComponents new old i
     codes-back accent code j accented is_code component =
-        let c = component-at flat new nv code j is subset.written.is component in
+        let c = component-at flat new nv code j is shown_new component in
         let before : IsAccented old glyph accent = accented-so new old i glyph accent (carries-back old new glyph i (runs glyph i at)) accented in
         let first = first-of c.set made.naming.new_set flat nv.tables.dictionary (length nv.char_strings) (standard_identifier code) j c.is_set made.naming.is c.first in
         let first_m = subst (λ m. IsFirstNamed made.naming.new_set (standard_identifier code) m j) made.many first in
-        let closed = λ (g : ℕ) (f : IsFirstNamed made.naming.old_set (standard_identifier code) n g). kept glyph accent code g named_one before is_code (record { not_keyed = λ h. c.not_keyed (unkeyed h); set = made.naming.old_set; is_set = made.naming.was; first = f }) in
-        let old_first = first-back _ made.naming.old_set made.naming.new_set (standard_identifier code) n (length sources) _ j (takes code) closed first_m in
-        let one = rises.some j first_m.there in
-        let here : ComponentAt bytes ov code one.0 = record {
-          not_keyed = λ h. c.not_keyed (unkeyed h);
-          set = made.naming.old_set;
-          is_set = made.naming.was;
-          first = subst (λ g. IsFirstNamed made.naming.old_set (standard_identifier code) n g) (ap glyph-of one.1.is) old_first;
-        } in
-        (one.0, component-from bytes old ov code one.0 was subset.written.was here, carries-back old new one.0 j (runs one.0 j one.1))
+        let here : (g : ℕ) → IsFirstNamed made.naming.old_set (standard_identifier code) n g → ComponentAt bytes ov code g =
+        λ g f. record { not_keyed = λ h. c.not_keyed (unkeyed h); set = made.naming.old_set; is_set = made.naming.was; first = f } in
+        let closing = λ (g : ℕ) (f : IsFirstNamed made.naming.old_set (standard_identifier code) n g). kept accent code g before is_code (here g f) in
+        let old_first = first-back _ made.naming.old_set made.naming.new_set (standard_identifier code) n (length sources) origin j (takes code) closing first_m in
+        let one = origin j in
+        let place = placed.all one (closing one old_first) old_first.there in
+        let same : place.0 ≡ j = one-place closed sources n place.0 j origin placed place.1.there first_m.there place.2 in
+        (one, component-from bytes old ov code one was shown_old (here one old_first), carries-back old new one j (runs one j (subst (λ k. StandsAt sources k one) same place.1)))
+
+-- The number of glyphs of an opened font.
+many-of : (bytes : List ℕ) (font : FontView) (v : View) → IsOpened bytes font → the_view bytes 0 ≡ Got v 0 → glyphs_of font ≡ length v.char_strings
+many-of bytes font v opened is = ap (λ (v : View). length v.char_strings) (shows bytes font v opened is)
+
+pub subset-draws : (named bytes flat : List ℕ) → IsSubset false chosen named bytes flat → DrawsNamed chosen named bytes flat
+subset-draws named bytes flat s = (
+  s.closed,
+  s.are,
+  λ old new glyph i was is named_one at.
+      draws false named s.closed bytes flat s.written.old s.written.new (chosen s.closed n) s.written.was s.written.is s.written.made s.are (λ j. glyph_or (get_or (chosen s.closed n) j None)) (chosen-placed s.closed n) names old new glyph i was is named_one
+      (subst (λ m. StandsAt (chosen s.closed m) i glyph) (many-of bytes old s.written.old was s.written.was) at),
+)
+  where
+    n : ℕ
+    n = length s.written.old.char_strings
+
+    names-at : (keeps : Bool) (identifier i : ℕ) → identifier < 391 → (one : (g : ℕ) × StandsAt (chosen s.closed n) i g) →
+        SameStrings keeps (chosen s.closed n) s.written.old s.written.made.naming.old_set s.written.new s.written.made.naming.new_set →
+        Names s.written.made.naming.old_set one.0 identifier ↔ Names s.written.made.naming.new_set i identifier
+    names-at true identifier i small one same = subst (λ o. SameName s.written.made.naming.old_set o s.written.made.naming.new_set i) one.1.is (same.glyphs i one.1.there) identifier
+    names-at false identifier i small one same =
+        (subst (λ o. SameText s.written.made.naming.old_set s.written.old.tables.strings o s.written.made.naming.new_set s.written.new.tables.strings i) one.1.is (same.glyphs i one.1.there)).standard identifier small
+
+    names : NamesKept (chosen s.closed n) s.written.made.naming.old_set s.written.made.naming.new_set (λ j. glyph_or (get_or (chosen s.closed n) j None))
+    names identifier i small less =
+        let one = (chosen-rises s.closed n).some i less in
+        subst (λ g. Names s.written.made.naming.old_set g identifier ↔ Names s.written.made.naming.new_set i identifier) (sym (ap glyph_or one.1.is))
+        (names-at (keeps_strings false s.written.old.tables.dictionary) identifier i small one s.written.made.naming.strings)
+
+pub keeping-draws : (named bytes flat : List ℕ) → IsSubset true keeping named bytes flat → DrawsNamed keeping named bytes flat
+keeping-draws named bytes flat s = (
+  s.closed,
+  s.are,
+  λ old new glyph i was is named_one at.
+      draws true named s.closed bytes flat s.written.old s.written.new (keeping s.closed n) s.written.was s.written.is s.written.made s.are (λ j. j) (keeping-placed s.closed n) names old new glyph i was is named_one
+      (subst (λ m. StandsAt (keeping s.closed m) i glyph) (many-of bytes old s.written.old was s.written.was) at),
+)
+  where
+    n : ℕ
+    n = length s.written.old.char_strings
+
+    named-at : (o : Option ℕ) (i identifier : ℕ) → (o ≡ Some i) ⊎ (o ≡ None) → SameName s.written.made.naming.old_set o s.written.made.naming.new_set i →
+        Names s.written.made.naming.old_set i identifier ↔ Names s.written.made.naming.new_set i identifier
+    named-at o i identifier (inl e) same = subst (λ o. SameName s.written.made.naming.old_set o s.written.made.naming.new_set i) e same identifier
+    named-at o i identifier (inr e) same = subst (λ o. SameName s.written.made.naming.old_set o s.written.made.naming.new_set i) e same identifier
+
+    either : (b : Bool) (i : ℕ) → ((if b then Some i else None) ≡ Some i) ⊎ ((if b then Some i else None) ≡ None)
+    either true i = inl refl
+    either false i = inr refl
+
+    names : NamesKept (keeping s.closed n) s.written.made.naming.old_set s.written.made.naming.new_set (λ i. i)
+    names identifier i small less =
+        let at = keeping-at s.closed n i (subst (λ m. i < m) (keeping-many s.closed n) less) in
+        named-at (kept_or_none s.closed i) i identifier (either (is_kept s.closed i) i)
+        (subst (λ o. SameName s.written.made.naming.old_set o s.written.made.naming.new_set i) at (s.written.made.naming.strings.glyphs i less))
+
+pub subset-drawn : (r : Result (Vec ℕ Global) Error) (named bytes : List ℕ) → IfOk r (λ flat. IsSubset false chosen named bytes flat.items) → IfOk r (λ flat. DrawsNamed chosen named bytes flat.items)
+subset-drawn (Ok flat) named bytes h = subset-draws named bytes flat.items h
+subset-drawn (Err e) named bytes h = tt
+
+pub keeping-drawn : (r : Result (Vec ℕ Global) Error) (named bytes : List ℕ) → IfOk r (λ flat. IsSubset true keeping named bytes flat.items) → IfOk r (λ flat. DrawsNamed keeping named bytes flat.items)
+keeping-drawn (Ok flat) named bytes h = keeping-draws named bytes flat.items h
+keeping-drawn (Err e) named bytes h = tt

@@ -1,13 +1,14 @@
 -- Where the glyphs that are chosen stand, and what the first one of a name becomes.
 use Rattle.std.proofs.Common.{◌≡◌, refl, sym, ap, subst, ◌∙◌, inl, inr, ℕ, zero, suc, ◌+◌, ◌<◌, ◌≤◌, List, [], ◌∷◌, ◌++◌, length, get_or, add-one, arith, Bool, true, false}
-use Rattle.std.specs.Prelude.{◌⊎◌, ◌↔◌, Some, None, nat_lt, if◌then◌else◌}
+use Rattle.std.specs.Prelude.{◌⊎◌, ◌↔◌, Option, Some, None, nat_lt, if◌then◌else◌}
 use Rattle.std.proofs.lemmas.Bool.{ltb-true, ltb-false}
 use Rattle.std.proofs.lemmas.List.{append-nil, get_or_append_left, get_or_push, length-append}
-use Rattle.std.proofs.lemmas.List.FromFn.{filter_of_map_range_with_len_more}
+use Rattle.std.proofs.lemmas.List.FromFn.{filter_of_map_range_with_len_more, get_or-map-range_with_len, length-map-range_with_len}
 use Rattle.postscript_view.specs.Naming.{IsFirstNamed, Names}
 use Rattle.postscript_view.specs.declared.char_set.CharSetView.{CharSetView}
+use Rattle.postscript_write.specs.Drawings.{StandsAt}
 use Rattle.postscript_write.specs.Glyphs.{Sources}
-use Rattle.postscript_write.specs.Sources.{chosen, is_chosen, is_kept}
+use Rattle.postscript_write.specs.Sources.{chosen, is_chosen, is_kept, keeping, kept_or_none}
 
 nat_cases : (a b : ℕ) → (a < b) ⊎ (b ≤ a)
 nat_cases a b = by (nat_lt a b) refl
@@ -15,11 +16,6 @@ nat_cases a b = by (nat_lt a b) refl
     by : (t : Bool) → nat_lt a b ≡ t → (a < b) ⊎ (b ≤ a)
     by true e = inl (ltb-true a b e)
     by false e = inr (ltb-false a b e)
-
--- at a place stands a glyph
-pub record StandsAt (sources : Sources) (i glyph : ℕ) : Type 0 where
-  pub there : i < length sources
-  pub is : get_or sources i None ≡ Some glyph
 
 -- Glyphs below so many, in ascending order, each of them one that is kept, and all that are kept.
 pub record Rises (named : List ℕ) (sources : Sources) (glyphs : ℕ) : Type 0 where
@@ -144,3 +140,51 @@ first-back kept old_set new_set identifier n m origin i t closed first = record 
         let past : i < at.0 → ⊥ = λ h. (let rises = t.rise i at.0 h there in omega (arith, rises, same, before)) in
         let equal : at.0 ≡ i → ⊥ = λ e. (let moved : origin at.0 ≡ origin i = ap origin e in omega (arith, moved, same, before)) in
         first.none_before at.0 (omega (arith, past, equal)) ((t.names at.0 there).0 (subst (λ g. Names old_set g identifier) (sym same) named))
+
+-- Where glyphs stand that are taken over: each place stands for a glyph of the old font, in ascending order.
+pub record Placed (closed : List ℕ) (sources : Sources) (n : ℕ) (origin : ℕ → ℕ) : Type 0 where
+  pub rise : (i j : ℕ) → i < j → j < length sources → origin i < origin j
+  pub below : (i : ℕ) → i < length sources → origin i < n
+  pub all : (glyph : ℕ) → is_kept closed glyph ≡ true → glyph < n → (i : ℕ) × StandsAt sources i glyph × (origin i ≡ glyph)
+
+pub one-place : (closed : List ℕ) (sources : Sources) (n i j : ℕ) (origin : ℕ → ℕ) → Placed closed sources n origin → i < length sources → j < length sources → origin i ≡ origin j → i ≡ j
+one-place closed sources n i j origin p x y same =
+    let above : i < j → ⊥ = λ h. (let less = p.rise i j h y in omega (arith, less, same)) in
+    let below : j < i → ⊥ = λ h. (let less = p.rise j i h x in omega (arith, less, same)) in
+    omega (arith, above, below)
+
+abbrev pub glyph_or : Option ℕ → ℕ
+glyph_or None = 0
+glyph_or (Some glyph) = glyph
+
+pub chosen-placed : (closed : List ℕ) (n : ℕ) → Placed closed (chosen closed n) n (λ i. glyph_or (get_or (chosen closed n) i None))
+chosen-placed closed n = record {
+  rise = λ i j before there.
+      let one = r.some i (omega (arith, before, there)) in
+      let other = r.some j there in
+      let less = r.rise i j one.0 other.0 before one.1 other.1 in
+      subst (λ g. g < glyph_or (get_or (chosen closed n) j None)) (sym (ap glyph_or one.1.is)) (subst (λ g. one.0 < g) (sym (ap glyph_or other.1.is)) less);
+  below = λ i there. let one = r.some i there in subst (λ g. g < n) (sym (ap glyph_or one.1.is)) (r.below i one.0 one.1);
+  all = λ glyph kept less. let one = r.all glyph kept less in (one.0, one.1, ap glyph_or one.1.is);
+}
+  where
+    r : Rises closed (chosen closed n) n
+    r = chosen-rises closed n
+
+-- those that keep their numbers
+pub keeping-many : (closed : List ℕ) (n : ℕ) → length (keeping closed n) ≡ n
+keeping-many closed n = length-map-range_with_len (kept_or_none closed) 0 n
+
+pub keeping-at : (closed : List ℕ) (n i : ℕ) → i < n → get_or (keeping closed n) i None ≡ kept_or_none closed i
+keeping-at closed n i less = get_or-map-range_with_len (kept_or_none closed) 0 n i i None less (omega arith)
+
+pub keeping-placed : (closed : List ℕ) (n : ℕ) → Placed closed (keeping closed n) n (λ i. i)
+keeping-placed closed n = record {
+  rise = λ i j before there. before;
+  below = λ i there. subst (λ m. i < m) (keeping-many closed n) there;
+  all = λ glyph kept less. (
+    glyph,
+    record { there = subst (λ m. glyph < m) (sym (keeping-many closed n)) less; is = keeping-at closed n glyph less ∙ ap (λ b. if b then Some glyph else None) kept },
+    refl,
+  );
+}

@@ -10,9 +10,10 @@ use Rattle.postscript_view.specs.declared.encoding.Codes.TheVariants.{Predefined
 use Rattle.postscript_view.specs.declared.encoding.EncodingView.{EncodingView}
 use Rattle.postscript_write.specs.Glyphs.{Sources}
 
--- The same identifiers name a glyph that is written and the one that it is made of: its name, or in a CID-keyed font its CID.
+-- The same identifiers name a glyph that is written and the one that it is made of: its name, or in a CID-keyed font its CID. An
+-- empty glyph has those of the old glyph in its place.
 abbrev pub SameName : CharSetView → Option ℕ → CharSetView → (i : ℕ) → Type 0
-SameName old None new i = Unit {0}
+SameName old None new i = (identifier : ℕ) → Names old i identifier ↔ Names new i identifier
 SameName old (Some glyph) new i = (identifier : ℕ) → Names old glyph identifier ↔ Names new i identifier
 
 abbrev pub SameNames : CharSetView → Sources → CharSetView → Type 0

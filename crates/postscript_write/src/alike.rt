@@ -1,5 +1,5 @@
 //! Parts, names and codes of a font that is read back, compared with those that it was made of.
-ghost use Rattle.std.specs.Prelude.{◌≡◌, ◌<◌, ℕ, IsTrue, None, length, option_map, slice_index_or};
+ghost use Rattle.std.specs.Prelude.{◌≡◌, ◌<◌, ℕ, IsTrue, Some, None, length, option_map, slice_index_or};
 ghost use Rattle.postscript_items.specs.Lent.{items_of};
 ghost use Rattle.postscript_view.specs.Value.{part_shown, parts_shown, view_shown};
 ghost use Rattle.postscript_write.specs.Glyphs.{HasPartFor};
@@ -76,17 +76,24 @@ pub(crate) fn same_numbers(sources: &[Option<usize>], numbers: &[usize], new: &F
     true
 }
 
-/// Whether the same identifier names a glyph and the one that it is made of, if it is made of one.
-fn same_name(old: &CharSetView<'_>, source: Option<usize>, new: &CharSetView<'_>, i: usize) -> bool
-    ensures { IsTrue result → SameName old.now source new.now i }
+/// Whether the same identifier names glyphs of two fonts.
+fn same_identifier(old: &CharSetView<'_>, glyph: usize, new: &CharSetView<'_>, i: usize) -> bool
+    ensures { IsTrue result → SameName old.now (Some glyph) new.now i }
 {
-    let Some(glyph) = source else {
-        return true;
-    };
     match (old.identifier(glyph), new.identifier(i)) {
         (Some(was), Some(is)) => was == is,
         (None, None) => true,
         _ => false,
+    }
+}
+
+/// Whether the same identifier names a glyph and the one that it is made of; an empty one and the one in its place.
+fn same_name(old: &CharSetView<'_>, source: Option<usize>, new: &CharSetView<'_>, i: usize) -> bool
+    ensures { IsTrue result → SameName old.now source new.now i }
+{
+    match source {
+        Some(glyph) => same_identifier(old, glyph, new, i),
+        None => same_identifier(old, i, new, i),
     }
 }
 

@@ -4,6 +4,7 @@ ghost use Rattle.postscript_base.specs.Tape.Outcome.{Got};
 ghost use Rattle.postscript_view.specs.Order.{View, fonts as the_fonts, view as the_view};
 ghost use Rattle.postscript_view.specs.Value.{view_shown};
 ghost use Rattle.postscript_write.specs.Components.{IsSubset};
+ghost use Rattle.postscript_write.specs.Drawings.{DrawsNamed};
 ghost use Rattle.postscript_write.specs.Refusals.{IsRefusedBy, IsSubsetRefusedBy};
 ghost use Rattle.postscript_write.specs.Sources.{AreThere, IsWritten, chosen as the_chosen, every as the_every, keeping as the_keeping};
 ghost use Rattle.postscript_write.specs.Steps.{IsNotOpened};
@@ -46,15 +47,19 @@ pub fn flat_font(alloc: Global, bytes: &[u8]) -> Result<Vec<u8>>
     font_of(alloc, &font, &sources, true)
 }
 
-/// The font that the bytes begin with, with these glyphs alone: `.notdef` and those that are named, in ascending order, without
-/// subroutines. The order in which they are named, and whether one is named twice, does not matter. Each glyph draws what it
-/// drew, with the same advance and name or CID. Names and dictionaries say the same, except of places; an encoding of the font's own
-/// gives way to the standard one. Strings that neither a glyph nor an operator of the font's dictionary names are left out, and the
-/// others get new identifiers, but in a CID-keyed font (Technical Note 5176, sections 9, 10 and 13).
+/// The font that the bytes begin with, with these glyphs alone: `.notdef`, those that are named, and the base and the accent of each
+/// of these that is accented (Technical Note 5177, Appendix C), in ascending order, without subroutines. The order in which they are
+/// named, and whether one is named twice, does not matter. Each glyph draws what it drew, with the same advance and name or CID, and
+/// one that is named is drawn with its components as before. A component that no glyph of the font is, is not kept, and the glyph
+/// cannot be drawn, as before. Of a component that is accented itself, with which nothing is drawn, the components are not kept.
+/// Names and dictionaries say the same, except of places; an encoding of the font's own gives way to the standard one. Strings that
+/// neither a glyph nor an operator of the font's dictionary names are left out, and the others get new identifiers, but in a CID-keyed
+/// font (Technical Note 5176, sections 9, 10 and 13).
 ///
 /// Refused: `NoGlyphs` where none is named; `MissingGlyph` with a number that no glyph has; `MissingName` where the char set
 /// has no identifier for a glyph; and as `flat_font` is, but only for these glyphs.
 pub fn subset(alloc: Global, bytes: &[u8], named: &[usize]) -> Result<Vec<u8>>
+    ensures drawn { IfOk result (λ flat. DrawsNamed the_chosen named.now bytes.now flat.items) }
     ensures written { IfOk result (λ flat. IsSubset false the_chosen named.now bytes.now flat.items) }
     ensures one { OnOk result (the_fonts bytes.now 0 ≡ Got 1 0) }
     ensures refused { IfErr result (λ e. IsSubsetRefusedBy named.now the_chosen bytes.now e) }
@@ -76,6 +81,7 @@ pub fn subset(alloc: Global, bytes: &[u8], named: &[usize]) -> Result<Vec<u8>>
 /// Refused: `NoGlyphs` where none is named; `MissingGlyph` with a number that no glyph has; and as `flat_font` is, but only for
 /// these glyphs.
 pub fn subset_keeping(alloc: Global, bytes: &[u8], named: &[usize]) -> Result<Vec<u8>>
+    ensures drawn { IfOk result (λ flat. DrawsNamed the_keeping named.now bytes.now flat.items) }
     ensures written { IfOk result (λ flat. IsSubset true the_keeping named.now bytes.now flat.items) }
     ensures one { OnOk result (the_fonts bytes.now 0 ≡ Got 1 0) }
     ensures refused { IfErr result (λ e. IsSubsetRefusedBy named.now the_keeping bytes.now e) }

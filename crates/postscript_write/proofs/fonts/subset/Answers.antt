@@ -10,6 +10,7 @@ use Rattle.postscript_write.specs.Sources.{AreThere, chosen}
 use Rattle.postscript_write.specs.Steps.{IsNotChosen}
 use Rattle.postscript_write.specs.declared.error.Error.{Error}
 use Rattle.postscript_write.proofs.Making.{if_ok}
+use Rattle.postscript_write.proofs.Drawings.{subset-drawn}
 use Rattle.postscript_write.proofs.Subsets.{closed-so, named-there, not-chosen, not-opened, subset-made, subset-refused, untold}
 use Rattle.postscript_write.proofs.fonts.subset.Goals as goal
 
@@ -60,3 +61,6 @@ returns-in_err-sources-clause-refused c =
     let same : (e : Error) → IsNotChosen c.deref.result.now c.len.result e → IsNotChosen c.in_ok-closed.closed.items (glyphs_of c.in_ok-font.font) e = λ e h. subst (λ (xs : List ℕ). IsNotChosen xs (glyphs_of c.in_ok-font.font) e) c.deref.ensures.value (subst (λ (n : ℕ). IsNotChosen c.deref.result.now n e) c.len.ensures h) in
     rw (error.1, error.2) (not-chosen c.args.named.now c.in_ok-closed.closed.items chosen c.args.bytes.now c.in_ok-font.font _ opened c.in_ok-closed.ensures.closed
     (same _ c.in_err-sources.ensures.refused))
+
+pub returns-clause-drawn : goal.returns-clause-drawn
+returns-clause-drawn c = subset-drawn c.font_of.result c.args.named.now c.args.bytes.now (returns-clause-written c)

@@ -1,0 +1,9 @@
+use Rattle.std.proofs.Common.{refl}
+use Rattle.std.specs.Prelude.{Some}
+use Rattle.std.proofs.lemmas.Bool.{eqb-true}
+use Rattle.postscript_write.proofs.Likeness.{same_name_by}
+use Rattle.postscript_write.proofs.alike.same_identifier.Goals as goal
+
+pub returns-in-Some-Some : goal.returns-in-Some-Some
+returns-in-Some-Some c = λ h.
+    same_name_by c.args.old.now c.args.new.now (Some c.args.glyph) c.args.glyph c.args.i c.in-Some-Some.was c.in-Some-Some.is' refl c.in-Some-Some.ensures.found c.in-Some-Some.ensures'.found (eqb-true _ _ h)
