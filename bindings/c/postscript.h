@@ -78,7 +78,7 @@ enum {
     PSF_NO_GLYPHS = 43,                   /* no glyphs are named */
     PSF_NOT_READ_BACK = 44,               /* what was written is not read back as the font; no font is known for which this comes */
     PSF_TOO_LARGE = 45,                   /* what is to be written is too large */
-    PSF_TOO_LONG = 46                     /* the runs of the glyphs do not come to their ends with so much fuel */
+    PSF_TOO_LONG = 46                     /* the runs of the glyphs do not come to their ends within a limit */
 };
 
 /* What a segment is. */
@@ -171,12 +171,12 @@ int32_t psf_map_glyph(const uint8_t *cmap, size_t length, uint32_t character, si
  * On PSF_OK *font tells where its parts stand. Else the status is an error from 1 to 15, and *font is as it was. */
 int32_t psf_font_open(const uint8_t *cff, size_t length, psf_font *font);
 
-/* Whether the runs of all glyphs of a font come to their ends with so much fuel, which they share. A font of a few bytes may
+/* Whether the runs of all glyphs of a font come to their ends within a limit, which they share. A font of a few bytes may
  * name more calls of subroutines than can be run in years: a caller that does not trust one asks this once, before the calls
- * below. An operator takes a unit of fuel for each of its bytes, with the numbers before it, and a roll 4096 more.
- * On PSF_OK each glyph's run ends, or is refused, with the *fuel that was given. On PSF_TOO_LONG *fuel is 0. Also answered:
- * errors from 1 to 15. Else *fuel is what is left. */
-int32_t psf_font_fits(const uint8_t *cff, size_t length, uint64_t *fuel);
+ * below. An operator takes a unit of the limit for each of its bytes, with the numbers before it, and a roll 4096 more.
+ * On PSF_OK each glyph's run ends, or is refused, with the *limit that was given. On PSF_TOO_LONG *limit is 0. Also answered:
+ * errors from 1 to 15. Else *limit is what is left. */
+int32_t psf_font_fits(const uint8_t *cff, size_t length, uint64_t *limit);
 
 /* The outline of a glyph, to the front of segments[0..room]; its number of segments, its width and its bounds.
  * On PSF_OK and PSF_NO_ROOM *count and *info are told, and on PSF_OK segments[0..*count] is the outline: contours, each from

@@ -180,11 +180,11 @@ static void check_refused(const uint8_t *cff, size_t size) {
 }
 
 static void check_fits(const uint8_t *cff, size_t size) {
-    uint64_t fuel = 1000;
-    holds(psf_font_fits(cff, size, &fuel) == PSF_OK && fuel > 0 && fuel < 1000, "all glyphs come to their ends");
-    fuel = 1;
-    holds(psf_font_fits(cff, size, &fuel) == PSF_TOO_LONG && fuel == 0, "not with so little fuel");
-    holds(psf_font_fits(cff, 2, &fuel) == PSF_UNEXPECTED_EOF, "nor where the font is cut");
+    uint64_t limit = 1000;
+    holds(psf_font_fits(cff, size, &limit) == PSF_OK && limit > 0 && limit < 1000, "all glyphs come to their ends");
+    limit = 1;
+    holds(psf_font_fits(cff, size, &limit) == PSF_TOO_LONG && limit == 0, "not with so little limit");
+    holds(psf_font_fits(cff, 2, &limit) == PSF_UNEXPECTED_EOF, "nor where the font is cut");
 }
 
 static void check_texts(void) {

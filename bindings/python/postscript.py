@@ -321,11 +321,11 @@ class Font:
         """Whether the glyphs have numbers in place of names."""
         return bool(self._font.is_cid)
 
-    def fits(self, fuel: int) -> bool:
-        """Whether the runs of all glyphs come to their ends with so much fuel, which they share. An operator takes a unit for each of
+    def fits(self, limit: int) -> bool:
+        """Whether the runs of all glyphs come to their ends within a limit, which they share. An operator takes a unit for each of
         its bytes, with the numbers before it, and a roll 4096 more. Ask it of a font that you do not trust before you draw: a few
         bytes may name more calls of subroutines than can be run in years."""
-        status = _library.psf_font_fits(self._cff, len(self._cff), byref(c_uint64(fuel)))
+        status = _library.psf_font_fits(self._cff, len(self._cff), byref(c_uint64(limit)))
         if status == Status.TOO_LONG:
             return False
         _checked(status)

@@ -71,7 +71,7 @@ class Small(unittest.TestCase):
     def test_all(self):
         self.assertEqual(len(self.font), 4)
         self.assertFalse(self.font.is_cid_keyed)
-        self.assertEqual([self.font.fits(fuel) for fuel in (1, 1000)], [False, True])
+        self.assertEqual([self.font.fits(limit) for limit in (1, 1000)], [False, True])
         self.assertEqual([glyph.advance for glyph in self.font], [500, 250, 500, 450])
         self.assertIsNone(self.font[1].bounds)
 

@@ -102,7 +102,7 @@ extern "C" {
     ) -> i32;
     fn psf_map_glyph(cmap: *const u8, length: usize, character: u32, glyph: *mut usize) -> i32;
     fn psf_font_open(cff: *const u8, length: usize, font: *mut Font) -> i32;
-    fn psf_font_fits(cff: *const u8, length: usize, fuel: *mut u64) -> i32;
+    fn psf_font_fits(cff: *const u8, length: usize, limit: *mut u64) -> i32;
     fn psf_glyph_outline(
         cff: *const u8,
         length: usize,
@@ -245,8 +245,8 @@ pub fn open(cff: &[u8]) -> Result<Font> {
     answered(status, font)
 }
 
-pub fn fits(cff: &[u8], fuel: &mut u64) -> Result<()> {
-    let status = unsafe { psf_font_fits(cff.as_ptr(), cff.len(), fuel) };
+pub fn fits(cff: &[u8], limit: &mut u64) -> Result<()> {
+    let status = unsafe { psf_font_fits(cff.as_ptr(), cff.len(), limit) };
     answered(status, ())
 }
 

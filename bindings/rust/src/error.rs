@@ -90,7 +90,7 @@ pub enum Error {
     NotReadBack = 44,
     /// What is to be written is too large.
     TooLarge = 45,
-    /// The runs of the glyphs do not come to their ends with so much fuel.
+    /// The runs of the glyphs do not come to their ends within a limit.
     TooLong = 46,
     /// A status that this crate does not know.
     Other = -1,

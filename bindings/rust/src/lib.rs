@@ -98,15 +98,15 @@ impl<'a> Font<'a> {
         }
     }
 
-    /// Whether the runs of all glyphs come to their ends with so much fuel, which they share; what is left of it is told. An
+    /// Whether the runs of all glyphs come to their ends within a limit, which they share; what is left of it is told. An
     /// operator takes a unit for each of its bytes, with the numbers before it, and a roll 4096 more. Ask it of a font that you
     /// do not trust before the calls below: a few bytes may name more calls of subroutines than can be run in years.
     ///
     /// # Errors
     ///
     /// [`Error::Memory`].
-    pub fn fits(&self, fuel: &mut u64) -> Result<bool> {
-        match c::fits(self.cff, fuel) {
+    pub fn fits(&self, limit: &mut u64) -> Result<bool> {
+        match c::fits(self.cff, limit) {
             Ok(()) => Ok(true),
             Err(Error::TooLong) => Ok(false),
             Err(e) => Err(e),

@@ -154,7 +154,7 @@ pub component-undrawn : (font : FontView) (code glyph : ℕ) (origin : Point) (e
 component-undrawn font code glyph origin e component (inl memory) = inl memory
 component-undrawn font code glyph origin e component (inr refused) = inr (inr (inl (record { glyph = glyph; component = component; refused = refused })))
 
--- with fuel: what is found of a glyph by itself, or the fuel is used up
+-- within a limit: what is found of a glyph by itself, or the limit is used up
 abbrev pub OwnFound : FontView → (glyph : ℕ) → (origin : Point) → (old new : List Segment) → (left : ℕ) → Option Own → Type 0
 OwnFound font glyph origin old new left found =
     MatchOption found (left ≡ 0) (λ own. (segments : List Segment) × HasOwn font glyph origin segments own.width own.accent × Gives old new segments)

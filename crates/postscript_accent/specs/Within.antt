@@ -1,16 +1,16 @@
--- How a glyph is drawn with so much fuel.
+-- How a glyph is drawn within a limit.
 use Rattle.std.specs.Prelude.{◌≡◌, ◌⊎◌, ℕ, zero, suc, List, [], ◌++◌}
 use Rattle.postscript_outline.specs.declared.drawing.Drawn.{Drawn}
 use Rattle.postscript_outline.specs.declared.drawing.Drawn.TheVariants.{Whole, Stopped}
 use Rattle.postscript_outline.specs.declared.segment.Segment.{Segment}
-use Rattle.postscript_type2.specs.Program.Fuel.{Spends}
+use Rattle.postscript_type2.specs.Program.Limit.{Spends}
 use Rattle.postscript_type2.specs.Program.Runs.{Said, Run}
 use Rattle.postscript_view.specs.Advances.{HasRun}
 use Rattle.postscript_view.specs.declared.font.FontView.{FontView}
 use Rattle.postscript_view.specs.declared.part.Part.{Part}
 use Rattle.postscript_accent.specs.Drawn.{IsDrawnAs}
 
--- All of the glyph has been given, and this is its width; or the fuel was used up.
+-- All of the glyph has been given, and this is its width; or the limit was used up.
 abbrev pub DrawsGlyphWithin : (font : FontView) (glyph : ℕ) (old new : List Segment) → Drawn → (left : ℕ) → Type 0
 DrawsGlyphWithin font glyph old new (Whole width) left = (segments : List Segment) × IsDrawnAs font glyph segments width × (new ≡ old ++ segments)
 DrawsGlyphWithin font glyph old new Stopped left = left ≡ 0
@@ -22,5 +22,5 @@ AreOfRuns font (suc more) phrases = (phrases ≡ []) ⊎ ((glyph : ℕ) × (part
     HasRun font glyph part run × (run.trace ≡ first ++ rest) × (phrases ≡ first ++ others) × AreOfRuns font more others)
 
 -- Such phrases were run, and are paid.
-abbrev pub SpendsOnRuns : (font : FontView) (count fuel left : ℕ) → Type 0
-SpendsOnRuns font count fuel left = (phrases : List Said) × AreOfRuns font count phrases × Spends fuel phrases left []
+abbrev pub SpendsOnRuns : (font : FontView) (count limit left : ℕ) → Type 0
+SpendsOnRuns font count limit left = (phrases : List Said) × AreOfRuns font count phrases × Spends limit phrases left []

@@ -82,7 +82,7 @@ fn text_of(status: i32) -> Option<&'static str> {
         43 => Some("no glyphs are named"),
         44 => Some("the font is not read back as it was written"),
         45 => Some("the font is too large to be written"),
-        46 => Some("the glyphs do not end with so much fuel"),
+        46 => Some("the glyphs do not end within the limit"),
         _ => refusal_text(status),
     }
 }

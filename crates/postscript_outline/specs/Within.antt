@@ -1,4 +1,4 @@
--- What is drawn with so much fuel.
+-- What is drawn within a limit.
 use Rattle.std.specs.Prelude.{◌≡◌, ℕ, List, [], Result, Ok, Err}
 use Rattle.postscript_base.specs.declared.error.Error.{Error}
 use Rattle.postscript_outline.specs.declared.drawing.Drawn.{Drawn}
@@ -7,11 +7,11 @@ use Rattle.postscript_outline.specs.declared.point.Point.{Point}
 use Rattle.postscript_outline.specs.declared.segment.Segment.{Segment}
 use Rattle.postscript_outline.specs.Drawing.{Drawing}
 use Rattle.postscript_outline.specs.Given.{DrawsFrom, DrawsPending, DrawsPendingAt}
-use Rattle.postscript_type2.specs.Program.Fuel.{Spends}
+use Rattle.postscript_type2.specs.Program.Limit.{Spends}
 use Rattle.postscript_type2.specs.Program.Programs.{Pending, ended_over}
 use Rattle.postscript_type2.specs.Program.Runs.{Said, taken_by}
 
--- all has been given, and this is the width; or the fuel was used up
+-- all has been given, and this is the width; or the limit was used up
 abbrev pub DrawsFromWithin : Drawing → (new : List Segment) → Drawn → Pending → (left : ℕ) → Type 0
 DrawsFromWithin d new (Whole width) pending left = DrawsFrom d new width pending
 DrawsFromWithin d new Stopped pending left = left ≡ 0
@@ -27,10 +27,10 @@ DrawsAtWithin origin old new (Whole width) pending left = DrawsPendingAt origin 
 DrawsAtWithin origin old new Stopped pending left = left ≡ 0
 
 -- the phrases that were run are paid: all of them, where all has been given
-abbrev pub IsSpent : (fuel : ℕ) → (phrases : List Said) → (left : ℕ) → Result Drawn Error → Type 0
-IsSpent fuel phrases left (Ok (Whole width)) = Spends fuel phrases left []
-IsSpent fuel phrases left (Ok Stopped) = (rest : List Said) × Spends fuel phrases left rest
-IsSpent fuel phrases left (Err e) = (rest : List Said) × Spends fuel phrases left rest
+abbrev pub IsSpent : (limit : ℕ) → (phrases : List Said) → (left : ℕ) → Result Drawn Error → Type 0
+IsSpent limit phrases left (Ok (Whole width)) = Spends limit phrases left []
+IsSpent limit phrases left (Ok Stopped) = (rest : List Said) × Spends limit phrases left rest
+IsSpent limit phrases left (Err e) = (rest : List Said) × Spends limit phrases left rest
 
 -- where all has been given, the program is at its end
 abbrev pub IsEnded : Drawn → (old new : Pending) → Type 0

@@ -7,7 +7,7 @@ ghost use Rattle.postscript_outline.specs.Drawing.{IsFront, held};
 ghost use Rattle.postscript_outline.specs.Given.{DrawsFrom, DrawsPending, DrawsPendingAt, DrawsRun, IsFrontDrawn, outlined_from};
 ghost use Rattle.postscript_outline.specs.Outline.{outline_of, outlined, outlined_at};
 ghost use Rattle.postscript_outline.specs.Within.{DrawsAtWithin, DrawsFromWithin, DrawsWithin, IsEnded, IsSpent};
-ghost use Rattle.postscript_type2.specs.Program.Fuel.{cost};
+ghost use Rattle.postscript_type2.specs.Program.Limit.{cost};
 ghost use Rattle.postscript_type2.specs.Program.Endings.{next_refusals};
 ghost use Rattle.postscript_type2.specs.Program.Evaluation.{run_of};
 ghost use Rattle.postscript_type2.specs.Program.Meaning.{IsRunOf};
@@ -103,35 +103,35 @@ fn draw_from<S: Sink>(
     Ok(program.width())
 }
 
-/// What a drawing comes to with its fuel.
+/// What a drawing comes to within its limit.
 #[derive(Clone, Copy)]
 pub enum Drawn {
     /// All has been drawn, and this is the width of the glyph, as `Program::width` gives it.
     Whole(Option<Operand>),
-    /// The fuel was used up before the end.
+    /// The limit was used up before the end.
     Stopped,
 }
 
-/// Draws what a program still answers into a sink, as `draw_program` does, while fuel is left: `Program::step_within` says
+/// Draws what a program still answers into a sink, as `draw_program` does, while the limit lasts: `Program::step_within` says
 /// what it is spent on. Where it is used up before the end, the sink has been given the segments up to there. A program that
-/// costs less than the fuel is drawn whole.
+/// costs less than the limit is drawn whole.
 ///
 /// Refused: as `draw_program` is.
 pub fn draw_program_within<S: Sink>(
     program: &mut Program<'_>,
-    fuel: &mut u64,
+    limit: &mut u64,
     sink: &mut S,
 ) -> Result<Drawn>
     ensures kept { IsFront (S.given sink.old) (S.given sink.new) }
     ensures front { IsFrontDrawn (S.given sink.old) (S.given sink.new) program.old.answers }
     ensures ended { IfOk result (λ drawn. IsEnded drawn program.old program.new) }
-    ensures exact { MatchResult result (λ drawn. DrawsWithin (S.given sink.old) (S.given sink.new) drawn program.old fuel.new)
+    ensures exact { MatchResult result (λ drawn. DrawsWithin (S.given sink.old) (S.given sink.new) drawn program.old limit.new)
         (λ e. (e ≡ errors.Memory) ⊎ (outlined program.old.answers program.old.end ≡ Err (refusal_of e))) }
-    ensures spends { IsSpent fuel.old program.old.trace fuel.new result }
-    ensures suffices { cost program.old.trace < fuel.old → result ≢ Ok Drawn.Stopped }
+    ensures spends { IsSpent limit.old program.old.trace limit.new result }
+    ensures suffices { cost program.old.trace < limit.old → result ≢ Ok Drawn.Stopped }
     ensures listed { IsListed next_refusals result }
 {
-    draw_from_within(program, Pen::new(), fuel, sink)
+    draw_from_within(program, Pen::new(), limit, sink)
 }
 
 /// The same, where the origin of the glyph is put at a point.
@@ -140,43 +140,43 @@ pub fn draw_program_within<S: Sink>(
 pub fn draw_program_at_within<S: Sink>(
     program: &mut Program<'_>,
     origin: Point,
-    fuel: &mut u64,
+    limit: &mut u64,
     sink: &mut S,
 ) -> Result<Drawn>
     ensures kept { IsFront (S.given sink.old) (S.given sink.new) }
     ensures ended { IfOk result (λ drawn. IsEnded drawn program.old program.new) }
-    ensures exact { MatchResult result (λ drawn. DrawsAtWithin origin (S.given sink.old) (S.given sink.new) drawn program.old fuel.new)
+    ensures exact { MatchResult result (λ drawn. DrawsAtWithin origin (S.given sink.old) (S.given sink.new) drawn program.old limit.new)
         (λ e. (e ≡ errors.Memory) ⊎ (outlined_at origin program.old.answers program.old.end ≡ Err (refusal_of e))) }
-    ensures spends { IsSpent fuel.old program.old.trace fuel.new result }
-    ensures suffices { cost program.old.trace < fuel.old → result ≢ Ok Drawn.Stopped }
+    ensures spends { IsSpent limit.old program.old.trace limit.new result }
+    ensures suffices { cost program.old.trace < limit.old → result ≢ Ok Drawn.Stopped }
     ensures listed { IsListed next_refusals result }
 {
     let pen = Pen {
         at: origin,
         is_open: false,
     };
-    draw_from_within(program, pen, fuel, sink)
+    draw_from_within(program, pen, limit, sink)
 }
 
 /// The same, from where a pen stands.
 fn draw_from_within<S: Sink>(
     program: &mut Program<'_>,
     start: Pen,
-    fuel: &mut u64,
+    limit: &mut u64,
     sink: &mut S,
 ) -> Result<Drawn>
-    ensures exact { MatchResult result (λ drawn. DrawsFromWithin (held start (S.given sink.old)) (S.given sink.new) drawn program.old fuel.new)
+    ensures exact { MatchResult result (λ drawn. DrawsFromWithin (held start (S.given sink.old)) (S.given sink.new) drawn program.old limit.new)
         (λ e. (e ≡ errors.Memory) ⊎ (outlined_from (held start (S.given sink.old)) program.old.answers program.old.end ≡ Err (refusal_of e))) }
     ensures kept { IsFront (S.given sink.old) (S.given sink.new) }
     ensures front { IfOk (outlined_from (held start (S.given sink.old)) program.old.answers UsedUp) (λ segments. IsFront (S.given sink.new) segments) }
-    ensures spends { IsSpent fuel.old program.old.trace fuel.new result }
-    ensures suffices { cost program.old.trace < fuel.old → result ≢ Ok Drawn.Stopped }
+    ensures spends { IsSpent limit.old program.old.trace limit.new result }
+    ensures suffices { cost program.old.trace < limit.old → result ≢ Ok Drawn.Stopped }
     ensures listed { IsListed next_refusals result }
     ensures ended { IfOk result (λ drawn. IsEnded drawn program.old program.new) }
 {
     let mut pen = start;
     loop {
-        match program.step_within(fuel)? {
+        match program.step_within(limit)? {
             Within::Operation(operator, operands) => pen.draw_path(operator, operands, sink)?,
             Within::End => {
                 pen.end(sink)?;

@@ -3,7 +3,7 @@ use Rattle.std.proofs.Common.{◌≡◌, subst, sym, ℕ, zero, suc, ◌+◌, �
 use Rattle.postscript_type2.specs.declared.operation.Operator.{Operator}
 use Rattle.postscript_type2.specs.Program.Effects.{State, Move, Keeps, Clears, Calls, Returns, Ends, Refuses, pushed}
 use Rattle.postscript_type2.specs.Program.Evaluation.{with_phrase, Stride, On, Into, Back, Over, Faults, moved, stride_by, stride}
-use Rattle.postscript_type2.specs.Program.Fuel.{cost_of}
+use Rattle.postscript_type2.specs.Program.Limit.{cost_of}
 use Rattle.postscript_type2.specs.Program.Parsing.{Phrase, Complete, NoPhrase, phrase}
 use Rattle.postscript_type2.specs.Program.Routines.{Lists}
 use Rattle.postscript_type2.specs.Program.Runs.{Said, Run}

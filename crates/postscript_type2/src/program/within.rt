@@ -1,9 +1,9 @@
-//! Operations that are lent, while fuel is left.
+//! Operations that are lent, while the limit lasts.
 ghost use Rattle.std.specs.Borrow.{sem};
 ghost use Rattle.std.specs.Prelude.{◌≡◌, ◌≢◌, ◌<◌, ℤ, List};
 ghost use Rattle.postscript_base.specs.Error.{IsListed};
 ghost use Rattle.postscript_type2.specs.Program.Endings.{next_refusals};
-ghost use Rattle.postscript_type2.specs.Program.Fuel.{cost};
+ghost use Rattle.postscript_type2.specs.Program.Limit.{cost};
 ghost use Rattle.postscript_type2.specs.Program.Programs.{ended, ended_over, failed};
 ghost use Rattle.postscript_type2.specs.Program.Within.{LendsWithin, IsHeadWithin};
 
@@ -12,34 +12,34 @@ use super::{Phase, Program};
 use crate::operation::{Operand, Operator};
 use postscript_base::{Error, Result};
 
-/// How far a program comes with its fuel.
+/// How far a program comes within its limit.
 #[derive(Clone, Copy)]
 pub enum Within<'p> {
     /// To its next operation: the operator, and its operands, the lowest first.
     Operation(Operator, &'p [Operand]),
     /// To its end.
     End,
-    /// Not so far: the fuel is used up. The program goes on where it stands, as soon as it is called again.
+    /// Not so far: the limit is used up. The program goes on where it stands, as soon as it is called again.
     Paused,
 }
 
 impl<'l> Program<'l> {
-    /// The next operation, as `step` lends it, where the fuel lasts up to it. Each phrase that is run, an operator with
-    /// the numbers before it, takes a unit of fuel for each of its bytes, and a `roll` 4096 more; one is begun only while
-    /// fuel is left, and takes the rest of it where it costs more. So a call reads at most as many bytes as there is
-    /// fuel, and one phrase. Where it answers `Paused` the program still answers what it did before: any call goes on from
-    /// there. A run that costs less than the fuel is never paused. Calls of `next` and `step` may be mixed with it; they
-    /// know no fuel.
+    /// The next operation, as `step` lends it, where the limit lasts up to it. Each phrase that is run, an operator with
+    /// the numbers before it, takes a unit of the limit for each of its bytes, and a `roll` 4096 more; one is begun only
+    /// while some of the limit is left, and takes the rest of it where it costs more. So a call reads at most as many bytes
+    /// as the limit has units, and one phrase. Where it answers `Paused` the program still answers what it did before: any
+    /// call goes on from there. A run that costs less than the limit is never paused. Calls of `next` and `step` may be
+    /// mixed with it; they keep to no limit.
     ///
     /// Memory is asked for as `step` does.
     ///
     /// Refused: as `next` is.
     ///
     /// ```rust
-    /// pub fn count(program: &mut Program<'_>, mut fuel: u64) -> Result<Option<u64>> {
+    /// pub fn count(program: &mut Program<'_>, mut limit: u64) -> Result<Option<u64>> {
     ///     let mut count = 0u64;
     ///     for _ in 0..u64::MAX {
-    ///         match program.step_within(&mut fuel)? {
+    ///         match program.step_within(&mut limit)? {
     ///             Within::Operation(..) => count = count.saturating_add(1),
     ///             Within::End => return Ok(Some(count)),
     ///             Within::Paused => return Ok(None),
@@ -49,14 +49,14 @@ impl<'l> Program<'l> {
     /// }
     /// ```
     #[inline(always)]
-    pub fn step_within(&mut self, fuel: &mut u64) -> Result<Within<'_>>
-        ensures* steps { sem 𝓛 (LendsWithin self.entry fuel.old result fuel.new) }
+    pub fn step_within(&mut self, limit: &mut u64) -> Result<Within<'_>>
+        ensures* steps { sem 𝓛 (LendsWithin self.entry limit.old result limit.new) }
         ensures head { IsHeadWithin self.old result }
         ensures listed { IsListed next_refusals result }
         ensures ended { self.old ≡ ended self.old.width → result ≡ Ok Within.End }
         ensures over { (operands : List ℤ) → self.old ≡ ended_over operands self.old.width → result ≡ Ok Within.End }
         ensures failed { self.old ≡ failed self.old.width → result ≡ Err Error.AlreadyFailed }
-        ensures suffices { cost self.old.trace < fuel.old → result ≢ Ok Within.Paused }
+        ensures suffices { cost self.old.trace < limit.old → result ≢ Ok Within.Paused }
     {
         match self.phase {
             Phase::Running => self.machine.empty(),
@@ -64,7 +64,7 @@ impl<'l> Program<'l> {
             Phase::Ended => return Ok(Within::End),
             Phase::Failed => return Err(Error::AlreadyFailed),
         }
-        match self.machine.stop_within(fuel) {
+        match self.machine.stop_within(limit) {
             Ok(Stop::At(operator, count)) => Ok(Within::Operation(
                 operator,
                 self.machine.operands(count),

@@ -9,10 +9,10 @@ use Rattle.postscript_accent.proofs.within.draw_components_within.Goals as goal
 
 pub returns-in_err-draw_component_within-clause-spends : goal.returns-in_err-draw_component_within-clause-spends
 returns-in_err-draw_component_within-clause-spends g c =
-    spends-more c.args.font.now 1 c.args.fuel.now c.draw_component_within.new.fuel c.draw_component_within.ensures.spends
+    spends-more c.args.font.now 1 c.args.limit.now c.draw_component_within.new.limit c.draw_component_within.ensures.spends
 
 pub returns-in-None-clause-spends : goal.returns-in-None-clause-spends
-returns-in-None-clause-spends g c = spends-more c.args.font.now 1 c.args.fuel.now c.draw_component_within.new.fuel c.draw_component_within.ensures.spends
+returns-in-None-clause-spends g c = spends-more c.args.font.now 1 c.args.limit.now c.draw_component_within.new.limit c.draw_component_within.ensures.spends
 
 pub returns-in-Some-clause-drawn : goal.returns-in-Some-clause-drawn
 returns-in-Some-clause-drawn g c =
@@ -21,11 +21,11 @@ returns-in-Some-clause-drawn g c =
     let old : List Segment = g.S.Sink.given c.args.sink.now in
     let middle : List Segment = g.S.Sink.given c.draw_component_within.new.sink in
     let new : List Segment = g.S.Sink.given c.draw_component_within-in-Some.new.sink in
-    let left = c.draw_component_within-in-Some.new.fuel in
-    let base = subst (ComponentFound font accent.base zero_point old middle c.draw_component_within.new.fuel) c.in-Some.is c.in_ok-draw_component_within.ensures.drawn in
+    let left = c.draw_component_within-in-Some.new.limit in
+    let base = subst (ComponentFound font accent.base zero_point old middle c.draw_component_within.new.limit) c.in-Some.is c.in_ok-draw_component_within.ensures.drawn in
     let P : Point → Type 0 = λ origin. IfOk c.draw_component_within-in-Some.result (λ found. ComponentFound font accent.accent origin middle new left found) in
     draws-both-within c.draw_component_within-in-Some.result font accent old middle new base.0 left base.1 base.2 (subst P c.place_of.ensures c.draw_component_within-in-Some.ensures.drawn)
 
 pub returns-in-Some-clause-spends : goal.returns-in-Some-clause-spends
 returns-in-Some-clause-spends g c =
-    spends-both c.args.font.now 1 c.args.fuel.now c.draw_component_within.new.fuel c.draw_component_within-in-Some.new.fuel c.draw_component_within.ensures.spends c.draw_component_within-in-Some.ensures.spends
+    spends-both c.args.font.now 1 c.args.limit.now c.draw_component_within.new.limit c.draw_component_within-in-Some.new.limit c.draw_component_within.ensures.spends c.draw_component_within-in-Some.ensures.spends

@@ -7,12 +7,12 @@ pub returns-in-Some-clause-own : goal.returns-in-Some-clause-own
 returns-in-Some-clause-own g c =
     let has = has-run c.args.font.now c.args.glyph c.in-Some.found c.in-Some.ensures.found c.in-Some.ensures.subroutines in
     own-so-within c.draw_run_within.result c.args.font.now c.args.glyph c.in-Some.found c.args.origin (g.S.Sink.given c.args.sink.now) (g.S.Sink.given c.draw_run_within.new.sink)
-    c.draw_run_within.new.fuel has c.draw_run_within.ensures.drawn c.draw_run_within.ensures.width c.draw_run_within.ensures.told
+    c.draw_run_within.new.limit has c.draw_run_within.ensures.drawn c.draw_run_within.ensures.width c.draw_run_within.ensures.told
 
 pub returns-in-Some-clause-spends : goal.returns-in-Some-clause-spends
 returns-in-Some-clause-spends g c =
     let has = has-run c.args.font.now c.args.glyph c.in-Some.found c.in-Some.ensures.found c.in-Some.ensures.subroutines in
-    spends-one c.args.font.now c.args.glyph c.in-Some.found.part.now (run_by c.in-Some.found) c.args.fuel.now c.draw_run_within.new.fuel has c.draw_run_within.ensures.spends
+    spends-one c.args.font.now c.args.glyph c.in-Some.found.part.now (run_by c.in-Some.found) c.args.limit.now c.draw_run_within.new.limit has c.draw_run_within.ensures.spends
 
 pub returns-in-Some-clause-why : goal.returns-in-Some-clause-why
 returns-in-Some-clause-why g c =
@@ -20,4 +20,4 @@ returns-in-Some-clause-why g c =
     refused-so c.draw_run_within.result c.args.font.now c.args.glyph c.in-Some.found c.args.origin has c.draw_run_within.ensures.why
 
 pub returns-in-None-clause-spends : goal.returns-in-None-clause-spends
-returns-in-None-clause-spends g c = nothing-spent c.args.font.now 0 c.args.fuel.now
+returns-in-None-clause-spends g c = nothing-spent c.args.font.now 0 c.args.limit.now

@@ -9,7 +9,7 @@ use Rattle.postscript_outline.specs.Drawing.{Drawing, ◌>>=◌, IsFront, drawin
 use Rattle.postscript_outline.specs.Given.{outlined_from}
 use Rattle.postscript_outline.specs.Operators.{strokes}
 use Rattle.postscript_outline.specs.Outline.{finished}
-use Rattle.postscript_type2.specs.Program.Fuel.{nothing}
+use Rattle.postscript_type2.specs.Program.Limit.{nothing}
 use Rattle.postscript_type2.specs.Program.Runs.{Answer, UsedUp}
 
 pub loop-operator-init : goal.loop-operator-init
@@ -80,4 +80,4 @@ returns-in-Paused-clause-spends g c =
 
 pub returns-in-Paused-clause-suffices : goal.returns-in-Paused-clause-suffices
 returns-in-Paused-clause-suffices g c = λ less _.
-    no-pause c.loop-operator.program c.step_within.follows.lender-at-none c.step_within.new.fuel (c.in_ok-operator.was ∙ ap Ok c.in-Paused.is) c.step_within.follows.holds-at-none c.loop-operator.invariant.spends less
+    no-pause c.loop-operator.program c.step_within.follows.lender-at-none c.step_within.new.limit (c.in_ok-operator.was ∙ ap Ok c.in-Paused.is) c.step_within.follows.holds-at-none c.loop-operator.invariant.spends less

@@ -1,18 +1,18 @@
 use Rattle.std.proofs.Common.{◌≡◌, arith, rules, refl}
-use Rattle.postscript_type2.specs.Program.Fuel.{Spends}
+use Rattle.postscript_type2.specs.Program.Limit.{Spends}
 use Rattle.postscript_type2.specs.Private.Machines.{still_of, still_emptied}
 use Rattle.postscript_type2.specs.Private.Working.{settled_width}
 use Rattle.postscript_type2.proofs.EndingLaws.{machine-ends}
-use Rattle.postscript_type2.proofs.Fuel.{runs-out, stays-over, stays-refused}
+use Rattle.postscript_type2.proofs.Limit.{runs-out, stays-over, stays-refused}
 use Rattle.postscript_type2.proofs.program.Program.step_within.Goals as goal
 
 pub returns-in-Ended : goal.returns-in-Ended
 returns-in-Ended c =
-    ((refl, λ _. tt, stays-over c.self.inside.machine c.args.fuel.now c.in-Ended.is c.self.view_is), record { steps = tt; head = search rules; listed = tt; ended = search rules; over = λ operands is. search rules; failed = search rules; suffices = search rules })
+    ((refl, λ _. tt, stays-over c.self.inside.machine c.args.limit.now c.in-Ended.is c.self.view_is), record { steps = tt; head = search rules; listed = tt; ended = search rules; over = λ operands is. search rules; failed = search rules; suffices = search rules })
 
 pub returns-in-Failed : goal.returns-in-Failed
 returns-in-Failed c =
-    ((refl, λ _. tt, stays-refused c.self.inside.machine c.args.fuel.now c.in-Failed.is c.self.view_is), record { steps = tt; head = search rules; listed = search rules; ended = search rules; over = λ operands is. search rules; failed = search rules; suffices = search rules })
+    ((refl, λ _. tt, stays-refused c.self.inside.machine c.args.limit.now c.in-Failed.is c.self.view_is), record { steps = tt; head = search rules; listed = search rules; ended = search rules; over = λ operands is. search rules; failed = search rules; suffices = search rules })
 
 pub returns-in-Ok-At : goal.returns-in-Ok-At
 returns-in-Ok-At c =
@@ -20,8 +20,8 @@ returns-in-Ok-At c =
 
 pub returns-in-Ok-Paused : goal.returns-in-Ok-Paused
 returns-in-Ok-Paused c =
-    let spends : Spends c.args.fuel.now c.args.self.now.trace c.stop_within.new.fuel (still_of c.stop_within.new.self).trace = search rules in
-    let none : c.stop_within.new.fuel ≡ 0 = search rules in (
+    let spends : Spends c.args.limit.now c.args.self.now.trace c.stop_within.new.limit (still_of c.stop_within.new.self).trace = search rules in
+    let none : c.stop_within.new.limit ≡ 0 = search rules in (
       (refl, λ _. tt, search rules),
       record {
         steps = tt;
@@ -30,7 +30,7 @@ returns-in-Ok-Paused c =
         ended = search rules;
         over = λ operands is. search rules;
         failed = search rules;
-        suffices = λ less _. runs-out c.args.fuel.now c.args.self.now.trace c.stop_within.new.fuel (still_of c.stop_within.new.self).trace spends none less;
+        suffices = λ less _. runs-out c.args.limit.now c.args.self.now.trace c.stop_within.new.limit (still_of c.stop_within.new.self).trace spends none less;
       },
     )
 

@@ -1,0 +1,32 @@
+//! Whether the runs of a font's glyphs come to their ends within a limit.
+ghost use Rattle.std.specs.Prelude.{◌≡◌, pos};
+ghost use Rattle.postscript_c.specs.Fitting.{FirstFits};
+ghost use Rattle.postscript_view.specs.Fitting.{AllFit};
+
+use crate::status::TOO_LONG;
+use crate::told::status;
+use postscript_view::FontView;
+use std::alloc::Global;
+
+/// Tells whether the glyphs of an opened font fit a limit.
+fn tell_fits_in(alloc: Global, font: &FontView<'_>, limit: &mut u64) -> i32
+    ensures fits { result ≡ pos 0 → AllFit font.now limit.old }
+    ensures used_up { result ≡ pos 46 → limit.new ≡ 0 }
+{
+    match font.fits(alloc, limit) {
+        Ok(true) => 0,
+        Ok(false) => TOO_LONG,
+        Err(e) => status(&e),
+    }
+}
+
+/// Tells whether the glyphs of the font that bytes begin with fit a limit.
+pub(crate) fn tell_fits(alloc: Global, bytes: &[u8], limit: &mut u64) -> i32
+    ensures fits { result ≡ pos 0 → FirstFits bytes.now limit.old }
+    ensures used_up { result ≡ pos 46 → limit.new ≡ 0 }
+{
+    match FontView::read_font(alloc, bytes, 0) {
+        Ok(font) => tell_fits_in(alloc, &font, limit),
+        Err(e) => status(&e),
+    }
+}
