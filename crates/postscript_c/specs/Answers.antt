@@ -1,20 +1,35 @@
 -- What C is told of a glyph.
-use Rattle.std.specs.Prelude.{◌≡◌, ◌⊎◌, ℕ, ◌<◌, ◌==◌, ℤ, pos, ◌+ℤ◌, if◌then◌else◌, List, length, take, map, Option, Some, None, Result, Ok, Err, option_map, IfOk, IfSome}
+use Rattle.std.specs.Prelude.{◌≡◌, ◌≢◌, ◌⊎◌, ℕ, ◌<◌, ◌==◌, ℤ, pos, ◌+ℤ◌, if◌then◌else◌, List, length, take, map, Option, Some, None, Result, Ok, Err}
 use Rattle.std.specs.Int.{saturate_signed, w64}
 use Rattle.postscript_base.specs.Error.{code}
-use Rattle.postscript_base.specs.Tape.Outcome.{Answers}
-use Rattle.postscript_base.specs.declared.error.Error.{Error}
+use Rattle.postscript_base.specs.declared.error.Error.{Error as Cause}
+use Rattle.postscript_base.specs.declared.error.Error.TheVariants.{Memory}
+use Rattle.postscript_c.specs.CidParts.{HasPart}
+use Rattle.postscript_c.specs.Drawn.{HasNone, IsDrawnOver, IsUndrawnOver}
 use Rattle.postscript_c.specs.declared.fill.PsfSegment.{PsfSegment}
 use Rattle.postscript_c.specs.declared.font.PsfFont.{PsfFont}
 use Rattle.postscript_c.specs.declared.part.PsfPart.{PsfPart}
 use Rattle.postscript_c.specs.declared.tight.PsfBounds.{PsfBounds}
 use Rattle.postscript_c.specs.declared.told.PsfGlyph.{PsfGlyph}
-use Rattle.postscript_c.specs.Glyphs.{Drawn, Glyph, drawn_at}
+use Rattle.postscript_c.specs.Glyphs.{Drawn, Glyph}
 use Rattle.postscript_c.specs.Segments.{shown as segment_shown}
+use Rattle.postscript_drawing.specs.declared.error.Error.{Error}
+use Rattle.postscript_drawing.specs.declared.error.Error.TheVariants.{Font, Full, TooLong, NoSuchGlyph, NoCode, NoAccents, MissingComponent, NestedAccent}
 use Rattle.postscript_outline.specs.declared.bounds.Bounds.{Bounds}
 use Rattle.postscript_outline.specs.Bounds.{IsBoundsOf, points}
-use Rattle.postscript_outline.specs.Drawing.{point}
+use Rattle.postscript_outline.specs.Points.{point}
 use Rattle.postscript_outline.specs.Tight.{IsTightBoundsOf, arcs}
+
+-- the numbers of refusals of drawings
+abbrev pub undrawn_code : Error → ℕ
+undrawn_code (Font cause) = code cause
+undrawn_code Full = 3
+undrawn_code TooLong = 46
+undrawn_code (NoSuchGlyph glyph) = 31
+undrawn_code NoCode = 47
+undrawn_code NoAccents = 48
+undrawn_code (MissingComponent missing) = 49
+undrawn_code (NestedAccent nested) = 50
 
 -- the width of a glyph: the default one, or the nominal one and the one that the program tells, as far as 64 bits go
 abbrev pub advance : Option ℤ → PsfPart → ℤ
@@ -48,15 +63,22 @@ room segments count told = record { segments = segments; count = count; told = t
 abbrev pub Tells : Result (Option Glyph) Error → (status : ℤ) → (old new : Room) → Type 0
 Tells (Ok (Some found)) status old new = Hands found status new.segments new.count new.told
 Tells (Ok None) status old new = (status ≡ pos 31) × (new ≡ old)
-Tells (Err e) status old new = (status ≡ pos (code e)) × (new ≡ old)
+Tells (Err e) status old new = (status ≡ pos (undrawn_code e)) × (new ≡ old)
 
--- The answer is what the glyph draws over these numbers, with their part, or the refusal; want of memory may come in its place.
-pub record IsOf (bytes : List ℕ) (font : PsfFont) (glyph : ℕ) (answer : Result (Option Glyph) Error) : Type 0 where
-  pub draws : Answers (option_map (λ found. found.drawn)) answer 0 (drawn_at font font.part glyph bytes 0)
-  pub part : IfOk answer (λ found. IfSome found (λ f. f.part ≡ font.part))
+-- the part of a glyph: that of the font, or of a CID-keyed font the one of its font dictionary
+abbrev pub IsPartIn : (bytes : List ℕ) (font : PsfFont) (glyph : ℕ) (part : PsfPart) → Type 0
+IsPartIn bytes font glyph part = (font.is_cid ≡ 0 → part ≡ font.part) × (font.is_cid ≢ 0 → HasPart bytes font glyph part)
+
+-- What is answered: the glyph as it is drawn with its part, accented ones with their components; that there is no such glyph; or why
+-- it is not drawn. Why a glyph of a CID-keyed font has no part is open.
+abbrev pub IsOf : (bytes : List ℕ) (font : PsfFont) (glyph : ℕ) → Result (Option Glyph) Error → Type 0
+IsOf bytes font glyph (Ok (Some found)) = IsPartIn bytes font glyph found.part × IsDrawnOver bytes font found.part glyph found.drawn.segments found.drawn.width
+IsOf bytes font glyph (Ok None) = (part : PsfPart) × IsPartIn bytes font glyph part × HasNone bytes font part glyph
+IsOf bytes font glyph (Err e) =
+    ((font.is_cid ≢ 0) × ((cause : Cause) × (e ≡ Font cause))) ⊎ (e ≡ Font Memory) ⊎ ((part : PsfPart) × IsPartIn bytes font glyph part × IsUndrawnOver bytes font part glyph e)
 
 -- What C is told of a font: its numbers on 0, or a refusal by its number, which leaves what was there.
-abbrev pub TellsFont : Result PsfFont Error → (status : ℤ) → (old new : PsfFont) → Type 0
+abbrev pub TellsFont : Result PsfFont Cause → (status : ℤ) → (old new : PsfFont) → Type 0
 TellsFont (Ok font) status old new = (status ≡ pos 0) × (new ≡ font)
 TellsFont (Err e) status old new = (status ≡ pos (code e)) × (new ≡ old)
 
@@ -68,4 +90,4 @@ sides_of told = if told.has_bounds == 0 then None else Some (record { low = poin
 abbrev pub TellsBounds : Result (Option Glyph) Error → (status : ℤ) → (old new : PsfBounds) → Type 0
 TellsBounds (Ok (Some found)) status old new = (status ≡ pos 0) × IsTightBoundsOf (sides_of new) (arcs (point (pos 0) (pos 0)) found.drawn.segments)
 TellsBounds (Ok None) status old new = (status ≡ pos 31) × (new ≡ old)
-TellsBounds (Err e) status old new = (status ≡ pos (code e)) × (new ≡ old)
+TellsBounds (Err e) status old new = (status ≡ pos (undrawn_code e)) × (new ≡ old)

@@ -1,18 +1,17 @@
 -- What the values of private types are seen as.
 use Rattle.std.specs.Prelude.{map, Option, option_map, Result, Ok, Err}
-use Rattle.postscript_base.specs.declared.error.Error.{Error}
+use Rattle.postscript_drawing.specs.declared.error.Error.{Error}
 use Rattle.postscript_c.specs.Glyphs.{Drawn, Glyph}
 use Rattle.postscript_c.specs.Segments.{meant}
 use Rattle.postscript_c.specs.declared.picture.Found.{Found}
-use Rattle.postscript_c.specs.declared.picture.Picture.{Picture}
 use Rattle.postscript_c.specs.declared.tight.Traced.{Traced}
 use Rattle.postscript_outline.specs.declared.outline.Outline.{Outline}
 
-abbrev pub picture_shown : Picture → Drawn
-picture_shown picture = record { segments = map meant picture.sketch.segments.items; width = picture.width }
+abbrev pub drawn_shown : Found → Drawn
+drawn_shown found = record { segments = map meant found.sketch.segments.items; width = found.width }
 
 abbrev pub glyph_shown : Found → Glyph
-glyph_shown found = record { drawn = picture_shown found.picture; part = found.part }
+glyph_shown found = record { drawn = drawn_shown found; part = found.part }
 
 abbrev pub found_shown : Result (Option Found) Error → Result (Option Glyph) Error
 found_shown (Ok found) = Ok (option_map glyph_shown found)

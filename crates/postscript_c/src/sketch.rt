@@ -8,7 +8,7 @@ ghost use Rattle.postscript_outline.specs.Bounds.{IsBoundsOf, points, taking};
 use crate::fill::{PsfSegment, shown};
 use postscript_base::Result;
 use postscript_outline::laws::bounds_take_in_points;
-use postscript_outline::{Bounds, Given, Point, Segment, Sink, Tally};
+use postscript_outline::{Bounds, Given, Segment, Sink};
 use std::alloc::Global;
 
 /// For how many segments there is room at first: nearly all glyphs have fewer.
@@ -42,42 +42,23 @@ impl Sketch {
         bounds_take_in_points();
         self.bounds
     }
-
-    /// Takes in one more segment.
-    #[inline(always)]
-    fn add(&mut self, segment: Segment) -> Given
-        ensures given { OnOk result (map meant self.new.segments.items ≡ map meant self.old.segments.items ++ segment ∷ []) }
-        ensures full { OnErr result (map meant self.new.segments.items ≡ map meant self.old.segments.items) }
-    {
-        self.segments.push(shown(segment))?;
-        self.bounds.add(segment);
-        Ok(())
-    }
 }
 
 impl Sink for Sketch {
-    ghost use Rattle.std.specs.Prelude.{map};
+    ghost use Rattle.std.specs.Prelude.{◌++◌, ◌∷◌, [], List, map};
     ghost use Rattle.postscript_c.specs.Segments.{meant};
+    ghost use Rattle.postscript_outline.specs.declared.segment.Segment.{Segment};
 
-    ghost given = { λ sketch. map meant sketch.segments.items };
+    ghost State = { List Segment };
 
-    #[inline(always)]
-    fn move_to(&mut self, to: Point) -> Given {
-        self.add(Segment::MoveTo(to))
-    }
+    ghost state = { λ sketch. map meant sketch.segments.items };
 
-    #[inline(always)]
-    fn line_to(&mut self, to: Point) -> Given {
-        self.add(Segment::LineTo(to))
-    }
+    ghost after = { λ segments segment. segments ++ segment ∷ [] };
 
     #[inline(always)]
-    fn curve_to(&mut self, first: Point, second: Point, to: Point) -> Given {
-        self.add(Segment::CurveTo(first, second, to))
-    }
-
-    #[inline(always)]
-    fn close(&mut self) -> Given {
-        self.add(Segment::Close)
+    fn add(&mut self, segment: Segment) -> Given {
+        self.segments.push(shown(segment))?;
+        self.bounds = Bounds::taking(self.bounds, segment);
+        Ok(())
     }
 }

@@ -82,7 +82,11 @@ fn text_of(status: i32) -> Option<&'static str> {
         43 => Some("no glyphs are named"),
         44 => Some("the font is not read back as it was written"),
         45 => Some("the font is too large to be written"),
-        46 => Some("the glyphs do not end within the limit"),
+        46 => Some("the run takes longer than the limit"),
+        47 => Some("an accented glyph names no codes"),
+        48 => Some("a CID-keyed font has no accented glyphs"),
+        49 => Some("no glyph is the base or the accent"),
+        50 => Some("the base or the accent is accented itself"),
         _ => refusal_text(status),
     }
 }

@@ -1,55 +1,19 @@
 //! The bounds of the lines and curves of a glyph.
-ghost use Rattle.std.specs.Prelude.{◌≡◌, ◌≢◌, ℕ, List, option_map, pos};
-ghost use Rattle.postscript_base.specs.Tape.Outcome.{Answers};
+ghost use Rattle.std.specs.Prelude.{pos};
 ghost use Rattle.postscript_c.specs.Answers.{IsOf, TellsBounds, sides_of};
-ghost use Rattle.postscript_c.specs.CidAnswers.{IsOfCid};
-ghost use Rattle.postscript_c.specs.Glyphs.{drawn_at, drawn_by, drawn_if};
-ghost use Rattle.postscript_c.specs.Shown.{outline_shown, traced_shown};
-ghost use Rattle.postscript_outline.specs.Drawing.{point};
+ghost use Rattle.postscript_c.specs.Shown.{traced_shown};
+ghost use Rattle.postscript_outline.specs.Points.{point};
 ghost use Rattle.postscript_outline.specs.Tight.{IsTightBoundsOf, arcs};
 
+use crate::drawn::draw_over;
 use crate::font::PsfFont;
-use crate::glyph::{part_at, program};
+use crate::glyph::part_at;
 use crate::part::PsfPart;
 use crate::status::NO_GLYPH;
-use crate::told::status;
-use postscript_base::Result;
+use crate::told::undrawn_status;
+use postscript_drawing::Result;
 use postscript_outline::Outline;
-use postscript_type2::Program;
 use std::alloc::Global;
-
-/// What a program draws.
-fn draw(alloc: Global, program: &mut Program<'_>) -> Result<Outline>
-    ensures exact { (bytes : List ℕ) (place : ℕ) → Answers outline_shown result place (drawn_by program.old bytes place) }
-{
-    Outline::of_program(alloc, program)
-}
-
-/// What a program draws, if there is one.
-#[tactic(auto, unfolding(crate::specs::Glyphs::drawn_if))]
-fn draw_if(alloc: Global, program: Option<Program<'_>>) -> Result<Option<Outline>>
-    ensures exact { (bytes : List ℕ) (place : ℕ) → Answers (option_map outline_shown) result place (drawn_if program.entry bytes place) }
-{
-    let Some(mut program) = program else {
-        return Ok(None);
-    };
-    Ok(Some(draw(alloc, &mut program)?))
-}
-
-/// The outline of a glyph. None where there is no such glyph.
-#[tactic(auto, unfolding(crate::specs::Glyphs::drawn_at))]
-fn outline(
-    alloc: Global,
-    bytes: &[u8],
-    font: &PsfFont,
-    part: &PsfPart,
-    glyph: usize,
-) -> Result<Option<Outline>>
-    ensures exact { (place : ℕ) → Answers (option_map outline_shown) result place (drawn_at font.now part.now glyph bytes.now place) }
-{
-    let program = program(alloc, bytes, font, part, glyph)?;
-    draw_if(alloc, program)
-}
 
 /// The outline of a glyph, and its part.
 #[derive(Drop)]
@@ -65,12 +29,15 @@ pub(crate) fn traced_glyph(
     font: &PsfFont,
     glyph: usize,
 ) -> Result<Option<Traced>>
-    ensures plain { font.now.is_cid ≡ 0 → IsOf bytes.now font.now glyph (traced_shown result) }
-    ensures cid { font.now.is_cid ≢ 0 → IsOfCid bytes.now font.now glyph (traced_shown result) }
+    ensures { IsOf bytes.now font.now glyph (traced_shown result) }
 {
     let part = part_at(alloc, bytes, font, glyph)?;
-    match outline(alloc, bytes, font, &part, glyph)? {
-        Some(outline) => Ok(Some(Traced { outline, part })),
+    let mut segments = Vec::new(alloc);
+    match draw_over(alloc, bytes, font, &part, glyph, &mut segments)? {
+        Some(width) => Ok(Some(Traced {
+            outline: Outline { segments, width },
+            part,
+        })),
         None => Ok(None),
     }
 }
@@ -120,6 +87,6 @@ pub(crate) fn bound(answer: &Result<Option<Traced>>, bounds: &mut PsfBounds) -> 
             0
         }
         Ok(None) => NO_GLYPH,
-        Err(e) => status(e),
+        Err(e) => undrawn_status(e),
     }
 }

@@ -1,12 +1,14 @@
 //! What is told of a glyph besides its segments.
 ghost use Rattle.std.specs.Prelude.{◌≡◌, pos};
 ghost use Rattle.postscript_base.specs.Error.{code};
-ghost use Rattle.postscript_c.specs.Answers.{advance as the_advance, IsToldOf};
-ghost use Rattle.postscript_c.specs.Shown.{picture_shown};
+ghost use Rattle.postscript_c.specs.Answers.{advance as the_advance, IsToldOf, undrawn_code};
+ghost use Rattle.postscript_c.specs.Shown.{drawn_shown};
 
 use crate::part::PsfPart;
-use crate::picture::Picture;
+use crate::picture::Found;
+use crate::status::{NESTED_ACCENT, NO_ACCENTS, NO_CODE, NO_COMPONENT, NO_GLYPH, TOO_LONG};
 use postscript_base::Error;
+use postscript_drawing::Error as Undrawn;
 use postscript_type2::Operand;
 
 /// What is told of a glyph besides its segments, in 16.16 bits.
@@ -33,6 +35,22 @@ pub(crate) fn status(e: &Error) -> i32
     i32::from(e.code())
 }
 
+/// The number of a refusal of a drawing.
+pub(crate) fn undrawn_status(e: &Undrawn) -> i32
+    ensures { result ≡ pos (undrawn_code e.now) }
+{
+    match e {
+        Undrawn::Font(cause) => status(cause),
+        Undrawn::Full => status(&Error::Memory),
+        Undrawn::TooLong => TOO_LONG,
+        Undrawn::NoSuchGlyph(_) => NO_GLYPH,
+        Undrawn::NoCode => NO_CODE,
+        Undrawn::NoAccents => NO_ACCENTS,
+        Undrawn::MissingComponent(_) => NO_COMPONENT,
+        Undrawn::NestedAccent(_) => NESTED_ACCENT,
+    }
+}
+
 /// The width of a glyph.
 fn advance(width: Option<Operand>, part: &PsfPart) -> i64
     ensures { result ≡ the_advance width part.now }
@@ -43,13 +61,13 @@ fn advance(width: Option<Operand>, part: &PsfPart) -> i64
     }
 }
 
-/// What is told of a picture.
-pub(crate) fn told(picture: &Picture, part: &PsfPart) -> PsfGlyph
-    ensures { IsToldOf (picture_shown picture.now) part.now result }
+/// What is told of a glyph.
+pub(crate) fn told(found: &Found) -> PsfGlyph
+    ensures { IsToldOf (drawn_shown found.now) found.now.part result }
 {
-    let advance = advance(picture.width, part);
-    let has_width = u32::from(picture.width.is_some());
-    match picture.sketch.bounds() {
+    let advance = advance(found.width, &found.part);
+    let has_width = u32::from(found.width.is_some());
+    match found.sketch.bounds() {
         Some(bounds) => PsfGlyph {
             advance,
             left: bounds.low.x,

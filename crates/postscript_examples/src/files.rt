@@ -3,6 +3,7 @@ ghost use Rattle.std.specs.Prelude.{◌≡◌, ◌⊎◌, ℕ, ◌<◌, IfOk, If
 ghost use Rattle.postscript_items.specs.Lent.{items_of};
 
 use anyhow::{Context, Result};
+use postscript_drawing::LIMIT;
 use postscript_outline::Outline;
 use postscript_sfnt::{Advances, CharacterMap, FontFile};
 use postscript_view::{Advance, FontView};
@@ -40,10 +41,9 @@ pub fn outline_of(alloc: Global, file: &FontFile<'_>, character: char) -> Result
     let cff = file.table(*b"CFF ").context("no table CFF")?;
     let glyph = glyph_of(file, character).context("no glyph for the character")?;
     let font = FontView::read(alloc, cff)?;
-    let mut program = font
-        .program(alloc, usize::from(glyph))
-        .context("the font has no such glyph")?;
-    Ok(Outline::of_program(alloc, &mut program)?)
+    let mut limit = LIMIT;
+    let outline = postscript_drawing::outline_of(alloc, &font, usize::from(glyph), &mut limit)?;
+    Ok(outline)
 }
 
 /// A glyph, and where it stands on its line, in font units from the beginning of the line.

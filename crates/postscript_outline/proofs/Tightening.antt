@@ -13,7 +13,7 @@ use Rattle.postscript_outline.specs.declared.segment.Segment.{Segment}
 use Rattle.postscript_outline.specs.declared.point.Point.{Point}
 use Rattle.postscript_outline.specs.Arcs.{Reaches}
 use Rattle.postscript_outline.specs.Bounds.{lower, upper}
-use Rattle.postscript_outline.specs.Drawing.{point}
+use Rattle.postscript_outline.specs.Points.{point}
 use Rattle.postscript_outline.specs.Tight.{Arc, Contains, DipsTo, IsAbove, IsBelow, IsTightBoundsOf, RisesTo, Surrounds, TightlyBounded, after, arcs, arcs_of, both}
 
 -- a sum so often

@@ -1,81 +1,131 @@
-//! Sinks, which are given the segments of an outline.
-ghost use Rattle.std.specs.Prelude.{◌≡◌, ◌∷◌, ◌++◌, [], OnOk, OnErr};
-ghost use Rattle.postscript_outline.specs.declared.segment.Segment.TheVariants as pieces;
+//! Sinks, which are given the segments of outlines.
+ghost use Rattle.std.specs.Prelude.{◌≡◌, ◌∷◌, ◌++◌, [], OnOk, OnErr, fold};
+ghost use Rattle.postscript_base.specs.declared.error.Error.TheVariants as errors;
+ghost use Rattle.postscript_outline.specs.Sinks.{Took};
 
-use crate::point::Point;
+use crate::bounds::Bounds;
 use crate::segment::Segment;
-use crate::undrawn::Given;
+use postscript_base::Error;
+use std::alloc::{AllocError, AllocFailed};
 
-/// What is given the segments of an outline, one call each, in their order.
+/// A sink takes no more: memory was asked for and refused, or for a reason of its own, which it keeps.
+#[derive(Clone, Copy, Debug, PartialEq, Eq)]
+pub struct Full;
+
+/// What a sink answers that is given a segment.
+pub type Given = std::result::Result<(), Full>;
+
+/// What is given the segments of an outline, one after another, and makes of them what it will: a list, bounds, a text.
 pub trait Sink {
-    ghost use Rattle.std.specs.Prelude.{List};
     ghost use Rattle.postscript_outline.specs.declared.segment.Segment.{Segment};
 
-    /// The segments that it has been given.
-    ghost given: { Self → List Segment };
+    /// What it can hold.
+    ghost State: { Type 0 };
 
-    /// A contour begins here.
-    fn move_to(&mut self, to: Point) -> Given
-        ensures given { OnOk result (given self.new ≡ given self.old ++ pieces.MoveTo to ∷ []) }
-        ensures full { OnErr result (given self.new ≡ given self.old) };
+    /// What it holds.
+    ghost state: { Self → State };
 
-    /// A straight line to here.
-    fn line_to(&mut self, to: Point) -> Given
-        ensures given { OnOk result (given self.new ≡ given self.old ++ pieces.LineTo to ∷ []) }
-        ensures full { OnErr result (given self.new ≡ given self.old) };
+    /// What it holds after one more segment.
+    ghost after: { State → Segment → State };
 
-    /// A Bézier curve: its two control points, and its end.
-    fn curve_to(&mut self, first: Point, second: Point, to: Point) -> Given
-        ensures given { OnOk result (given self.new ≡ given self.old ++ pieces.CurveTo first second to ∷ []) }
-        ensures full { OnErr result (given self.new ≡ given self.old) };
-
-    /// The contour goes back to where it began, and ends.
-    fn close(&mut self) -> Given
-        ensures given { OnOk result (given self.new ≡ given self.old ++ pieces.Close ∷ []) }
-        ensures full { OnErr result (given self.new ≡ given self.old) };
-}
-
-impl Segment {
-    /// Gives this segment to a sink.
+    /// Takes one more segment.
     ///
-    /// Refused: where the sink takes no more.
-    pub fn give<S: Sink>(self, sink: &mut S) -> Given
-        ensures given { OnOk result (S.given sink.new ≡ S.given sink.old ++ self ∷ []) }
-        ensures full { OnErr result (S.given sink.new ≡ S.given sink.old) }
-    {
-        match self {
-            Segment::MoveTo(to) => sink.move_to(to),
-            Segment::LineTo(to) => sink.line_to(to),
-            Segment::CurveTo(first, second, to) => sink.curve_to(first, second, to),
-            Segment::Close => sink.close(),
-        }
+    /// Refused: where it takes no more. It holds what it held before.
+    fn add(&mut self, segment: Segment) -> Given
+        ensures taken { OnOk result (state self.new ≡ after (state self.old) segment) }
+        ensures full { OnErr result (state self.new ≡ state self.old) };
+}
+
+/// A list holds the segments that it has been given.
+impl Sink for Vec<Segment> {
+    ghost use Rattle.std.specs.Prelude.{◌++◌, ◌∷◌, [], List};
+    ghost use Rattle.postscript_outline.specs.declared.segment.Segment.{Segment};
+
+    ghost State = { List Segment };
+
+    ghost state = { λ segments. segments.items };
+
+    ghost after = { λ segments segment. segments ++ segment ∷ [] };
+
+    #[inline(always)]
+    fn add(&mut self, segment: Segment) -> Given {
+        self.push(segment)?;
+        Ok(())
     }
 }
 
-impl Sink for Vec<Segment> {
-    ghost given = { λ segments. segments.items };
+/// Bounds hold the points that they have been given, control points too. They are never full.
+impl Sink for Option<Bounds> {
+    ghost use Rattle.std.specs.Prelude.{Option};
+    ghost use Rattle.postscript_outline.specs.Bounds.{taking};
+    ghost use Rattle.postscript_outline.specs.declared.bounds.Bounds.{Bounds};
+
+    ghost State = { Option Bounds };
+
+    ghost state = { λ bounds. bounds };
+
+    ghost after = { taking };
 
     #[inline(always)]
-    fn move_to(&mut self, to: Point) -> Given {
-        self.push(Segment::MoveTo(to))?;
+    fn add(&mut self, segment: Segment) -> Given {
+        *self = Bounds::taking(*self, segment);
         Ok(())
     }
+}
+
+/// A sink, and the bounds of what it is given beside it.
+impl<S: Sink> Sink for (S, Option<Bounds>) {
+    ghost use Rattle.std.specs.Prelude.{Option};
+    ghost use Rattle.postscript_outline.specs.Bounds.{taking};
+    ghost use Rattle.postscript_outline.specs.declared.bounds.Bounds.{Bounds};
+
+    ghost State = { S.State × Option Bounds };
+
+    ghost state = { λ both. (S.state both.0, both.1) };
+
+    ghost after = { λ both segment. (S.after both.0 segment, taking both.1 segment) };
 
     #[inline(always)]
-    fn line_to(&mut self, to: Point) -> Given {
-        self.push(Segment::LineTo(to))?;
+    fn add(&mut self, segment: Segment) -> Given {
+        self.0.add(segment)?;
+        self.1 = Bounds::taking(self.1, segment);
         Ok(())
     }
+}
 
-    #[inline(always)]
-    fn curve_to(&mut self, first: Point, second: Point, to: Point) -> Given {
-        self.push(Segment::CurveTo(first, second, to))?;
-        Ok(())
+/// Gives segments to a sink, in their order.
+///
+/// Refused: where the sink takes no more.
+pub fn give<S: Sink>(segments: &[Segment], sink: &mut S) -> Given
+    ensures given { OnOk result (S.state sink.new ≡ fold S.after (S.state sink.old) segments.now) }
+    ensures front { OnErr result (Took S.after (S.state sink.old) segments.now (S.state sink.new)) }
+{
+    for segment in segments {
+        sink.add(*segment)?;
     }
+    Ok(())
+}
 
-    #[inline(always)]
-    fn close(&mut self) -> Given {
-        self.push(Segment::Close)?;
-        Ok(())
+impl From<AllocError> for Full {
+    ghost from_gives = { λ _ full. full ≡ full };
+
+    fn from(_fault: AllocError) -> Full {
+        Full
+    }
+}
+
+impl<T: Drop> From<AllocFailed<T>> for Full {
+    ghost from_gives = { λ _ full. full ≡ full };
+
+    fn from(_fault: AllocFailed<T>) -> Full {
+        Full
+    }
+}
+
+impl From<Full> for Error {
+    ghost from_gives = { λ _ error. error ≡ errors.Memory };
+
+    fn from(_full: Full) -> Error {
+        Error::Memory
     }
 }

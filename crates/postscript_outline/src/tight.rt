@@ -1,6 +1,6 @@
 //! The bounds of the curves of outlines.
 ghost use Rattle.std.specs.Prelude.{◌≡◌, Some, pos};
-ghost use Rattle.postscript_outline.specs.Drawing.{point};
+ghost use Rattle.postscript_outline.specs.Points.{point};
 ghost use Rattle.postscript_outline.specs.Tight.{IsTightBoundsOf, Surrounds, after, arc, arcs, arcs_of, both};
 
 use crate::bounds::{Bounds, lower, upper};

@@ -1,7 +1,7 @@
 //! Accented glyphs: a font whose glyphs name others by their codes in the standard encoding.
 use crate::checks::{bytes_of, holds, holds_at, is_text, put_shown};
 use postscript::type2::{Operand, Program};
-use postscript_accent::{draw_glyph, outline_of};
+use postscript_drawing::{Error, LIMIT, draw_glyph, outline_of};
 use postscript_outline::Segment;
 use postscript_view::FontView;
 use std::alloc::Global;
@@ -45,7 +45,8 @@ const ROWS: [&str; 13] = [
 /// What is told of a glyph.
 fn told<R: Abort>(rt: &R, alloc: Global, font: &FontView<'_>, glyph: usize) -> String {
     let mut text = String::new(alloc);
-    match outline_of(alloc, font, glyph) {
+    let mut limit = LIMIT;
+    match outline_of(alloc, font, glyph, &mut limit) {
         Ok(outline) => {
             put_shown(rt, &mut text, "", &outline);
             if let Some(width) = outline.width {
@@ -76,7 +77,8 @@ fn an_accented_glyph_is_given_to_a_sink(rt: HostRuntime) {
     let bytes = bytes_of(&rt, alloc, FONT);
     let font = FontView::read(alloc, bytes.as_slice()).expect(&rt, "a font");
     let mut segments: Vec<Segment> = Vec::new(alloc);
-    let width = draw_glyph(alloc, &font, 3, &mut segments).expect(&rt, "a glyph");
+    let mut limit = LIMIT;
+    let width = draw_glyph(alloc, &font, 3, &mut limit, &mut segments).expect(&rt, "a glyph");
     let mut text = String::new(alloc);
     for segment in &segments {
         put_shown(&rt, &mut text, "", segment);
@@ -88,6 +90,36 @@ fn an_accented_glyph_is_given_to_a_sink(rt: HostRuntime) {
         "",
         "the width",
     );
+}
+
+/// What is told of the accented glyph that is drawn within a limit: the path data, whether it was stopped, and what is left.
+fn within<R: Abort>(rt: &R, alloc: Global, font: &FontView<'_>, limit: u64) -> (String, bool, u64) {
+    let mut left = limit;
+    let mut segments: Vec<Segment> = Vec::new(alloc);
+    let drawn = draw_glyph(alloc, font, 3, &mut left, &mut segments);
+    let mut text = String::new(alloc);
+    for segment in &segments {
+        put_shown(rt, &mut text, "", segment);
+    }
+    (text, matches!(&drawn, Err(Error::TooLong)), left)
+}
+
+/// The glyph's code has 7 bytes, its base's 9 and its accent's 11, with an `endchar` each: 27 in all.
+#[test]
+fn an_accented_glyph_within_a_limit(rt: HostRuntime) {
+    let alloc = rt.alloc();
+    let bytes = bytes_of(&rt, alloc, FONT);
+    let font = FontView::read(alloc, bytes.as_slice()).expect(&rt, "a font");
+    for limit in 1..40 {
+        let (text, is_stopped, left) = within(&rt, alloc, &font, limit);
+        if is_stopped {
+            holds(&rt, left == 0, "nothing is left");
+            holds(&rt, limit < 27, "a low limit");
+        } else {
+            is_text(&rt, text.as_str(), ROWS[3], "the segments");
+            holds(&rt, limit > 16, "a high limit");
+        }
+    }
 }
 
 /// Codes, and how many operands their `endchar` takes: four, none of three, none where the code is used up or is refused.

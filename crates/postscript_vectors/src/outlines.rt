@@ -1,12 +1,9 @@
 //! Outlines of glyphs, as path data.
-ghost use Rattle.std.specs.Prelude.{◌≡◌, ◌∷◌, ◌++◌, [], OnErr, OnOk};
-
 use crate::checks::{bytes_of, holds, is_text};
+use postscript::Result;
 use postscript::type2::{Operand, Operator, Program, run};
-use postscript::{Error, Result};
-use postscript_outline::{
-    Bounds, Full, Given, Outline, Pen, Point, Segment, Sink, Tally, draw, draw_program, tally_code,
-};
+use postscript_drawing::{Error, LIMIT, Pen, draw_program, outline_of_operations};
+use postscript_outline::{Bounds, Full, Given, Outline, Point, Segment, Sink, give};
 use std::alloc::Global;
 use std::process::Abort;
 
@@ -222,12 +219,34 @@ const COUNTS: &[(&str, &str)] = &[
     ),
 ];
 
+/// Draws a code into a sink, from the origin.
+fn drawn<S: Sink>(alloc: Global, code: &[u8], sink: &mut S) -> Result<Option<Operand>, Error> {
+    let mut limit = LIMIT;
+    let mut program = Program::new(alloc, code, &[], &[]);
+    draw_program(&mut program, Point::ORIGIN, &mut limit, sink)
+}
+
+/// The outline of a code.
+fn outline_of(alloc: Global, code: &[u8]) -> Result<Outline, Error> {
+    let mut segments = Vec::new(alloc);
+    let width = drawn(alloc, code, &mut segments)?;
+    Ok(Outline { segments, width })
+}
+
+/// The number of a refusal of a run.
+fn number_of(error: &Error) -> u8 {
+    match error {
+        Error::Font(cause) => cause.code(),
+        _ => 0,
+    }
+}
+
 /// The path of a code, or the number of its refusal.
 fn path_of<R: Abort>(rt: &R, alloc: Global, digits: &str) -> String {
     let code = bytes_of(rt, alloc, digits);
-    match Outline::of(alloc, code.as_slice(), &[], &[]) {
+    match outline_of(alloc, code.as_slice()) {
         Ok(outline) => outline.to_string(alloc).expect(rt, "memory"),
-        Err(e) => e.code().to_string(alloc).expect(rt, "memory"),
+        Err(e) => number_of(&e).to_string(alloc).expect(rt, "memory"),
     }
 }
 
@@ -258,7 +277,7 @@ fn box_and_width_of_an_outline(rt: HostRuntime) {
     let alloc = rt.alloc();
     // A width of 5 stands before the first stem.
     let code = bytes_of(&rt, alloc, "90 8c8d01 8e8f15 8e8f908b8d8e08 0e");
-    let outline = Outline::of(alloc, code.as_slice(), &[], &[]).expect(&rt, "an outline");
+    let outline = outline_of(alloc, code.as_slice()).expect(&rt, "an outline");
     let width = outline.width.and_then(|width| width.to_int());
     holds(&rt, width == Some(5), "the width");
     let corners = corners_of(&outline);
@@ -291,7 +310,7 @@ const TIGHT_ROWS: &[(&str, [i32; 4])] = &[
 /// The corners of the box round the lines and curves of a code.
 fn tight_corners_of<R: Abort>(rt: &R, alloc: Global, digits: &str) -> Option<[i32; 4]> {
     let code = bytes_of(rt, alloc, digits);
-    let outline = Outline::of(alloc, code.as_slice(), &[], &[]).expect(rt, "an outline");
+    let outline = outline_of(alloc, code.as_slice()).expect(rt, "an outline");
     let Bounds { low, high } = outline.tight_bounds()?;
     Some([low.x, low.y, high.x, high.y])
 }
@@ -345,7 +364,7 @@ fn a_pen_of_ones_own(rt: HostRuntime) {
 /// The path of a code's operations, drawn all at once.
 fn path_of_operations(alloc: Global, code: &[u8]) -> Result<String> {
     let answers = run(alloc, code, &[], &[])?;
-    let outline = Outline::of_operations(alloc, answers.operations.as_slice(), answers.width)?;
+    let outline = outline_of_operations(alloc, answers.operations.as_slice(), answers.width)?;
     Ok(outline.to_string(alloc)?)
 }
 
@@ -353,7 +372,7 @@ fn path_of_operations(alloc: Global, code: &[u8]) -> Result<String> {
 fn outline_of_one(alloc: Global, operator: Operator) -> Result<Outline> {
     let operands = vec![in alloc; Operand::from_int(1)]?;
     let operations = vec![in alloc; (operator, operands)]?;
-    Outline::of_operations(alloc, operations.as_slice(), None)
+    outline_of_operations(alloc, operations.as_slice(), None)
 }
 
 #[test]
@@ -382,12 +401,17 @@ struct Few {
     segments: Vec<Segment>,
 }
 
-impl Few {
-    /// Takes one more.
-    fn take(&mut self, segment: Segment) -> Given
-        ensures given { OnOk result (self.new.segments.items ≡ self.old.segments.items ++ segment ∷ []) }
-        ensures refused { OnErr result (self.new.segments.items ≡ self.old.segments.items) }
-    {
+impl Sink for Few {
+    ghost use Rattle.std.specs.Prelude.{◌++◌, ◌∷◌, [], List};
+    ghost use Rattle.postscript_outline.specs.declared.segment.Segment.{Segment};
+
+    ghost State = { List Segment };
+
+    ghost state = { λ few. few.segments.items };
+
+    ghost after = { λ segments segment. segments ++ segment ∷ [] };
+
+    fn add(&mut self, segment: Segment) -> Given {
         match self.left.checked_sub(1) {
             Some(left) => {
                 self.segments.push(segment)?;
@@ -399,26 +423,6 @@ impl Few {
     }
 }
 
-impl Sink for Few {
-    ghost given = { λ few. few.segments.items };
-
-    fn move_to(&mut self, to: Point) -> Given {
-        self.take(Segment::MoveTo(to))
-    }
-
-    fn line_to(&mut self, to: Point) -> Given {
-        self.take(Segment::LineTo(to))
-    }
-
-    fn curve_to(&mut self, first: Point, second: Point, to: Point) -> Given {
-        self.take(Segment::CurveTo(first, second, to))
-    }
-
-    fn close(&mut self) -> Given {
-        self.take(Segment::Close)
-    }
-}
-
 #[test]
 fn a_sink_of_ones_own(rt: HostRuntime) {
     let alloc = rt.alloc();
@@ -427,11 +431,10 @@ fn a_sink_of_ones_own(rt: HostRuntime) {
         left: 4,
         segments: Vec::new(alloc),
     };
-    let refusal = draw(alloc, code.as_slice(), &[], &[], &mut few).err();
-    let number = refusal.map(|e| e.code());
+    let refused = drawn(alloc, code.as_slice(), &mut few);
     holds(
         &rt,
-        number == Some(Error::Memory.code()),
+        matches!(&refused, Err(Error::Full)),
         "the sink's refusal",
     );
     let segments = few.segments;
@@ -449,21 +452,27 @@ fn a_sink_of_ones_own(rt: HostRuntime) {
     );
 }
 
-/// The path that two programs draw into one outline, and the width of the latter.
-fn path_of_two(alloc: Global, first: &[u8], second: &[u8]) -> Result<(String, Option<Operand>)> {
-    let mut program = Program::new(alloc, first, &[], &[]);
-    let mut outline = Outline::of_program(alloc, &mut program)?;
-    let width = draw_program(&mut Program::new(alloc, second, &[], &[]), &mut outline)?;
-    Ok((outline.to_string(alloc)?, width))
+/// The path that two programs draw into one list, and the width of the latter.
+fn path_of_two(
+    alloc: Global,
+    first: &[u8],
+    second: &[u8],
+) -> Result<(Vec<Segment>, Option<Operand>), Error> {
+    let mut segments = Vec::new(alloc);
+    drawn(alloc, first, &mut segments)?;
+    let width = drawn(alloc, second, &mut segments)?;
+    Ok((segments, width))
 }
 
 #[test]
-fn programs_drawn_into_one_outline(rt: HostRuntime) {
+fn programs_drawn_into_one_list(rt: HostRuntime) {
     let alloc = rt.alloc();
     let first = bytes_of(&rt, alloc, "8c8d15 8e06 0e");
     let second = bytes_of(&rt, alloc, "90 8f16 9007 0e");
     let both = path_of_two(alloc, first.as_slice(), second.as_slice());
-    let (path, width) = both.expect(&rt, "a path");
+    let (segments, width) = both.expect(&rt, "a path");
+    let outline = Outline { segments, width };
+    let path = outline.to_string(alloc).expect(&rt, "memory");
     is_text(&rt, path.as_str(), "M1 2L4 2ZM4 0L4 5Z", "both");
     let width = width.and_then(|width| width.to_int());
     holds(&rt, width == Some(5), "the width");
@@ -475,22 +484,28 @@ struct Last {
     segment: Option<Segment>,
 }
 
-impl Tally for Last {
-    ghost use Rattle.std.specs.Prelude.{Some};
+impl Sink for Last {
+    ghost use Rattle.std.specs.Prelude.{Option, Some};
+    ghost use Rattle.postscript_outline.specs.declared.segment.Segment.{Segment};
 
-    ghost after = { λ _ segment. record { segment = Some segment } };
+    ghost State = { Option Segment };
 
-    fn add(&mut self, segment: Segment) {
+    ghost state = { λ last. last.segment };
+
+    ghost after = { λ _ segment. Some segment };
+
+    fn add(&mut self, segment: Segment) -> Given {
         self.segment = Some(segment);
+        Ok(())
     }
 }
 
 #[test]
-fn a_tally_of_ones_own(rt: HostRuntime) {
+fn a_sink_that_keeps_the_last(rt: HostRuntime) {
     let alloc = rt.alloc();
     let code = bytes_of(&rt, alloc, "90 8c8d15 8e06 8f16 9007 0e");
     let mut last = Last { segment: None };
-    let width = tally_code(alloc, code.as_slice(), &[], &[], &mut last).expect(&rt, "a glyph");
+    let width = drawn(alloc, code.as_slice(), &mut last).expect(&rt, "a glyph");
     holds(&rt, last.segment == Some(Segment::Close), "the last one");
     let width = width.and_then(|width| width.to_int());
     holds(&rt, width == Some(5), "the width");
@@ -500,13 +515,47 @@ fn a_tally_of_ones_own(rt: HostRuntime) {
 fn a_box_with_no_list(rt: HostRuntime) {
     let alloc = rt.alloc();
     let code = bytes_of(&rt, alloc, "90 8c8d01 8e8f15 8e8f908b8d8e08 0e");
-    let bounds = Bounds::of(alloc, code.as_slice(), &[], &[]).expect(&rt, "an outline");
-    let outline = Outline::of(alloc, code.as_slice(), &[], &[]).expect(&rt, "an outline");
+    let mut bounds: Option<Bounds> = None;
+    drawn(alloc, code.as_slice(), &mut bounds).expect(&rt, "an outline");
+    let outline = outline_of(alloc, code.as_slice()).expect(&rt, "an outline");
     holds(&rt, bounds == outline.bounds(), "the box");
-    let mut taken = None;
-    outline.tally(&mut taken);
+    let mut taken: Option<Bounds> = None;
+    give(outline.segments.as_slice(), &mut taken).expect(&rt, "bounds are never full");
     holds(&rt, taken == bounds, "taken in from a list");
-    let refusal = Bounds::of(alloc, b"\x8c\x8d\x15\x0b", &[], &[]).err();
-    let number = refusal.map(|e| e.code());
-    holds(&rt, number == Some(23), "a return");
+    let refusal = drawn(alloc, b"\x8c\x8d\x15\x0b", &mut taken).err();
+    holds(
+        &rt,
+        refusal.is_some_and(|e| number_of(&e) == 23),
+        "a return",
+    );
+}
+
+#[test]
+fn a_list_and_its_box(rt: HostRuntime) {
+    let alloc = rt.alloc();
+    let code = bytes_of(&rt, alloc, "90 8c8d15 8e06 8f16 9007 0e");
+    let mut both: (Vec<Segment>, Option<Bounds>) = (Vec::new(alloc), None);
+    let width = drawn(alloc, code.as_slice(), &mut both).expect(&rt, "a glyph");
+    let (segments, bounds) = both;
+    let outline = Outline { segments, width };
+    let path = outline.to_string(alloc).expect(&rt, "memory");
+    is_text(&rt, path.as_str(), "M1 2L4 2ZM8 2L8 7Z", "the list");
+    holds(&rt, bounds == outline.bounds(), "its box");
+}
+
+#[test]
+fn a_program_that_is_stopped(rt: HostRuntime) {
+    let alloc = rt.alloc();
+    // A move of three bytes and a line of two; the last phrase begun may cost more than is left.
+    let code = bytes_of(&rt, alloc, "8c8d15 8e06 0e");
+    let mut program = Program::new(alloc, code.as_slice(), &[], &[]);
+    let mut limit = 3;
+    let mut segments: Vec<Segment> = Vec::new(alloc);
+    let stopped = draw_program(&mut program, Point::ORIGIN, &mut limit, &mut segments);
+    holds(
+        &rt,
+        matches!(&stopped, Err(Error::TooLong)),
+        "it is stopped",
+    );
+    holds(&rt, limit == 0 && segments.len() == 1, "behind the move");
 }

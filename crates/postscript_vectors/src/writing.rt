@@ -2,7 +2,7 @@
 use crate::checks::{bytes_of, holds, holds_at, is_text};
 use crate::views::rows::{CID, PLAIN, SELECTIONS};
 use crate::views::{codes_of, joined, told};
-use postscript_accent::outline_of;
+use postscript_drawing::{LIMIT, outline_of};
 use postscript_view::FontView;
 use postscript_write::{Error, flat_font, index, subset, subset_keeping};
 use std::alloc::Global;
@@ -144,7 +144,8 @@ const ACCENTED: &str = "010004040001020001000246000102000100181d0000002e0f1d0000
 /// A glyph of a font has an outline of so many segments.
 fn draws<R: Abort>(rt: &R, alloc: Global, bytes: &[u8], glyph: usize, segments: usize) {
     let font = FontView::read(alloc, bytes).expect(rt, "a font");
-    let outline = outline_of(alloc, &font, glyph).expect(rt, "an outline");
+    let mut limit = LIMIT;
+    let outline = outline_of(alloc, &font, glyph, &mut limit).expect(rt, "an outline");
     holds_at(rt, outline.segments.len() == segments, "segments", glyph);
 }
 
@@ -182,12 +183,13 @@ fn components_wanting(rt: HostRuntime) {
     let cut = subset(alloc, bytes.as_slice(), &[3]).expect(&rt, "a subset");
     has_glyphs(&rt, alloc, cut.as_slice(), 3);
     let font = FontView::read(alloc, cut.as_slice()).expect(&rt, "a font");
-    let refused = outline_of(alloc, &font, 2);
+    let mut limit = LIMIT;
+    let refused = outline_of(alloc, &font, 2, &mut limit);
     holds(
         &rt,
         matches!(
             refused,
-            Err(postscript_accent::Error::MissingComponent(194))
+            Err(postscript_drawing::Error::MissingComponent(194))
         ),
         "no accent",
     );

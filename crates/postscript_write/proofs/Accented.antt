@@ -4,12 +4,12 @@ use Rattle.std.specs.Prelude.{◌⊎◌, ◌==◌, ◌||◌, IfOk, OnOk, option_
 use Rattle.std.specs.List.{Contains}
 use Rattle.std.proofs.lemmas.Bool.{eqb-true, eq-eqb}
 use Rattle.std.proofs.lemmas.List.Elements.{Contains-append_left, Contains-append_right, Contains-append_cases}
-use Rattle.postscript_accent.specs.Accents.{IsAccent, IsAccentOf, run_by}
-use Rattle.postscript_accent.specs.Components.{HasNoComponent, IsComponent, glyphs_of}
-use Rattle.postscript_accent.specs.Refused.{IsAccented}
-use Rattle.postscript_accent.specs.declared.accent.Accent.{Accent}
-use Rattle.postscript_accent.specs.declared.error.Error as accents
-use Rattle.postscript_accent.specs.declared.error.Error.TheVariants.{Font, NoSuchGlyph, NoCode, NoAccents, MissingComponent, NestedAccent}
+use Rattle.postscript_drawing.specs.Accents.{IsAccent, IsAccentOf, run_by}
+use Rattle.postscript_drawing.specs.Components.{HasNoComponent, IsComponent, glyphs_of}
+use Rattle.postscript_drawing.specs.Refused.{IsAccented}
+use Rattle.postscript_drawing.specs.declared.accent.Accent.{Accent}
+use Rattle.postscript_drawing.specs.declared.error.Error as accents
+use Rattle.postscript_drawing.specs.declared.error.Error.TheVariants.{Font, Full, TooLong, NoSuchGlyph, NoCode, NoAccents, MissingComponent, NestedAccent}
 use Rattle.postscript_base.specs.Refusal.{Refusal}
 use Rattle.postscript_items.specs.Lent.{items_of}
 use Rattle.postscript_type2.specs.Program.Evaluation.{run_of}
@@ -57,6 +57,8 @@ none-found (MissingComponent missing) font code other why glyph is =
     let first = first-of is.set why.1.set font.bytes.now font.dictionary (glyphs_of font) _ glyph is.is_set why.1.is_set is.first in
     why.1.none glyph first.there first.names
 none-found (Font e) font code other why glyph is = absurd (other e refl)
+none-found Full font code other why glyph is = why
+none-found TooLong font code other why glyph is = why
 none-found NoCode font code other why glyph is = why
 none-found (NoSuchGlyph missing) font code other why glyph is = why
 none-found (NestedAccent nested) font code other why glyph is = why

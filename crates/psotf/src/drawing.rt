@@ -1,7 +1,7 @@
 //! Drawings of glyphs.
 use crate::face::Face;
 use crate::failure::Refusal;
-use postscript_accent::{Error as Undrawn, outline_of};
+use postscript_drawing::{Error as Undrawn, LIMIT, outline_of};
 use postscript_outline::Outline;
 use postscript_view::{Advance, Glyph};
 use std::alloc::Global;
@@ -11,6 +11,7 @@ fn refusal_of(error: Undrawn) -> Refusal {
     match error {
         Undrawn::Font(fault) => Refusal::Run(fault),
         Undrawn::NoSuchGlyph(_) => Refusal::NoPart,
+        Undrawn::TooLong => Refusal::TooLong(LIMIT),
         error => Refusal::Accent(error),
     }
 }
@@ -24,7 +25,8 @@ pub fn draw<'f, 'l>(
     let Some(glyph) = face.font.glyph(usize::from(gid)) else {
         return Err(Refusal::NoPart);
     };
-    let outline = outline_of(alloc, &face.font, usize::from(gid)).map_err(refusal_of)?;
+    let mut limit = LIMIT;
+    let outline = outline_of(alloc, &face.font, usize::from(gid), &mut limit).map_err(refusal_of)?;
     Ok((glyph, outline))
 }
 

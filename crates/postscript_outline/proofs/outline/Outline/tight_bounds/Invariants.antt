@@ -1,6 +1,6 @@
 use Rattle.std.proofs.Common.{◌≡◌, fold, pos, take}
 use Rattle.postscript_outline.proofs.outline.Outline.tight_bounds.Given as goal
-use Rattle.postscript_outline.specs.Drawing.{point}
+use Rattle.postscript_outline.specs.Points.{point}
 use Rattle.postscript_outline.specs.Tight.{IsTightBoundsOf, after, arcs}
 
 -- the bounds of the segments so far, and where the pen stands behind them

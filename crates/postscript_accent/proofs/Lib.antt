@@ -1,3 +1,0 @@
-pub mod AccentRows
-pub mod Owns
-pub mod Spending

@@ -1,0 +1,92 @@
+-- What the glyphs of a font that is plain numbers draw, accented ones with their components (Technical Note 5177, Appendix C).
+use Rattle.std.specs.Prelude.{◌≡◌, ◌≢◌, ◌⊎◌, ℕ, ℤ, List, [], ◌++◌, length, Option, Some, None, Ok}
+use Rattle.postscript_base.specs.Tape.Outcome.{Got, RefusedAs}
+use Rattle.postscript_base.specs.declared.error.Error.{Error as Cause}
+use Rattle.postscript_base.specs.declared.error.Error.TheVariants.{Memory}
+use Rattle.postscript_c.specs.Glyphs.{program_at, program_of}
+use Rattle.postscript_c.specs.declared.font.PsfFont.{PsfFont}
+use Rattle.postscript_c.specs.declared.part.PsfPart.{PsfPart}
+use Rattle.postscript_drawing.specs.Accents.{HasNoCodes, IsAccent}
+use Rattle.postscript_drawing.specs.DrawnProgram.{IsUndrawn, IsWanting}
+use Rattle.postscript_drawing.specs.Drawn.{DrawsComponents, zero_point}
+use Rattle.postscript_drawing.specs.Outline.{outlined_at}
+use Rattle.postscript_drawing.specs.Refused.{AreRefused}
+use Rattle.postscript_drawing.specs.declared.accent.Accent.{Accent}
+use Rattle.postscript_drawing.specs.declared.error.Error.{Error}
+use Rattle.postscript_drawing.specs.declared.error.Error.TheVariants.{Font, NoCode}
+use Rattle.postscript_outline.specs.declared.segment.Segment.{Segment}
+use Rattle.postscript_type2.specs.Program.Programs.{Pending}
+use Rattle.postscript_type2.specs.Program.Runs.{taken_by, width_by}
+use Rattle.postscript_view.specs.Order.{view}
+use Rattle.postscript_view.specs.Value.{view_shown}
+use Rattle.postscript_view.specs.declared.font.FontView.{FontView}
+
+-- The font that bytes begin with, opened in place.
+pub record IsFirst (bytes : List ℕ) (font : FontView) : Type 0 where
+  pub shown : view bytes 0 ≡ Got (view_shown font) 0
+  pub there : font.bytes.now ≡ bytes
+
+-- an error is told of the bytes: they begin with no font
+abbrev pub IsNoFont : (bytes : List ℕ) → Error → Type 0
+IsNoFont bytes e = (cause : Cause) × (e ≡ Font cause) × (cause ≢ Memory → RefusedAs cause (view bytes 0))
+
+-- these operands name a base and an accent, or nothing
+abbrev pub IsNamedBy : (operands : List ℤ) → Option Accent → Type 0
+IsNamedBy operands None = length operands ≢ 4
+IsNamedBy operands (Some accent) = IsAccent operands accent
+
+-- What is drawn behind a glyph's own segments: nothing, or the base and the accent that it names.
+abbrev pub AreNamed : (bytes : List ℕ) → Option Accent → List Segment → Type 0
+AreNamed bytes None segments = segments ≡ []
+AreNamed bytes (Some accent) segments = (font : FontView) × IsFirst bytes font × DrawsComponents font accent segments
+
+-- why these are not drawn
+abbrev pub IsNamedRefused : (bytes : List ℕ) → Option Accent → Error → Type 0
+IsNamedRefused bytes None e = ⊥
+IsNamedRefused bytes (Some accent) e = IsNoFont bytes e ⊎ ((font : FontView) × IsFirst bytes font × AreRefused font accent e)
+
+-- A program draws its segments, and behind them what its glyph names, and has this width.
+pub record DrawsWhole (bytes : List ℕ) (program : Pending) (segments : List Segment) (width : Option ℤ) : Type 0 where
+  pub accent : Option Accent
+  pub own : List Segment
+  pub more : List Segment
+  pub names : IsNamedBy (taken_by program.end) accent
+  pub draws_own : outlined_at zero_point program.answers program.end ≡ Ok own
+  pub draws_more : AreNamed bytes accent more
+  pub all : segments ≡ own ++ more
+  pub width_is : width ≡ width_by program.width program.answers program.end
+
+-- Why it does not: something is wanting, its own run or what it names is refused, or it names no codes.
+pub data IsWholeRefused (bytes : List ℕ) (program : Pending) (e : Error) : Type 0 where
+  wanting : (left : ℕ) → IsWanting left e → IsWholeRefused bytes program e
+  undrawn : IsUndrawn zero_point e program.answers program.end → IsWholeRefused bytes program e
+  unread : e ≡ NoCode → HasNoCodes (taken_by program.end) → IsWholeRefused bytes program e
+  unnamed : (accent : Option Accent) → IsNamedBy (taken_by program.end) accent → IsNamedRefused bytes accent e → IsWholeRefused bytes program e
+
+-- a code over the subroutines at two places
+abbrev pub HasNoneIn : (bytes : List ℕ) → Option (List ℕ) → (global local : ℕ) → Type 0
+HasNoneIn bytes code global local = program_of code global local bytes 0 ≡ Got None 0
+
+abbrev pub IsDrawnIn : (bytes : List ℕ) → Option (List ℕ) → (global local : ℕ) → List Segment → Option ℤ → Type 0
+IsDrawnIn bytes code global local segments width =
+    (program : Pending) × (program_of code global local bytes 0 ≡ Got (Some program) 0) × DrawsWhole bytes program segments width
+
+abbrev pub IsCodeRefused : (bytes : List ℕ) → Option (List ℕ) → (global local : ℕ) → Error → Type 0
+IsCodeRefused bytes code global local e =
+    ((cause : Cause) × (e ≡ Font cause) × (cause ≢ Memory → RefusedAs cause (program_of code global local bytes 0)))
+    ⊎ ((program : Pending) × (program_of code global local bytes 0 ≡ Got (Some program) 0) × IsWholeRefused bytes program e)
+
+-- there is no such glyph
+abbrev pub HasNone : (bytes : List ℕ) (font : PsfFont) (part : PsfPart) (glyph : ℕ) → Type 0
+HasNone bytes font part glyph = program_at font part glyph bytes 0 ≡ Got None 0
+
+-- A glyph draws these segments, and has this width.
+abbrev pub IsDrawnOver : (bytes : List ℕ) (font : PsfFont) (part : PsfPart) (glyph : ℕ) → List Segment → Option ℤ → Type 0
+IsDrawnOver bytes font part glyph segments width =
+    (program : Pending) × (program_at font part glyph bytes 0 ≡ Got (Some program) 0) × DrawsWhole bytes program segments width
+
+-- Why a glyph is not drawn: its code or its subroutines do not stand, or its program is not drawn.
+abbrev pub IsUndrawnOver : (bytes : List ℕ) (font : PsfFont) (part : PsfPart) (glyph : ℕ) → Error → Type 0
+IsUndrawnOver bytes font part glyph e =
+    ((cause : Cause) × (e ≡ Font cause) × (cause ≢ Memory → RefusedAs cause (program_at font part glyph bytes 0)))
+    ⊎ ((program : Pending) × (program_at font part glyph bytes 0 ≡ Got (Some program) 0) × IsWholeRefused bytes program e)

@@ -1,0 +1,98 @@
+//! Glyphs that are drawn into sinks, accented ones with their components.
+ghost use Rattle.std.specs.Prelude.{◌⊎◌, option_map, IfOk, IfErr, MatchOption, OnOk};
+ghost use Rattle.postscript_c.specs.Drawn.{DrawsWhole, HasNone, HasNoneIn, IsCodeRefused, IsDrawnIn, IsDrawnOver, IsNamedRefused, IsUndrawnOver, IsWholeRefused, AreNamed};
+ghost use Rattle.postscript_drawing.specs.DrawnProgram.{IsWanting};
+ghost use Rattle.postscript_drawing.specs.Drawn.{Takes};
+
+use crate::font::PsfFont;
+use crate::glyph::index_at;
+use crate::part::PsfPart;
+use postscript_drawing::{Accent, LIMIT, Result, draw_components, draw_program};
+use postscript_outline::{Point, Sink};
+use postscript_type2::{Operand, Program};
+use postscript_view::FontView;
+use std::alloc::Global;
+
+/// Draws the base and the accent that a glyph names, if it names any, of the font that the bytes begin with.
+fn draw_named<S: Sink>(
+    alloc: Global,
+    bytes: &[u8],
+    accent: Option<Accent>,
+    limit: &mut u64,
+    sink: &mut S,
+) -> Result<()>
+    ensures drawn { OnOk result (Takes S.after (S.state sink.old) (S.state sink.new) (AreNamed bytes.now accent)) }
+    ensures why { IfErr result (λ e. IsWanting limit.new e ⊎ IsNamedRefused bytes.now accent e) }
+{
+    let Some(accent) = accent else {
+        return Ok(());
+    };
+    let font = FontView::read_font(alloc, bytes, 0)?;
+    draw_components(alloc, &font, &accent, limit, sink)
+}
+
+/// Draws a program, and then what its glyph names.
+fn draw_whole<S: Sink>(
+    alloc: Global,
+    bytes: &[u8],
+    program: &mut Program<'_>,
+    sink: &mut S,
+) -> Result<Option<Operand>>
+    ensures drawn { IfOk result (λ width. Takes S.after (S.state sink.old) (S.state sink.new) (λ segments. DrawsWhole bytes.now program.old segments width)) }
+    ensures why { IfErr result (λ e. IsWholeRefused bytes.now program.old e) }
+{
+    let mut limit = LIMIT;
+    let width = draw_program(program, Point::ORIGIN, &mut limit, sink)?;
+    let accent = Accent::named_by(program.operands_at_end())?;
+    draw_named(alloc, bytes, accent, &mut limit, sink)?;
+    Ok(width)
+}
+
+/// Draws a code over the subroutines at two places. None where there is no code.
+#[tactic(auto, unfolding(crate::specs::Glyphs::program_of))]
+fn draw_code<S: Sink>(
+    alloc: Global,
+    bytes: &[u8],
+    code: Option<&[u8]>,
+    global: u64,
+    local: u64,
+    sink: &mut S,
+) -> Result<Option<Option<Operand>>>
+    ensures drawn { IfOk result (λ found. MatchOption found (HasNoneIn bytes.now (option_map (λ code. code.now) code.entry) global local)
+        (λ width. Takes S.after (S.state sink.old) (S.state sink.new) (λ segments. IsDrawnIn bytes.now (option_map (λ code. code.now) code.entry) global local segments width))) }
+    ensures why { IfErr result (λ e. IsCodeRefused bytes.now (option_map (λ code. code.now) code.entry) global local e) }
+{
+    let Some(code) = code else {
+        return Ok(None);
+    };
+    let globals = index_at(bytes, global)?;
+    let locals = index_at(bytes, local)?;
+    let mut program = Program::over(alloc, code, globals, locals);
+    let width = draw_whole(alloc, bytes, &mut program, sink)?;
+    Ok(Some(width))
+}
+
+/// Draws a glyph of a font that is plain numbers, with this part. None where there is no such glyph.
+#[tactic(auto, unfolding(crate::specs::Glyphs::program_at))]
+pub(crate) fn draw_over<S: Sink>(
+    alloc: Global,
+    bytes: &[u8],
+    font: &PsfFont,
+    part: &PsfPart,
+    glyph: usize,
+    sink: &mut S,
+) -> Result<Option<Option<Operand>>>
+    ensures drawn { IfOk result (λ found. MatchOption found (HasNone bytes.now font.now part.now glyph)
+        (λ width. Takes S.after (S.state sink.old) (S.state sink.new) (λ segments. IsDrawnOver bytes.now font.now part.now glyph segments width))) }
+    ensures why { IfErr result (λ e. IsUndrawnOver bytes.now font.now part.now glyph e) }
+{
+    let codes = index_at(bytes, font.char_strings)?;
+    draw_code(
+        alloc,
+        bytes,
+        codes.get(glyph),
+        font.global_subroutines,
+        part.local_subroutines,
+        sink,
+    )
+}

@@ -1,0 +1,186 @@
+-- How drawings into sinks follow one another.
+use Rattle.std.proofs.lemmas.List.{append_assoc, append-nil}
+use Rattle.std.proofs.Common.{◌≡◌, Bool, true, false, List, [], ◌∷◌, ◌++◌, fold, Result, Ok, Err, IfOk, OnErr, refl, sym, ap, subst, ◌∙◌}
+use Rattle.std.specs.Prelude.{IsErrAnd}
+use Rattle.postscript_base.specs.Refusal.{Refusal, overflow}
+use Rattle.postscript_outline.specs.declared.point.Point.{Point}
+use Rattle.postscript_outline.specs.declared.segment.Segment.{Segment}
+use Rattle.postscript_outline.specs.declared.segment.Segment.TheVariants.{MoveTo, LineTo, CurveTo}
+use Rattle.postscript_drawing.specs.declared.pen.Pen.{Pen}
+use Rattle.postscript_drawing.specs.declared.stroke.Stroke.{Stroke}
+use Rattle.postscript_drawing.specs.declared.stroke.Stroke.TheVariants.{Move, Line, Curve}
+use Rattle.postscript_drawing.specs.declared.stroke.Vector.{Vector}
+use Rattle.postscript_drawing.specs.declared.undrawn.Undrawn.{Undrawn}
+use Rattle.postscript_drawing.specs.declared.undrawn.Undrawn.TheVariants.{Overflow, Full}
+use Rattle.postscript_drawing.specs.Bends.{IsDrawnBy, IsRefused}
+use Rattle.postscript_drawing.specs.Drawing.{Drawing, ◌>>=◌, DrawsInto, DrawsStrokes, IsFront, begun, closed, closing, drawing, drawn, held, opening, reached}
+use Rattle.postscript_drawing.proofs.GivenLaws.{drawing-append, drawing-behind, drawing-grows, front-of, front-through, front-under, mapped, prefixed}
+
+pub fold-append : {T : Type 0} (after : T → Segment → T) (t : T) (xs ys : List Segment) → fold after t (xs ++ ys) ≡ fold after (fold after t xs) ys
+fold-append after t [] ys = refl
+fold-append after t (x ∷ xs) ys = fold-append after (after t x) xs ys
+
+-- a refusal that is passed on
+pub passed-on : {T : Type 0} {after : T → Segment → T} {strokes : List Stroke} {pen pen' : Pen} {old new : T} (r : Result (Unit {0}) Undrawn) (e : Undrawn) → IsErrAnd r (λ x. x ≡ e) →
+    DrawsStrokes after strokes pen old (Err e) pen' new → DrawsStrokes after strokes pen old r pen' new
+passed-on (Ok x) e same draws = absurd same
+passed-on {T} {after} {strokes} {pen} {pen'} {old} {new} (Err x) e same draws = subst (λ x. DrawsStrokes after strokes pen old (Err x) pen' new) (sym same) draws
+
+-- strokes, and others behind them
+
+mapped-into : (xs : List Segment) (wanted : Result Drawing Refusal) (r : Result (Unit {0}) Undrawn) (pen : Pen) (given : List Segment) →
+    DrawsInto wanted r (held pen given) → DrawsInto (mapped (prefixed xs) wanted) r (held pen (xs ++ given))
+mapped-into xs wanted (Ok done) pen given is = ap (mapped (prefixed xs)) is
+mapped-into xs wanted (Err Overflow) pen given is = ap (mapped (prefixed xs)) is
+mapped-into xs wanted (Err Full) pen given is = tt
+
+mapped-front : (xs : List Segment) (wanted : Result Drawing Refusal) (r : Result (Unit {0}) Undrawn) (given : List Segment) →
+    OnErr r (IfOk wanted (λ d. IsFront given d.segments)) → OnErr r (IfOk (mapped (prefixed xs) wanted) (λ d. IsFront (xs ++ given) d.segments))
+mapped-front xs wanted (Ok done) given front = tt
+mapped-front xs (Ok d) (Err e) given front = front-under xs given d.segments front
+mapped-front xs (Err f) (Err e) given front = tt
+
+-- what the others draw, behind the first
+both-drawn : (these those : List Stroke) (pen mid : Pen) (given : List Segment) → drawing these (held pen []) ≡ Ok (held mid given) →
+    drawing (these ++ those) (held pen []) ≡ mapped (prefixed given) (drawing those (held mid []))
+both-drawn these those pen mid given first =
+    drawing-append these those (held pen []) ∙ ap (λ r. r >>= drawing those) first ∙ drawing-behind those (held mid given)
+
+pub joined : {T : Type 0} {after : T → Segment → T} {these those : List Stroke} {pen mid pen' : Pen} {old between new : T} {done : Unit {0}} {r : Result (Unit {0}) Undrawn} →
+    DrawsStrokes after these pen old (Ok done) mid between → DrawsStrokes after those mid between r pen' new → DrawsStrokes after (these ++ those) pen old r pen' new
+joined {T} {after} {these} {those} {pen} {mid} {pen'} {old} {between} {new} {done} {r} first next =
+    let whole = sym (both-drawn these those pen mid first.given first.draws.exact) in
+    let wanted = drawing those (held mid []) in
+    record {
+      given = first.given ++ next.given;
+      draws = record {
+        exact = subst (λ w. DrawsInto w r (held pen' (first.given ++ next.given))) whole (mapped-into first.given wanted r pen' next.given next.draws.exact);
+        front = subst (λ w. OnErr r (IfOk w (λ d. IsFront (first.given ++ next.given) d.segments))) whole (mapped-front first.given wanted r next.given next.draws.front);
+      };
+      taken = next.taken ∙ ap (λ t. fold after t next.given) first.taken ∙ sym (fold-append after old first.given next.given);
+    }
+
+-- the first are refused: so are they all
+first-into : (these those : List Stroke) (d new : Drawing) (e : Undrawn) → DrawsInto (drawing these d) (Err e) new → DrawsInto (drawing (these ++ those) d) (Err e) new
+first-into these those d new Full wanted = tt
+first-into these those d new Overflow wanted = drawing-append these those d ∙ ap (λ r. r >>= drawing those) wanted
+
+pub first-refused : {T : Type 0} {after : T → Segment → T} {these : List Stroke} (those : List Stroke) {pen pen' : Pen} {old new : T} {e : Undrawn} →
+    DrawsStrokes after these pen old (Err e) pen' new → DrawsStrokes after (these ++ those) pen old (Err e) pen' new
+first-refused {T} {after} {these} those {pen} {pen'} {old} {new} {e} draws =
+    let Fronts : Result Drawing Refusal → Type 0 = λ w. IfOk w (λ d. IsFront draws.given d.segments) in
+    let grows = front-through (λ d. d.segments) (λ d. d.segments) draws.given (drawing these (held pen [])) (drawing those) draws.draws.front (drawing-grows those) in
+    record {
+      given = draws.given;
+      draws = record {
+        exact = first-into these those (held pen []) (held pen' draws.given) e draws.draws.exact;
+        front = subst Fronts (sym (drawing-append these those (held pen []))) grows;
+      };
+      taken = draws.taken;
+    }
+
+-- Some of the strokes are drawn, and these are left.
+pub record SoFar {T : Type 0} (after : T → Segment → T) (all left : List Stroke) (pen : Pen) (old : T) (pen' : Pen) (new : T) : Type 0 where
+  pub done : List Stroke
+  pub parts : all ≡ done ++ left
+  pub draws : DrawsStrokes after done pen old (Ok tt) pen' new
+
+pub at_first : {T : Type 0} {after : T → Segment → T} {all : List Stroke} {pen : Pen} {old : T} → SoFar after all all pen old pen old
+at_first = record { done = []; parts = refl; draws = record { given = []; draws = record { exact = refl; front = tt }; taken = refl } }
+
+pub so_more : {T : Type 0} {after : T → Segment → T} {all left : List Stroke} (these rest : List Stroke) {pen mid pen' : Pen} {old between new : T} {done : Unit {0}} → left ≡ these ++ rest →
+    SoFar after all left pen old mid between → DrawsStrokes after these mid between (Ok done) pen' new → SoFar after all rest pen old pen' new
+so_more these rest parts far draws = record {
+  done = far.done ++ these;
+  parts = far.parts ∙ ap (λ v. far.done ++ v) parts ∙ sym (append_assoc far.done these rest);
+  draws = joined far.draws draws;
+}
+
+-- those that are left are drawn to their end, or refused
+pub so_rest : {T : Type 0} {after : T → Segment → T} {all left : List Stroke} {pen mid pen' : Pen} {old between new : T} {r : Result (Unit {0}) Undrawn} →
+    SoFar after all left pen old mid between → DrawsStrokes after left mid between r pen' new → DrawsStrokes after all pen old r pen' new
+so_rest {T} {after} {all} {left} {pen} {mid} {pen'} {old} {between} {new} {r} far draws =
+    subst (λ v. DrawsStrokes after v pen old r pen' new) (sym far.parts) (joined far.draws draws)
+
+pub so_refused : {T : Type 0} {after : T → Segment → T} {all left : List Stroke} (these rest : List Stroke) {pen mid pen' : Pen} {old between new : T} {e : Undrawn} → left ≡ these ++ rest →
+    SoFar after all left pen old mid between → DrawsStrokes after these mid between (Err e) pen' new → DrawsStrokes after all pen old (Err e) pen' new
+so_refused {T} {after} {all} {left} these rest {pen} {mid} {pen'} {old} {between} {new} {e} parts far draws =
+    so_rest far (subst (λ v. DrawsStrokes after v mid between (Err e) pen' new) (sym parts) (first-refused rest draws))
+
+pub so_all : {T : Type 0} {after : T → Segment → T} {all left : List Stroke} {pen pen' : Pen} {old new : T} → left ≡ [] → SoFar after all left pen old pen' new → DrawsStrokes after all pen old (Ok tt) pen' new
+so_all {T} {after} {all} {left} {pen} {pen'} {old} {new} none far =
+    subst (λ v. DrawsStrokes after v pen old (Ok tt) pen' new) (sym (far.parts ∙ ap (λ v. far.done ++ v) none ∙ append-nil far.done)) far.draws
+
+-- one stroke
+
+-- it leaves the range: nothing is given
+pub overflows : {T : Type 0} {after : T → Segment → T} (s : Stroke) (pen pen' : Pen) {old new : T} → drawn s (held pen []) ≡ Err overflow → new ≡ old → DrawsStrokes after (s ∷ []) pen old (Err Overflow) pen' new
+overflows s pen pen' out same = record {
+  given = [];
+  draws = record { exact = ap (λ r. r >>= drawing []) out; front = by-refusal (drawing (s ∷ []) (held pen [])) (ap (λ r. r >>= drawing []) out) };
+  taken = same;
+}
+  where
+    by-refusal : (w : Result Drawing Refusal) → w ≡ Err overflow → IfOk w (λ d. IsFront [] d.segments)
+    by-refusal (Ok d) is = refl
+    by-refusal (Err e) is = tt
+
+-- nothing is taken: the front is empty
+any-front : (w : Result Drawing Refusal) → IfOk w (λ d. IsFront [] d.segments)
+any-front (Ok d) = refl
+any-front (Err e) = tt
+
+pub full_at_once : {T : Type 0} {after : T → Segment → T} (s : Stroke) (pen pen' : Pen) {old new : T} → new ≡ old → DrawsStrokes after (s ∷ []) pen old (Err Full) pen' new
+full_at_once s pen pen' same = record { given = []; draws = record { exact = tt; front = any-front (drawing (s ∷ []) (held pen [])) }; taken = same }
+
+-- the contour is ended, or begun, and the segment itself is not taken
+pub full_behind : {T : Type 0} {after : T → Segment → T} (s : Stroke) (pen pen' : Pen) (first : List Segment) (segment : Segment) (d : Drawing) {old mid new : T} →
+    drawn s (held pen []) ≡ Ok d → d.segments ≡ first ++ segment ∷ [] → mid ≡ fold after old first → new ≡ mid → DrawsStrokes after (s ∷ []) pen old (Err Full) pen' new
+full_behind {T} {after} s pen pen' first segment d {old} {mid} {new} is all begun same = record {
+  given = first;
+  draws = record {
+    exact = tt;
+    front = subst (λ (w : Result Drawing Refusal). IfOk w (λ e. IsFront first e.segments)) (sym (ap (λ r. r >>= drawing []) is)) (subst (IsFront first) (sym all) (front-of first (segment ∷ [])));
+  };
+  taken = same ∙ begun;
+}
+
+-- it is drawn
+pub stroke_drawn : {T : Type 0} {after : T → Segment → T} (s : Stroke) (pen pen' : Pen) (first : List Segment) (segment : Segment) (d : Drawing) {done : Unit {0}} {old mid new : T} →
+    drawn s (held pen []) ≡ Ok d → d ≡ held pen' (first ++ segment ∷ []) → mid ≡ fold after old first → new ≡ after mid segment → DrawsStrokes after (s ∷ []) pen old (Ok done) pen' new
+stroke_drawn {T} {after} s pen pen' first segment d {done} {old} {mid} {new} is all begun same = record {
+  given = first ++ segment ∷ [];
+  draws = record { exact = ap (λ r. r >>= drawing []) is ∙ ap Ok all; front = tt };
+  taken = same ∙ ap (λ t. after t segment) begun ∙ sym (fold-append after old first (segment ∷ []));
+}
+
+-- what a stroke draws, from a pen that stands there
+
+closed-there : (at : Point) (is_open : Bool) → (closed (held (record { at = at; is_open = is_open }) [])).segments ≡ closing (record { at = at; is_open = is_open })
+closed-there at true = refl
+closed-there at false = refl
+
+begun-there : (at : Point) (is_open : Bool) → (begun (held (record { at = at; is_open = is_open }) [])).segments ≡ opening (record { at = at; is_open = is_open })
+begun-there at true = refl
+begun-there at false = refl
+
+abbrev pub standing : (at : Point) (segments : List Segment) → Drawing
+standing at segments = record { place = at; is_open = true; segments = segments }
+
+pub moved : (pen : Pen) (by : Vector) (p : Point) → reached pen.at by ≡ Ok p → drawn (Move by) (held pen []) ≡ Ok (standing p (closing pen ++ MoveTo p ∷ []))
+moved pen by p is = ap (λ r. r >>= λ q. Ok (standing q ((closed (held pen [])).segments ++ MoveTo q ∷ []))) is ∙ ap (λ v. Ok (standing p (v ++ MoveTo p ∷ []))) (closed-there pen.at pen.is_open)
+
+pub moved-out : (pen : Pen) (by : Vector) → reached pen.at by ≡ Err overflow → drawn (Move by) (held pen []) ≡ Err overflow
+moved-out pen by is = ap (λ r. r >>= λ q. Ok (standing q ((closed (held pen [])).segments ++ MoveTo q ∷ []))) is
+
+pub lined : (pen : Pen) (by : Vector) (p : Point) → reached pen.at by ≡ Ok p → drawn (Line by) (held pen []) ≡ Ok (standing p (opening pen ++ LineTo p ∷ []))
+lined pen by p is = ap (λ r. r >>= λ q. Ok (standing q ((begun (held pen [])).segments ++ LineTo q ∷ []))) is ∙ ap (λ v. Ok (standing p (v ++ LineTo p ∷ []))) (begun-there pen.at pen.is_open)
+
+pub lined-out : (pen : Pen) (by : Vector) → reached pen.at by ≡ Err overflow → drawn (Line by) (held pen []) ≡ Err overflow
+lined-out pen by is = ap (λ r. r >>= λ q. Ok (standing q ((begun (held pen [])).segments ++ LineTo q ∷ []))) is
+
+pub curved : (pen : Pen) (a b c : Vector) (p q r : Point) → IsDrawnBy pen.at a b c p q r → drawn (Curve a b c) (held pen []) ≡ Ok (standing r (opening pen ++ CurveTo p q r ∷ []))
+curved pen a b c p q r is = is pen.is_open [] ∙ ap (λ v. Ok (standing r (v ++ CurveTo p q r ∷ []))) (begun-there pen.at pen.is_open)
+
+pub curved-out : (pen : Pen) (a b c : Vector) → IsRefused pen.at a b c → drawn (Curve a b c) (held pen []) ≡ Err overflow
+curved-out pen a b c is = is pen.is_open []

@@ -1,0 +1,71 @@
+-- A limit that is spent on runs of glyphs.
+use Rattle.std.proofs.Common.{◌≡◌, ◌∙◌, ℕ, zero, suc, ℤ, Option, List, [], ◌∷◌, ◌++◌, Result, Ok, Err, append_assoc, append-nil, ap, inl, inr, refl, subst, sym}
+use Rattle.postscript_drawing.specs.DrawnProgram.{IsSpent}
+use Rattle.postscript_drawing.specs.declared.error.Error.{Error}
+use Rattle.postscript_type2.specs.Program.Limit.{Spends, nothing, one_more}
+use Rattle.postscript_type2.specs.Program.Runs.{Said, Run}
+use Rattle.postscript_view.specs.Advances.{HasRun}
+use Rattle.postscript_view.specs.declared.font.FontView.{FontView}
+use Rattle.postscript_view.specs.declared.part.Part.{Part}
+use Rattle.postscript_drawing.specs.Spending.{AreOfRuns, SpendsOnRuns}
+
+-- a drawing has spent the limit on its phrases, whatever it comes to
+pub spent : (limit left : ℕ) (phrases : List Said) (r : Result (Option ℤ) Error) → IsSpent limit phrases left r → (rest : List Said) × Spends limit phrases left rest
+spent limit left phrases (Ok width) h = ([], h)
+spent limit left phrases (Err e) h = h
+
+-- phrases behind those to be run
+before-more : (limit : ℕ) (phrases : List Said) (left : ℕ) (rest more : List Said) → Spends limit phrases left rest → Spends limit (phrases ++ more) left (rest ++ more)
+before-more limit phrases left rest more nothing = nothing
+before-more limit phrases left rest more (one_more before said behind spends is_left costs) =
+    one_more before said (behind ++ more) (before-more limit phrases before (said ∷ behind) more spends) is_left costs
+
+-- those that were run are at the front, and are paid
+at-front : (limit : ℕ) (phrases : List Said) (left : ℕ) (rest : List Said) → Spends limit phrases left rest → (first : List Said) × (phrases ≡ first ++ rest) × Spends limit first left []
+at-front limit phrases left rest nothing = ([], refl, nothing)
+at-front limit phrases left rest (one_more before said behind spends is_left costs) =
+    let all = at-front limit phrases before (said ∷ rest) spends in (
+      all.0 ++ said ∷ [],
+      all.1 ∙ sym (append_assoc all.0 (said ∷ []) rest),
+      one_more before said [] (before-more limit all.0 before [] (said ∷ []) all.2) is_left costs,
+    )
+
+-- what is left is spent on
+goes-on : (limit : ℕ) (phrases : List Said) (left : ℕ) (rest : List Said) (last : ℕ) (end : List Said) → Spends limit phrases left rest → Spends left rest last end → Spends limit phrases last end
+goes-on limit phrases left rest last end first nothing = first
+goes-on limit phrases left rest last end first (one_more before said behind spends is_left costs) =
+    one_more before said end (goes-on limit phrases left rest before (said ∷ end) first spends) is_left costs
+
+-- more runs at most
+wider : (font : FontView) (count : ℕ) (phrases : List Said) → AreOfRuns font count phrases → AreOfRuns font (suc count) phrases
+wider font zero phrases none = inl none
+wider font (suc more) phrases (inl none) = inl none
+wider font (suc more) phrases (inr (glyph, part, run, first, rest, others, has, trace, is, behind)) =
+    inr (glyph, part, run, first, rest, others, has, trace, is, wider font more others behind)
+
+-- phrases of a run, and then of others
+joined : (font : FontView) (more : ℕ) (first second : List Said) → AreOfRuns font 1 first → AreOfRuns font more second → AreOfRuns font (suc more) (first ++ second)
+joined font more first second (inl none) behind = subst (λ xs. AreOfRuns font (suc more) (xs ++ second)) (sym none) (wider font more second behind)
+joined font more first second (inr (glyph, part, run, front, rest, others, has, trace, is, none)) behind =
+    inr (glyph, part, run, front, rest, second, has, trace, ap (λ xs. xs ++ second) (is ∙ ap (λ xs. front ++ xs) none ∙ append-nil front), behind)
+
+pub nothing-spent : (font : FontView) (count limit : ℕ) → SpendsOnRuns font (suc count) limit limit
+nothing-spent font count limit = ([], inl refl, nothing)
+
+pub spends-both : (font : FontView) (more limit middle left : ℕ) → SpendsOnRuns font 1 limit middle → SpendsOnRuns font more middle left → SpendsOnRuns font (suc more) limit left
+spends-both font more limit middle left first second = (
+  first.0 ++ second.0,
+  joined font more first.0 second.0 first.1 second.1,
+  goes-on limit (first.0 ++ second.0) middle second.0 left [] (before-more limit first.0 middle [] second.0 first.2) second.2,
+)
+
+-- fewer runs
+pub spends-more : (font : FontView) (count limit left : ℕ) → SpendsOnRuns font count limit left → SpendsOnRuns font (suc count) limit left
+spends-more font count limit left first = (first.0, wider font count first.0 first.1, first.2)
+
+-- one run
+pub spends-one : (font : FontView) (glyph : ℕ) (part : Part) (run : Run) (limit left : ℕ) → HasRun font glyph part run → (rest : List Said) × Spends limit run.trace left rest →
+    SpendsOnRuns font 1 limit left
+spends-one font glyph part run limit left has (rest, spends) =
+    let front = at-front limit run.trace left rest spends in
+    (front.0, inr (glyph, part, run, front.0, rest, [], has, front.1, sym (append-nil front.0), refl), front.2)

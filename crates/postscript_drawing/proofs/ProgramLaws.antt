@@ -1,0 +1,156 @@
+-- What the operations of a program draw, one after another, and its end.
+use Rattle.std.proofs.lemmas.List.{append-nil}
+use Rattle.std.proofs.Common.{◌≡◌, ◌⊎◌, inl, inr, ℕ, ℤ, Bool, true, false, List, [], ◌∷◌, ◌++◌, fold, Option, Result, Ok, Err, IfOk, IfErr, OnErr, refl, sym, ap, subst, ◌∙◌}
+use Rattle.std.specs.Prelude.{IsErrAnd}
+use Rattle.postscript_base.specs.Refusal.{Refusal, refusal_of}
+use Rattle.postscript_base.specs.declared.error.Error.{Error as Cause}
+use Rattle.postscript_base.specs.declared.error.Error.TheVariants as causes
+use Rattle.postscript_outline.specs.declared.point.Point.{Point}
+use Rattle.postscript_outline.specs.declared.segment.Segment.{Segment}
+use Rattle.postscript_outline.specs.declared.segment.Segment.TheVariants.{Close}
+use Rattle.postscript_drawing.specs.declared.error.Error.TheVariants as errors
+use Rattle.postscript_drawing.specs.declared.pen.Pen.{Pen}
+use Rattle.postscript_drawing.specs.declared.stroke.Stroke.{Stroke}
+use Rattle.postscript_drawing.specs.declared.undrawn.Undrawn.{Undrawn}
+use Rattle.postscript_drawing.specs.declared.undrawn.Undrawn.TheVariants.{Overflow, Full}
+use Rattle.postscript_drawing.specs.DrawnProgram.{DrawsFront, IsUndrawn, IsWanting}
+use Rattle.postscript_drawing.specs.Drawing.{Drawing, ◌>>=◌, DrawsStrokes, IsFront, blank_at, closed, closing, drawing, held}
+use Rattle.postscript_drawing.specs.Operators.{strokes}
+use Rattle.postscript_drawing.specs.Outline.{drawing_of, finished, outlined_at}
+use Rattle.postscript_drawing.specs.Undrawn.{error_of}
+use Rattle.postscript_drawing.proofs.DrawsLaws.{SoFar, fold-append, so_all}
+use Rattle.postscript_drawing.proofs.GivenLaws.{drawing-append, drawing-grows, front-of, front-through}
+use Rattle.postscript_type2.specs.declared.program.within.Within.{Within}
+use Rattle.postscript_type2.specs.declared.program.within.Within.TheVariants.{End as AtEnd}
+use Rattle.postscript_type2.specs.Program.Programs.{IsLastWidth, Pending}
+use Rattle.postscript_type2.specs.Program.Runs.{Answer, End, Fault, Finished, Returned, UsedUp}
+use Rattle.postscript_type2.specs.Program.Within.{IsHeadWithin, StepsWithin}
+
+-- a pen at the origin
+abbrev pub pen_at : Point → Pen
+pen_at origin = record { at = origin; is_open = false }
+
+-- the strokes of all operations
+abbrev pub strokes_of : List Answer → List Stroke
+strokes_of [] = []
+strokes_of (answer ∷ answers) = strokes answer.operator answer.operands ++ strokes_of answers
+
+then-all : (r : Result Drawing Refusal) (all next : Drawing → Result Drawing Refusal) → ((d : Drawing) → all d ≡ next d) → r >>= all ≡ r >>= next
+then-all (Ok d) all next same = same d
+then-all (Err e) all next same = refl
+
+pub all-strokes : (answers : List Answer) (d : Drawing) → drawing_of answers d ≡ drawing (strokes_of answers) d
+all-strokes [] d = refl
+all-strokes (answer ∷ answers) d =
+    then-all (drawing (strokes answer.operator answer.operands) d) (drawing_of answers) (drawing (strokes_of answers)) (all-strokes answers)
+    ∙ sym (drawing-append (strokes answer.operator answer.operands) (strokes_of answers) d)
+
+pub outlined-so : (origin : Point) (answers : List Answer) (end : End) → outlined_at origin answers end ≡ drawing (strokes_of answers) (held (pen_at origin) []) >>= finished end
+outlined-so origin answers end = ap (λ r. r >>= finished end) (all-strokes answers (blank_at origin))
+
+-- the end of a contour
+
+closed-held : (at : Point) (is_open : Bool) (given : List Segment) → let pen : Pen = record { at = at; is_open = is_open } in (closed (held pen given)).segments ≡ given ++ closing pen
+closed-held at true given = refl
+closed-held at false given = sym (append-nil given)
+
+-- an end that is no fault
+pub data IsSound : End → Type 0 where
+  used_up : IsSound UsedUp
+  returned : (st : _) → IsSound (Returned st)
+  by_endchar : (taken : List ℤ) (width : Option ℤ) → IsSound (Finished taken width)
+
+finished-sound : (end : End) (d : Drawing) → IsSound end → finished end d ≡ Ok (closed d).segments
+finished-sound UsedUp d sound = refl
+finished-sound (Returned st) d sound = refl
+finished-sound (Finished taken width) d sound = refl
+finished-sound (Fault e) d sound = absurd (none sound)
+  where
+    none : IsSound (Fault e) → ⊥
+    none sound = elim sound [ ]
+
+-- All is drawn, and the contour is ended.
+pub drawn-whole : {T : Type 0} {after : T → Segment → T} {origin : Point} {old now new : T} (pen : Pen) (answers left : List Answer) (end : End) → IsSound end → left ≡ [] →
+    SoFar after (strokes_of answers) (strokes_of left) (pen_at origin) old pen now → new ≡ fold after now (closing pen) →
+    (segments : List Segment) × (outlined_at origin answers end ≡ Ok segments) × (new ≡ fold after old segments)
+drawn-whole {T} {after} {origin} {old} {now} {new} pen answers left end sound none far ended =
+    let draws = so_all (ap strokes_of none) far in
+    let segments = draws.given ++ closing pen in (
+      segments,
+      outlined-so origin answers end ∙ ap (λ r. r >>= finished end) draws.draws.exact ∙ finished-sound end (held pen draws.given) sound ∙ ap Ok (closed-held pen.at pen.is_open draws.given),
+      ended ∙ ap (λ t. fold after t (closing pen)) draws.taken ∙ sym (fold-append after old draws.given (closing pen)),
+    )
+
+-- a front of all that is drawn
+
+closed-grows : (at : Point) (is_open : Bool) (segments : List Segment) → IsFront segments (closed (record { place = at; is_open = is_open; segments = segments })).segments
+closed-grows at true segments = front-of segments (Close ∷ [])
+closed-grows at false segments = subst (IsFront segments) (append-nil segments) (front-of segments [])
+
+front-of-all : (given : List Segment) (origin : Point) (answers : List Answer) → IfOk (drawing (strokes_of answers) (held (pen_at origin) [])) (λ d. IsFront given d.segments) →
+    IfOk (outlined_at origin answers UsedUp) (λ segments. IsFront given segments)
+front-of-all given origin answers front =
+    subst (λ (r : Result (List Segment) Refusal). IfOk r (λ segments. IsFront given segments)) (sym (outlined-so origin answers UsedUp))
+    (front-through (λ d. d.segments) (λ ss. ss) given (drawing (strokes_of answers) (held (pen_at origin) [])) (finished UsedUp) front (λ d. closed-grows d.place d.is_open d.segments))
+
+pub front-so-far : {T : Type 0} {after : T → Segment → T} {origin : Point} {old now new : T} {pen : Pen} (answers : List Answer) {left : List Stroke} → SoFar after (strokes_of answers) left (pen_at origin) old pen now → new ≡ now →
+    DrawsFront after origin old new answers
+front-so-far {T} {after} {origin} {old} {now} {new} {pen} answers {left} far same =
+    let start = held (pen_at origin) [] in
+    let given = far.draws.given in
+    let all = ap (λ v. drawing v start) far.parts ∙ drawing-append far.done left start ∙ ap (λ r. r >>= drawing left) far.draws.draws.exact in
+    let grows = subst (λ (r : Result Drawing Refusal). IfOk r (λ d. IsFront given d.segments)) (sym all) (drawing-grows left (held pen given)) in
+    record { given = given; front = front-of-all given origin answers grows; taken = same ∙ far.draws.taken }
+
+pub front-refused : {T : Type 0} {after : T → Segment → T} {origin : Point} {old new : T} {pen : Pen} {e : Undrawn} (answers : List Answer) → DrawsStrokes after (strokes_of answers) (pen_at origin) old (Err e) pen new →
+    DrawsFront after origin old new answers
+front-refused {T} {after} {origin} answers draws = record { given = draws.given; front = front-of-all draws.given origin answers draws.draws.front; taken = draws.taken }
+
+-- why a program is not drawn
+
+pub at-fault : {T : Type 0} {after : T → Segment → T} {origin : Point} {old now : T} {pen : Pen} (answers left : List Answer) (end : End) (cause : Cause) → left ≡ [] → end ≡ Fault (refusal_of cause) →
+    SoFar after (strokes_of answers) (strokes_of left) (pen_at origin) old pen now → IsUndrawn origin (errors.Font cause) answers end
+at-fault {T} {after} {origin} {old} {now} {pen} answers left end cause none fault far =
+    let draws = so_all (ap strokes_of none) far in
+    record {
+      cause = cause;
+      is = refl;
+      refused = outlined-so origin answers end ∙ ap (λ r. r >>= finished end) draws.draws.exact ∙ ap (λ v. finished v (held pen draws.given)) fault;
+    }
+
+pub stroke-refused : {T : Type 0} {after : T → Segment → T} {origin : Point} {old new : T} {pen : Pen} (answers : List Answer) (end : End) (left : _) (e : Undrawn) → DrawsStrokes after (strokes_of answers) (pen_at origin) old (Err e) pen new →
+    IsWanting left (error_of e) ⊎ IsUndrawn origin (error_of e) answers end
+stroke-refused {T} {after} {origin} answers end left Full draws = inl tt
+stroke-refused {T} {after} {origin} answers end left Overflow draws =
+    inr (record { cause = causes.Overflow; is = refl; refused = outlined-so origin answers end ∙ ap (λ r. r >>= finished end) draws.draws.exact })
+
+-- what a step tells
+
+pub sound-end : (end : End) (width width' : Option ℤ) → IsLastWidth end width width' → IsSound end
+sound-end UsedUp width width' last = used_up
+sound-end (Returned st) width width' last = absurd last
+sound-end (Finished taken own) width width' last = by_endchar taken own
+sound-end (Fault e) width width' last = absurd last
+
+pub at-end : (old new : Pending) (limit left : ℕ) {answer : Result Within Cause} → answer ≡ Ok AtEnd → StepsWithin old limit answer new left → (old.answers ≡ []) × IsSound old.end
+at-end old new limit left is steps =
+    let step = subst (λ (r : Result Within Cause). StepsWithin old limit r new left) is steps in (step.0.0, sound-end old.end old.width new.width step.0.1)
+
+-- where a step is refused so is the program
+pub step-refused : {T : Type 0} {after : T → Segment → T} {origin : Point} {old now : T} {pen : Pen} (answers : List Answer) (end : End) (wanting : ℕ) (program : Pending) (cause : Cause) {answer : Result Within Cause} →
+    answer ≡ Err cause → IsHeadWithin program answer → program.end ≡ end → SoFar after (strokes_of answers) (strokes_of program.answers) (pen_at origin) old pen now →
+    IsWanting wanting (errors.Font cause) ⊎ IsUndrawn origin (errors.Font cause) answers end
+step-refused {T} {after} {origin} {old} {now} {pen} answers end wanting program cause is head same far = by_head (subst (λ (r : Result Within Cause). IsHeadWithin program r) is head)
+  where
+    by_head : (cause ≡ causes.Memory) ⊎ ((program.answers ≡ []) × (program.end ≡ Fault (refusal_of cause))) → IsWanting wanting (errors.Font cause) ⊎ IsUndrawn origin (errors.Font cause) answers end
+    by_head (inl memory) = inl memory
+    by_head (inr fault) = inr (at-fault answers program.answers end cause fault.0 (sym same ∙ fault.1) far)
+
+-- a refusal that is passed on
+pub on-err : {A E : Type 0} {P : Type 0} (r : Result A E) → P → OnErr r P
+on-err (Ok x) holds = tt
+on-err (Err e) holds = holds
+
+pub if-err : {A E : Type 0} (r : Result A E) (e : E) (P : E → Type 0) → IsErrAnd r (λ x. x ≡ e) → P e → IfErr r P
+if-err (Ok x) e P same holds = tt
+if-err (Err x) e P same holds = subst P (sym same) holds

@@ -1,0 +1,30 @@
+use Rattle.std.proofs.Common.{subst}
+use Rattle.std.specs.Prelude.{IfErr, OnOk, ◌⊎◌}
+use Rattle.postscript_outline.specs.declared.point.Point.{Point}
+use Rattle.postscript_drawing.specs.DrawnProgram.{IsWanting}
+use Rattle.postscript_drawing.specs.Drawn.{DrawsComponent, Takes}
+use Rattle.postscript_drawing.specs.Refused.{IsComponentRefused}
+use Rattle.postscript_drawing.proofs.GlyphSpending.{spends-both, spends-more}
+use Rattle.postscript_drawing.proofs.Owns.{accent-refused, draws-both}
+use Rattle.postscript_drawing.proofs.glyph.draw_components.Goals as goal
+
+pub returns-in_err-draw_component-clause-spends : goal.returns-in_err-draw_component-clause-spends
+returns-in_err-draw_component-clause-spends g c = spends-more c.args.font.now 1 c.args.limit.now c.draw_component.new.limit c.draw_component.ensures.spends
+
+pub returns-clause-drawn : goal.returns-clause-drawn
+returns-clause-drawn g c =
+    let font = c.args.font.now in
+    let accent = c.args.accent.now in
+    let P : Point → Type 0 = λ origin. OnOk c.draw_component-2.result (Takes g.S.Sink.after (g.S.Sink.state c.draw_component.new.sink) (g.S.Sink.state c.draw_component-2.new.sink) (DrawsComponent font accent.accent origin)) in
+    draws-both g.S.Sink.after (g.S.Sink.state c.args.sink.now) (g.S.Sink.state c.draw_component.new.sink) (g.S.Sink.state c.draw_component-2.new.sink) c.draw_component-2.result font accent c.in_ok-draw_component.ensures.drawn (subst P c.place_of.ensures c.draw_component-2.ensures.drawn)
+
+pub returns-clause-spends : goal.returns-clause-spends
+returns-clause-spends g c =
+    spends-both c.args.font.now 1 c.args.limit.now c.draw_component.new.limit c.draw_component-2.new.limit c.draw_component.ensures.spends c.draw_component-2.ensures.spends
+
+pub returns-clause-why : goal.returns-clause-why
+returns-clause-why g c =
+    let font = c.args.font.now in
+    let accent = c.args.accent.now in
+    let P : Point → Type 0 = λ origin. IfErr c.draw_component-2.result (λ e. IsWanting c.draw_component-2.new.limit e ⊎ IsComponentRefused font accent.accent origin e) in
+    accent-refused c.draw_component-2.new.limit c.draw_component-2.result font accent (subst P c.place_of.ensures c.draw_component-2.ensures.why)

@@ -1,0 +1,48 @@
+use Rattle.std.proofs.Common.{◌++◌, Option, subst}
+use Rattle.postscript_drawing.specs.Drawn.{HasOwn, zero_point}
+use Rattle.postscript_drawing.specs.declared.accent.Accent.{Accent}
+use Rattle.postscript_drawing.proofs.GlyphSpending.{spends-both, spends-more}
+use Rattle.postscript_drawing.proofs.Owns.{components-refused, draws-accented, draws-plain, passed-on, taken-both}
+use Rattle.postscript_drawing.proofs.glyph.draw_glyph.Goals as goal
+
+pub returns-in_err-width-clause-spends : goal.returns-in_err-width-clause-spends
+returns-in_err-width-clause-spends g c =
+    let left = c.draw_own.new.limit in spends-more c.args.font.now 2 c.args.limit.now left (spends-more c.args.font.now 1 c.args.limit.now left c.draw_own.ensures.spends)
+
+pub returns-in-None-clause-spends : goal.returns-in-None-clause-spends
+returns-in-None-clause-spends g c =
+    let left = c.draw_own.new.limit in spends-more c.args.font.now 2 c.args.limit.now left (spends-more c.args.font.now 1 c.args.limit.now left c.draw_own.ensures.spends)
+
+pub returns-in_err-draw_components-in-Some-clause-spends : goal.returns-in_err-draw_components-in-Some-clause-spends
+returns-in_err-draw_components-in-Some-clause-spends g c =
+    spends-both c.args.font.now 2 c.args.limit.now c.draw_own.new.limit c.draw_components.new.limit c.draw_own.ensures.spends c.draw_components.ensures.spends
+
+pub returns-in_ok-draw_components-in-Some-clause-spends : goal.returns-in_ok-draw_components-in-Some-clause-spends
+returns-in_ok-draw_components-in-Some-clause-spends g c =
+    spends-both c.args.font.now 2 c.args.limit.now c.draw_own.new.limit c.draw_components.new.limit c.draw_own.ensures.spends c.draw_components.ensures.spends
+
+pub returns-in-None-clause-drawn : goal.returns-in-None-clause-drawn
+returns-in-None-clause-drawn g c =
+    let own = c.in_ok-width.ensures.own in
+    let width = c.in_ok-width.field-0.width in
+    let P : Option Accent → Type 0 = λ accent. HasOwn c.args.font.now c.args.glyph zero_point own.0 width accent in
+    (own.0, draws-plain c.args.font.now c.args.glyph own.0 width (subst P c.in-None.is own.1), own.2)
+
+pub returns-in_ok-draw_components-in-Some-clause-drawn : goal.returns-in_ok-draw_components-in-Some-clause-drawn
+returns-in_ok-draw_components-in-Some-clause-drawn g c =
+    let own = c.in_ok-width.ensures.own in
+    let width = c.in_ok-width.field-0.width in
+    let more = c.in_ok-draw_components-in-Some.ensures.drawn in
+    let P : Option Accent → Type 0 = λ accent. HasOwn c.args.font.now c.args.glyph zero_point own.0 width accent in
+    let has = subst P c.in-Some.is own.1 in
+    (own.0 ++ more.0, draws-accented c.args.font.now c.args.glyph own.0 more.0 width c.in-Some.accent has more.1, taken-both g.S.Sink.after (g.S.Sink.state c.args.sink.now) (g.S.Sink.state c.draw_own.new.sink) (g.S.Sink.state c.draw_components.new.sink) own.0 more.0 own.2 more.2)
+
+pub returns-in_err-draw_components-in-Some-clause-why : goal.returns-in_err-draw_components-in-Some-clause-why
+returns-in_err-draw_components-in-Some-clause-why g c =
+    let own = c.in_ok-width.ensures.own in
+    let width = c.in_ok-width.field-0.width in
+    let e = c.in_err-draw_components-in-Some.field-0.0 in
+    let P : Option Accent → Type 0 = λ accent. HasOwn c.args.font.now c.args.glyph zero_point own.0 width accent in
+    let has = subst P c.in-Some.is own.1 in
+    passed-on c.from_residual-in_err-draw_components-in-Some.result e _ c.from_residual-in_err-draw_components-in-Some.ensures.1
+    (components-refused c.draw_components.new.limit c.args.font.now c.args.glyph zero_point own.0 width c.in-Some.accent e has c.in_err-draw_components-in-Some.ensures.why)

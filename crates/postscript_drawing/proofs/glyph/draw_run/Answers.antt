@@ -1,0 +1,23 @@
+use Rattle.std.proofs.Common.{◌≡◌, ◌∙◌, ap, inr, subst}
+use Rattle.postscript_items.specs.Lent.{items_of}
+use Rattle.postscript_type2.specs.Program.Programs.{told_at_end}
+use Rattle.postscript_type2.specs.Program.Routines.{lent}
+use Rattle.postscript_type2.specs.Program.Runs.{taken_by}
+use Rattle.postscript_drawing.specs.Accents.{HasNoCodes, run_by}
+use Rattle.postscript_drawing.proofs.Owns.{passed-on, told-so}
+use Rattle.postscript_drawing.proofs.glyph.draw_run.Goals as goal
+
+pub returns-in_err-accent-clause-why : goal.returns-in_err-accent-clause-why
+returns-in_err-accent-clause-why g c =
+    let same : c.operands_at_end.result.now ≡ taken_by (run_by c.args.glyph.now).end =
+    c.operands_at_end.ensures ∙ ap told_at_end c.in_ok-width.ensures.ended ∙ ap (λ p. taken_by p.end) c.program-program.ensures in
+    passed-on c.from_residual-in_err-accent.result c.in_err-accent.field-0.0 _ c.from_residual-in_err-accent.ensures.1
+    (inr (inr (c.in_err-accent.ensures.why.0, subst HasNoCodes same c.in_err-accent.ensures.why.1)))
+
+pub returns-clause-told : goal.returns-clause-told
+returns-clause-told g c =
+    let glyph = c.args.glyph.now in
+    let same : c.operands_at_end.result.now ≡ taken_by (run_by glyph).end =
+    c.operands_at_end.ensures ∙ ap told_at_end c.in_ok-width.ensures.ended ∙ ap (λ p. taken_by p.end) c.program-program.ensures in
+    told-so c.in_ok-accent.accent c.operands_at_end.result.now (run_by glyph) same
+    (c.runs_end_so.ensures (lent (items_of glyph.global_subroutines) (items_of glyph.part.now.subroutines)) glyph.code.now) c.in_ok-accent.ensures.told

@@ -1,0 +1,50 @@
+-- What a program that is drawn into a sink comes to.
+use Rattle.std.specs.Prelude.{◌≡◌, ◌⊎◌, ℕ, ℤ, List, [], Option, Result, Ok, Err, IfOk, fold}
+use Rattle.postscript_base.specs.Refusal.{refusal_of}
+use Rattle.postscript_base.specs.declared.error.Error.{Error as Cause}
+use Rattle.postscript_base.specs.declared.error.Error.TheVariants as causes
+use Rattle.postscript_drawing.specs.declared.error.Error.{Error}
+use Rattle.postscript_drawing.specs.declared.error.Error.TheVariants.{Font, Full, TooLong}
+use Rattle.postscript_drawing.specs.Drawing.{IsFront}
+use Rattle.postscript_drawing.specs.Outline.{outlined_at}
+use Rattle.postscript_outline.specs.declared.point.Point.{Point}
+use Rattle.postscript_outline.specs.declared.segment.Segment.{Segment}
+use Rattle.postscript_type2.specs.Program.Limit.{Spends}
+use Rattle.postscript_type2.specs.Program.Programs.{Pending}
+use Rattle.postscript_type2.specs.Program.Runs.{Answer, End, Said, UsedUp, width_by}
+
+-- All that a program still answers is drawn from a point: the sink has taken the segments, one after another, and this is the
+-- width.
+pub record DrawsProgram {T : Type 0} (after : T → Segment → T) (origin : Point) (old new : T) (width : Option ℤ) (pending : Pending) : Type 0 where
+  pub segments : List Segment
+  pub drawn : outlined_at origin pending.answers pending.end ≡ Ok segments
+  pub taken : new ≡ fold after old segments
+  pub width_is : width ≡ width_by pending.width pending.answers pending.end
+
+-- The sink has taken a front of what these operations draw, whatever end they come to.
+pub record DrawsFront {T : Type 0} (after : T → Segment → T) (origin : Point) (old new : T) (answers : List Answer) : Type 0 where
+  pub given : List Segment
+  pub front : IfOk (outlined_at origin answers UsedUp) (λ segments. IsFront given segments)
+  pub taken : new ≡ fold after old given
+
+-- Memory is wanting, the sink takes no more, or nothing is left of the limit.
+abbrev pub IsWanting : (left : ℕ) → Error → Type 0
+IsWanting left (Font cause) = cause ≡ causes.Memory
+IsWanting left Full = Unit {0}
+IsWanting left TooLong = left ≡ 0
+IsWanting left e = ⊥
+
+-- What these operations and this end draw, from a point, is refused: the run is, or a coordinate leaves the range.
+pub record IsUndrawn (origin : Point) (e : Error) (answers : List Answer) (end : End) : Type 0 where
+  pub cause : Cause
+  pub is : e ≡ Font cause
+  pub refused : outlined_at origin answers end ≡ Err (refusal_of cause)
+
+-- why a program is not drawn
+abbrev pub IsProgramRefused : (origin : Point) → Pending → (left : ℕ) → Error → Type 0
+IsProgramRefused origin pending left e = IsWanting left e ⊎ IsUndrawn origin e pending.answers pending.end
+
+-- The phrases that were run are paid: all of them, where all is drawn.
+abbrev pub IsSpent : (limit : ℕ) → (phrases : List Said) → (left : ℕ) → Result (Option ℤ) Error → Type 0
+IsSpent limit phrases left (Ok width) = Spends limit phrases left []
+IsSpent limit phrases left (Err e) = (rest : List Said) × Spends limit phrases left rest

@@ -1,0 +1,23 @@
+-- Outlines of flat code.
+use Rattle.std.specs.Prelude.{◌≡◌, ℕ, List, None}
+use Rattle.postscript_drawing.specs.Outline.{outline_of}
+use Rattle.postscript_type2.specs.Program.Evaluation.{run_of}
+use Rattle.postscript_type2.specs.Program.Flat.{flat_text}
+use Rattle.postscript_type2.specs.Program.Inlined.{inlined_text}
+use Rattle.postscript_type2.specs.Program.Routines.{Lists}
+use Rattle.postscript_type2.specs.Program.Runs.{Run, fault_of, width_of}
+
+-- two runs with the same outline and the same width
+pub record SameGlyph (run other : Run) : Type 0 where
+  pub outline : outline_of run ≡ outline_of other
+  pub width : width_of run ≡ width_of other
+
+-- A law of the definitions: over any lists the flat text of a run that no fault ends draws what the run draws.
+abbrev pub FlatTextDrawsTheSame : Type 0
+FlatTextDrawsTheSame = (lists other : Lists) (code : List ℕ) → fault_of (run_of lists code).end ≡ None →
+    SameGlyph (run_of other (flat_text (run_of lists code).trace)) (run_of lists code)
+
+-- and so does its inlined text
+abbrev pub InlinedTextDrawsTheSame : Type 0
+InlinedTextDrawsTheSame = (lists other : Lists) (code : List ℕ) → fault_of (run_of lists code).end ≡ None →
+    SameGlyph (run_of other (inlined_text (run_of lists code).trace)) (run_of lists code)

@@ -1,0 +1,37 @@
+-- The outline of a list of operations.
+use Rattle.std.specs.declared.alloc.Global.{Global}
+use Rattle.std.specs.Prelude.{◌≡◌, ℤ, List, [], ◌∷◌, map, Option, Result, Ok, Vec}
+use Rattle.postscript_base.specs.Refusal.{Refusal}
+use Rattle.postscript_drawing.specs.Applying.{applied}
+use Rattle.postscript_outline.specs.declared.outline.Outline.{Outline}
+use Rattle.postscript_outline.specs.declared.segment.Segment.{Segment}
+use Rattle.postscript_drawing.specs.Drawing.{Drawing, ◌>>=◌, blank}
+use Rattle.postscript_drawing.specs.Outline.{finished}
+use Rattle.postscript_type2.specs.declared.operation.Operator.{Operator}
+use Rattle.postscript_type2.specs.Program.Runs.{Answer, Finished, Run, width_of}
+
+-- an operation as a run answers it, with this width beside it
+abbrev pub answer_of : Option ℤ → Operator × Vec ℤ Global → Answer
+answer_of width operation = record { operator = operation.0; operands = operation.1.items; width = width }
+
+abbrev pub answers_of : Option ℤ → List (Operator × Vec ℤ Global) → List Answer
+answers_of width operations = map (answer_of width) operations
+
+-- the run that answers these operations and then ends at EndChar, which takes no operands, with this width
+abbrev pub run_telling : List (Operator × Vec ℤ Global) → Option ℤ → Run
+run_telling operations width = record { answers = answers_of width operations; trace = []; end = Finished [] width }
+
+-- operations, applied one after another
+abbrev pub applied_all : List Answer → Drawing → Result Drawing Refusal
+applied_all [] d = Ok d
+applied_all (answer ∷ answers) d = applied answer.operator answer.operands d >>= applied_all answers
+
+-- the outline of a run, where each operation has as many operands as its operator takes: the first that has not, or whose
+-- strokes leave the range, is the refusal
+abbrev pub outline_applied : Run → Result (List Segment) Refusal
+outline_applied run = applied_all run.answers blank >>= finished run.end
+
+-- that outline of a run, and its width
+pub record OutlinesApplied (outline : Outline) (run : Run) : Type 0 where
+  pub segments : outline_applied run ≡ Ok outline.segments.items
+  pub width : outline.width ≡ width_of run

@@ -1,0 +1,73 @@
+-- Why a glyph is not drawn.
+use Rattle.std.specs.Prelude.{◌≡◌, ◌⊎◌, ℕ, List}
+use Rattle.postscript_outline.specs.Points.{point}
+use Rattle.postscript_outline.specs.declared.point.Point.{Point}
+use Rattle.postscript_type2.specs.Program.Runs.{Run, taken_by}
+use Rattle.postscript_view.specs.Advances.{HasRun}
+use Rattle.postscript_view.specs.Glyphs.{HasGlyph}
+use Rattle.postscript_view.specs.declared.font.FontView.{FontView}
+use Rattle.postscript_view.specs.declared.part.Part.{Part}
+use Rattle.postscript_drawing.specs.Accents.{HasNoCodes, IsAccentOf}
+use Rattle.postscript_drawing.specs.DrawnProgram.{IsUndrawn, IsWanting}
+use Rattle.postscript_drawing.specs.Components.{HasNoComponent, IsComponent}
+use Rattle.postscript_drawing.specs.Drawn.{zero_point}
+use Rattle.postscript_drawing.specs.declared.accent.Accent.{Accent}
+use Rattle.postscript_drawing.specs.declared.error.Error.{Error}
+use Rattle.postscript_drawing.specs.declared.error.Error.TheVariants.{NoCode, NoSuchGlyph, NestedAccent}
+
+-- there is no glyph of this number
+abbrev pub IsAbsent : FontView → (glyph : ℕ) → Type 0
+IsAbsent font glyph = (code : List ℕ) (part : Part) → HasGlyph font glyph code part → ⊥
+
+-- its endchar takes four operands that name no codes
+abbrev pub IsUnread : Error → Run → Type 0
+IsUnread e run = (e ≡ NoCode) × HasNoCodes (taken_by run.end)
+
+-- The run of a glyph has no outline, or its endchar names no codes.
+pub record IsRunRefused (font : FontView) (glyph : ℕ) (origin : Point) (e : Error) : Type 0 where
+  pub part : Part
+  pub run : Run
+  pub has : HasRun font glyph part run
+  pub why : IsUndrawn origin e run.answers run.end ⊎ IsUnread e run
+
+-- why a glyph is refused by itself
+abbrev pub IsGlyphRefused : FontView → (glyph : ℕ) → (origin : Point) → Error → Type 0
+IsGlyphRefused font glyph origin e = ((e ≡ NoSuchGlyph glyph) × IsAbsent font glyph) ⊎ IsRunRefused font glyph origin e
+
+-- A glyph of the font is accented so.
+pub record IsAccented (font : FontView) (glyph : ℕ) (accent : Accent) : Type 0 where
+  pub part : Part
+  pub run : Run
+  pub has : HasRun font glyph part run
+  pub accented : IsAccentOf accent run
+
+-- The glyph of a code is accented itself.
+pub record IsNested (font : FontView) (code : ℕ) : Type 0 where
+  pub glyph : ℕ
+  pub accent : Accent
+  pub component : IsComponent font code glyph
+  pub accented : IsAccented font glyph accent
+
+-- the glyph of a code is refused by itself
+pub record IsComponentUndrawn (font : FontView) (code : ℕ) (origin : Point) (e : Error) : Type 0 where
+  pub glyph : ℕ
+  pub component : IsComponent font code glyph
+  pub refused : IsGlyphRefused font glyph origin e
+
+-- Why the glyph of a code is refused as a component: there is none, it is refused by itself, or it is accented.
+abbrev pub IsComponentRefused : FontView → (code : ℕ) → (origin : Point) → Error → Type 0
+IsComponentRefused font code origin e = HasNoComponent e font code ⊎ IsComponentUndrawn font code origin e ⊎ ((e ≡ NestedAccent code) × IsNested font code)
+
+-- why the components are refused: the base, or the accent
+abbrev pub AreRefused : FontView → Accent → Error → Type 0
+AreRefused font accent e = IsComponentRefused font accent.base zero_point e ⊎ IsComponentRefused font accent.accent (point accent.dx accent.dy) e
+
+-- Why the components of a glyph are refused.
+pub record HasComponentsRefused (font : FontView) (glyph : ℕ) (e : Error) : Type 0 where
+  pub accent : Accent
+  pub accented : IsAccented font glyph accent
+  pub refused : AreRefused font accent e
+
+-- Why a glyph is not drawn: memory, room or the limit is wanting, the glyph is refused by itself, or its components are.
+abbrev pub IsRefused : FontView → (glyph : ℕ) → (left : ℕ) → Error → Type 0
+IsRefused font glyph left e = IsWanting left e ⊎ IsGlyphRefused font glyph zero_point e ⊎ HasComponentsRefused font glyph e

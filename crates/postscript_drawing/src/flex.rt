@@ -1,0 +1,141 @@
+//! Flexes: two curves in one operation.
+ghost use Rattle.std.specs.Prelude.{◌≡◌, ◌+◌, ◌^◌, ◌≤◌, ◌+ℤ◌, pos, neg_ℤ, unsigned_abs};
+ghost use Rattle.postscript_drawing.specs.Left.{left};
+ghost use Rattle.postscript_drawing.specs.Strokes.{along as the_along, by as the_by, back as the_back, flex as the_flex, hflex as the_hflex, hflex1 as the_hflex1, flex1 as the_flex1};
+
+use crate::operands::{by, wide};
+use crate::stroke::{Axis, Stroke, Strokes, Vector};
+use postscript_type2::Operand;
+
+/// dx1 dy1 dx2 dy2 dx3 dy3 dx4 dy4 dx5 dy5 dx6 dy6 fd
+pub(crate) fn flex(operands: &[Operand]) -> Strokes<'_>
+    ensures { left result ≡ the_flex operands.now }
+{
+    match operands {
+        [
+            dx1,
+            dy1,
+            dx2,
+            dy2,
+            dx3,
+            dy3,
+            dx4,
+            dy4,
+            dx5,
+            dy5,
+            dx6,
+            dy6,
+            _fd,
+        ] => Strokes::Two(
+            Stroke::Curve(by(*dx1, *dy1), by(*dx2, *dy2), by(*dx3, *dy3)),
+            Stroke::Curve(by(*dx4, *dy4), by(*dx5, *dy5), by(*dx6, *dy6)),
+        ),
+        _ => Strokes::Nothing,
+    }
+}
+
+/// dx1 dx2 dy2 dx3 dx4 dx5 dx6
+pub(crate) fn hflex(operands: &[Operand]) -> Strokes<'_>
+    ensures { left result ≡ the_hflex operands.now }
+{
+    match operands {
+        [dx1, dx2, dy2, dx3, dx4, dx5, dx6] => Strokes::Two(
+            Stroke::Curve(level(*dx1), by(*dx2, *dy2), level(*dx3)),
+            Stroke::Curve(level(*dx4), returning(*dx5, wide(*dy2)), level(*dx6)),
+        ),
+        _ => Strokes::Nothing,
+    }
+}
+
+/// So far across, and back from so far up.
+fn returning(dx: Operand, dy: i64) -> Vector
+    requires { unsigned_abs dy ≤ 2 ^ 34 }
+    ensures { result ≡ the_by dx (neg_ℤ dy) }
+{
+    Vector {
+        dx: wide(dx),
+        dy: -dy,
+    }
+}
+
+/// So far across.
+fn level(dx: Operand) -> Vector
+    ensures { result ≡ the_along Axis.Horizontal dx }
+{
+    Axis::Horizontal.along(wide(dx))
+}
+
+/// dx1 dy1 dx2 dy2 dx3 dx4 dx5 dy5 dx6
+pub(crate) fn hflex1(operands: &[Operand]) -> Strokes<'_>
+    ensures { left result ≡ the_hflex1 operands.now }
+{
+    match operands {
+        [dx1, dy1, dx2, dy2, dx3, dx4, dx5, dy5, dx6] => Strokes::Two(
+            Stroke::Curve(by(*dx1, *dy1), by(*dx2, *dy2), level(*dx3)),
+            Stroke::Curve(
+                level(*dx4),
+                by(*dx5, *dy5),
+                returning(*dx6, sum_of_three(*dy1, *dy2, *dy5)),
+            ),
+        ),
+        _ => Strokes::Nothing,
+    }
+}
+
+/// The sum, with room for more.
+fn plus(a: i64, b: Operand) -> i64
+    requires { unsigned_abs a ≤ 2 ^ 34 }
+    ensures value { result ≡ a +ℤ b }
+    ensures room { unsigned_abs result ≤ unsigned_abs a + 2 ^ 31 }
+{
+    a + wide(b)
+}
+
+/// The sum of three.
+fn sum_of_three(a: Operand, b: Operand, c: Operand) -> i64
+    ensures value { result ≡ a +ℤ b +ℤ c }
+    ensures room { unsigned_abs result ≤ 2 ^ 33 }
+{
+    plus(plus(wide(a), b), c)
+}
+
+/// The sum of five.
+fn sum_of_five(a: Operand, b: Operand, c: Operand, d: Operand, e: Operand) -> i64
+    ensures value { result ≡ a +ℤ b +ℤ c +ℤ d +ℤ e }
+    ensures room { unsigned_abs result ≤ 2 ^ 34 }
+{
+    plus(plus(sum_of_three(a, b, c), d), e)
+}
+
+/// The last vector of a flex1, behind those with this sum.
+fn back(dx: i64, dy: i64, d6: Operand) -> Vector
+    requires dx_room { unsigned_abs dx ≤ 2 ^ 34 }
+    requires dy_room { unsigned_abs dy ≤ 2 ^ 34 }
+    ensures { result ≡ the_back dx dy d6 }
+{
+    if dx.unsigned_abs() > dy.unsigned_abs() {
+        returning(d6, dy)
+    } else {
+        Vector {
+            dx: -dx,
+            dy: wide(d6),
+        }
+    }
+}
+
+/// dx1 dy1 dx2 dy2 dx3 dy3 dx4 dy4 dx5 dy5 d6
+pub(crate) fn flex1(operands: &[Operand]) -> Strokes<'_>
+    ensures { left result ≡ the_flex1 operands.now }
+{
+    match operands {
+        [dx1, dy1, dx2, dy2, dx3, dy3, dx4, dy4, dx5, dy5, d6] => {
+            let dx = sum_of_five(*dx1, *dx2, *dx3, *dx4, *dx5);
+            let dy = sum_of_five(*dy1, *dy2, *dy3, *dy4, *dy5);
+            Strokes::Two(
+                Stroke::Curve(by(*dx1, *dy1), by(*dx2, *dy2), by(*dx3, *dy3)),
+                Stroke::Curve(by(*dx4, *dy4), by(*dx5, *dy5), back(dx, dy, *d6)),
+            )
+        }
+        _ => Strokes::Nothing,
+    }
+}

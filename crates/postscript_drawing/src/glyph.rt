@@ -1,0 +1,171 @@
+//! Glyphs that are drawn, accented ones with their components.
+ghost use Rattle.std.specs.Prelude.{◌≡◌, ◌⊎◌, List, IfOk, IfErr, OnOk};
+ghost use Rattle.postscript_drawing.specs.Accents.{IsTold, run_by};
+ghost use Rattle.postscript_drawing.specs.DrawnProgram.{IsUndrawn, IsWanting};
+ghost use Rattle.postscript_drawing.specs.Drawn.{DrawsAt, DrawsComponent, DrawsComponents, DrawsGlyph, HasOwn, IsDrawnAs, Takes};
+ghost use Rattle.postscript_drawing.specs.Refused.{AreRefused, IsComponentRefused, IsGlyphRefused, IsRefused, IsUnread};
+ghost use Rattle.postscript_drawing.specs.Spending.{SpendsOnRuns};
+ghost use Rattle.postscript_outline.specs.Points.{point};
+ghost use Rattle.postscript_type2.specs.Program.Limit.{Spends};
+ghost use Rattle.postscript_type2.specs.Program.Runs.{Said as ASaid, width_of};
+
+use crate::accent::Accent;
+use crate::component::component_of;
+use crate::error::{Error, Result};
+use crate::program::draw_program;
+use postscript_outline::{Outline, Point, Sink};
+use postscript_type2::Operand;
+use postscript_type2::laws::runs_end_so;
+use postscript_view::{FontView, Glyph};
+use std::alloc::Global;
+
+/// For how many segments there is room at first: most glyphs have fewer.
+const ROOM: usize = 32;
+
+/// The outline of a glyph of a font: the segments that `draw_glyph` gives, and the width. Coordinates and the width are in 16.16
+/// bits, in the units of the font.
+///
+/// Refused: as `draw_glyph` is.
+pub fn outline_of(
+    alloc: Global,
+    font: &FontView<'_>,
+    glyph: usize,
+    limit: &mut u64,
+) -> Result<Outline>
+    ensures found { IfOk result (λ outline. IsDrawnAs font.now glyph outline.segments.items outline.width) }
+    ensures why { IfErr result (λ e. IsRefused font.now glyph limit.new e) }
+    ensures spends { SpendsOnRuns font.now 3 limit.old limit.new }
+{
+    let mut segments = Vec::with_capacity(alloc, ROOM)?;
+    let width = draw_glyph(alloc, font, glyph, limit, &mut segments)?;
+    Ok(Outline { segments, width })
+}
+
+/// Gives the outline of a glyph to a sink, one segment after another, as the run comes to them, and answers the width. Where the
+/// glyph is accented (Technical Note 5177, Appendix C), its own segments come first, then those of the base, and then those of
+/// the accent, from the point that the glyph says. The width is that of the glyph's own run.
+///
+/// The runs of the glyph, of its base and of its accent share the limit: `Program::step_within` says what they take of it, and what
+/// is left is told.
+///
+/// Refused: `NoSuchGlyph`; `NoCode`, as `Accent::named_by` is; `NoAccents` and `MissingComponent`, as `component_of` is, for the
+/// base or the accent; `NestedAccent` where one of these is accented itself; `TooLong` where the limit is used up before the end;
+/// `Full` where the sink takes no more; `Font` with what a run or the char set is refused with, with `Overflow` where a coordinate
+/// leaves the range, and with `Memory`. The sink has been given the segments up to there.
+pub fn draw_glyph<S: Sink>(
+    alloc: Global,
+    font: &FontView<'_>,
+    glyph: usize,
+    limit: &mut u64,
+    sink: &mut S,
+) -> Result<Option<Operand>>
+    ensures drawn { IfOk result (λ width. DrawsGlyph S.after (S.state sink.old) (S.state sink.new) font.now glyph width) }
+    ensures why { IfErr result (λ e. IsRefused font.now glyph limit.new e) }
+    ensures spends { SpendsOnRuns font.now 3 limit.old limit.new }
+{
+    let Own { width, accent } = draw_own(alloc, font, glyph, Point::ORIGIN, limit, sink)?;
+    match accent {
+        None => Ok(width),
+        Some(accent) => {
+            draw_components(alloc, font, &accent, limit, sink)?;
+            Ok(width)
+        }
+    }
+}
+
+/// Where the origin of the accent is put.
+fn place_of(accent: &Accent) -> Point
+    ensures { result ≡ point accent.now.dx accent.now.dy }
+{
+    Point {
+        x: accent.dx.bits(),
+        y: accent.dy.bits(),
+    }
+}
+
+/// What the run of a glyph tells but its segments: the width, and what it names.
+#[derive(Drop)]
+struct Own {
+    width: Option<Operand>,
+    accent: Option<Accent>,
+}
+
+/// Draws a glyph of a font by itself, from a point.
+fn draw_own<S: Sink>(
+    alloc: Global,
+    font: &FontView<'_>,
+    glyph: usize,
+    origin: Point,
+    limit: &mut u64,
+    sink: &mut S,
+) -> Result<Own>
+    ensures own { IfOk result (λ own. Takes S.after (S.state sink.old) (S.state sink.new) (λ segments. HasOwn font.now glyph origin segments own.width own.accent)) }
+    ensures spends { SpendsOnRuns font.now 1 limit.old limit.new }
+    ensures why { IfErr result (λ e. IsWanting limit.new e ⊎ IsGlyphRefused font.now glyph origin e) }
+{
+    match font.glyph(glyph) {
+        Some(found) => draw_run(alloc, &found, origin, limit, sink),
+        None => Err(Error::NoSuchGlyph(glyph)),
+    }
+}
+
+/// Draws the run of a glyph from a point, and looks at what its `endchar` took.
+fn draw_run<S: Sink>(
+    alloc: Global,
+    glyph: &Glyph<'_, '_>,
+    origin: Point,
+    limit: &mut u64,
+    sink: &mut S,
+) -> Result<Own>
+    ensures drawn { IfOk result (λ own. Takes S.after (S.state sink.old) (S.state sink.new) (DrawsAt origin (run_by glyph.now))) }
+    ensures width { IfOk result (λ own. own.width ≡ width_of (run_by glyph.now)) }
+    ensures told { IfOk result (λ own. IsTold own.accent (run_by glyph.now)) }
+    ensures spends { (rest : List ASaid) × Spends limit.old (run_by glyph.now).trace limit.new rest }
+    ensures why { IfErr result (λ e. IsWanting limit.new e ⊎ IsUndrawn origin e (run_by glyph.now).answers (run_by glyph.now).end ⊎ IsUnread e (run_by glyph.now)) }
+{
+    runs_end_so();
+    let mut program = glyph.program(alloc);
+    let width = draw_program(&mut program, origin, limit, sink)?;
+    let accent = Accent::named_by(program.operands_at_end())?;
+    Ok(Own { width, accent })
+}
+
+/// Gives what an accented glyph names to a sink: the segments of the base, and then those of the accent, from the point that the
+/// glyph says. Their runs share the limit.
+///
+/// Refused: as `draw_glyph` is for the base or the accent.
+pub fn draw_components<S: Sink>(
+    alloc: Global,
+    font: &FontView<'_>,
+    accent: &Accent,
+    limit: &mut u64,
+    sink: &mut S,
+) -> Result<()>
+    ensures drawn { OnOk result (Takes S.after (S.state sink.old) (S.state sink.new) (DrawsComponents font.now accent.now)) }
+    ensures spends { SpendsOnRuns font.now 2 limit.old limit.new }
+    ensures why { IfErr result (λ e. IsWanting limit.new e ⊎ AreRefused font.now accent.now e) }
+{
+    draw_component(alloc, font, accent.base, Point::ORIGIN, limit, sink)?;
+    draw_component(alloc, font, accent.accent, place_of(accent), limit, sink)
+}
+
+/// Draws the glyph of a code from a point; it is a plain one.
+fn draw_component<S: Sink>(
+    alloc: Global,
+    font: &FontView<'_>,
+    code: u8,
+    origin: Point,
+    limit: &mut u64,
+    sink: &mut S,
+) -> Result<()>
+    ensures drawn { OnOk result (Takes S.after (S.state sink.old) (S.state sink.new) (DrawsComponent font.now code origin)) }
+    ensures spends { SpendsOnRuns font.now 1 limit.old limit.new }
+    ensures why { IfErr result (λ e. IsWanting limit.new e ⊎ IsComponentRefused font.now code origin e) }
+{
+    let glyph = component_of(font, code)?;
+    let own = draw_own(alloc, font, glyph, origin, limit, sink)?;
+    match own.accent {
+        None => Ok(()),
+        Some(_) => Err(Error::NestedAccent(code)),
+    }
+}

@@ -1,0 +1,28 @@
+//! Glyphs that are drawn: the segments that the operations of a charstring draw (Adobe Technical Note 5177, "Path Construction
+//! Operators"), and those of the base and the accent of an accented glyph (Appendix C, "Compatibility and Deprecated Operators").
+#![tactic(auto)]
+
+mod accent;
+mod component;
+mod error;
+mod flex;
+mod glyph;
+pub mod laws;
+mod operands;
+mod operations;
+mod operators;
+mod paths;
+mod pen;
+mod program;
+mod reach;
+mod stroke;
+mod undrawn;
+
+pub use accent::Accent;
+pub use component::component_of;
+pub use error::{Error, Result};
+pub use glyph::{draw_components, draw_glyph, outline_of};
+pub use operations::outline_of_operations;
+pub use pen::Pen;
+pub use program::{LIMIT, draw_program};
+pub use stroke::{Axis, Stroke, Strokes, Vector};

@@ -1,0 +1,187 @@
+//! Paths: what the operands of an operator spell is drawn as it is read, by one method for each pattern (Technical Note 5177,
+//! "Path Construction Operators"). Flexes are drawn by their strokes.
+ghost use Rattle.postscript_drawing.specs.Drawing.{DrawsStrokes};
+ghost use Rattle.postscript_drawing.specs.Operators.{strokes as the_strokes};
+ghost use Rattle.postscript_drawing.specs.Strokes.{move as the_move, move_along as the_move_along, lines as the_lines, lines_in_turn as the_lines_in_turn, curves as the_curves, curves_along as the_curves_along, curves_level as the_curves_level, curves_in_turn as the_curves_in_turn, curves_then_line as the_curves_then_line, lines_then_curve as the_lines_then_curve};
+
+use crate::operands::{by, vector, wide};
+use crate::operators::{curve, curve_along, curve_in_turn, first_aside, line_in_turn};
+use crate::pen::Pen;
+use crate::stroke::{Axis, Strokes};
+use crate::undrawn::Stroked;
+use postscript_outline::Sink;
+use postscript_type2::{Operand, Operator};
+
+impl Pen {
+    /// What an operator with these operands draws: those that are too few for one more stroke draw nothing.
+    #[inline(always)]
+    pub(crate) fn draw_path<S: Sink>(
+        &mut self,
+        operator: Operator,
+        operands: &[Operand],
+        sink: &mut S,
+    ) -> Stroked
+        ensures { DrawsStrokes S.after (the_strokes operator operands.now) self.old (S.state sink.old) result self.new (S.state sink.new) }
+    {
+        match operator {
+            Operator::RMoveTo => self.go(operands, sink),
+            Operator::HMoveTo => self.go_along(Axis::Horizontal, operands, sink),
+            Operator::VMoveTo => self.go_along(Axis::Vertical, operands, sink),
+            Operator::RLineTo => self.lines(operands, sink),
+            Operator::HLineTo => self.lines_in_turn(Axis::Horizontal, operands, sink),
+            Operator::VLineTo => self.lines_in_turn(Axis::Vertical, operands, sink),
+            Operator::RRCurveTo => self.curves(operands, sink),
+            Operator::HHCurveTo => self.curves_level(Axis::Horizontal, operands, sink),
+            Operator::VVCurveTo => self.curves_level(Axis::Vertical, operands, sink),
+            Operator::HVCurveTo => self.curves_in_turn(Axis::Horizontal, operands, sink),
+            Operator::VHCurveTo => self.curves_in_turn(Axis::Vertical, operands, sink),
+            Operator::RCurveLine => self.curves_then_line(operands, sink),
+            Operator::RLineCurve => self.lines_then_curve(operands, sink),
+            Operator::Flex | Operator::HFlex | Operator::HFlex1 | Operator::Flex1 => self.flexes(
+                operator, operands, sink,
+            ),
+            // stems, masks and the operators of which no run tells
+            _ => Ok(()),
+        }
+    }
+
+    /// What a flex draws. It stays a call, since few glyphs have one and strokes take much room.
+    #[inline(never)]
+    fn flexes<S: Sink>(&mut self, operator: Operator, operands: &[Operand], sink: &mut S) -> Stroked
+        ensures { DrawsStrokes S.after (the_strokes operator operands.now) self.old (S.state sink.old) result self.new (S.state sink.new) }
+    {
+        self.draw_all(Strokes::of(operator, operands), sink)
+    }
+
+    /// dx1 dy1
+    fn go<S: Sink>(&mut self, operands: &[Operand], sink: &mut S) -> Stroked
+        ensures { DrawsStrokes S.after (the_move operands.now) self.old (S.state sink.old) result self.new (S.state sink.new) }
+    {
+        match operands {
+            [dx1, dy1] => self.move_by(by(*dx1, *dy1), sink),
+            _ => Ok(()),
+        }
+    }
+
+    /// d1
+    fn go_along<S: Sink>(&mut self, axis: Axis, operands: &[Operand], sink: &mut S) -> Stroked
+        ensures { DrawsStrokes S.after (the_move_along axis operands.now) self.old (S.state sink.old) result self.new (S.state sink.new) }
+    {
+        match operands {
+            [d1] => self.move_by(axis.along(wide(*d1)), sink),
+            _ => Ok(()),
+        }
+    }
+
+    /// {dxa dya}+
+    #[inline(always)]
+    fn lines<S: Sink>(&mut self, operands: &[Operand], sink: &mut S) -> Stroked
+        ensures { DrawsStrokes S.after (the_lines operands.now) self.old (S.state sink.old) result self.new (S.state sink.new) }
+    {
+        let mut ahead = operands;
+        while let Some((a, rest)) = vector(ahead) {
+            self.line_by(a, sink)?;
+            ahead = rest;
+        }
+        Ok(())
+    }
+
+    /// {da}+: a round draws one line along each axis.
+    #[inline(always)]
+    fn lines_in_turn<S: Sink>(&mut self, first: Axis, operands: &[Operand], sink: &mut S) -> Stroked
+        ensures { DrawsStrokes S.after (the_lines_in_turn first operands.now) self.old (S.state sink.old) result self.new (S.state sink.new) }
+    {
+        let mut ahead = operands;
+        while let Some((a, behind)) = line_in_turn(first, ahead) {
+            self.line_by(a, sink)?;
+            let Some((b, rest)) = line_in_turn(first.other(), behind) else {
+                return Ok(());
+            };
+            self.line_by(b, sink)?;
+            ahead = rest;
+        }
+        Ok(())
+    }
+
+    /// {dxa dya dxb dyb dxc dyc}+
+    #[inline(always)]
+    fn curves<S: Sink>(&mut self, operands: &[Operand], sink: &mut S) -> Stroked
+        ensures { DrawsStrokes S.after (the_curves operands.now) self.old (S.state sink.old) result self.new (S.state sink.new) }
+    {
+        let mut ahead = operands;
+        while let Some(bend) = curve(ahead) {
+            self.curve_by(bend.a, bend.b, bend.c, sink)?;
+            ahead = bend.rest;
+        }
+        Ok(())
+    }
+
+    /// d1? {da dxb dyb dc}+
+    fn curves_level<S: Sink>(&mut self, axis: Axis, operands: &[Operand], sink: &mut S) -> Stroked
+        ensures { DrawsStrokes S.after (the_curves_level axis operands.now) self.old (S.state sink.old) result self.new (S.state sink.new) }
+    {
+        let (first, rest) = first_aside(operands);
+        self.curves_along(axis, first, rest, sink)
+    }
+
+    /// {da dxb dyb dc}+
+    #[inline(always)]
+    fn curves_along<S: Sink>(
+        &mut self,
+        axis: Axis,
+        first: i64,
+        operands: &[Operand],
+        sink: &mut S,
+    ) -> Stroked
+        ensures { DrawsStrokes S.after (the_curves_along axis first operands.now) self.old (S.state sink.old) result self.new (S.state sink.new) }
+    {
+        let mut off = first;
+        let mut ahead = operands;
+        while let Some(bend) = curve_along(axis, off, ahead) {
+            self.curve_by(bend.a, bend.b, bend.c, sink)?;
+            off = 0;
+            ahead = bend.rest;
+        }
+        Ok(())
+    }
+
+    /// {da dxb dyb dc}+ de?: a round draws one curve that begins along each axis.
+    #[inline(always)]
+    fn curves_in_turn<S: Sink>(
+        &mut self,
+        first: Axis,
+        operands: &[Operand],
+        sink: &mut S,
+    ) -> Stroked
+        ensures { DrawsStrokes S.after (the_curves_in_turn first operands.now) self.old (S.state sink.old) result self.new (S.state sink.new) }
+    {
+        let mut ahead = operands;
+        while let Some(bend) = curve_in_turn(first, ahead) {
+            self.curve_by(bend.a, bend.b, bend.c, sink)?;
+            let Some(turned) = curve_in_turn(first.other(), bend.rest) else {
+                return Ok(());
+            };
+            self.curve_by(turned.a, turned.b, turned.c, sink)?;
+            ahead = turned.rest;
+        }
+        Ok(())
+    }
+
+    /// {dxa dya dxb dyb dxc dyc}+ dxd dyd
+    fn curves_then_line<S: Sink>(&mut self, operands: &[Operand], sink: &mut S) -> Stroked
+        ensures { DrawsStrokes S.after (the_curves_then_line operands.now) self.old (S.state sink.old) result self.new (S.state sink.new) }
+    {
+        let (these, those) = operands.split_at(operands.len().saturating_sub(2));
+        self.curves(these, sink)?;
+        self.lines(those, sink)
+    }
+
+    /// {dxa dya}+ dxb dyb dxc dyc dxd dyd
+    fn lines_then_curve<S: Sink>(&mut self, operands: &[Operand], sink: &mut S) -> Stroked
+        ensures { DrawsStrokes S.after (the_lines_then_curve operands.now) self.old (S.state sink.old) result self.new (S.state sink.new) }
+    {
+        let (these, those) = operands.split_at(operands.len().saturating_sub(6));
+        self.lines(these, sink)?;
+        self.curves(those, sink)
+    }
+}

@@ -1,0 +1,193 @@
+//! The pen, which turns strokes into segments.
+ghost use Rattle.std.specs.Prelude.{◌≡◌, ◌∷◌, OnOk, OnErr, IfErr, [], length, take, fold};
+ghost use Rattle.postscript_base.specs.declared.error.Error.TheVariants as errors;
+ghost use Rattle.postscript_base.specs.Error.{IsListed};
+ghost use Rattle.postscript_drawing.specs.Applying.{applied};
+ghost use Rattle.postscript_drawing.specs.Drawing.{Draws, DrawsStrokes, drawing, held, blank, closed, closing, opening};
+ghost use Rattle.postscript_drawing.specs.Left.{left};
+ghost use Rattle.postscript_drawing.specs.Operators.{strokes as the_strokes};
+
+use crate::reach::{reach, reach_by_curve};
+use crate::stroke::{Stroke, Strokes, Vector};
+use crate::undrawn::{Stroked, Undrawn};
+use postscript_base::{Error, Result};
+use postscript_outline::{Given, Point, Segment, Sink};
+use postscript_type2::{Operand, Operator};
+
+/// A pen: where it stands, and whether a contour is open.
+#[derive(Clone, Copy, Debug, PartialEq, Eq)]
+pub struct Pen {
+    pub at: Point,
+    pub is_open: bool,
+}
+
+impl Pen {
+    /// A pen at the origin.
+    pub fn new() -> Pen
+        ensures { held result [] ≡ blank }
+    {
+        Pen {
+            at: Point::ORIGIN,
+            is_open: false,
+        }
+    }
+
+    /// Ends the contour, if one is open.
+    ///
+    /// Refused: `Memory`.
+    pub fn close(&mut self, segments: &mut Vec<Segment>) -> Result<()>
+        ensures ok { OnOk result (held self.new segments.new.items ≡ closed (held self.old segments.old.items)) }
+        ensures err { IfErr result (λ e. (e ≡ errors.Memory) × (held self.new segments.new.items ≡ held self.old segments.old.items)) }
+        ensures kept { take (length segments.old.items) segments.new.items ≡ segments.old.items }
+    {
+        if self.is_open {
+            segments.push(Segment::Close)?;
+            self.is_open = false;
+        }
+        Ok(())
+    }
+
+    /// Ends the contour, if one is open.
+    #[inline(always)]
+    pub(crate) fn end<S: Sink>(&mut self, sink: &mut S) -> Given
+        ensures ended { OnOk result (S.state sink.new ≡ fold S.after (S.state sink.old) (closing self.old)) }
+        ensures full { OnErr result (S.state sink.new ≡ S.state sink.old) }
+    {
+        if self.is_open {
+            sink.add(Segment::Close)?;
+            self.is_open = false;
+        }
+        Ok(())
+    }
+
+    /// Begins a contour here, if none is open.
+    #[inline(always)]
+    fn begin<S: Sink>(&mut self, sink: &mut S) -> Given
+        ensures begun { OnOk result (S.state sink.new ≡ fold S.after (S.state sink.old) (opening self.old)) }
+        ensures full { OnErr result (S.state sink.new ≡ S.state sink.old) }
+        ensures stays { self.new.at ≡ self.old.at }
+    {
+        if !self.is_open {
+            sink.add(Segment::MoveTo(self.at))?;
+            self.is_open = true;
+        }
+        Ok(())
+    }
+
+    /// Goes without drawing, and begins a contour there.
+    #[inline(always)]
+    pub(crate) fn move_by<S: Sink>(&mut self, by: Vector, sink: &mut S) -> Stroked
+        ensures { DrawsStrokes S.after (Stroke.Move by ∷ []) self.old (S.state sink.old) result self.new (S.state sink.new) }
+    {
+        let Some(at) = reach(self.at, by) else {
+            return Err(Undrawn::Overflow);
+        };
+        self.end(sink)?;
+        sink.add(Segment::MoveTo(at))?;
+        *self = Pen { at, is_open: true };
+        Ok(())
+    }
+
+    /// A line from here.
+    #[inline(always)]
+    pub(crate) fn line_by<S: Sink>(&mut self, by: Vector, sink: &mut S) -> Stroked
+        ensures { DrawsStrokes S.after (Stroke.Line by ∷ []) self.old (S.state sink.old) result self.new (S.state sink.new) }
+    {
+        let Some(at) = reach(self.at, by) else {
+            return Err(Undrawn::Overflow);
+        };
+        self.begin(sink)?;
+        sink.add(Segment::LineTo(at))?;
+        *self = Pen { at, is_open: true };
+        Ok(())
+    }
+
+    /// A curve from here.
+    #[inline(always)]
+    pub(crate) fn curve_by<S: Sink>(
+        &mut self,
+        a: Vector,
+        b: Vector,
+        c: Vector,
+        sink: &mut S,
+    ) -> Stroked
+        ensures { DrawsStrokes S.after (Stroke.Curve a b c ∷ []) self.old (S.state sink.old) result self.new (S.state sink.new) }
+    {
+        let Some((first, second, at)) = reach_by_curve(self.at, a, b, c) else {
+            return Err(Undrawn::Overflow);
+        };
+        self.begin(sink)?;
+        sink.add(Segment::CurveTo(first, second, at))?;
+        *self = Pen { at, is_open: true };
+        Ok(())
+    }
+
+    /// A stroke from here.
+    fn draw<S: Sink>(&mut self, stroke: Stroke, sink: &mut S) -> Stroked
+        ensures { DrawsStrokes S.after (stroke ∷ []) self.old (S.state sink.old) result self.new (S.state sink.new) }
+    {
+        match stroke {
+            Stroke::Move(by) => self.move_by(by, sink),
+            Stroke::Line(by) => self.line_by(by, sink),
+            Stroke::Curve(a, b, c) => self.curve_by(a, b, c, sink),
+        }
+    }
+
+    /// Strokes from here, one after another.
+    pub(crate) fn draw_all<S: Sink>(&mut self, strokes: Strokes<'_>, sink: &mut S) -> Stroked
+        ensures { DrawsStrokes S.after (left strokes.entry) self.old (S.state sink.old) result self.new (S.state sink.new) }
+    {
+        let mut ahead = strokes;
+        while let Some((stroke, behind)) = ahead.next() {
+            self.draw(stroke, sink)?;
+            ahead = behind;
+        }
+        Ok(())
+    }
+
+    /// Draws what an operator with these operands draws: appends the segments. Where it is refused, the pen and the
+    /// segments stay as they were.
+    ///
+    /// Refused: `MalformedOperands` where the operator takes another number of operands, which no run tells of
+    /// (`laws::runs_fit`); `Overflow` where a coordinate leaves the range; `Memory`.
+    pub fn apply(
+        &mut self,
+        operator: Operator,
+        operands: &[Operand],
+        segments: &mut Vec<Segment>,
+    ) -> Result<()>
+        ensures unchanged { OnErr result (held self.new segments.new.items ≡ held self.old segments.old.items) }
+        ensures exact { Draws (applied operator operands.now (held self.old segments.old.items)) result (held self.new segments.new.items) }
+        ensures listed { IsListed (3 ∷ 20 ∷ 26 ∷ []) result }
+    {
+        match operator.taken(operands.len()) {
+            Some(taken) if taken == operands.len() => self.draw_operation(
+                operator, operands, segments,
+            ),
+            _ => Err(Error::MalformedOperands),
+        }
+    }
+
+    /// The same of operands that fit: others are not refused, and those that are too few for one more stroke draw nothing.
+    fn draw_operation(
+        &mut self,
+        operator: Operator,
+        operands: &[Operand],
+        segments: &mut Vec<Segment>,
+    ) -> Result<()>
+        ensures exact { Draws (drawing (the_strokes operator operands.now) (held self.old segments.old.items)) result (held self.new segments.new.items) }
+        ensures listed { IsListed (3 ∷ 26 ∷ []) result }
+        ensures unchanged { OnErr result (held self.new segments.new.items ≡ held self.old segments.old.items) }
+    {
+        let before = *self;
+        let len = segments.len();
+        match self.draw_path(operator, operands, segments) {
+            Ok(()) => Ok(()),
+            Err(e) => {
+                *self = before;
+                segments.truncate(len);
+                Err(Error::from(e))
+            }
+        }
+    }
+}

@@ -1,5 +1,0 @@
-use Rattle.postscript_outline.proofs.FlatLaws.{flat-draws-the-same}
-use Rattle.postscript_outline.proofs.laws.flat_text_draws_the_same.Goals as goal
-
-pub returns : goal.returns
-returns c = flat-draws-the-same c.flat_text_keeps_meaning.ensures.law

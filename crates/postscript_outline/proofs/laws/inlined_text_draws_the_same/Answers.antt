@@ -1,5 +1,0 @@
-use Rattle.postscript_outline.proofs.FlatLaws.{inlined-draws-the-same}
-use Rattle.postscript_outline.proofs.laws.inlined_text_draws_the_same.Goals as goal
-
-pub returns : goal.returns
-returns c = inlined-draws-the-same c.inlined_text_keeps_meaning.ensures.law
