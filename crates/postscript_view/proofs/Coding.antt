@@ -5,14 +5,16 @@ use Rattle.postscript_base.specs.Compact1.Decimal.{Decimal}
 use Rattle.postscript_base.specs.Compact1.Defaults.{look}
 use Rattle.postscript_base.specs.Compact1.Dictionary.{Dictionary}
 use Rattle.postscript_base.specs.declared.compact1.operator.Operator.TheVariants as operators
-use Rattle.postscript_view.specs.Encoding.{IsInRanges, first_code, codes_left, coded}
+use Rattle.postscript_view.specs.Encoding.{Gives, HasCode, IsFirstGiven, IsFirstWithCode, IsInRanges, first_code, codes_left, coded}
 use Rattle.postscript_view.specs.Naming.{Names}
 use Rattle.postscript_view.specs.declared.char_set.CharSetView.{CharSetView}
 use Rattle.postscript_view.specs.declared.encoding.Codes.{Codes}
 use Rattle.postscript_view.specs.declared.encoding.Codes.TheVariants.{Predefined, Listed, Ranges}
-use Rattle.postscript_view.specs.Cids.{HasCid}
+use Rattle.postscript_view.specs.Cids.{HasCid, IsCidKeyed}
 use Rattle.postscript_view.specs.Dictionaries.{HasFontDictionary}
 use Rattle.postscript_view.specs.Encodings.{AreCodesAt}
+use Rattle.postscript_view.specs.Order.{View}
+use Rattle.postscript_view.specs.declared.encoding.EncodingView.{EncodingView}
 use Rattle.postscript_view.specs.declared.font.FontView.{FontView}
 use Rattle.postscript_view.proofs.Selecting.{risen}
 
@@ -87,6 +89,20 @@ one_next (Listed codes) (Ranges others) bytes place next another x y = absurd (o
 one_next (Ranges codes) (Predefined encoding) bytes place next another x y = absurd y
 one_next (Ranges codes) (Listed others) bytes place next another x y = absurd (omega (arith, x.0, y.0))
 one_next (Ranges codes) (Ranges others) bytes place next another x y = y.2 ∙ sym x.2
+
+-- ---- codes of a font that is not CID-keyed
+pub code_found : (o : Option ℕ) (font : View) (encoding : EncodingView) (set : CharSetView) (code n : ℕ) → n ≡ length font.char_strings → (IsCidKeyed font.tables.dictionary → ⊥)
+    → IfSome o (λ glyph. IsFirstGiven encoding set n code glyph) → IfSome o (λ glyph. IsFirstWithCode font encoding set code glyph)
+code_found None font encoding set code n is plain h = tt
+code_found (Some glyph) font encoding set code n is plain first = let there = first.there in record {
+  has = record { not_keyed = plain; there = omega (arith, there, is); gives = first.gives };
+  none_before = λ other below has. first.none_before other below has.gives;
+}
+
+pub code_none : (o : Option ℕ) (font : View) (encoding : EncodingView) (set : CharSetView) (code n : ℕ) → n ≡ length font.char_strings
+    → IfNone o ((glyph : ℕ) → glyph < n → Gives encoding set code glyph → ⊥) → IfNone o ((glyph : ℕ) → HasCode font encoding set code glyph → ⊥)
+code_none (Some glyph) font encoding set code n is h = tt
+code_none None font encoding set code n is h = λ glyph has. let there = has.there in h glyph (omega (arith, there, is)) has.gives
 
 -- ---- CIDs
 pub cid_none : (o : Option ℕ) (font : FontView) (set : CharSetView) (glyph : ℕ) → IfNone o ((identifier : ℕ) → Names set glyph identifier → ⊥) → IfNone o ((cid : ℕ) → HasCid font set glyph cid → ⊥)
