@@ -6,11 +6,12 @@ use Rattle.postscript_compact1.specs.CharSets.Predefined.{identifier_of, identif
 use Rattle.postscript_compact1.specs.declared.char_set.CharSet.TheVariants as sets
 use Rattle.postscript_view.specs.CharSet.{covered, first_of, more_of, IsNamed, IsFirstOfRanges}
 use Rattle.std.specs.Prelude.{IfSome, IfNone, option_map}
-use Rattle.postscript_view.specs.Naming.{Names, NamesBehind}
+use Rattle.postscript_view.specs.Naming.{Names, NamesFrom, NamesBehind}
 use Rattle.postscript_view.specs.Strings.{HasName, HasString, string_of}
 use Rattle.postscript_view.specs.Order.{View}
 use Rattle.postscript_view.specs.declared.char_set.CharSetView.{CharSetView}
-use Rattle.postscript_view.specs.declared.char_set.CharSetView.TheVariants.{ISOAdobe, Expert, ExpertSubset, Listed, Ranges1, Ranges2}
+use Rattle.postscript_view.specs.declared.char_set.Identifiers.{Identifiers}
+use Rattle.postscript_view.specs.declared.char_set.Identifiers.TheVariants.{ISOAdobe, Expert, ExpertSubset, Listed, Ranges1, Ranges2}
 use Rattle.postscript_view.proofs.Covering.{covered_more}
 use Rattle.postscript_view.proofs.Selecting.{risen}
 
@@ -95,7 +96,7 @@ ranges_once ranges size g a b x y =
     let h = named_by ranges size y.range g a y.from y.to x in
     omega (arith, h, y.named)
 
-behind_once : (set : CharSetView) (g a b : ℕ) → NamesBehind set g a → NamesBehind set g b → a ≡ b
+behind_once : (set : Identifiers) (g a b : ℕ) → NamesBehind set g a → NamesBehind set g b → a ≡ b
 behind_once ISOAdobe g a b x y = omega (arith, x.0, y.0)
 behind_once Expert g a b x y = cc
 behind_once ExpertSubset g a b x y = cc
@@ -104,11 +105,14 @@ behind_once (Ranges1 ranges) g a b x y = ranges_once ranges.now 1 g a b x y
 behind_once (Ranges2 ranges) g a b x y = ranges_once ranges.now 2 g a b x y
 
 -- a glyph has one identifier
+once : (set : Identifiers) (g a b : ℕ) → NamesFrom set g a → NamesFrom set g b → a ≡ b
+once set g a b (inl x) (inl y) = omega (arith, x.1, y.1)
+once set g a b (inl x) (inr y) = absurd (omega (arith, x.0, y.0))
+once set g a b (inr x) (inl y) = absurd (omega (arith, x.0, y.0))
+once set g a b (inr x) (inr y) = behind_once set (g - 1) a b x.1 y.1
+
 pub named_once : (set : CharSetView) (g a b : ℕ) → Names set g a → Names set g b → a ≡ b
-named_once set g a b (inl x) (inl y) = omega (arith, x.1, y.1)
-named_once set g a b (inl x) (inr y) = absurd (omega (arith, x.0, y.0))
-named_once set g a b (inr x) (inl y) = absurd (omega (arith, x.0, y.0))
-named_once set g a b (inr x) (inr y) = behind_once set (g - 1) a b x.1 y.1
+named_once set g a b x y = once set.identifiers g a b x.1 y.1
 
 -- one more glyph that has not the identifier
 pub one_more : (set : CharSetView) (identifier g : ℕ) → ((other : ℕ) → other < g → Names set other identifier → ⊥) → (Names set g identifier → ⊥) → (other : ℕ) → other < g + 1 → Names set other identifier → ⊥
