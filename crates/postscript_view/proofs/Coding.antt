@@ -1,8 +1,10 @@
 -- Ranges of codes, and what is opened of an encoding.
-use Rattle.std.proofs.Common.{◌≡◌, refl, sym, ap, subst, ℕ, ◌+◌, ◌-◌, ◌/◌, ◌<◌, ◌≤◌, ◌∙◌, List, length, Option, Some, None, add-one, arith}
+use Rattle.std.proofs.Common.{◌≡◌, refl, sym, ap, subst, ℕ, ◌+◌, ◌-◌, ◌/◌, ◌<◌, ◌≤◌, ◌∙◌, List, length, Option, Some, None, true, false, add-one, arith}
 use Rattle.std.specs.Prelude.{IfSome, IfNone, IfErr, Result, Ok, Err}
 use Rattle.postscript_base.specs.Compact1.Decimal.{Decimal}
-use Rattle.postscript_base.specs.Compact1.Defaults.{look}
+use Rattle.std.specs.FinMap.{get}
+use Rattle.std.specs.Option.{is_some, option_or}
+use Rattle.postscript_base.specs.Compact1.Defaults.{default_of, look}
 use Rattle.postscript_base.specs.Compact1.Dictionary.{Dictionary}
 use Rattle.postscript_base.specs.declared.compact1.operator.Operator.TheVariants as operators
 use Rattle.postscript_view.specs.Encoding.{Gives, HasCode, IsFirstGiven, IsFirstWithCode, IsInRanges, first_code, codes_left, coded}
@@ -11,7 +13,7 @@ use Rattle.postscript_view.specs.declared.char_set.CharSetView.{CharSetView}
 use Rattle.postscript_view.specs.declared.encoding.Codes.{Codes}
 use Rattle.postscript_view.specs.declared.encoding.Codes.TheVariants.{Predefined, Listed, Ranges}
 use Rattle.postscript_view.specs.Cids.{HasCid, IsCidKeyed}
-use Rattle.postscript_view.specs.Dictionaries.{HasFontDictionary}
+use Rattle.postscript_view.specs.Dictionaries.{HasFontDictionary, HasMatrix}
 use Rattle.postscript_view.specs.Encodings.{AreCodesAt}
 use Rattle.postscript_view.specs.Order.{View}
 use Rattle.postscript_view.specs.declared.encoding.EncodingView.{EncodingView}
@@ -118,7 +120,21 @@ pub if_err : {A E P Q : Type 0} (r : Result A E) → IfErr r (λ e. P) → (P �
 if_err (Ok x) h f = tt
 if_err (Err e) h f = f h
 
-pub told_by : (o : Option (List Decimal)) (font : FontView) (glyph : ℕ) (map : Dictionary) → HasFontDictionary font glyph map → o ≡ look map operators.FontMatrix
-    → IfSome o (λ operands. (map : Dictionary) × HasFontDictionary font glyph map × (look map operators.FontMatrix ≡ Some operands))
-told_by None font glyph map has is = tt
-told_by (Some operands) font glyph map has is = (map, has, sym is)
+-- ---- the FontMatrix of a glyph
+pub of_its_own : (o : Option (List Decimal)) (font : FontView) (glyph : ℕ) (own : Dictionary) → HasFontDictionary font glyph own → is_some (get own operators.FontMatrix) ≡ true → o ≡ look own operators.FontMatrix
+    → IfSome o (λ matrix. HasMatrix font glyph matrix)
+of_its_own None font glyph own has some is = tt
+of_its_own (Some matrix) font glyph own has some is = (own, has, by (get own operators.FontMatrix) some (sym is))
+  where
+    by : (x : Option (List Decimal)) → is_some x ≡ true → option_or x (default_of operators.FontMatrix) ≡ Some matrix → option_or x (look font.dictionary operators.FontMatrix) ≡ Some matrix
+    by None some is = absurd (cc)
+    by (Some operands) some is = is
+
+pub of_the_font : (o : Option (List Decimal)) (font : FontView) (glyph : ℕ) (own : Dictionary) → HasFontDictionary font glyph own → is_some (get own operators.FontMatrix) ≡ false → o ≡ look font.dictionary operators.FontMatrix
+    → IfSome o (λ matrix. HasMatrix font glyph matrix)
+of_the_font None font glyph own has none is = tt
+of_the_font (Some matrix) font glyph own has none is = (own, has, by (get own operators.FontMatrix) none)
+  where
+    by : (x : Option (List Decimal)) → is_some x ≡ false → option_or x (look font.dictionary operators.FontMatrix) ≡ Some matrix
+    by None none = sym is
+    by (Some operands) none = absurd (cc)
