@@ -112,7 +112,7 @@ once set g a b (inr x) (inl y) = absurd (omega (arith, x.0, y.0))
 once set g a b (inr x) (inr y) = behind_once set (g - 1) a b x.1 y.1
 
 pub named_once : (set : CharSetView) (g a b : ℕ) → Names set g a → Names set g b → a ≡ b
-named_once set g a b x y = once set.identifiers g a b x.1 y.1
+named_once set g a b x y = once set.identifiers g a b x.told y.told
 
 -- one more glyph that has not the identifier
 pub one_more : (set : CharSetView) (identifier g : ℕ) → ((other : ℕ) → other < g → Names set other identifier → ⊥) → (Names set g identifier → ⊥) → (other : ℕ) → other < g + 1 → Names set other identifier → ⊥

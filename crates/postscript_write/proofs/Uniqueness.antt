@@ -117,8 +117,8 @@ same-set a b bytes map glyphs x y glyph identifier h =
     let was = x.identifiers in
     let is = y.identifiers in
     let same : was.0 ≡ is.0 = one-value _ was.0 is.0 was.1 is.1 in
-    let there : glyph < b.glyphs = omega (arith, h.0, x.counted, y.counted) in
-    (there, same-named a.identifiers b.identifiers bytes is.0 glyphs (subst (λ o. IsNamedBy a.identifiers bytes o glyphs) same was.2) is.2 glyph identifier h.1)
+    let there : glyph < b.glyphs = omega (arith, h.there, x.counted, y.counted) in
+    record { there = there; told = same-named a.identifiers b.identifiers bytes is.0 glyphs (subst (λ o. IsNamedBy a.identifiers bytes o glyphs) same was.2) is.2 glyph identifier h.told }
 
 pub one-first : (set : CharSetView) (identifier glyphs a b : ℕ) → IsFirstNamed set identifier glyphs a → IsFirstNamed set identifier glyphs b → a ≡ b
 one-first set identifier glyphs a b x y =
