@@ -1,5 +1,5 @@
--- What C is told of the names of glyphs (Technical Note 5176, sections 10 and 13).
-use Rattle.std.specs.Prelude.{◌≡◌, ◌≢◌, ◌⊎◌, ℕ, ◌<◌, ℤ, pos, List, length}
+-- What C is told of the names of glyphs (Technical Note 5176, sections 10, 13 and 18).
+use Rattle.std.specs.Prelude.{◌≡◌, ◌≢◌, ◌⊎◌, ℕ, ℤ, pos, List, length}
 use Rattle.postscript_base.specs.Error.{code}
 use Rattle.postscript_base.specs.Tape.Outcome.{Got, RefusedAs}
 use Rattle.postscript_base.specs.declared.error.Error.{Error}
@@ -26,11 +26,11 @@ LacksFont bytes status = (e : Error) × (status ≡ pos (code e)) × (e ≢ Memo
 abbrev pub OfFirst : List ℕ → (View → Type 0) → (status : ℤ) → Type 0
 OfFirst bytes tells status = ((v : View) × (next : ℕ) × (view bytes 0 ≡ Got v next) × tells v) ⊎ LacksFont bytes status
 
--- the name of a glyph of a font is handed over, or it has none
+-- the name of a glyph of a font is handed over, or it has none, as each glyph of a CID-keyed font
 abbrev pub TellsNameIn : List ℕ → View → (glyph : ℕ) → (status : ℤ) → (room : List ℕ) → (count : ℕ) → Type 0
 TellsNameIn bytes view glyph status room count =
-    ((set : CharSetView) × (name : List ℕ) × IsSetOf bytes view set × HasName set view.tables.strings glyph name × HandsBytes name status room count)
-    ⊎ (((set : CharSetView) × IsSetOf bytes view set × (status ≡ pos 38) × ((name : List ℕ) → HasName set view.tables.strings glyph name → ⊥))
+    ((set : CharSetView) × (name : List ℕ) × IsSetOf bytes view set × HasName view set glyph name × HandsBytes name status room count)
+    ⊎ (((set : CharSetView) × IsSetOf bytes view set × (status ≡ pos 38) × ((name : List ℕ) → HasName view set glyph name → ⊥))
     ⊎ LacksSet bytes view status)
 
 abbrev pub TellsName : List ℕ → (glyph : ℕ) → (status : ℤ) → (room : List ℕ) → (count : ℕ) → Type 0
@@ -39,8 +39,8 @@ TellsName bytes glyph status room count = OfFirst bytes (λ view. TellsNameIn by
 -- the first glyph of a font that has a name, or none has it
 abbrev pub TellsNamedIn : List ℕ → View → (name : List ℕ) → (status : ℤ) → (glyph : ℕ) → Type 0
 TellsNamedIn bytes view name status glyph =
-    ((set : CharSetView) × IsSetOf bytes view set × (status ≡ pos 0) × IsFirstWithName set view.tables.strings (length view.char_strings) name glyph)
-    ⊎ (((set : CharSetView) × IsSetOf bytes view set × (status ≡ pos 31) × ((other : ℕ) → other < length view.char_strings → HasName set view.tables.strings other name → ⊥))
+    ((set : CharSetView) × IsSetOf bytes view set × (status ≡ pos 0) × IsFirstWithName view set name glyph)
+    ⊎ (((set : CharSetView) × IsSetOf bytes view set × (status ≡ pos 31) × ((other : ℕ) → HasName view set other name → ⊥))
     ⊎ LacksSet bytes view status)
 
 abbrev pub TellsNamed : List ℕ → (name : List ℕ) → (status : ℤ) → (glyph : ℕ) → Type 0

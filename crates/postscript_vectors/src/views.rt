@@ -3,9 +3,13 @@ pub mod rows;
 
 use crate::checks::{bytes_of, changed, code_of, holds, holds_at, is_text, put_shown};
 use crate::fonts::TWO_DICTIONARIES;
+use postscript::compact1::FontSet;
 use postscript_view::{Advance, FontView};
-use rows::{BROKEN, CID, CODES, GLYPHS, PLAIN, REFUSED, SELECTIONS};
+use rows::{
+    BROKEN, CID, CIDS_OF_LETTERS, CODES, GLYPHS, LASTS, MATRICES, PLAIN, RANGE, REFUSED, SELECTIONS,
+};
 use std::alloc::Global;
+use std::io::Cursor;
 use std::process::Abort;
 
 /// The bytes of a font, and behind them others.
@@ -150,6 +154,79 @@ fn names_of_glyphs(rt: HostRuntime) {
         font.glyph_of_name(&set, b"C").is_none(),
         "no such name",
     );
+}
+
+#[test]
+fn no_names_in_a_cid_keyed_font(rt: HostRuntime) {
+    let alloc = rt.alloc();
+    let bytes = bytes_of(&rt, alloc, CIDS_OF_LETTERS);
+    let font = FontView::read(alloc, bytes.as_slice()).expect(&rt, "a font");
+    let set = font.char_set().expect(&rt, "a char set");
+    let encoding = font.encoding().expect(&rt, "an encoding");
+    holds(&rt, font.cid(&set, 1) == Some(34), "a CID");
+    for glyph in 0..4 {
+        holds_at(&rt, font.name(&set, glyph).is_none(), "a name", glyph);
+    }
+    let found = font.glyph_of_name(&set, b"A");
+    holds(&rt, found.is_none(), "a glyph of a name");
+    let found = font.glyph_of_code(&encoding, &set, 65);
+    holds(&rt, found.is_none(), "a glyph of a code");
+}
+
+#[test]
+fn no_names_behind_the_last_glyph(rt: HostRuntime) {
+    let alloc = rt.alloc();
+    for (row, (place, byte, last, behind)) in LASTS.iter().enumerate() {
+        let bytes = changed(&rt, alloc, RANGE, *place, *byte);
+        let font = FontView::read(alloc, bytes.as_slice()).expect(&rt, "a font");
+        let set = font.char_set().expect(&rt, "a char set");
+        holds_at(&rt, set.identifier(3) == Some(*last), "the last", row);
+        holds_at(&rt, set.glyph_of(*last, 8) == Some(3), "its glyph", row);
+        holds_at(&rt, font.name(&set, 3).is_some(), "its name", row);
+        holds_at(&rt, set.identifier(4).is_none(), "one behind", row);
+        holds_at(&rt, set.glyph_of(*behind, 8).is_none(), "no glyph", row);
+        holds_at(&rt, font.name(&set, 4).is_none(), "no name", row);
+    }
+}
+
+#[test]
+fn fonts_of_another_version(rt: HostRuntime) {
+    let alloc = rt.alloc();
+    // `FontSet` reads the version and does not judge it, and `FontView` opens what `FontSet` reads.
+    let bytes = changed(&rt, alloc, RANGE, 0, 9);
+    let font = FontView::read(alloc, bytes.as_slice()).expect(&rt, "a font in place");
+    holds(&rt, font.char_strings.len() == 4, "four glyphs");
+    let set = FontSet::read_lenient(alloc, &mut Cursor::new(bytes.as_slice()));
+    holds(
+        &rt,
+        set.expect(&rt, "a font set").header.major == 9,
+        "its version",
+    );
+}
+
+/// The first operand of the FontMatrix of a glyph.
+fn scale_of<R: Abort>(rt: &R, alloc: Global, bytes: &[u8], glyph: usize) -> String {
+    let mut text = String::new(alloc);
+    let font = FontView::read(alloc, bytes).expect(rt, "a font");
+    if let Some(matrix) = font.font_matrix(glyph) {
+        if let Some(operand) = matrix.as_slice().first() {
+            put_shown(rt, &mut text, "", operand);
+        }
+    }
+    text
+}
+
+#[test]
+fn matrices_of_glyphs(rt: HostRuntime) {
+    let alloc = rt.alloc();
+    // With the matrix of the font, and without it: its operator becomes StrokeWidth.
+    for (operator, wanted) in [(0x07u8, ["2e-3", "5e-4", ""]), (0x08, ["1e-3", "5e-4", ""])] {
+        let bytes = changed(&rt, alloc, MATRICES, 35, operator);
+        for (glyph, scale) in wanted.iter().enumerate() {
+            let text = scale_of(&rt, alloc, bytes.as_slice(), glyph);
+            is_text(&rt, text.as_str(), scale, "a matrix");
+        }
+    }
 }
 
 #[test]

@@ -1,18 +1,22 @@
 -- Ranges of codes, and what is opened of an encoding.
-use Rattle.std.proofs.Common.{◌≡◌, refl, sym, ap, subst, ℕ, ◌+◌, ◌-◌, ◌/◌, ◌<◌, ◌≤◌, ◌∙◌, List, length, Option, Some, None, add-one, arith}
+use Rattle.std.proofs.Common.{◌≡◌, refl, sym, ap, subst, ℕ, ◌+◌, ◌-◌, ◌/◌, ◌<◌, ◌≤◌, ◌∙◌, List, length, Option, Some, None, true, false, add-one, arith}
 use Rattle.std.specs.Prelude.{IfSome, IfNone, IfErr, Result, Ok, Err}
 use Rattle.postscript_base.specs.Compact1.Decimal.{Decimal}
-use Rattle.postscript_base.specs.Compact1.Defaults.{look}
+use Rattle.std.specs.FinMap.{get}
+use Rattle.std.specs.Option.{is_some, option_or}
+use Rattle.postscript_base.specs.Compact1.Defaults.{default_of, look}
 use Rattle.postscript_base.specs.Compact1.Dictionary.{Dictionary}
 use Rattle.postscript_base.specs.declared.compact1.operator.Operator.TheVariants as operators
-use Rattle.postscript_view.specs.Encoding.{IsInRanges, first_code, codes_left, coded}
+use Rattle.postscript_view.specs.Encoding.{Gives, HasCode, IsFirstGiven, IsFirstWithCode, IsInRanges, first_code, codes_left, coded}
 use Rattle.postscript_view.specs.Naming.{Names}
 use Rattle.postscript_view.specs.declared.char_set.CharSetView.{CharSetView}
 use Rattle.postscript_view.specs.declared.encoding.Codes.{Codes}
 use Rattle.postscript_view.specs.declared.encoding.Codes.TheVariants.{Predefined, Listed, Ranges}
-use Rattle.postscript_view.specs.Cids.{HasCid}
-use Rattle.postscript_view.specs.Dictionaries.{HasFontDictionary}
+use Rattle.postscript_view.specs.Cids.{HasCid, IsCidKeyed}
+use Rattle.postscript_view.specs.Dictionaries.{HasFontDictionary, HasMatrix}
 use Rattle.postscript_view.specs.Encodings.{AreCodesAt}
+use Rattle.postscript_view.specs.Order.{View}
+use Rattle.postscript_view.specs.declared.encoding.EncodingView.{EncodingView}
 use Rattle.postscript_view.specs.declared.font.FontView.{FontView}
 use Rattle.postscript_view.proofs.Selecting.{risen}
 
@@ -88,6 +92,20 @@ one_next (Ranges codes) (Predefined encoding) bytes place next another x y = abs
 one_next (Ranges codes) (Listed others) bytes place next another x y = absurd (omega (arith, x.0, y.0))
 one_next (Ranges codes) (Ranges others) bytes place next another x y = y.2 ∙ sym x.2
 
+-- ---- codes of a font that is not CID-keyed
+pub code_found : (o : Option ℕ) (font : View) (encoding : EncodingView) (set : CharSetView) (code n : ℕ) → n ≡ length font.char_strings → (IsCidKeyed font.tables.dictionary → ⊥)
+    → IfSome o (λ glyph. IsFirstGiven encoding set n code glyph) → IfSome o (λ glyph. IsFirstWithCode font encoding set code glyph)
+code_found None font encoding set code n is plain h = tt
+code_found (Some glyph) font encoding set code n is plain first = let there = first.there in record {
+  has = record { not_keyed = plain; there = omega (arith, there, is); gives = first.gives };
+  none_before = λ other below has. first.none_before other below has.gives;
+}
+
+pub code_none : (o : Option ℕ) (font : View) (encoding : EncodingView) (set : CharSetView) (code n : ℕ) → n ≡ length font.char_strings
+    → IfNone o ((glyph : ℕ) → glyph < n → Gives encoding set code glyph → ⊥) → IfNone o ((glyph : ℕ) → HasCode font encoding set code glyph → ⊥)
+code_none (Some glyph) font encoding set code n is h = tt
+code_none None font encoding set code n is h = λ glyph has. let there = has.there in h glyph (omega (arith, there, is)) has.gives
+
 -- ---- CIDs
 pub cid_none : (o : Option ℕ) (font : FontView) (set : CharSetView) (glyph : ℕ) → IfNone o ((identifier : ℕ) → Names set glyph identifier → ⊥) → IfNone o ((cid : ℕ) → HasCid font set glyph cid → ⊥)
 cid_none (Some cid) font set glyph h = tt
@@ -102,7 +120,21 @@ pub if_err : {A E P Q : Type 0} (r : Result A E) → IfErr r (λ e. P) → (P �
 if_err (Ok x) h f = tt
 if_err (Err e) h f = f h
 
-pub told_by : (o : Option (List Decimal)) (font : FontView) (glyph : ℕ) (map : Dictionary) → HasFontDictionary font glyph map → o ≡ look map operators.FontMatrix
-    → IfSome o (λ operands. (map : Dictionary) × HasFontDictionary font glyph map × (look map operators.FontMatrix ≡ Some operands))
-told_by None font glyph map has is = tt
-told_by (Some operands) font glyph map has is = (map, has, sym is)
+-- ---- the FontMatrix of a glyph
+pub of_its_own : (o : Option (List Decimal)) (font : FontView) (glyph : ℕ) (own : Dictionary) → HasFontDictionary font glyph own → is_some (get own operators.FontMatrix) ≡ true → o ≡ look own operators.FontMatrix
+    → IfSome o (λ matrix. HasMatrix font glyph matrix)
+of_its_own None font glyph own has some is = tt
+of_its_own (Some matrix) font glyph own has some is = (own, has, by (get own operators.FontMatrix) some (sym is))
+  where
+    by : (x : Option (List Decimal)) → is_some x ≡ true → option_or x (default_of operators.FontMatrix) ≡ Some matrix → option_or x (look font.dictionary operators.FontMatrix) ≡ Some matrix
+    by None some is = absurd (cc)
+    by (Some operands) some is = is
+
+pub of_the_font : (o : Option (List Decimal)) (font : FontView) (glyph : ℕ) (own : Dictionary) → HasFontDictionary font glyph own → is_some (get own operators.FontMatrix) ≡ false → o ≡ look font.dictionary operators.FontMatrix
+    → IfSome o (λ matrix. HasMatrix font glyph matrix)
+of_the_font None font glyph own has none is = tt
+of_the_font (Some matrix) font glyph own has none is = (own, has, by (get own operators.FontMatrix) none)
+  where
+    by : (x : Option (List Decimal)) → is_some x ≡ false → option_or x (look font.dictionary operators.FontMatrix) ≡ Some matrix
+    by None none = sym is
+    by (Some operands) none = absurd (cc)

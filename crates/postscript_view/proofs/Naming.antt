@@ -6,10 +6,12 @@ use Rattle.postscript_compact1.specs.CharSets.Predefined.{identifier_of, identif
 use Rattle.postscript_compact1.specs.declared.char_set.CharSet.TheVariants as sets
 use Rattle.postscript_view.specs.CharSet.{covered, first_of, more_of, IsNamed, IsFirstOfRanges}
 use Rattle.std.specs.Prelude.{IfSome, IfNone, option_map}
-use Rattle.postscript_view.specs.Naming.{Names, NamesBehind}
-use Rattle.postscript_view.specs.Strings.{HasName, string_of}
+use Rattle.postscript_view.specs.Naming.{Names, NamesFrom, NamesBehind}
+use Rattle.postscript_view.specs.Strings.{HasName, HasString, string_of}
+use Rattle.postscript_view.specs.Order.{View}
 use Rattle.postscript_view.specs.declared.char_set.CharSetView.{CharSetView}
-use Rattle.postscript_view.specs.declared.char_set.CharSetView.TheVariants.{ISOAdobe, Expert, ExpertSubset, Listed, Ranges1, Ranges2}
+use Rattle.postscript_view.specs.declared.char_set.Identifiers.{Identifiers}
+use Rattle.postscript_view.specs.declared.char_set.Identifiers.TheVariants.{ISOAdobe, Expert, ExpertSubset, Listed, Ranges1, Ranges2}
 use Rattle.postscript_view.proofs.Covering.{covered_more}
 use Rattle.postscript_view.proofs.Selecting.{risen}
 
@@ -94,7 +96,7 @@ ranges_once ranges size g a b x y =
     let h = named_by ranges size y.range g a y.from y.to x in
     omega (arith, h, y.named)
 
-behind_once : (set : CharSetView) (g a b : ℕ) → NamesBehind set g a → NamesBehind set g b → a ≡ b
+behind_once : (set : Identifiers) (g a b : ℕ) → NamesBehind set g a → NamesBehind set g b → a ≡ b
 behind_once ISOAdobe g a b x y = omega (arith, x.0, y.0)
 behind_once Expert g a b x y = cc
 behind_once ExpertSubset g a b x y = cc
@@ -103,11 +105,14 @@ behind_once (Ranges1 ranges) g a b x y = ranges_once ranges.now 1 g a b x y
 behind_once (Ranges2 ranges) g a b x y = ranges_once ranges.now 2 g a b x y
 
 -- a glyph has one identifier
+once : (set : Identifiers) (g a b : ℕ) → NamesFrom set g a → NamesFrom set g b → a ≡ b
+once set g a b (inl x) (inl y) = omega (arith, x.1, y.1)
+once set g a b (inl x) (inr y) = absurd (omega (arith, x.0, y.0))
+once set g a b (inr x) (inl y) = absurd (omega (arith, x.0, y.0))
+once set g a b (inr x) (inr y) = behind_once set (g - 1) a b x.1 y.1
+
 pub named_once : (set : CharSetView) (g a b : ℕ) → Names set g a → Names set g b → a ≡ b
-named_once set g a b (inl x) (inl y) = omega (arith, x.1, y.1)
-named_once set g a b (inl x) (inr y) = absurd (omega (arith, x.0, y.0))
-named_once set g a b (inr x) (inl y) = absurd (omega (arith, x.0, y.0))
-named_once set g a b (inr x) (inr y) = behind_once set (g - 1) a b x.1 y.1
+named_once set g a b x y = once set.identifiers g a b x.told y.told
 
 -- one more glyph that has not the identifier
 pub one_more : (set : CharSetView) (identifier g : ℕ) → ((other : ℕ) → other < g → Names set other identifier → ⊥) → (Names set g identifier → ⊥) → (other : ℕ) → other < g + 1 → Names set other identifier → ⊥
@@ -116,27 +121,40 @@ one_more set identifier g before here other below names =
     let same : other ≡ g = omega (arith, below, not_before) in
     here (subst (λ k. Names set k identifier) same names)
 
--- where the identifier of a glyph has no string, the glyph has no name
-pub name_none : (o : Option (Bor (List ℕ))) (set : CharSetView) (strings : List (List ℕ)) (glyph identifier : ℕ) → Names set glyph identifier → option_map (λ string. string.now) o ≡ string_of strings identifier
-    → IfNone o ((name : List ℕ) → HasName set strings glyph name → ⊥)
-name_none (Some name) set strings glyph identifier names is = tt
-name_none None set strings glyph identifier names is = λ name h.
+-- where the identifier of a glyph has no string, the set tells none
+pub string_none : (o : Option (Bor (List ℕ))) (set : CharSetView) (strings : List (List ℕ)) (glyph identifier : ℕ) → Names set glyph identifier → option_map (λ string. string.now) o ≡ string_of strings identifier
+    → IfNone o ((name : List ℕ) → HasString set strings glyph name → ⊥)
+string_none (Some name) set strings glyph identifier names is = tt
+string_none None set strings glyph identifier names is = λ name h.
     let same : h.0 ≡ identifier = named_once set glyph h.0 identifier h.1 names in
     let string = h.2 in
     absurd (cc)
 
--- a glyph has one name
-pub one_name : (set : CharSetView) (strings : List (List ℕ)) (glyph : ℕ) (a b : List ℕ) → HasName set strings glyph a → HasName set strings glyph b → a ≡ b
-one_name set strings glyph a b x y =
+-- the set tells one string for a glyph
+pub one_string : (set : CharSetView) (strings : List (List ℕ)) (glyph : ℕ) (a b : List ℕ) → HasString set strings glyph a → HasString set strings glyph b → a ≡ b
+one_string set strings glyph a b x y =
     let same : x.0 ≡ y.0 = named_once set glyph x.0 y.0 x.1 y.1 in
     let one = x.2 in
     let other = y.2 in
     cc
 
 -- one more glyph that has not the name
-pub one_more_name : (set : CharSetView) (strings : List (List ℕ)) (name : List ℕ) (g : ℕ) → ((other : ℕ) → other < g → HasName set strings other name → ⊥) → (HasName set strings g name → ⊥)
-    → (other : ℕ) → other < g + 1 → HasName set strings other name → ⊥
-one_more_name set strings name g before here other below has =
+pub one_more_name : (font : View) (set : CharSetView) (name : List ℕ) (g : ℕ) → ((other : ℕ) → other < g → HasName font set other name → ⊥) → (HasName font set g name → ⊥)
+    → (other : ℕ) → other < g + 1 → HasName font set other name → ⊥
+one_more_name font set name g before here other below has =
     let not_before : other < g → ⊥ = λ h. before other h has in
     let same : other ≡ g = omega (arith, below, not_before) in
-    here (subst (λ k. HasName set strings k name) same has)
+    here (subst (λ k. HasName font set k name) same has)
+
+-- so that the glyph has no name
+pub name_none : (o : Option (Bor (List ℕ))) (font : View) (set : CharSetView) (glyph : ℕ) → IfNone o ((string : List ℕ) → HasString set font.tables.strings glyph string → ⊥) → IfNone o ((name : List ℕ) → HasName font set glyph name → ⊥)
+name_none (Some name) font set glyph h = tt
+name_none None font set glyph h = λ name has. h name has.string
+
+-- a glyph has one name
+pub one_name : (font : View) (set : CharSetView) (glyph : ℕ) (a b : List ℕ) → HasName font set glyph a → HasName font set glyph b → a ≡ b
+one_name font set glyph a b x y = one_string set font.tables.strings glyph a b x.string y.string
+
+-- no glyph past the last has a name
+pub no_more_names : (font : View) (set : CharSetView) (name : List ℕ) (n : ℕ) → length font.char_strings ≤ n → ((other : ℕ) → other < n → HasName font set other name → ⊥) → (glyph : ℕ) → HasName font set glyph name → ⊥
+no_more_names font set name n all before glyph has = let there = has.there in before glyph (omega (arith, there, all)) has

@@ -20,11 +20,12 @@ use Rattle.postscript_compact1.specs.declared.char_set.CharSet.TheVariants as se
 use Rattle.postscript_compact1.specs.declared.char_set.range.Range1.{Range1}
 use Rattle.postscript_compact1.specs.declared.char_set.range.Range2.{Range2}
 use Rattle.postscript_items.specs.Items.{number_at}
-use Rattle.postscript_view.specs.CharSets.{StandsAt, IsNamedBy, IsCharSetOf}
+use Rattle.postscript_view.specs.CharSets.{StandsAt, IsNamedBy, AreNamedIn, IsCharSetOf}
 use Rattle.postscript_view.specs.SameSet.{AreIdentifiers, BeginWith, IsSame}
 use Rattle.postscript_view.specs.Select.{offset_of}
 use Rattle.postscript_view.specs.declared.char_set.CharSetView.{CharSetView}
-use Rattle.postscript_view.specs.declared.char_set.CharSetView.TheVariants.{ISOAdobe, Expert, ExpertSubset, Listed, Ranges1, Ranges2}
+use Rattle.postscript_view.specs.declared.char_set.Identifiers.{Identifiers}
+use Rattle.postscript_view.specs.declared.char_set.Identifiers.TheVariants.{ISOAdobe, Expert, ExpertSubset, Listed, Ranges1, Ranges2}
 use Rattle.postscript_view.proofs.Wider.{got_if}
 
 -- ---- numbers
@@ -165,7 +166,7 @@ format_is bytes place format behind e =
     let one = number_got 1 bytes place format behind (omega arith) e in
     (sym one.1, one.2, one.0)
 
-at_place : (set : CharSet) (view : CharSetView) (bytes : List ℕ) (place glyphs next : ℕ) → IsCharSet bytes place glyphs set next → StandsAt view bytes place glyphs → IsSame set view
+at_place : (set : CharSet) (view : Identifiers) (bytes : List ℕ) (place glyphs next : ℕ) → IsCharSet bytes place glyphs set next → StandsAt view bytes place glyphs → IsSame set view
 at_place sets.ISOAdobe view bytes place glyphs next h stands = absurd h
 at_place sets.Expert view bytes place glyphs next h stands = absurd h
 at_place sets.ExpertSubset view bytes place glyphs next h stands = absurd h
@@ -200,7 +201,7 @@ at_place (sets.Format2 set) (Ranges2 ranges) bytes place glyphs next h stands =
     (begin_with range_2 (λ (r : Range2). r.first) (λ (r : Range2). r.left) 2 tells_2 bytes (place + 1) set.ranges next behind)
 
 -- what stands there can be lent
-lends : (set : CharSet) (bytes : Bor (List ℕ)) (place glyphs next : ℕ) → IsCharSet bytes.now place glyphs set next → (view : CharSetView) × StandsAt view bytes.now place glyphs
+lends : (set : CharSet) (bytes : Bor (List ℕ)) (place glyphs next : ℕ) → IsCharSet bytes.now place glyphs set next → (view : Identifiers) × StandsAt view bytes.now place glyphs
 lends sets.ISOAdobe bytes place glyphs next h = absurd h
 lends sets.Expert bytes place glyphs next h = absurd h
 lends sets.ExpertSubset bytes place glyphs next h = absurd h
@@ -225,14 +226,14 @@ pub offset_is : (map : Dictionary) (operator : Operator) (offset : ℕ) → HasF
 unfolding offset_of
 offset_is map operator offset h = rw (h.1, h.2) refl
 
-named : (view : CharSetView) (bytes : List ℕ) (map : Dictionary) (offset glyphs : ℕ) → HasFirst map operators.CharSet (pos offset) → IsCharSetOf view bytes map glyphs → IsNamedBy view bytes offset glyphs
+named : (view : Identifiers) (bytes : List ℕ) (map : Dictionary) (offset glyphs : ℕ) → HasFirst map operators.CharSet (pos offset) → AreNamedIn view bytes map glyphs → IsNamedBy view bytes offset glyphs
 named view bytes map offset glyphs first h =
     let is = offset_is map operators.CharSet offset first in
     let other = h.1 in
     let same : h.0 ≡ offset = cc in
     subst (λ o. IsNamedBy view bytes o glyphs) same h.2
 
-pub same_set : (view : CharSetView) (bytes : List ℕ) (map : Dictionary) (glyphs : ℕ) (set : CharSet) → IsCharSetOf view bytes map glyphs → HasCharSet bytes 0 glyphs map set → IsSame set view
+pub same_set : (view : Identifiers) (bytes : List ℕ) (map : Dictionary) (glyphs : ℕ) (set : CharSet) → AreNamedIn view bytes map glyphs → HasCharSet bytes 0 glyphs map set → IsSame set view
 same_set view bytes map glyphs set h (Is_0 first is) = elim (named view bytes map 0 glyphs first h) [
   | inl iso ↦ rw (is, iso.1) tt
   | inr more ↦ elim more [
@@ -274,7 +275,7 @@ same_set view bytes map glyphs set h (Own offset next first far place stands) = 
   ]
 ]
 
-pub has_view : (bytes : Bor (List ℕ)) (map : Dictionary) (glyphs : ℕ) (set : CharSet) → HasCharSet bytes.now 0 glyphs map set → (view : CharSetView) × IsCharSetOf view bytes.now map glyphs
+pub has_view : (bytes : Bor (List ℕ)) (map : Dictionary) (glyphs : ℕ) (set : CharSet) → HasCharSet bytes.now 0 glyphs map set → (view : Identifiers) × AreNamedIn view bytes.now map glyphs
 has_view bytes map glyphs set (Is_0 first is) = (ISOAdobe, (0, offset_is map operators.CharSet 0 first, inl (refl, refl)))
 has_view bytes map glyphs set (Is_1 first is) = (Expert, (1, offset_is map operators.CharSet 1 first, inr (inl (refl, refl))))
 has_view bytes map glyphs set (Is_2 first is) = (ExpertSubset, (2, offset_is map operators.CharSet 2 first, inr (inr (inl (refl, refl)))))
@@ -289,8 +290,8 @@ none_for (Err e) bytes map n glyphs is none = λ view h. none view (subst (λ k.
 
 pub tied : (r : Result CharSetView Error) (bytes : Bor (List ℕ)) (map : Dictionary) (n glyphs : ℕ) → n ≡ glyphs → IfOk r (λ view. IsCharSetOf view bytes.now map n)
     → IfErr r (λ e. (view : CharSetView) → IsCharSetOf view bytes.now map n → ⊥)
-    → MatchResult r (λ view. (set : CharSet) → HasCharSet bytes.now 0 glyphs map set → IsSame set view) (λ e. (set : CharSet) → HasCharSet bytes.now 0 glyphs map set → ⊥)
-tied (Ok view) bytes map n glyphs is found none = λ set has. same_set view bytes.now map glyphs set (subst (λ k. IsCharSetOf view bytes.now map k) is found) has
+    → MatchResult r (λ view. (set : CharSet) → HasCharSet bytes.now 0 glyphs map set → IsSame set view.identifiers) (λ e. (set : CharSet) → HasCharSet bytes.now 0 glyphs map set → ⊥)
+tied (Ok view) bytes map n glyphs is found none = λ set has. same_set view.identifiers bytes.now map glyphs set (subst (λ k. AreNamedIn view.identifiers bytes.now map k) is found.identifiers) has
 tied (Err e) bytes map n glyphs is found none = λ set has.
     let other = has_view bytes map glyphs set has in
-    none other.0 (subst (λ k. IsCharSetOf other.0 bytes.now map k) (sym is) other.1)
+    none (record { identifiers = other.0; glyphs = n }) (record { identifiers = subst (λ k. AreNamedIn other.0 bytes.now map k) (sym is) other.1; counted = refl })

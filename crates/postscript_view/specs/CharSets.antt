@@ -5,10 +5,11 @@ use Rattle.postscript_base.specs.declared.compact1.operator.Operator.TheVariants
 use Rattle.postscript_items.specs.Items.{number_at}
 use Rattle.postscript_view.specs.Select.{offset_of}
 use Rattle.postscript_view.specs.declared.char_set.CharSetView.{CharSetView}
-use Rattle.postscript_view.specs.declared.char_set.CharSetView.TheVariants.{ISOAdobe, Expert, ExpertSubset, Listed, Ranges1, Ranges2}
+use Rattle.postscript_view.specs.declared.char_set.Identifiers.{Identifiers}
+use Rattle.postscript_view.specs.declared.char_set.Identifiers.TheVariants.{ISOAdobe, Expert, ExpertSubset, Listed, Ranges1, Ranges2}
 
 -- At a place stands the byte of the format. Behind it stand two bytes for each of so many glyphs but the first, or ranges.
-abbrev pub StandsAt : CharSetView → List ℕ → (place glyphs : ℕ) → Type 0
+abbrev pub StandsAt : Identifiers → List ℕ → (place glyphs : ℕ) → Type 0
 StandsAt ISOAdobe bytes place glyphs = ⊥
 StandsAt Expert bytes place glyphs = ⊥
 StandsAt ExpertSubset bytes place glyphs = ⊥
@@ -18,10 +19,15 @@ StandsAt (Ranges1 ranges) bytes place glyphs = (number_at bytes place 1 ≡ 1) �
 StandsAt (Ranges2 ranges) bytes place glyphs = (number_at bytes place 1 ≡ 2) × (place + 1 ≤ length bytes) × (ranges.now ≡ drop (place + 1) bytes)
 
 -- The offsets 0, 1 and 2 name the predefined sets; at another one stands the font's own.
-abbrev pub IsNamedBy : CharSetView → List ℕ → (offset glyphs : ℕ) → Type 0
-IsNamedBy set bytes offset glyphs =
-    ((offset ≡ 0) × (set ≡ ISOAdobe)) ⊎ ((offset ≡ 1) × (set ≡ Expert)) ⊎ ((offset ≡ 2) × (set ≡ ExpertSubset)) ⊎ ((3 ≤ offset) × StandsAt set bytes offset glyphs)
+abbrev pub IsNamedBy : Identifiers → List ℕ → (offset glyphs : ℕ) → Type 0
+IsNamedBy identifiers bytes offset glyphs =
+    ((offset ≡ 0) × (identifiers ≡ ISOAdobe)) ⊎ ((offset ≡ 1) × (identifiers ≡ Expert)) ⊎ ((offset ≡ 2) × (identifiers ≡ ExpertSubset)) ⊎ ((3 ≤ offset) × StandsAt identifiers bytes offset glyphs)
 
--- the char set that a dictionary names, for so many glyphs
-abbrev pub IsCharSetOf : CharSetView → List ℕ → Dictionary → (glyphs : ℕ) → Type 0
-IsCharSetOf set bytes map glyphs = (offset : ℕ) × (offset_of map operators.CharSet ≡ Some offset) × IsNamedBy set bytes offset glyphs
+-- the identifiers that a dictionary names, for so many glyphs
+abbrev pub AreNamedIn : Identifiers → List ℕ → Dictionary → (glyphs : ℕ) → Type 0
+AreNamedIn identifiers bytes map glyphs = (offset : ℕ) × (offset_of map operators.CharSet ≡ Some offset) × IsNamedBy identifiers bytes offset glyphs
+
+-- the char set of a font of so many glyphs, whose dictionary names it
+pub record IsCharSetOf (set : CharSetView) (bytes : List ℕ) (map : Dictionary) (glyphs : ℕ) : Type 0 where
+  pub identifiers : AreNamedIn set.identifiers bytes map glyphs
+  pub counted : set.glyphs ≡ glyphs

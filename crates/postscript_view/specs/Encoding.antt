@@ -1,8 +1,10 @@
--- Encodings in place (Technical Note 5176, section 12, "Encodings").
+-- Encodings in place (Technical Note 5176, section 12, "Encodings", and section 18, "CID-keyed Fonts").
 use Rattle.std.specs.Prelude.{◌≡◌, ◌⊎◌, ℕ, zero, suc, ◌+◌, ◌-◌, ◌*◌, ◌/◌, ◌<◌, ◌≤◌, List, length, Some}
 use Rattle.postscript_compact1.specs.Computed.Encodings.{identifier_of}
 use Rattle.postscript_items.specs.Items.{number_at}
+use Rattle.postscript_view.specs.Cids.{IsCidKeyed}
 use Rattle.postscript_view.specs.Naming.{Names}
+use Rattle.postscript_view.specs.Order.{View}
 use Rattle.postscript_view.specs.declared.char_set.CharSetView.{CharSetView}
 use Rattle.postscript_view.specs.declared.encoding.Codes.{Codes}
 use Rattle.postscript_view.specs.declared.encoding.Codes.TheVariants.{Predefined, Listed, Ranges}
@@ -53,26 +55,37 @@ pub record IsFirstSupplement (supplements : List ℕ) (code identifier : ℕ) : 
   pub named : identifier ≡ supplement_name supplements supplement
   pub none_before : (s : ℕ) → s < supplement → supplement_code supplements s ≡ code → ⊥
 
--- Without supplements: a predefined encoding tells the name of the glyph with a code, and a format tells the glyph.
-abbrev pub HasOwnCode : Codes → CharSetView → (code glyph : ℕ) → Type 0
-HasOwnCode (Predefined encoding) set code glyph = (identifier : ℕ) × (identifier_of encoding code ≡ Some identifier) × (0 < identifier) × Names set glyph identifier
-HasOwnCode (Listed codes) set code glyph = IsInList codes.now code glyph
-HasOwnCode (Ranges ranges) set code glyph = IsInRanges ranges.now code glyph
+-- Without supplements: a predefined encoding tells the name of the glyph that it gives a code, and a format tells the glyph.
+abbrev pub GivesOwn : Codes → CharSetView → (code glyph : ℕ) → Type 0
+GivesOwn (Predefined encoding) set code glyph = (identifier : ℕ) × (identifier_of encoding code ≡ Some identifier) × (0 < identifier) × Names set glyph identifier
+GivesOwn (Listed codes) set code glyph = IsInList codes.now code glyph
+GivesOwn (Ranges ranges) set code glyph = IsInRanges ranges.now code glyph
 
--- A glyph has a code: by the first supplement with the code, where there is one.
-abbrev pub HasCode : EncodingView → CharSetView → (code glyph : ℕ) → Type 0
-HasCode encoding set code glyph =
+-- An encoding, with a char set, gives a glyph a code: by the first supplement with the code, where there is one.
+abbrev pub Gives : EncodingView → CharSetView → (code glyph : ℕ) → Type 0
+Gives encoding set code glyph =
     ((identifier : ℕ) × IsFirstSupplement encoding.supplements.now code identifier × Names set glyph identifier)
-    ⊎ ((IsSupplemented encoding.supplements.now code → ⊥) × HasOwnCode encoding.codes set code glyph)
+    ⊎ ((IsSupplemented encoding.supplements.now code → ⊥) × GivesOwn encoding.codes set code glyph)
 
--- the first of so many glyphs that has a code
-pub record IsFirstWithCode (encoding : EncodingView) (set : CharSetView) (glyphs code glyph : ℕ) : Type 0 where
+-- the first of so many glyphs that it gives a code
+pub record IsFirstGiven (encoding : EncodingView) (set : CharSetView) (glyphs code glyph : ℕ) : Type 0 where
   pub there : glyph < glyphs
-  pub has : HasCode encoding set code glyph
-  pub none_before : (other : ℕ) → other < glyph → HasCode encoding set code other → ⊥
+  pub gives : Gives encoding set code glyph
+  pub none_before : (other : ℕ) → other < glyph → Gives encoding set code other → ⊥
 
 -- and without supplements
-pub record IsFirstWithOwnCode (codes : Codes) (set : CharSetView) (glyphs code glyph : ℕ) : Type 0 where
+pub record IsFirstGivenOwn (codes : Codes) (set : CharSetView) (glyphs code glyph : ℕ) : Type 0 where
   pub there : glyph < glyphs
-  pub has : HasOwnCode codes set code glyph
-  pub none_before : (other : ℕ) → other < glyph → HasOwnCode codes set code other → ⊥
+  pub gives : GivesOwn codes set code glyph
+  pub none_before : (other : ℕ) → other < glyph → GivesOwn codes set code other → ⊥
+
+-- A glyph of a font has a code: its encoding gives it. A CID-keyed font has no encoding.
+pub record HasCode (font : View) (encoding : EncodingView) (set : CharSetView) (code glyph : ℕ) : Type 0 where
+  pub not_keyed : IsCidKeyed font.tables.dictionary → ⊥
+  pub there : glyph < length font.char_strings
+  pub gives : Gives encoding set code glyph
+
+-- the first glyph that has a code
+pub record IsFirstWithCode (font : View) (encoding : EncodingView) (set : CharSetView) (code glyph : ℕ) : Type 0 where
+  pub has : HasCode font encoding set code glyph
+  pub none_before : (other : ℕ) → other < glyph → HasCode font encoding set code other → ⊥

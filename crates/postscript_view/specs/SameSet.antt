@@ -6,8 +6,8 @@ use Rattle.postscript_compact1.specs.declared.char_set.CharSet.{CharSet}
 use Rattle.postscript_compact1.specs.declared.char_set.CharSet.TheVariants as sets
 use Rattle.postscript_items.specs.Lent.{items_of}
 use Rattle.postscript_view.specs.CharSet.{identifier_at, first_of, more_of}
-use Rattle.postscript_view.specs.declared.char_set.CharSetView.{CharSetView}
-use Rattle.postscript_view.specs.declared.char_set.CharSetView.TheVariants.{ISOAdobe, Expert, ExpertSubset, Listed, Ranges1, Ranges2}
+use Rattle.postscript_view.specs.declared.char_set.Identifiers.{Identifiers}
+use Rattle.postscript_view.specs.declared.char_set.Identifiers.TheVariants.{ISOAdobe, Expert, ExpertSubset, Listed, Ranges1, Ranges2}
 use Rattle.postscript_view.specs.declared.font.FontView.{FontView}
 
 -- the identifiers of two bytes are those of a list, and no more
@@ -20,7 +20,7 @@ BeginWith {A} first left size listed ranges =
     (r : ℕ) (range : A) → slice_get listed r ≡ Some range → (r < length ranges / (2 + size)) × (first_of ranges size r ≡ first range) × (more_of ranges size r ≡ left range)
 
 -- the same predefined set, the same identifiers, or the same ranges
-abbrev pub IsSame : CharSet → CharSetView → Type 0
+abbrev pub IsSame : CharSet → Identifiers → Type 0
 IsSame sets.ISOAdobe ISOAdobe = Unit {0}
 IsSame sets.Expert Expert = Unit {0}
 IsSame sets.ExpertSubset ExpertSubset = Unit {0}

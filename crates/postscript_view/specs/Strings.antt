@@ -1,19 +1,27 @@
--- Names of glyphs (Technical Note 5176, "Charsets", "String INDEX", Appendix A).
-use Rattle.std.specs.Prelude.{◌≡◌, ℕ, ◌-◌, ◌<◌, List, Option, Some, nat_lt, slice_get, if◌then◌else◌}
+-- Names of glyphs (Technical Note 5176, section 10, "String INDEX", section 13, "Charsets", section 18, "CID-keyed Fonts", and
+-- Appendix A).
+use Rattle.std.specs.Prelude.{◌≡◌, ℕ, ◌-◌, ◌<◌, List, length, Option, Some, nat_lt, slice_get, if◌then◌else◌}
 use Rattle.postscript_compact1.specs.StandardStrings.{standard_string}
+use Rattle.postscript_view.specs.Cids.{IsCidKeyed}
 use Rattle.postscript_view.specs.Naming.{Names}
+use Rattle.postscript_view.specs.Order.{View}
 use Rattle.postscript_view.specs.declared.char_set.CharSetView.{CharSetView}
 
 -- the string of an identifier: below 391 a standard string, and from there on an item of the String INDEX
 unfoldable pub string_of : List (List ℕ) → (identifier : ℕ) → Option (List ℕ)
 string_of strings identifier = if nat_lt identifier 391 then standard_string identifier else slice_get strings (identifier - 391)
 
--- the string of the identifier that names a glyph
-abbrev pub HasName : CharSetView → List (List ℕ) → (glyph : ℕ) → (name : List ℕ) → Type 0
-HasName set strings glyph name = (identifier : ℕ) × Names set glyph identifier × (string_of strings identifier ≡ Some name)
+-- the string of the identifier that a char set tells for a glyph
+abbrev pub HasString : CharSetView → List (List ℕ) → (glyph : ℕ) → (string : List ℕ) → Type 0
+HasString set strings glyph string = (identifier : ℕ) × Names set glyph identifier × (string_of strings identifier ≡ Some string)
 
--- the first of so many glyphs that has a name
-pub record IsFirstWithName (set : CharSetView) (strings : List (List ℕ)) (glyphs : ℕ) (name : List ℕ) (glyph : ℕ) : Type 0 where
-  pub there : glyph < glyphs
-  pub has : HasName set strings glyph name
-  pub none_before : (other : ℕ) → other < glyph → HasName set strings other name → ⊥
+-- A glyph of a font has a name: that string. In a CID-keyed font the char set tells CIDs, so that no glyph has a name.
+pub record HasName (font : View) (set : CharSetView) (glyph : ℕ) (name : List ℕ) : Type 0 where
+  pub not_keyed : IsCidKeyed font.tables.dictionary → ⊥
+  pub there : glyph < length font.char_strings
+  pub string : HasString set font.tables.strings glyph name
+
+-- the first glyph that has a name
+pub record IsFirstWithName (font : View) (set : CharSetView) (name : List ℕ) (glyph : ℕ) : Type 0 where
+  pub has : HasName font set glyph name
+  pub none_before : (other : ℕ) → other < glyph → HasName font set other name → ⊥

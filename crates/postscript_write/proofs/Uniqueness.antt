@@ -13,10 +13,11 @@ use Rattle.postscript_type2.specs.Program.Routines.{lent}
 use Rattle.postscript_type2.specs.Program.Runs.{Run}
 use Rattle.postscript_view.specs.Advances.{HasRun}
 use Rattle.postscript_view.specs.CharSets.{IsCharSetOf, IsNamedBy, StandsAt}
-use Rattle.postscript_view.specs.Naming.{IsFirstNamed, Names}
+use Rattle.postscript_view.specs.Naming.{IsFirstNamed, Names, NamesFrom}
 use Rattle.postscript_view.specs.Select.{IsFirstRange, IsSelected, Selects}
 use Rattle.postscript_view.specs.declared.char_set.CharSetView.{CharSetView}
-use Rattle.postscript_view.specs.declared.char_set.CharSetView.TheVariants.{ISOAdobe, Expert, ExpertSubset, Listed, Ranges1, Ranges2}
+use Rattle.postscript_view.specs.declared.char_set.Identifiers.{Identifiers}
+use Rattle.postscript_view.specs.declared.char_set.Identifiers.TheVariants.{ISOAdobe, Expert, ExpertSubset, Listed, Ranges1, Ranges2}
 use Rattle.postscript_view.specs.declared.font.FontView.{FontView}
 use Rattle.postscript_view.specs.declared.part.Part.{Part}
 
@@ -70,7 +71,7 @@ one-accent operands a b x y =
     (one-code y.bchar a.base b.base (subst (λ o. IsCode o a.base) bases x.base_is) y.base_is, one-code y.achar a.accent b.accent (subst (λ o. IsCode o a.accent) accents x.accent_is) y.accent_is)
 
 -- one char set names the glyphs
-same-stands : (a b : CharSetView) (bytes : List ℕ) (place glyphs : ℕ) → StandsAt a bytes place glyphs → StandsAt b bytes place glyphs → (glyph identifier : ℕ) → Names a glyph identifier → Names b glyph identifier
+same-stands : (a b : Identifiers) (bytes : List ℕ) (place glyphs : ℕ) → StandsAt a bytes place glyphs → StandsAt b bytes place glyphs → (glyph identifier : ℕ) → NamesFrom a glyph identifier → NamesFrom b glyph identifier
 same-stands ISOAdobe b bytes place glyphs x y glyph identifier h = absurd x
 same-stands Expert b bytes place glyphs x y glyph identifier h = absurd x
 same-stands ExpertSubset b bytes place glyphs x y glyph identifier h = absurd x
@@ -93,18 +94,18 @@ same-stands (Ranges2 i) (Listed j) bytes place glyphs x y glyph identifier h = l
 same-stands (Ranges2 i) (Ranges1 j) bytes place glyphs x y glyph identifier h = let never : 2 ≡ 1 = sym x.0 ∙ y.0 in absurd (omega (arith, never))
 same-stands (Ranges2 i) (Ranges2 j) bytes place glyphs x y glyph identifier h = rw (y.2, sym x.2) h
 
-same-named : (a b : CharSetView) (bytes : List ℕ) (offset glyphs : ℕ) → IsNamedBy a bytes offset glyphs → IsNamedBy b bytes offset glyphs → (glyph identifier : ℕ) → Names a glyph identifier → Names b glyph identifier
-same-named a b bytes offset glyphs (inl x) (inl y) glyph identifier h = subst (λ set. Names set glyph identifier) (x.1 ∙ sym y.1) h
+same-named : (a b : Identifiers) (bytes : List ℕ) (offset glyphs : ℕ) → IsNamedBy a bytes offset glyphs → IsNamedBy b bytes offset glyphs → (glyph identifier : ℕ) → NamesFrom a glyph identifier → NamesFrom b glyph identifier
+same-named a b bytes offset glyphs (inl x) (inl y) glyph identifier h = subst (λ set. NamesFrom set glyph identifier) (x.1 ∙ sym y.1) h
 same-named a b bytes offset glyphs (inl x) (inr (inl y)) glyph identifier h = let never = y.0 in absurd (omega (arith, x.0, never))
 same-named a b bytes offset glyphs (inl x) (inr (inr (inl y))) glyph identifier h = let never = y.0 in absurd (omega (arith, x.0, never))
 same-named a b bytes offset glyphs (inl x) (inr (inr (inr y))) glyph identifier h = let never = y.0 in absurd (omega (arith, x.0, never))
 same-named a b bytes offset glyphs (inr (inl x)) (inl y) glyph identifier h = let never = y.0 in absurd (omega (arith, x.0, never))
-same-named a b bytes offset glyphs (inr (inl x)) (inr (inl y)) glyph identifier h = subst (λ set. Names set glyph identifier) (x.1 ∙ sym y.1) h
+same-named a b bytes offset glyphs (inr (inl x)) (inr (inl y)) glyph identifier h = subst (λ set. NamesFrom set glyph identifier) (x.1 ∙ sym y.1) h
 same-named a b bytes offset glyphs (inr (inl x)) (inr (inr (inl y))) glyph identifier h = let never = y.0 in absurd (omega (arith, x.0, never))
 same-named a b bytes offset glyphs (inr (inl x)) (inr (inr (inr y))) glyph identifier h = let never = y.0 in absurd (omega (arith, x.0, never))
 same-named a b bytes offset glyphs (inr (inr (inl x))) (inl y) glyph identifier h = let never = y.0 in absurd (omega (arith, x.0, never))
 same-named a b bytes offset glyphs (inr (inr (inl x))) (inr (inl y)) glyph identifier h = let never = y.0 in absurd (omega (arith, x.0, never))
-same-named a b bytes offset glyphs (inr (inr (inl x))) (inr (inr (inl y))) glyph identifier h = subst (λ set. Names set glyph identifier) (x.1 ∙ sym y.1) h
+same-named a b bytes offset glyphs (inr (inr (inl x))) (inr (inr (inl y))) glyph identifier h = subst (λ set. NamesFrom set glyph identifier) (x.1 ∙ sym y.1) h
 same-named a b bytes offset glyphs (inr (inr (inl x))) (inr (inr (inr y))) glyph identifier h = let never = y.0 in absurd (omega (arith, x.0, never))
 same-named a b bytes offset glyphs (inr (inr (inr x))) (inl y) glyph identifier h = let never = y.0 in absurd (omega (arith, x.0, never))
 same-named a b bytes offset glyphs (inr (inr (inr x))) (inr (inl y)) glyph identifier h = let never = y.0 in absurd (omega (arith, x.0, never))
@@ -112,9 +113,12 @@ same-named a b bytes offset glyphs (inr (inr (inr x))) (inr (inr (inl y))) glyph
 same-named a b bytes offset glyphs (inr (inr (inr x))) (inr (inr (inr y))) glyph identifier h = same-stands a b bytes offset glyphs x.1 y.1 glyph identifier h
 
 pub same-set : (a b : CharSetView) (bytes : List ℕ) (map : Dictionary) (glyphs : ℕ) → IsCharSetOf a bytes map glyphs → IsCharSetOf b bytes map glyphs → (glyph identifier : ℕ) → Names a glyph identifier → Names b glyph identifier
-same-set a b bytes map glyphs x y =
-    let same : x.0 ≡ y.0 = one-value _ x.0 y.0 x.1 y.1 in
-    same-named a b bytes y.0 glyphs (subst (λ o. IsNamedBy a bytes o glyphs) same x.2) y.2
+same-set a b bytes map glyphs x y glyph identifier h =
+    let was = x.identifiers in
+    let is = y.identifiers in
+    let same : was.0 ≡ is.0 = one-value _ was.0 is.0 was.1 is.1 in
+    let there : glyph < b.glyphs = omega (arith, h.there, x.counted, y.counted) in
+    record { there = there; told = same-named a.identifiers b.identifiers bytes is.0 glyphs (subst (λ o. IsNamedBy a.identifiers bytes o glyphs) same was.2) is.2 glyph identifier h.told }
 
 pub one-first : (set : CharSetView) (identifier glyphs a b : ℕ) → IsFirstNamed set identifier glyphs a → IsFirstNamed set identifier glyphs b → a ≡ b
 one-first set identifier glyphs a b x y =

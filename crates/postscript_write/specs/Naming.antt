@@ -1,6 +1,6 @@
 -- Names, CIDs and codes of the glyphs that are written (Technical Note 5176, sections 12 and 13).
 use Rattle.std.specs.Prelude.{◌≡◌, ◌↔◌, ℕ, ◌<◌, List, Option, Some, None, length, slice_index_or}
-use Rattle.postscript_view.specs.Encoding.{HasCode}
+use Rattle.postscript_view.specs.Encoding.{Gives}
 use Rattle.postscript_view.specs.Encodings.{IsEncodingOf}
 use Rattle.postscript_view.specs.Naming.{Names}
 use Rattle.postscript_view.specs.Order.{View}
@@ -36,4 +36,4 @@ pub record KeepsCodes (sources : Sources) (bytes : List ℕ) (old : View) (flat 
   pub new_encoding : EncodingView
   pub was : IsEncodingOf old_encoding bytes old.tables.dictionary
   pub is : IsEncodingOf new_encoding flat new.tables.dictionary
-  pub codes : (code glyph : ℕ) → glyph < length sources → slice_index_or sources glyph None ≡ Some glyph → HasCode old_encoding old_set code glyph ↔ HasCode new_encoding new_set code glyph
+  pub codes : (code glyph : ℕ) → glyph < length sources → slice_index_or sources glyph None ≡ Some glyph → Gives old_encoding old_set code glyph ↔ Gives new_encoding new_set code glyph

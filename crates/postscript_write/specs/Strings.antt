@@ -9,7 +9,7 @@ use Rattle.postscript_base.specs.declared.compact1.operator.Operator.TheVariants
 use Rattle.postscript_view.specs.CharSets.{IsCharSetOf}
 use Rattle.postscript_view.specs.Naming.{Names}
 use Rattle.postscript_view.specs.Order.{Tables, View}
-use Rattle.postscript_view.specs.Strings.{HasName, string_of}
+use Rattle.postscript_view.specs.Strings.{HasString, string_of}
 use Rattle.postscript_view.specs.declared.char_set.CharSetView.{CharSetView}
 use Rattle.postscript_write.specs.Glyphs.{Sources}
 use Rattle.postscript_write.specs.Naming.{SameNames}
@@ -46,7 +46,7 @@ pub record SameString (old : List (List ℕ)) (was : ℕ) (new : List (List ℕ)
 
 -- A glyph has the name of the one that it is made of, and where that has none, none; a standard string keeps its identifier.
 pub record HasSameText (old : CharSetView) (old_strings : List (List ℕ)) (glyph : ℕ) (new : CharSetView) (new_strings : List (List ℕ)) (i : ℕ) : Type 0 where
-  pub name : (name : List ℕ) → HasName old old_strings glyph name ↔ HasName new new_strings i name
+  pub name : (name : List ℕ) → HasString old old_strings glyph name ↔ HasString new new_strings i name
   pub standard : (identifier : ℕ) → identifier < 391 → Names old glyph identifier ↔ Names new i identifier
 
 abbrev pub SameText : CharSetView → List (List ℕ) → Option ℕ → CharSetView → List (List ℕ) → (i : ℕ) → Type 0

@@ -97,11 +97,7 @@ impl<'l> Face<'l> {
     /// The name of a glyph. None where the font is CID-keyed, or tells none.
     pub fn name(&self, gid: u16) -> Option<&[u8]> {
         match &self.set {
-            Some(set) => if self.font.is_cid_keyed() {
-                None
-            } else {
-                self.font.name(set, usize::from(gid))
-            },
+            Some(set) => self.font.name(set, usize::from(gid)),
             None => None,
         }
     }
@@ -117,11 +113,7 @@ impl<'l> Face<'l> {
     /// The first glyph of a name. None where the font is CID-keyed too.
     pub fn glyph_of_name(&self, name: &[u8]) -> Option<usize> {
         match &self.set {
-            Some(set) => if self.font.is_cid_keyed() {
-                None
-            } else {
-                self.font.glyph_of_name(set, name)
-            },
+            Some(set) => self.font.glyph_of_name(set, name),
             None => None,
         }
     }

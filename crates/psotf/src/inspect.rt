@@ -9,7 +9,7 @@ use postscript_base::Error;
 use postscript_base::compact1::Operator;
 use postscript_compact1::font_set::FontSet;
 use postscript_sfnt::Name;
-use postscript_view::CharSetView;
+use postscript_view::Identifiers;
 use std::alloc::{AllocError, Global};
 use std::io::{Cursor, Write};
 
@@ -43,12 +43,19 @@ fn encoding(face: &Face<'_>) -> &'static str {
 
 /// The char set: predefined, or the font's own.
 fn char_set(face: &Face<'_>) -> Option<&'static str> {
-    match face.set {
-        Some(CharSetView::ISOAdobe) => Some("ISOAdobe"),
-        Some(CharSetView::Expert) => Some("Expert"),
-        Some(CharSetView::ExpertSubset) => Some("ExpertSubset"),
-        Some(_) => Some("own"),
+    match &face.set {
+        Some(set) => Some(name_of(&set.identifiers)),
         None => None,
+    }
+}
+
+/// The name of a predefined char set.
+fn name_of(identifiers: &Identifiers<'_>) -> &'static str {
+    match identifiers {
+        Identifiers::ISOAdobe => "ISOAdobe",
+        Identifiers::Expert => "Expert",
+        Identifiers::ExpertSubset => "ExpertSubset",
+        _ => "own",
     }
 }
 

@@ -56,6 +56,37 @@ pub const CODES: &[(&str, &str)] = &[
     ("80 01 41 02 420023 6101", " fault 1"),
 ];
 
+/// A CID-keyed font of four glyphs, whose CIDs 0, 34, 35 and 36 are, as identifiers of strings, `.notdef`, A, B and C. It tells
+/// no encoding, so that the default is the standard one, by which 65 is the code of A.
+pub const CIDS_OF_LETTERS: &str = "01000404 0001 02 0001 0002 46 0001 02 0001 0028 \
+        1d00000187 1d00000188 8b 0c1e 1d00000052 0f 1d00000059 11 1d00000085 0c24 1d00000080 0c25 \
+        0002 02 0001 0006 000e 41646f6265 4964656e74697479 0000 00 0022 0023 0024 \
+        0004 02 0001 0002 000a 0012 0019 0e 959515bd06bd070e 9f9f15c706c7070e 8b8b15efef050e 9214 \
+        00 00000001 0002 02 0001 000c 0017 1d000000021d0000007e12 1d000000021d0000007e12";
+
+/// A font of four glyphs. Its char set is one range of format 1, for the glyphs from 1 on the identifiers from 34 on, of which
+/// place 49 tells how many there are behind the first. Right behind it stands the INDEX of char strings.
+pub const RANGE: &str = "01000404 0001 02 0001 0002 46 0001 02 0001 0018 \
+        1d0000002e 0f 1d00000032 11 1d00000002 1d00000056 12 0000 0000 01 0022 02 \
+        0004 02 0001 0002 000a 0012 0018 0e 959515bd06bd070e 9f9f15c706c7070e 8e8fccf7550e 9214";
+
+/// A place of that font and its byte; the identifier of the last glyph, and the one that would come next: by the range, by what
+/// stands behind it or by its own length; and by the predefined sets (Technical Note 5176, Appendix C).
+pub const LASTS: &[(usize, u8, u16, u16)] = &[
+    (49, 2, 36, 4),
+    (49, 9, 36, 38),
+    (23, 0, 3, 4),
+    (23, 1, 230, 231),
+    (23, 2, 232, 235),
+];
+
+/// A CID-keyed font of two glyphs, each with a font dictionary of its own, of which only the second has a FontMatrix. That of
+/// the font is of 0.002; the second byte of its operator is at place 35.
+pub const MATRICES: &str =
+    "01000401 000101010243 0001010128 f81bf81c8b0c1e 1ea002ff8b8b1ea002ff8b8b0c07 \
+        1c004b0f1c0050111c00580c241c00720c25 0002 0101060e 41646f62654964656e74697479 0000 \
+        02 00010000 000201010203 0e0e 000201010415 8b8b12 1ea0005f8b8b1ea0005f8b8b0c078b8b12 00 0001";
+
 /// A place of the plain font, what its byte is changed to, and the refusal of the font.
 pub const REFUSED: &[(usize, u8, u8)] = &[
     // The header is past the end, offsets of no byte, and an operator that is unknown.

@@ -1,11 +1,5 @@
-use Rattle.std.proofs.Common.{◌≡◌, subst}
-use Rattle.postscript_view.specs.CharSets.{IsNamedBy}
-use Rattle.postscript_view.proofs.Coding.{if_err}
+use Rattle.postscript_view.proofs.Coding.{all_err}
 use Rattle.postscript_view.proofs.char_set.CharSetView.open.Goals as goal
 
-pub returns-clause-none : goal.returns-clause-none
-returns-clause-none c = if_err c.at.result c.at.ensures.none (λ none set h.
-    let named = h.1 in
-    let is = c.in-Some.ensures in
-    let same : h.0 ≡ c.in-Some.offset = cc in
-    none set (subst (λ offset. IsNamedBy set c.args.bytes.now offset c.args.glyphs) same h.2))
+pub returns-in_err-identifiers-clause-none : goal.returns-in_err-identifiers-clause-none
+returns-in_err-identifiers-clause-none c = all_err c.from_residual.result (λ set h. c.in_err-identifiers.ensures.none set.identifiers h.identifiers)

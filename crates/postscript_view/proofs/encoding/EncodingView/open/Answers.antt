@@ -1,11 +1,10 @@
-use Rattle.std.proofs.Common.{◌≡◌, subst}
-use Rattle.postscript_view.specs.Encodings.{IsNamedBy}
-use Rattle.postscript_view.proofs.Coding.{if_err}
+use Rattle.std.proofs.lemmas.Result.{err_from_is_err_and}
+use Rattle.postscript_view.specs.Untold.{OfNoOffset}
+use Rattle.postscript_view.proofs.Untelling.{no_encoding}
 use Rattle.postscript_view.proofs.encoding.EncodingView.open.Goals as goal
 
-pub returns-clause-none : goal.returns-clause-none
-returns-clause-none c = if_err c.at.result c.at.ensures.none (λ none encoding h.
-    let named = h.1 in
-    let is = c.in-Some.ensures in
-    let same : h.0 ≡ c.in-Some.offset = cc in
-    none encoding (subst (λ offset. IsNamedBy encoding c.args.bytes.now offset) same h.2))
+pub returns-in_err-offset-clause-why : goal.returns-in_err-offset-clause-why
+returns-in_err-offset-clause-why c = let error = err_from_is_err_and c.from_residual.result c.from_residual.ensures.1 in rw (error.1, error.2) (OfNoOffset c.in_err-offset.ensures.why)
+
+pub returns-clause-why : goal.returns-clause-why
+returns-clause-why c = no_encoding c.at.result c.args.bytes.now c.args.dictionary.now c.in_ok-offset.offset c.in_ok-offset.ensures.found c.at.ensures.why
