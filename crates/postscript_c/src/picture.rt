@@ -12,7 +12,7 @@ use crate::part::PsfPart;
 use crate::sketch::Sketch;
 use postscript_base::Result;
 use postscript_outline::draw_program;
-use postscript_type2::{Operand, Program};
+use postscript_type2::{Charstring, Operand, Program, Subroutines};
 use std::alloc::Global;
 
 /// The segments of an outline as C holds them, and the width that the program tells.
@@ -48,7 +48,8 @@ fn drawn_over(
     };
     let globals = index_at(bytes, global)?;
     let locals = index_at(bytes, local)?;
-    let mut program = Program::over(alloc, code, globals, locals);
+    let subroutines = Subroutines::indexes(globals, locals);
+    let mut program = Charstring { code, subroutines }.program(alloc);
     Ok(Some(draw(alloc, &mut program)?))
 }
 
