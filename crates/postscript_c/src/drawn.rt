@@ -9,7 +9,7 @@ use crate::glyph::index_at;
 use crate::part::PsfPart;
 use postscript_drawing::{Accent, LIMIT, Result, draw_components, draw_program};
 use postscript_outline::{Point, Sink};
-use postscript_type2::{Operand, Program};
+use postscript_type2::{Charstring, Operand, Program, Subroutines};
 use postscript_view::FontView;
 use std::alloc::Global;
 
@@ -67,7 +67,8 @@ fn draw_code<S: Sink>(
     };
     let globals = index_at(bytes, global)?;
     let locals = index_at(bytes, local)?;
-    let mut program = Program::over(alloc, code, globals, locals);
+    let subroutines = Subroutines::indexes(globals, locals);
+    let mut program = Charstring { code, subroutines }.program(alloc);
     let width = draw_whole(alloc, bytes, &mut program, sink)?;
     Ok(Some(width))
 }

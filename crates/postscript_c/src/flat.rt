@@ -15,7 +15,7 @@ use crate::texts::hand_bytes;
 use crate::told::status;
 use postscript_base::Result;
 use postscript_items::Items;
-use postscript_type2::Program;
+use postscript_type2::{Charstring, Subroutines};
 use std::alloc::Global;
 
 /// The flat code of a glyph.
@@ -34,7 +34,8 @@ fn flatten(
 ) -> Result<Option<Flat>>
     ensures exact { (bytes : List ℕ) (place : ℕ) → Answers (option_map flat_shown) result place (flattened (run_of (lent (items_of globals.entry) (items_of locals.entry)) code.now) bytes place) }
 {
-    match Program::flatten_over(alloc, code, globals, locals) {
+    let subroutines = Subroutines::indexes(globals, locals);
+    match (Charstring { code, subroutines }).flatten(alloc) {
         Ok(code) => Ok(Some(Flat { code })),
         Err(e) => Err(e),
     }

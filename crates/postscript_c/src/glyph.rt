@@ -10,7 +10,7 @@ use crate::part::{PsfPart, part_of};
 use crate::select::selected;
 use postscript_base::{Error, Result};
 use postscript_items::Items;
-use postscript_type2::Program;
+use postscript_type2::{Charstring, Program, Subroutines};
 use postscript_view::tables::operations_of;
 use std::alloc::Global;
 
@@ -73,7 +73,8 @@ fn program_of<'l>(
     };
     let globals = index_at(bytes, global)?;
     let locals = index_at(bytes, local)?;
-    Ok(Some(Program::over(alloc, code, globals, locals)))
+    let subroutines = Subroutines::indexes(globals, locals);
+    Ok(Some(Charstring { code, subroutines }.program(alloc)))
 }
 
 /// The program of a glyph. None where there is no such glyph.

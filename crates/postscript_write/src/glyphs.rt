@@ -12,7 +12,7 @@ ghost use Rattle.postscript_write.specs.Steps.{RefusedBy, RefusedFor};
 
 use crate::error::{Error, Result};
 use postscript_base::Error as Cause;
-use postscript_type2::Program;
+use postscript_type2::{Charstring, Subroutines};
 use postscript_view::FontView;
 use std::alloc::Global;
 
@@ -68,7 +68,8 @@ fn flat_code(alloc: Global, font: &FontView<'_>, glyph: usize, number: usize) ->
 {
     let code = font.char_strings.item(glyph);
     let part = &font.parts[number];
-    match Program::inlined_over(alloc, code, font.global_subroutines, part.subroutines) {
+    let subroutines = Subroutines::indexes(font.global_subroutines, part.subroutines);
+    match (Charstring { code, subroutines }).inlined(alloc) {
         Ok(flat) => Ok(flat),
         Err(cause) => Err(refusal(glyph, cause)),
     }

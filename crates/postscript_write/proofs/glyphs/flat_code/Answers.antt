@@ -17,8 +17,8 @@ returns-in-Ok-clause-code c =
       part = part_shown part;
       has_code = slice_get-get_or items c.args.glyph code c.requires.glyph ∙ ap Some (sym c.item-code.ensures);
       has_part = shown_part c.args.font.now number part (slice_get_read _ _ number part refl c.requires.part c.index-part.ensures);
-      faultless = c.in-Ok.ensures.faultless;
-      draws = λ lists. draws_as lists c.in-Ok.flat.items _ (c.in-Ok.ensures.keeps lists);
+      faultless = rw c.indexes-subroutines.ensures at c.in-Ok.ensures.faultless;
+      draws = λ lists. draws_as lists c.in-Ok.flat.items _ ((rw c.indexes-subroutines.ensures at c.in-Ok.ensures.keeps) lists);
     }
 
 pub returns-in-Err-clause-refused : goal.returns-in-Err-clause-refused
@@ -29,4 +29,4 @@ returns-in-Err-clause-refused c =
     let number = c.args.number in
     run_refused (view_shown c.args.font.now) c.args.glyph number code (part_shown part) c.in-Err.cause c.refusal.result
     (slice_get-get_or items c.args.glyph code c.requires.glyph ∙ ap Some (sym c.item-code.ensures)) (shown_part c.args.font.now number part (slice_get_read _ _ number part refl c.requires.part c.index-part.ensures))
-    c.in-Err.ensures.refused c.refusal.ensures
+    (rw c.indexes-subroutines.ensures at c.in-Err.ensures.refused) c.refusal.ensures

@@ -6,7 +6,8 @@ use Rattle.postscript_type2.specs.Program.Effects.{State, cleared, stacked, sett
 use Rattle.postscript_type2.specs.Program.Evaluation.{at_end, with_phrase}
 use Rattle.postscript_type2.specs.Program.Runs.{by, Finished, UsedUp}
 use Rattle.postscript_type2.specs.Private.Machines.{still_of}
-use Rattle.postscript_type2.specs.Private.Working.{lists_of, state_of, move_of, after_move}
+use Rattle.postscript_type2.specs.Program.Charstrings.{lists_of}
+use Rattle.postscript_type2.specs.Private.Working.{state_of, move_of, after_move}
 use Rattle.postscript_type2.proofs.Arms.{IsRead, is-read, some-of, used-up, kept, answered, entered, too-deep-call, returned, no-caller, finished, trailing, refused-or-memory, unread-or-memory, unread-is-last, refused-is-last, too-deep-is-last, trailing-is-last}
 use Rattle.postscript_type2.proofs.program.machine.Machine.advance.Goals as goal
 

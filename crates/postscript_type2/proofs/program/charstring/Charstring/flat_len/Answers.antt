@@ -2,15 +2,14 @@ use Rattle.std.proofs.Common.{◌≡◌, subst, IfOk}
 use Rattle.postscript_type2.specs.Program.Flat.{flat_len}
 use Rattle.postscript_type2.specs.Private.Machines.{still_of}
 use Rattle.postscript_type2.specs.Program.Runs.{Run}
-use Rattle.postscript_type2.specs.Program.Routines.{lent}
-use Rattle.postscript_type2.specs.Private.Working.{routines_of}
+use Rattle.postscript_type2.specs.Program.Charstrings.{lists_of}
 use Rattle.postscript_type2.proofs.EndingLaws.{machine-ends, flatten-listed}
 use Rattle.postscript_type2.proofs.Telling.{of-meant}
-use Rattle.postscript_type2.proofs.program.whole.flat_len.Goals as goal
+use Rattle.postscript_type2.proofs.program.charstring.Charstring.flat_len.Goals as goal
 
 pub returns-clause-listed : goal.returns-clause-listed
 returns-clause-listed c = flatten-listed c.measured.result (still_of c.over.result).end (machine-ends c.over.result) c.measured.ensures.refused
 
 pub returns-clause-meant : goal.returns-clause-meant
-returns-clause-meant c = of-meant (λ len. len) flat_len (lent (routines_of c.args.global) (routines_of c.args.local)) c.args.code.now c.measured.result
+returns-clause-meant c = of-meant (λ len. len) flat_len (lists_of c.args.self.subroutines) c.args.self.code.now c.measured.result
     (subst (λ (run : Run). IfOk c.measured.result (λ len. len ≡ flat_len run.trace)) c.over.ensures.run c.measured.ensures.len)
