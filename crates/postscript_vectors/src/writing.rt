@@ -4,7 +4,7 @@ use crate::views::rows::{CID, PLAIN, SELECTIONS};
 use crate::views::{codes_of, joined, told};
 use postscript_accent::outline_of;
 use postscript_view::FontView;
-use postscript_write::{Error, flat_font, index, subset, subset_keeping};
+use postscript_write::{Error, flat_font, index, kept_glyphs, subset, subset_keeping};
 use std::alloc::Global;
 use std::process::Abort;
 
@@ -112,6 +112,10 @@ fn fonts_that_are_not_written(rt: HostRuntime) {
     holds(&rt, matches!(none, Err(Error::NoGlyphs)), "no glyphs");
     let past = subset_keeping(alloc, bytes.as_slice(), &[1, 5]);
     holds(&rt, matches!(past, Err(Error::MissingGlyph(5))), "no sixth");
+    let none = kept_glyphs(alloc, bytes.as_slice(), &[]);
+    holds(&rt, matches!(none, Err(Error::NoGlyphs)), "none told");
+    let past = kept_glyphs(alloc, bytes.as_slice(), &[1, 5]);
+    holds(&rt, matches!(past, Err(Error::MissingGlyph(5))), "not told");
     // the code of glyph 2 returns
     if let Some(code) = bytes.get_mut(69) {
         *code = 0x0b;
@@ -154,6 +158,12 @@ fn has_glyphs<R: Abort>(rt: &R, alloc: Global, bytes: &[u8], glyphs: usize) {
     holds_at(rt, font.char_strings.len() == glyphs, "glyphs", glyphs);
 }
 
+/// These glyphs are told where this one is named.
+fn keeps<R: Abort>(rt: &R, alloc: Global, bytes: &[u8], named: usize, kept: &[usize]) {
+    let told = kept_glyphs(alloc, bytes, &[named, named]).expect(rt, "glyphs");
+    holds_at(rt, told.as_slice() == kept, "glyphs of", named);
+}
+
 /// The base and the accent of an accented glyph are kept with it.
 #[test]
 fn components_kept(rt: HostRuntime) {
@@ -168,6 +178,9 @@ fn components_kept(rt: HostRuntime) {
     draws(&rt, alloc, kept.as_slice(), 1, 4);
     let base = subset(alloc, bytes.as_slice(), &[2]).expect(&rt, "a subset");
     has_glyphs(&rt, alloc, base.as_slice(), 2);
+    keeps(&rt, alloc, bytes.as_slice(), 3, &[0, 1, 2, 3]);
+    keeps(&rt, alloc, bytes.as_slice(), 2, &[0, 2]);
+    keeps(&rt, alloc, bytes.as_slice(), 0, &[0]);
 }
 
 /// A component that the font does not have is not kept, and the glyph is refused as before.

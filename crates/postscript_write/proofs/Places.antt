@@ -3,12 +3,13 @@ use Rattle.std.proofs.Common.{◌≡◌, refl, sym, ap, subst, ◌∙◌, inl, i
 use Rattle.std.specs.Prelude.{◌⊎◌, ◌↔◌, Option, Some, None, nat_lt, if◌then◌else◌}
 use Rattle.std.proofs.lemmas.Bool.{ltb-true, ltb-false}
 use Rattle.std.proofs.lemmas.List.{append-nil, get_or_append_left, get_or_push, length-append}
-use Rattle.std.proofs.lemmas.List.FromFn.{filter_of_map_range_with_len_more, get_or-map-range_with_len, length-map-range_with_len}
+use Rattle.std.proofs.lemmas.List.FromFn.{get_or-map-range_with_len, length-map-range_with_len}
 use Rattle.postscript_view.specs.Naming.{IsFirstNamed, Names}
 use Rattle.postscript_view.specs.declared.char_set.CharSetView.{CharSetView}
 use Rattle.postscript_write.specs.Drawings.{StandsAt}
 use Rattle.postscript_write.specs.Glyphs.{Sources}
-use Rattle.postscript_write.specs.Sources.{chosen, is_chosen, is_kept, keeping, kept_or_none}
+use Rattle.postscript_write.specs.Sources.{chosen, is_kept, keeping, kept_or_none}
+use Rattle.postscript_write.proofs.Marks.{chosen_more}
 
 nat_cases : (a b : ℕ) → (a < b) ⊎ (b ≤ a)
 nat_cases a b = by (nat_lt a b) refl
@@ -95,8 +96,7 @@ none-rises named = record {
 pub chosen-rises : (named : List ℕ) (n : ℕ) → Rises named (chosen named n) n
 chosen-rises named zero = none-rises named
 chosen-rises named (suc n) =
-    let more : chosen named (n + 1) ≡ chosen named n ++ (if is_kept named n then Some n ∷ [] else []) = filter_of_map_range_with_len_more (is_chosen named) Some 0 n n (omega arith) in
-    let all : Rises named (chosen named (n + 1)) (n + 1) = subst (λ (xs : Sources). Rises named xs (n + 1)) (sym more) (one-step named (chosen named n) n (is_kept named n) refl (chosen-rises named n)) in
+    let all : Rises named (chosen named (n + 1)) (n + 1) = subst (λ (xs : Sources). Rises named xs (n + 1)) (sym (chosen_more named n)) (one-step named (chosen named n) n (is_kept named n) refl (chosen-rises named n)) in
     subst (λ m. Rises named (chosen named m) m) (add-one n) all
 
 -- What two char sets say of glyphs that are taken over, and of the place of each in the new font.

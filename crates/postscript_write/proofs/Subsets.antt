@@ -9,11 +9,11 @@ use Rattle.postscript_view.specs.Order.{View, view}
 use Rattle.postscript_view.specs.Value.{view_shown}
 use Rattle.postscript_view.specs.declared.font.FontView.{FontView}
 use Rattle.postscript_accent.specs.Components.{glyphs_of}
-use Rattle.postscript_write.specs.Components.{AreClosed, AreComponents, IsComponentOf, IsOpened, IsSubset, IsUntold}
+use Rattle.postscript_write.specs.Components.{AreClosed, AreComponents, AreKept, IsComponentOf, IsOpened, IsSubset, IsUntold}
 use Rattle.postscript_write.specs.Fonts.{IsFontOf}
 use Rattle.postscript_write.specs.Glyphs.{Sources}
-use Rattle.postscript_write.specs.Refusals.{FontRefusedBy, IsFirstPast, IsRefusedBy, IsSubsetRefusedBy}
-use Rattle.postscript_write.specs.Sources.{AreThere}
+use Rattle.postscript_write.specs.Refusals.{FontRefusedBy, IsChoiceRefusedBy, IsFirstPast, IsRefusedBy, IsSubsetRefusedBy}
+use Rattle.postscript_write.specs.Sources.{AreThere, kept_of}
 use Rattle.postscript_write.specs.Steps.{IsNotChosen, IsNotOpened}
 use Rattle.postscript_write.specs.declared.error.Error.{Error}
 use Rattle.postscript_write.specs.declared.error.Error.TheVariants.{Refused, Glyph, SeveralFonts, MissingGlyph, MissingPart, MissingName, NoGlyphs, TooLarge, NotReadBack}
@@ -136,3 +136,47 @@ not-chosen named closed choice bytes font (MissingName glyph) opened all h = abs
 not-chosen named closed choice bytes font NoGlyphs opened all h = absurd h
 not-chosen named closed choice bytes font TooLarge opened all h = absurd h
 not-chosen named closed choice bytes font NotReadBack opened all h = absurd h
+
+-- the glyphs that are kept, told
+pub kept-so : (r : Result (Vec ℕ Global) Error) (bytes named closed : List ℕ) (font : FontView) → IsOpened bytes font → (components : List ℕ) × AreComponents font named components × (closed ≡ named ++ components) →
+    (others : List ℕ) → others ≡ kept_of closed (glyphs_of font) → IfOk r (λ kept. kept.items ≡ others) → IfOk r (λ kept. AreKept named bytes kept.items)
+kept-so (Ok kept) bytes named closed font opened h others same is = record { closed = closed; are = record { font = font; opened = opened; components = h.0; are = h.1; all = h.2 }; all = is ∙ same }
+kept-so (Err e) bytes named closed font opened h others same is = tt
+
+pub choice-not-opened : (named bytes : List ℕ) (e : Error) → IsNotOpened bytes e → IsChoiceRefusedBy named bytes e
+choice-not-opened named bytes (Glyph glyph cause) h = h
+choice-not-opened named bytes (Refused cause) h = λ n. inl (h n)
+choice-not-opened named bytes SeveralFonts h = h
+choice-not-opened named bytes (MissingGlyph glyph) h = absurd h
+choice-not-opened named bytes (MissingPart glyph) h = h
+choice-not-opened named bytes (MissingName glyph) h = h
+choice-not-opened named bytes NoGlyphs h = absurd h
+choice-not-opened named bytes TooLarge h = h
+choice-not-opened named bytes NotReadBack h = h
+
+pub choice-untold : (named bytes : List ℕ) (font : FontView) (e : Error) → IsOpened bytes font → IsUntold font e → IsChoiceRefusedBy named bytes e
+choice-untold named bytes font (Refused cause) opened h = λ n. inr (
+  view_shown font,
+  opened.shown,
+  λ has. h n has.0 (subst (λ (bs : List ℕ). IsCharSetOf has.0 bs font.dictionary (glyphs_of font)) (sym opened.there) has.1),
+)
+choice-untold named bytes font (Glyph glyph cause) opened h = h
+choice-untold named bytes font SeveralFonts opened h = absurd h
+choice-untold named bytes font (MissingGlyph glyph) opened h = absurd h
+choice-untold named bytes font (MissingPart glyph) opened h = h
+choice-untold named bytes font (MissingName glyph) opened h = h
+choice-untold named bytes font NoGlyphs opened h = absurd h
+choice-untold named bytes font TooLarge opened h = h
+choice-untold named bytes font NotReadBack opened h = h
+
+pub choice-not-chosen : (named closed bytes : List ℕ) (font : FontView) (e : Error) → IsOpened bytes font →
+    (components : List ℕ) × AreComponents font named components × (closed ≡ named ++ components) → IsNotChosen closed (glyphs_of font) e → IsChoiceRefusedBy named bytes e
+choice-not-chosen named closed bytes font (Glyph glyph cause) opened all h = h
+choice-not-chosen named closed bytes font (Refused cause) opened all h = λ n. absurd (n h)
+choice-not-chosen named closed bytes font SeveralFonts opened all h = absurd h
+choice-not-chosen named closed bytes font (MissingGlyph glyph) opened all h = (view_shown font, opened.shown, named-past font named closed glyph all h)
+choice-not-chosen named closed bytes font (MissingPart glyph) opened all h = h
+choice-not-chosen named closed bytes font (MissingName glyph) opened all h = h
+choice-not-chosen named closed bytes font NoGlyphs opened all h = absurd h
+choice-not-chosen named closed bytes font TooLarge opened all h = h
+choice-not-chosen named closed bytes font NotReadBack opened all h = h

@@ -4,7 +4,7 @@ use Rattle.std.specs.Prelude.{◌≡◌, ◌≢◌, ◌⊎◌, ◌↔◌, ℕ, L
 use Rattle.std.specs.List.{Contains}
 use Rattle.std.specs.Option.{MatchOption}
 use Rattle.postscript_accent.specs.Accents.{IsAccentOf}
-use Rattle.postscript_accent.specs.Components.{HasCharSet, IsComponent}
+use Rattle.postscript_accent.specs.Components.{HasCharSet, IsComponent, glyphs_of}
 use Rattle.postscript_accent.specs.Refused.{IsAccented}
 use Rattle.postscript_accent.specs.declared.accent.Accent.{Accent}
 use Rattle.postscript_base.specs.Tape.Outcome.{Got}
@@ -15,7 +15,7 @@ use Rattle.postscript_view.specs.Value.{view_shown}
 use Rattle.postscript_view.specs.declared.char_set.CharSetView.{CharSetView}
 use Rattle.postscript_view.specs.declared.font.FontView.{FontView}
 use Rattle.postscript_write.specs.Glyphs.{Sources}
-use Rattle.postscript_write.specs.Sources.{IsWritten, is_kept}
+use Rattle.postscript_write.specs.Sources.{IsWritten, is_kept, kept_of}
 use Rattle.postscript_write.specs.declared.error.Error.{Error}
 use Rattle.postscript_write.specs.declared.error.Error.TheVariants.{Refused}
 
@@ -45,6 +45,12 @@ pub record AreClosed (bytes named closed : List ℕ) : Type 0 where
   pub components : List ℕ
   pub are : AreComponents font named components
   pub all : closed ≡ named ++ components
+
+-- The glyphs that a subset keeps, in ascending order: .notdef, those that are named, and their components.
+pub record AreKept (named bytes kept : List ℕ) : Type 0 where
+  pub closed : List ℕ
+  pub are : AreClosed bytes named closed
+  pub all : kept ≡ kept_of closed (glyphs_of are.font)
 
 -- The new font is made of the glyphs that this gives for those that are named and their components.
 pub record IsSubset (kept : Bool) (sources : (closed : List ℕ) (glyphs : ℕ) → Sources) (named bytes flat : List ℕ) : Type 0 where

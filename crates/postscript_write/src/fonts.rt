@@ -3,16 +3,16 @@ ghost use Rattle.std.specs.Prelude.{◌≡◌, [], true, false, Err, length, IfO
 ghost use Rattle.postscript_base.specs.Tape.Outcome.{Got};
 ghost use Rattle.postscript_view.specs.Order.{View, fonts as the_fonts, view as the_view};
 ghost use Rattle.postscript_view.specs.Value.{view_shown};
-ghost use Rattle.postscript_write.specs.Components.{IsSubset};
+ghost use Rattle.postscript_write.specs.Components.{AreKept, IsSubset};
 ghost use Rattle.postscript_write.specs.Drawings.{DrawsNamed};
-ghost use Rattle.postscript_write.specs.Refusals.{IsRefusedBy, IsSubsetRefusedBy};
+ghost use Rattle.postscript_write.specs.Refusals.{IsChoiceRefusedBy, IsRefusedBy, IsSubsetRefusedBy};
 ghost use Rattle.postscript_write.specs.Sources.{AreThere, IsWritten, chosen as the_chosen, every as the_every, keeping as the_keeping};
 ghost use Rattle.postscript_write.specs.Steps.{IsNotOpened};
 ghost use Rattle.postscript_write.specs.declared.error.Error.TheVariants as errors;
 
 use crate::components::with_components;
 use crate::error::{Error, Result};
-use crate::sources::{chosen, every, keeping};
+use crate::sources::{chosen, every, keeping, kept_of};
 use crate::whole::font_of;
 use postscript_view::FontView;
 use std::alloc::Global;
@@ -45,6 +45,27 @@ pub fn flat_font(alloc: Global, bytes: &[u8]) -> Result<Vec<u8>>
     let font = only_font(alloc, bytes)?;
     let sources = every(alloc, font.char_strings.len())?;
     font_of(alloc, &font, &sources, true)
+}
+
+/// The glyphs that `subset` and `subset_keeping` keep of the font that the bytes begin with, in ascending order, none twice:
+/// `.notdef`, those that are named, and the base and the accent of each of these that is accented. The first of them is glyph 0
+/// of what `subset` writes, the second is glyph 1, and so on.
+///
+/// Refused: `NoGlyphs` where none is named; `MissingGlyph` with a number that no glyph has; `Refused` where the font or its char
+/// set is refused, or where memory is; `SeveralFonts` where there is not one font.
+pub fn kept_glyphs(alloc: Global, bytes: &[u8], named: &[usize]) -> Result<Vec<usize>>
+    ensures kept { IfOk result (λ kept. AreKept named.now bytes.now kept.items) }
+    ensures one { OnOk result (the_fonts bytes.now 0 ≡ Got 1 0) }
+    ensures refused { IfErr result (λ e. IsChoiceRefusedBy named.now bytes.now e) }
+    ensures there { OnOk result ((font : View) → the_view bytes.now 0 ≡ Got font 0 → AreThere named.now (length font.char_strings)) }
+    ensures none { named.now ≡ [] → result ≡ Err errors.NoGlyphs }
+{
+    if named.len() == 0 {
+        return Err(Error::NoGlyphs);
+    }
+    let font = only_font(alloc, bytes)?;
+    let closed = with_components(alloc, &font, named)?;
+    kept_of(alloc, &closed, font.char_strings.len())
 }
 
 /// The font that the bytes begin with, with these glyphs alone: `.notdef`, those that are named, and the base and the accent of each

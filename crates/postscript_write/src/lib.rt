@@ -22,6 +22,6 @@ mod strings;
 mod whole;
 
 pub use error::{Error, Result};
-pub use fonts::{flat_font, subset, subset_keeping};
+pub use fonts::{flat_font, kept_glyphs, subset, subset_keeping};
 pub use indices::{index, put_index};
 pub use kept::{KEPT, KEPT_FONT, KEPT_PRIVATE, NAMED};
