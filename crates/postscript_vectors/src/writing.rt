@@ -205,3 +205,27 @@ fn components_wanting(rt: HostRuntime) {
         "no accent",
     );
 }
+
+/// A font of `.notdef`, A, grave, a circumflex that is accented itself, `1 2 193 65 endchar`, and a glyph of A and it.
+const NESTED: &str =
+    "01000401000101010246000101010d958bdecb05aa0f8bd712b31100000000000022007c007e00ac00050101020910161c0e\
+    9516bd06bd070e9f16c706c7070e8c8df755cc0e8e8fccf7570e";
+
+/// A component that is accented itself keeps its own components, and is drawn as before.
+#[test]
+fn components_of_components(rt: HostRuntime) {
+    let alloc = rt.alloc();
+    let bytes = bytes_of(&rt, alloc, NESTED);
+    keeps(&rt, alloc, bytes.as_slice(), 4, &[0, 1, 2, 3, 4]);
+    keeps(&rt, alloc, bytes.as_slice(), 3, &[0, 1, 2, 3]);
+    let cut = subset(alloc, bytes.as_slice(), &[4]).expect(&rt, "a subset");
+    draws(&rt, alloc, bytes.as_slice(), 3, 8);
+    draws(&rt, alloc, cut.as_slice(), 3, 8);
+    let font = FontView::read(alloc, cut.as_slice()).expect(&rt, "a font");
+    let refused = outline_of(alloc, &font, 4);
+    holds(
+        &rt,
+        matches!(refused, Err(postscript_accent::Error::NestedAccent(195))),
+        "nested",
+    );
+}

@@ -15,7 +15,7 @@ or_true : (a : Bool) → (a || true) ≡ true
 or_true true = refl
 or_true false = refl
 
-apart : (a b : ℕ) → (a == b) ≡ false → b ≢ a
+pub apart : (a b : ℕ) → (a == b) ≡ false → b ≢ a
 apart a b e same = let h : true ≡ false = sym (eq-eqb a b (sym same)) ∙ e in absurd (cc)
 
 marks_more_by : (named rest : List ℕ) (marks : List Bool) (glyph g : ℕ) (b : Bool) → (glyph == g) ≡ b → glyph < length marks →
@@ -72,7 +72,7 @@ pub every_more : (sources more : List (Option ℕ)) (g : ℕ) → sources ≡ ev
 every_more sources more g so_far e = e ∙ ap (λ s. s ++ Some g ∷ []) so_far ∙ sym (map-range_with_len_more Some 0 g g (omega arith))
 
 -- where one mark more is set, a mark that is set was set, or is that one
-set_more : (marks : List Bool) (i number : ℕ) (b : Bool) → (i == number) ≡ b → get_or (slice_set marks i true) number false ≡ true → (i ≡ number) ⊎ (get_or marks number false ≡ true)
+pub set_more : (marks : List Bool) (i number : ℕ) (b : Bool) → (i == number) ≡ b → get_or (slice_set marks i true) number false ≡ true → (i ≡ number) ⊎ (get_or marks number false ≡ true)
 set_more marks i number true e set = inl (eqb-true i number e)
 set_more marks i number false e set = inr (sym (get_or-set_other marks i number true false (apart i number e)) ∙ set)
 

@@ -9,6 +9,7 @@ pub mod Strings
 pub mod Fonts
 pub mod Sources
 pub mod Components
+pub mod Closure
 pub mod Drawings
 pub mod Refusals
 pub mod Steps

@@ -2,6 +2,7 @@
 #![tactic(auto)]
 
 mod alike;
+mod closure;
 mod components;
 mod dictionaries;
 mod error;
