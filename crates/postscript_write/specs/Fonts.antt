@@ -1,5 +1,6 @@
 -- A font without subroutines that is made of glyphs of another one.
 use Rattle.std.specs.Prelude.{◌≡◌, ℕ, ◌<◌, List, [], ◌∷◌, Option, Some, None, Bool, IsTrue, length, slice_get, slice_index_or}
+use Rattle.postscript_type2.specs.Program.Inlined.{inlined_text}
 use Rattle.postscript_type2.specs.Program.Routines.{Lists}
 use Rattle.postscript_type2.specs.Program.Runs.{fault_of}
 use Rattle.postscript_view.specs.Order.{View, Part}
@@ -15,8 +16,8 @@ pub record HasGlyph (bytes : List ℕ) (font : View) (glyph : ℕ) (code : List 
   pub has_part : slice_get font.parts number ≡ Some part
   pub is_its : HasPart bytes font glyph number
 
--- A glyph that is written draws, over any lists, what the glyph draws that it is made of, whose run no fault ends. Both have the
--- part of one number, and the parts say the same.
+-- A glyph that is written draws, over any lists, what the glyph draws that it is made of, whose run no fault ends. Its code is the
+-- text of that run without calls and returns. Both have the part of one number, and the parts say the same.
 pub record IsMadeOf (bytes : List ℕ) (old : View) (glyph : ℕ) (flat : List ℕ) (new : View) (i : ℕ) : Type 0 where
   pub number : ℕ
   pub old_code : List ℕ
@@ -27,6 +28,7 @@ pub record IsMadeOf (bytes : List ℕ) (old : View) (glyph : ℕ) (flat : List �
   pub is : HasGlyph flat new i new_code number new_part
   pub faultless : fault_of (run_in old old_part old_code).end ≡ None
   pub draws : (lists : Lists) → DrawsAs lists new_code (run_in old old_part old_code)
+  pub text : new_code ≡ inlined_text (run_in old old_part old_code).trace
   pub same : SamePart old_part new_part
 
 -- it is made of a glyph, or empty
