@@ -76,7 +76,7 @@ enum {
     PSF_SEVERAL_FONTS = 41,               /* the font set has several fonts, or none */
     PSF_NO_PART = 42,                     /* a glyph of a CID-keyed font has no font dictionary */
     PSF_NO_GLYPHS = 43,                   /* no glyphs are named */
-    PSF_NOT_READ_BACK = 44,               /* what was written is not read back as the font; no font is known for which this comes */
+    PSF_NOT_READ_BACK = 44,               /* what was written is not read back as the font */
     PSF_TOO_LARGE = 45,                   /* what is to be written is too large */
     PSF_TOO_LONG = 46                     /* the runs of the glyphs do not come to their ends within a limit */
 };

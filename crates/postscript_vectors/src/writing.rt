@@ -229,3 +229,46 @@ fn components_of_components(rt: HostRuntime) {
         "nested",
     );
 }
+
+/// A font whose private dictionary has no bytes, and an offset past the end.
+const NO_PRIVATE: &str = "010004040001020001000246000102000100181d0000002e0f1d00000035111d00000000 \
+    1d000186a01200000000000022007c00ab00040200010002000a001200180e959515bd06bd070e9f9f15c706c7070e8e8fccf7550e9214";
+
+/// Fonts whose char set ends with the table before it names all glyphs: behind a range of one glyph, and inside it.
+const SHORT_SETS: [&str; 2] = [
+    "010004040001020001000246000102000100181d000000540f1d0000002e111d000000021d00000052120000000000040200 \
+    010002000a001200180e959515bd06bd070e9f9f15c706c7070e8e8fccf7550e921401002200",
+    "010004040001020001000246000102000100181d000000540f1d0000002e111d000000021d00000052120000000000040200 \
+    010002000a001200180e959515bd06bd070e9f9f15c706c7070e8e8fccf7550e9214010022",
+];
+
+/// A font without subroutines has so many glyphs, and as many with names.
+fn names<R: Abort>(rt: &R, alloc: Global, bytes: &[u8], named: usize) {
+    let font = FontView::read(alloc, bytes).expect(rt, "a font");
+    let set = font.char_set().expect(rt, "a char set");
+    let mut count = 0usize;
+    for glyph in 0..font.char_strings.len() {
+        if set.identifier(glyph).is_some() {
+            count = count.saturating_add(1);
+        }
+    }
+    holds_at(rt, count == named, "names", count);
+}
+
+/// Private dictionaries without bytes may stand anywhere, and char sets may name some of the glyphs only.
+#[test]
+fn odd_fonts_written(rt: HostRuntime) {
+    let alloc = rt.alloc();
+    let bytes = bytes_of(&rt, alloc, NO_PRIVATE);
+    let flat = flat_font(alloc, bytes.as_slice()).expect(&rt, "a flat font");
+    names(&rt, alloc, flat.as_slice(), 4);
+    let cut = subset(alloc, bytes.as_slice(), &[1]).expect(&rt, "a subset");
+    names(&rt, alloc, cut.as_slice(), 2);
+    for (named, digits) in [2usize, 1].iter().zip(SHORT_SETS) {
+        let bytes = bytes_of(&rt, alloc, digits);
+        let flat = flat_font(alloc, bytes.as_slice()).expect(&rt, "a flat font");
+        names(&rt, alloc, flat.as_slice(), *named);
+        let kept = subset_keeping(alloc, bytes.as_slice(), &[1]).expect(&rt, "a subset");
+        names(&rt, alloc, kept.as_slice(), *named);
+    }
+}
