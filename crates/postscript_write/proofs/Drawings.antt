@@ -200,7 +200,7 @@ abbrev pub NamesKept : (sources : Sources) (old_set new_set : CharSetView) (orig
 NamesKept sources old_set new_set origin = (identifier i : ℕ) → identifier < 391 → i < length sources → Names old_set (origin i) identifier ↔ Names new_set i identifier
 
 -- a component is one in each view of the font
-component-moved : (bytes : List ℕ) (a b : FontView) (from one : ℕ) → IsOpened bytes a → IsOpened bytes b → IsComponentOf a from one → IsComponentOf b from one
+pub component-moved : (bytes : List ℕ) (a b : FontView) (from one : ℕ) → IsOpened bytes a → IsOpened bytes b → IsComponentOf a from one → IsComponentOf b from one
 component-moved bytes a b from one was is c =
     let v = view_shown a in
     let run = run-from bytes b v from c.accented.run is was.shown (run-at bytes a v from c.accented.part c.accented.run was was.shown c.accented.has) in
@@ -292,7 +292,7 @@ draws kept_numbers kept bytes flat ov nv sources shown_old shown_new made all or
         (one, component-from bytes old ov code one was shown_old (here one old_first), carries-back old new one j (runs one j (subst (λ k. StandsAt sources k one) same place.1)))
 
 -- The number of glyphs of an opened font.
-many-of : (bytes : List ℕ) (font : FontView) (v : View) → IsOpened bytes font → the_view bytes 0 ≡ Got v 0 → glyphs_of font ≡ length v.char_strings
+pub many-of : (bytes : List ℕ) (font : FontView) (v : View) → IsOpened bytes font → the_view bytes 0 ≡ Got v 0 → glyphs_of font ≡ length v.char_strings
 many-of bytes font v opened is = ap (λ (v : View). length v.char_strings) (shows bytes font v opened is)
 
 pub subset-draws : (named bytes flat : List ℕ) → IsSubset false chosen named bytes flat → DrawsKept chosen named bytes flat

@@ -19,3 +19,4 @@ pub mod Carried
 pub mod Places
 pub mod Reaching
 pub mod Drawings
+pub mod Told

@@ -10,6 +10,7 @@ pub mod Fonts
 pub mod Sources
 pub mod Components
 pub mod Closure
+pub mod Kept
 pub mod Drawings
 pub mod Refusals
 pub mod Steps
