@@ -76,7 +76,7 @@ enum {
     PSF_SEVERAL_FONTS = 41,               /* the font set has several fonts, or none */
     PSF_NO_PART = 42,                     /* a glyph of a CID-keyed font has no font dictionary */
     PSF_NO_GLYPHS = 43,                   /* no glyphs are named */
-    PSF_NOT_READ_BACK = 44,               /* what was written is not read back as the font; no font is known for which this comes */
+    PSF_NOT_READ_BACK = 44,               /* what was written is not read back as the font */
     PSF_TOO_LARGE = 45,                   /* what is to be written is too large */
     PSF_TOO_LONG = 46                     /* the runs of the glyphs do not come to their ends within a limit */
 };
@@ -209,7 +209,8 @@ int32_t psf_glyph_operations(const uint8_t *cff, size_t length, const psf_font *
  * Also answered: PSF_REFUSED_GLYPH, PSF_SEVERAL_FONTS, PSF_NO_PART, PSF_TOO_LARGE, PSF_NOT_READ_BACK, and errors from 1 to 16. */
 int32_t psf_font_flat(const uint8_t *cff, size_t length, uint8_t *flat, size_t room, size_t *count, psf_refusal *refusal);
 
-/* The font of .notdef and the glyphs that glyphs[0..named] names alone, without subroutines, to the front of subset[0..room].
+/* The font of .notdef, the glyphs that glyphs[0..named] names, and the base and the accent of each one that is kept and accented,
+ * without subroutines, to the front of subset[0..room].
  * Where keeps is 0 they are numbered anew, in ascending order, and an encoding of the font's own gives way to the standard
  * one. Else each keeps its number, and those between them are empty.
  * What is told is told as by psf_font_flat. Also answered: as there, and PSF_NO_GLYPHS, PSF_NO_GLYPH, PSF_NO_NAME. */

@@ -86,7 +86,7 @@ pub enum Error {
     NoPart = 42,
     /// No glyphs are named.
     NoGlyphs = 43,
-    /// What was written is not read back as the font. No font is known for which this comes.
+    /// What was written is not read back as the font. Nothing says that this never comes.
     NotReadBack = 44,
     /// What is to be written is too large.
     TooLarge = 45,

@@ -7,7 +7,7 @@ use Rattle.postscript_c.specs.Texts.{HandsBytes}
 use Rattle.postscript_c.specs.declared.written.PsfRefusal.{PsfRefusal}
 use Rattle.postscript_view.specs.Order.{View, view}
 use Rattle.postscript_write.specs.Components.{IsSubset as IsSubsetFont}
-use Rattle.postscript_write.specs.Drawings.{DrawsNamed}
+use Rattle.postscript_write.specs.Drawings.{DrawsKept, KeepsDrawings}
 use Rattle.postscript_write.specs.Glyphs.{Sources}
 use Rattle.postscript_write.specs.Refusals.{IsRefusedBy, IsSubsetRefusedBy}
 use Rattle.postscript_write.specs.Sources.{AreThere, IsWritten, every}
@@ -48,13 +48,14 @@ TellsWritten (Err e) status room count told = (status ≡ pos (written_code e)) 
 
 -- the font made of all glyphs, or why there is none
 pub record IsFlat (bytes : List ℕ) (answer : Result (Vec ℕ Global) Error) : Type 0 where
+  pub drawn : IfOk answer (λ flat. KeepsDrawings every bytes flat.items)
   pub written : IfOk answer (λ flat. IsWritten true every bytes flat.items)
   pub refused : IfErr answer (λ e. IsRefusedBy every bytes e)
 
--- the font made of the glyphs that are named, which are glyphs of the font, and of their components, or why there is none; refused where none is named
+-- the font made of the glyphs that are named, which are glyphs of the font, and of those that these are drawn with, or why there is none; refused where none is named
 pub record IsSubset (kept : Bool) (sources : (closed : List ℕ) (glyphs : ℕ) → Sources) (bytes named : List ℕ) (answer : Result (Vec ℕ Global) Error) : Type 0 where
   pub written : IfOk answer (λ flat. IsSubsetFont kept sources named bytes flat.items)
-  pub drawn : IfOk answer (λ flat. DrawsNamed sources named bytes flat.items)
+  pub drawn : IfOk answer (λ flat. DrawsKept sources named bytes flat.items)
   pub refused : IfErr answer (λ e. IsSubsetRefusedBy named sources bytes e)
   pub there : OnOk answer ((font : View) → view bytes 0 ≡ Got font 0 → AreThere named (length font.char_strings))
   pub some : named ≡ [] → answer ≡ Err NoGlyphs

@@ -4,7 +4,7 @@ use crate::views::rows::{CID, PLAIN, SELECTIONS};
 use crate::views::{codes_of, joined, told};
 use postscript_drawing::{LIMIT, outline_of};
 use postscript_view::FontView;
-use postscript_write::{Error, flat_font, index, subset, subset_keeping};
+use postscript_write::{Error, flat_font, index, kept_glyphs, subset, subset_keeping};
 use std::alloc::Global;
 use std::process::Abort;
 
@@ -112,6 +112,10 @@ fn fonts_that_are_not_written(rt: HostRuntime) {
     holds(&rt, matches!(none, Err(Error::NoGlyphs)), "no glyphs");
     let past = subset_keeping(alloc, bytes.as_slice(), &[1, 5]);
     holds(&rt, matches!(past, Err(Error::MissingGlyph(5))), "no sixth");
+    let none = kept_glyphs(alloc, bytes.as_slice(), &[]);
+    holds(&rt, matches!(none, Err(Error::NoGlyphs)), "none told");
+    let past = kept_glyphs(alloc, bytes.as_slice(), &[1, 5]);
+    holds(&rt, matches!(past, Err(Error::MissingGlyph(5))), "not told");
     // the code of glyph 2 returns
     if let Some(code) = bytes.get_mut(69) {
         *code = 0x0b;
@@ -155,6 +159,12 @@ fn has_glyphs<R: Abort>(rt: &R, alloc: Global, bytes: &[u8], glyphs: usize) {
     holds_at(rt, font.char_strings.len() == glyphs, "glyphs", glyphs);
 }
 
+/// These glyphs are told where this one is named.
+fn keeps<R: Abort>(rt: &R, alloc: Global, bytes: &[u8], named: usize, kept: &[usize]) {
+    let told = kept_glyphs(alloc, bytes, &[named, named]).expect(rt, "glyphs");
+    holds_at(rt, told.as_slice() == kept, "glyphs of", named);
+}
+
 /// The base and the accent of an accented glyph are kept with it.
 #[test]
 fn components_kept(rt: HostRuntime) {
@@ -169,6 +179,9 @@ fn components_kept(rt: HostRuntime) {
     draws(&rt, alloc, kept.as_slice(), 1, 4);
     let base = subset(alloc, bytes.as_slice(), &[2]).expect(&rt, "a subset");
     has_glyphs(&rt, alloc, base.as_slice(), 2);
+    keeps(&rt, alloc, bytes.as_slice(), 3, &[0, 1, 2, 3]);
+    keeps(&rt, alloc, bytes.as_slice(), 2, &[0, 2]);
+    keeps(&rt, alloc, bytes.as_slice(), 0, &[0]);
 }
 
 /// A component that the font does not have is not kept, and the glyph is refused as before.
@@ -193,4 +206,72 @@ fn components_wanting(rt: HostRuntime) {
         ),
         "no accent",
     );
+}
+
+/// A font of `.notdef`, A, grave, a circumflex that is accented itself, `1 2 193 65 endchar`, and a glyph of A and it.
+const NESTED: &str =
+    "01000401000101010246000101010d958bdecb05aa0f8bd712b31100000000000022007c007e00ac00050101020910161c0e\
+    9516bd06bd070e9f16c706c7070e8c8df755cc0e8e8fccf7570e";
+
+/// A component that is accented itself keeps its own components, and is drawn as before.
+#[test]
+fn components_of_components(rt: HostRuntime) {
+    let alloc = rt.alloc();
+    let bytes = bytes_of(&rt, alloc, NESTED);
+    keeps(&rt, alloc, bytes.as_slice(), 4, &[0, 1, 2, 3, 4]);
+    keeps(&rt, alloc, bytes.as_slice(), 3, &[0, 1, 2, 3]);
+    let cut = subset(alloc, bytes.as_slice(), &[4]).expect(&rt, "a subset");
+    draws(&rt, alloc, bytes.as_slice(), 3, 8);
+    draws(&rt, alloc, cut.as_slice(), 3, 8);
+    let font = FontView::read(alloc, cut.as_slice()).expect(&rt, "a font");
+    let mut limit = LIMIT;
+    let refused = outline_of(alloc, &font, 4, &mut limit);
+    holds(
+        &rt,
+        matches!(refused, Err(postscript_drawing::Error::NestedAccent(195))),
+        "nested",
+    );
+}
+
+/// A font whose private dictionary has no bytes, and an offset past the end.
+const NO_PRIVATE: &str = "010004040001020001000246000102000100181d0000002e0f1d00000035111d00000000 \
+    1d000186a01200000000000022007c00ab00040200010002000a001200180e959515bd06bd070e9f9f15c706c7070e8e8fccf7550e9214";
+
+/// Fonts whose char set ends with the table before it names all glyphs: behind a range of one glyph, and inside it.
+const SHORT_SETS: [&str; 2] = [
+    "010004040001020001000246000102000100181d000000540f1d0000002e111d000000021d00000052120000000000040200 \
+    010002000a001200180e959515bd06bd070e9f9f15c706c7070e8e8fccf7550e921401002200",
+    "010004040001020001000246000102000100181d000000540f1d0000002e111d000000021d00000052120000000000040200 \
+    010002000a001200180e959515bd06bd070e9f9f15c706c7070e8e8fccf7550e9214010022",
+];
+
+/// A font without subroutines has so many glyphs, and as many with names.
+fn names<R: Abort>(rt: &R, alloc: Global, bytes: &[u8], named: usize) {
+    let font = FontView::read(alloc, bytes).expect(rt, "a font");
+    let set = font.char_set().expect(rt, "a char set");
+    let mut count = 0usize;
+    for glyph in 0..font.char_strings.len() {
+        if set.identifier(glyph).is_some() {
+            count = count.saturating_add(1);
+        }
+    }
+    holds_at(rt, count == named, "names", count);
+}
+
+/// Private dictionaries without bytes may stand anywhere, and char sets may name some of the glyphs only.
+#[test]
+fn odd_fonts_written(rt: HostRuntime) {
+    let alloc = rt.alloc();
+    let bytes = bytes_of(&rt, alloc, NO_PRIVATE);
+    let flat = flat_font(alloc, bytes.as_slice()).expect(&rt, "a flat font");
+    names(&rt, alloc, flat.as_slice(), 4);
+    let cut = subset(alloc, bytes.as_slice(), &[1]).expect(&rt, "a subset");
+    names(&rt, alloc, cut.as_slice(), 2);
+    for (named, digits) in [2usize, 1].iter().zip(SHORT_SETS) {
+        let bytes = bytes_of(&rt, alloc, digits);
+        let flat = flat_font(alloc, bytes.as_slice()).expect(&rt, "a flat font");
+        names(&rt, alloc, flat.as_slice(), *named);
+        let kept = subset_keeping(alloc, bytes.as_slice(), &[1]).expect(&rt, "a subset");
+        names(&rt, alloc, kept.as_slice(), *named);
+    }
 }

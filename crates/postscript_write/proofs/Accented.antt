@@ -1,8 +1,7 @@
 -- What is told of the components of glyphs.
 use Rattle.std.proofs.Common.{◌≡◌, ◌≢◌, refl, sym, ap, subst, ◌∙◌, inl, inr, ℕ, zero, suc, ◌<◌, ℤ, List, [], ◌∷◌, ◌++◌, append_assoc, slice_index_or, Option, Some, None, Result, Ok, Err, true, false, Bool, arith}
-use Rattle.std.specs.Prelude.{◌⊎◌, ◌==◌, ◌||◌, IfOk, OnOk, option_to_list}
+use Rattle.std.specs.Prelude.{◌⊎◌, ◌||◌, IfOk, OnOk, option_to_list}
 use Rattle.std.specs.List.{Contains}
-use Rattle.std.proofs.lemmas.Bool.{eqb-true, eq-eqb}
 use Rattle.std.proofs.lemmas.List.Elements.{Contains-append_left, Contains-append_right, Contains-append_cases}
 use Rattle.postscript_drawing.specs.Accents.{IsAccent, IsAccentOf, run_by}
 use Rattle.postscript_drawing.specs.Components.{HasNoComponent, IsComponent, glyphs_of}
@@ -19,8 +18,7 @@ use Rattle.postscript_view.specs.Advances.{HasRun}
 use Rattle.postscript_view.specs.Glyphs.{HasGlyph}
 use Rattle.postscript_view.specs.declared.font.FontView.{FontView}
 use Rattle.postscript_view.specs.declared.font.Glyph.{Glyph}
-use Rattle.postscript_write.specs.Components.{AreComponents, AreComponentsOf, IsComponentOf, IsFound, IsSaid, IsSaidOf}
-use Rattle.postscript_write.specs.Sources.{is_kept}
+use Rattle.postscript_write.specs.Components.{AreComponentsOf, IsComponentOf, IsFound, IsSaid, IsSaidOf}
 use Rattle.postscript_write.specs.declared.error.Error.{Error}
 use Rattle.postscript_write.proofs.Uniqueness.{first-of, one-accent, one-component, one-run}
 
@@ -97,14 +95,7 @@ both-of font from accent base above accented has_base has_above glyph = (
       ],
 )
 
--- those of .notdef, where none is named
-pub of-notdef : (font : FontView) (components : List ℕ) → AreComponentsOf font 0 components → AreComponents font [] components
-of-notdef font components are glyph = (
-  λ has. (0, refl, (are glyph).0 has),
-  λ is. (are glyph).1 (subst (λ from. IsComponentOf font from glyph) (eqb-true is.0 0 is.1) is.2),
-)
-
-or-split : (a b : Bool) → (a || b) ≡ true → (a ≡ true) ⊎ (b ≡ true)
+pub or-split : (a b : Bool) → (a || b) ≡ true → (a ≡ true) ⊎ (b ≡ true)
 or-split true b h = inl refl
 or-split false b h = inr h
 
@@ -115,43 +106,6 @@ or-left false b h = let never : false ≡ true = h in absurd (cc)
 pub or-right : (a b : Bool) → b ≡ true → (a || b) ≡ true
 or-right true b h = refl
 or-right false b h = h
-
-kept-front : (named : List ℕ) (one from : ℕ) → is_kept named from ≡ true → is_kept (named ++ one ∷ []) from ≡ true
-kept-front [] one from h = or-right (one == from) (from == 0) h
-kept-front (x ∷ named) one from h = elim (or-split (x == from) (is_kept named from) h) [
-  | inl a ↦ or-left (x == from) (is_kept (named ++ one ∷ []) from) a
-  | inr b ↦ or-right (x == from) (is_kept (named ++ one ∷ []) from) (kept-front named one from b)
-]
-
-kept-last : (named : List ℕ) (one : ℕ) → is_kept (named ++ one ∷ []) one ≡ true
-kept-last [] one = or-left (one == one) (one == 0) (eq-eqb one one refl)
-kept-last (x ∷ named) one = or-right (x == one) (is_kept (named ++ one ∷ []) one) (kept-last named one)
-
-kept-cases : (named : List ℕ) (one from : ℕ) → is_kept (named ++ one ∷ []) from ≡ true → (is_kept named from ≡ true) ⊎ (one ≡ from)
-kept-cases [] one from h = elim (or-split (one == from) (from == 0) h) [
-  | inl a ↦ inr (eqb-true one from a)
-  | inr b ↦ inl b
-]
-kept-cases (x ∷ named) one from h = elim (or-split (x == from) (is_kept (named ++ one ∷ []) from) h) [
-  | inl a ↦ inl (or-left (x == from) (is_kept named from) a)
-  | inr b ↦ elim (kept-cases named one from b) [
-    | inl c ↦ inl (or-right (x == from) (is_kept named from) c)
-    | inr d ↦ inr d
-  ]
-]
-
--- those of one glyph more
-pub one-more : (font : FontView) (named components added : List ℕ) (one : ℕ) → AreComponents font named components → AreComponentsOf font one added → AreComponents font (named ++ one ∷ []) (components ++ added)
-one-more font named components added one before are glyph = (
-  λ has. elim (Contains-append_cases components added glyph has) [
-    | inl h ↦ let is = (before glyph).0 h in (is.0, kept-front named one is.0 is.1, is.2)
-    | inr h ↦ (one, kept-last named one, (are glyph).0 h)
-  ],
-  λ is. elim (kept-cases named one is.0 is.1) [
-    | inl h ↦ Contains-append_left components added glyph ((before glyph).1 (is.0, h, is.2))
-    | inr same ↦ Contains-append_right components added glyph ((are glyph).1 (subst (λ from. IsComponentOf font from glyph) (sym same) is.2))
-  ],
-)
 
 -- what is appended of one glyph
 pub pushed-so : (r : Result (Unit {0}) Error) (font : FontView) (from : ℕ) (accent : Accent) (old new : List ℕ) → IsAccented font from accent →
@@ -167,3 +121,10 @@ pub both-if : (r : Result (Unit {0}) Error) (font : FontView) (accent : Accent) 
 both-if (Ok done) font accent base above old middle new has_base has_above first second =
     (base, above, has_base, has_above, second ∙ ap (λ xs. xs ++ option_to_list above) first ∙ append_assoc old (option_to_list base) (option_to_list above))
 both-if (Err e) font accent base above old middle new has_base has_above first second = tt
+
+-- a component is a glyph of the font
+pub component-there : (font : FontView) (from glyph : ℕ) → IsComponentOf font from glyph → glyph < glyphs_of font
+component-there font from glyph is = elim is.named [
+  | inl h ↦ h.first.there
+  | inr h ↦ h.first.there
+]

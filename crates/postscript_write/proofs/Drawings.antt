@@ -1,8 +1,7 @@
 -- What the glyphs of a subset draw.
-use Rattle.std.proofs.Common.{◌≡◌, refl, sym, ap, subst, ◌∙◌, inl, inr, ℕ, zero, suc, ◌+◌, ◌<◌, ◌-◌, List, [], ◌∷◌, ◌++◌, length, get_or, slice_get, arith, Bool, true, false}
-use Rattle.std.specs.Prelude.{◌⊎◌, ◌↔◌, ◌&&◌, ◌==◌, Option, Some, None, Result, Ok, Err, Vec, IfOk, option_map, nat_le, nat_lt, if◌then◌else◌}
-use Rattle.std.specs.List.{Contains}
-use Rattle.std.proofs.lemmas.Bool.{eq-eqb, leb-true, ltb-true}
+use Rattle.std.proofs.Common.{◌≡◌, refl, sym, ap, subst, ◌∙◌, inl, inr, ℕ, ◌+◌, ◌<◌, ◌-◌, List, [], ◌∷◌, length, get_or, slice_get, arith, Bool, true, false}
+use Rattle.std.specs.Prelude.{◌⊎◌, ◌↔◌, ◌&&◌, Option, Some, None, Result, Ok, Err, Vec, IfOk, option_map, nat_le, nat_lt, if◌then◌else◌}
+use Rattle.std.proofs.lemmas.Bool.{leb-true, ltb-true}
 use Rattle.std.proofs.lemmas.List.{length-map}
 use Rattle.postscript_write.specs.declared.error.Error.{Error}
 use Rattle.std.specs.declared.alloc.Global.{Global}
@@ -25,14 +24,14 @@ use Rattle.postscript_view.specs.Select.{IsSelected}
 use Rattle.postscript_view.specs.Value.{part_shown, parts_shown, view_shown}
 use Rattle.postscript_view.specs.declared.font.FontView.{FontView}
 use Rattle.postscript_view.specs.declared.part.Part.{Part}
-use Rattle.postscript_write.specs.Components.{AreClosed, IsComponentOf, IsOpened, IsSubset}
-use Rattle.postscript_write.specs.Drawings.{DrawsNamed, DrawsTheSame, StandsAt}
+use Rattle.postscript_write.specs.Components.{AreClosed, IsComponentOf, IsOpened, IsSubset, is_drawn_with}
+use Rattle.postscript_write.specs.Drawings.{DrawsKept, DrawsTheSame, KeepsDrawings, StandsAt}
 use Rattle.postscript_write.specs.Fonts.{HasGlyph, IsMade, IsMadeOf, IsFontOf}
 use Rattle.postscript_write.specs.Glyphs.{Sources, run_in}
-use Rattle.postscript_write.specs.Sources.{chosen, is_kept, keeping, kept_or_none}
+use Rattle.postscript_write.specs.Sources.{IsWritten, chosen, every, is_kept, keeping, kept_or_none}
 use Rattle.postscript_write.proofs.Carried.{Carries, CarriesComponents, SameRuns, carried, turned}
-use Rattle.postscript_write.proofs.Accented.{or-left as or_intro_left, or-right as or_intro_right}
-use Rattle.postscript_write.proofs.Places.{Placed, Takes, chosen-placed, chosen-rises, first-back, first-forth, glyph_or, keeping-at, keeping-many, keeping-placed, one-place}
+use Rattle.postscript_write.proofs.Accented.{component-there}
+use Rattle.postscript_write.proofs.Places.{Placed, Takes, chosen-placed, chosen-rises, every-at, every-many, every-placed, first-back, first-forth, glyph_or, keeping-at, keeping-many, keeping-placed, one-place}
 use Rattle.postscript_write.proofs.Uniqueness.{first-of, one-run}
 use Rattle.postscript_base.specs.declared.compact1.operator.Operator.TheVariants.{ROS}
 use Rattle.postscript_compact1.specs.Computed.Encodings.{Run as EncodingRun, are_standard, has_code, in_runs, runs_of}
@@ -200,20 +199,34 @@ standard code = in-runs (runs_of Standard) code refl
 abbrev pub NamesKept : (sources : Sources) (old_set new_set : CharSetView) (origin : ℕ → ℕ) → Type 0
 NamesKept sources old_set new_set origin = (identifier i : ℕ) → identifier < 391 → i < length sources → Names old_set (origin i) identifier ↔ Names new_set i identifier
 
-in-list : (xs : List ℕ) (k glyph : ℕ) → k < length xs → get_or xs k glyph ≡ glyph → is_kept xs glyph ≡ true
-in-list [] k glyph less same = absurd (omega (arith, less))
-in-list (x ∷ xs) zero glyph less same = or_intro_left (x == glyph) (is_kept xs glyph) (eq-eqb x glyph same)
-in-list (x ∷ xs) (suc k) glyph less same = or_intro_right (x == glyph) (is_kept xs glyph) (in-list xs k glyph (omega (arith, less)) same)
+-- a component is one in each view of the font
+pub component-moved : (bytes : List ℕ) (a b : FontView) (from one : ℕ) → IsOpened bytes a → IsOpened bytes b → IsComponentOf a from one → IsComponentOf b from one
+component-moved bytes a b from one was is c =
+    let v = view_shown a in
+    let run = run-from bytes b v from c.accented.run is was.shown (run-at bytes a v from c.accented.part c.accented.run was was.shown c.accented.has) in
+    record {
+      accent = c.accent;
+      accented = record { part = run.0; run = c.accented.run; has = run.1; accented = c.accented.accented };
+      named = elim c.named [
+        | inl h ↦ inl (component-from bytes b v c.accent.base one is was.shown (component-at bytes a v c.accent.base one was was.shown h))
+        | inr h ↦ inr (component-from bytes b v c.accent.accent one is was.shown (component-at bytes a v c.accent.accent one was was.shown h))
+      ];
+    }
 
-contains-kept : (named components : List ℕ) (glyph : ℕ) → Contains components glyph → is_kept (named ++ components) glyph ≡ true
-contains-kept [] components glyph h = in-list components h.0 glyph h.1 h.2
-contains-kept (x ∷ named) components glyph h = or_intro_right (x == glyph) (is_kept (named ++ components) glyph) (contains-kept named components glyph h)
+-- glyphs that are kept with the ones that they are drawn with
+abbrev Closes : (bytes : List ℕ) → (kept : ℕ → Type 0) → Type 0
+Closes bytes kept = (font : FontView) (from one : ℕ) → IsOpened bytes font → kept from → IsComponentOf font from one → kept one
+
+closes : (bytes named closed : List ℕ) → AreClosed bytes named closed → Closes bytes (λ g. is_kept closed g ≡ true)
+closes bytes named closed are font from one opened kept is =
+    (are.all one).1 (is_drawn_with from one ((are.all from).0 kept) (component-moved bytes font are.font from one opened are.opened is))
 
 -- What a font draws that is made of these glyphs, where each place stands for one of the old font.
-draws : (kept_numbers : Bool) (named closed : List ℕ) (bytes flat : List ℕ) (ov nv : View) (sources : Sources) → the_view bytes 0 ≡ Got ov 0 → the_view flat 0 ≡ Got nv 0 →
-    (made : IsFontOf kept_numbers sources bytes ov flat nv) → AreClosed bytes named closed → (origin : ℕ → ℕ) → Placed closed sources (length ov.char_strings) origin → NamesKept sources made.naming.old_set made.naming.new_set origin →
-    (old new : FontView) (glyph i : ℕ) → IsOpened bytes old → IsOpened flat new → is_kept named glyph ≡ true → StandsAt sources i glyph → DrawsTheSame old new glyph i
-draws kept_numbers named closed bytes flat ov nv sources shown_old shown_new made are origin placed names old new glyph i was is named_one at segments width =
+draws : (kept_numbers : Bool) (kept : ℕ → Type 0) (bytes flat : List ℕ) (ov nv : View) (sources : Sources) → the_view bytes 0 ≡ Got ov 0 → the_view flat 0 ≡ Got nv 0 →
+    (made : IsFontOf kept_numbers sources bytes ov flat nv) → Closes bytes kept → (origin : ℕ → ℕ) → Placed kept sources (length ov.char_strings) origin →
+    NamesKept sources made.naming.old_set made.naming.new_set origin →
+    (old new : FontView) (glyph i : ℕ) → IsOpened bytes old → IsOpened flat new → StandsAt sources i glyph → DrawsTheSame old new glyph i
+draws kept_numbers kept bytes flat ov nv sources shown_old shown_new made all origin placed names old new glyph i was is at segments width =
     (carried old new glyph i segments width (carries-forth old new glyph i (runs glyph i at)) codes-forth, carried new old i glyph segments width (carries-back old new glyph i (runs glyph i at)) codes-back)
   where
     n : ℕ
@@ -223,24 +236,19 @@ draws kept_numbers named closed bytes flat ov nv sources shown_old shown_new mad
     runs g j there = made-runs bytes flat old new ov nv g j was is shown_old shown_new (subst (λ o. IsMade bytes ov o flat nv j) there.is (made.glyphs j there.there))
 
     -- the glyph of a code that a glyph names is kept
-    kept : (accent : Accent) (code one : ℕ) → IsAccented old glyph accent → (code ≡ accent.base) ⊎ (code ≡ accent.accent) → ComponentAt bytes ov code one → is_kept closed one ≡ true
-    kept accent code one accented is_code component =
-        let own = are.font in
-        let opened = are.opened in
-        let moved = run-from bytes own ov glyph accented.run opened shown_old (run-at bytes old ov glyph accented.part accented.run was shown_old accented.has) in
-        let again : IsAccented own glyph accent = record { part = moved.0; run = accented.run; has = moved.1; accented = accented.accented } in
-        let here = component-from bytes own ov code one opened shown_old component in
-        let of : IsComponentOf own glyph one = record {
+    kept-one : (accent : Accent) (code one : ℕ) → IsAccented old glyph accent → (code ≡ accent.base) ⊎ (code ≡ accent.accent) → ComponentAt bytes ov code one → kept one
+    kept-one accent code one accented is_code component =
+        let here = component-from bytes old ov code one was shown_old component in
+        all old glyph one was (placed.own i glyph at) (record {
           accent = accent;
-          accented = again;
+          accented = accented;
           named = elim is_code [
-            | inl e ↦ inl (subst (λ c. IsComponent own c one) e here)
-            | inr e ↦ inr (subst (λ c. IsComponent own c one) e here)
+            | inl e ↦ inl (subst (λ c. IsComponent old c one) e here)
+            | inr e ↦ inr (subst (λ c. IsComponent old c one) e here)
           ];
-        } in
-        subst (λ (xs : List ℕ). is_kept xs one ≡ true) (sym are.all) (contains-kept named are.components one ((are.are one).1 (glyph, named_one, of)))
+        })
 
-    takes : (code : ℕ) → Takes (λ g. is_kept closed g ≡ true) made.naming.old_set made.naming.new_set (standard_identifier code) n (length sources) origin
+    takes : (code : ℕ) → Takes kept made.naming.old_set made.naming.new_set (standard_identifier code) n (length sources) origin
     takes code = record {
       names = λ j there. names (standard_identifier code) j (standard code) there;
       rise = placed.rise;
@@ -257,9 +265,9 @@ draws kept_numbers named closed bytes flat ov nv sources shown_old shown_new mad
     codes-forth : CarriesComponents old new glyph
     codes-forth accent code one accented is_code component =
         let c = component-at bytes old ov code one was shown_old component in
-        let place = placed.all one (kept accent code one accented is_code c) c.first.there in
+        let place = placed.all one (kept-one accent code one accented is_code c) c.first.there in
         let first = first-of c.set made.naming.old_set bytes ov.tables.dictionary n (standard_identifier code) one c.is_set made.naming.was c.first in
-        let new_first = first-forth _ made.naming.old_set made.naming.new_set (standard_identifier code) n (length sources) origin one place.0 (takes code) place.1.there place.2 first in
+        let new_first = first-forth kept made.naming.old_set made.naming.new_set (standard_identifier code) n (length sources) origin one place.0 (takes code) place.1.there place.2 first in
         let there : ComponentAt flat nv code place.0 = record {
           not_keyed = λ h. c.not_keyed (keyed h);
           set = made.naming.new_set;
@@ -276,23 +284,23 @@ draws kept_numbers named closed bytes flat ov nv sources shown_old shown_new mad
         let first_m = subst (λ m. IsFirstNamed made.naming.new_set (standard_identifier code) m j) made.many first in
         let here : (g : ℕ) → IsFirstNamed made.naming.old_set (standard_identifier code) n g → ComponentAt bytes ov code g =
         λ g f. record { not_keyed = λ h. c.not_keyed (unkeyed h); set = made.naming.old_set; is_set = made.naming.was; first = f } in
-        let closing = λ (g : ℕ) (f : IsFirstNamed made.naming.old_set (standard_identifier code) n g). kept accent code g before is_code (here g f) in
-        let old_first = first-back _ made.naming.old_set made.naming.new_set (standard_identifier code) n (length sources) origin j (takes code) closing first_m in
+        let closing = λ (g : ℕ) (f : IsFirstNamed made.naming.old_set (standard_identifier code) n g). kept-one accent code g before is_code (here g f) in
+        let old_first = first-back kept made.naming.old_set made.naming.new_set (standard_identifier code) n (length sources) origin j (takes code) closing first_m in
         let one = origin j in
         let place = placed.all one (closing one old_first) old_first.there in
-        let same : place.0 ≡ j = one-place closed sources n place.0 j origin placed place.1.there first_m.there place.2 in
+        let same : place.0 ≡ j = one-place kept sources n place.0 j origin placed place.1.there first_m.there place.2 in
         (one, component-from bytes old ov code one was shown_old (here one old_first), carries-back old new one j (runs one j (subst (λ k. StandsAt sources k one) same place.1)))
 
 -- The number of glyphs of an opened font.
-many-of : (bytes : List ℕ) (font : FontView) (v : View) → IsOpened bytes font → the_view bytes 0 ≡ Got v 0 → glyphs_of font ≡ length v.char_strings
+pub many-of : (bytes : List ℕ) (font : FontView) (v : View) → IsOpened bytes font → the_view bytes 0 ≡ Got v 0 → glyphs_of font ≡ length v.char_strings
 many-of bytes font v opened is = ap (λ (v : View). length v.char_strings) (shows bytes font v opened is)
 
-pub subset-draws : (named bytes flat : List ℕ) → IsSubset false chosen named bytes flat → DrawsNamed chosen named bytes flat
+pub subset-draws : (named bytes flat : List ℕ) → IsSubset false chosen named bytes flat → DrawsKept chosen named bytes flat
 subset-draws named bytes flat s = (
   s.closed,
   s.are,
-  λ old new glyph i was is named_one at.
-      draws false named s.closed bytes flat s.written.old s.written.new (chosen s.closed n) s.written.was s.written.is s.written.made s.are (λ j. glyph_or (get_or (chosen s.closed n) j None)) (chosen-placed s.closed n) names old new glyph i was is named_one
+  λ old new glyph i was is at.
+      draws false (λ g. is_kept s.closed g ≡ true) bytes flat s.written.old s.written.new (chosen s.closed n) s.written.was s.written.is s.written.made (closes bytes named s.closed s.are) (λ j. glyph_or (get_or (chosen s.closed n) j None)) (chosen-placed s.closed n) names old new glyph i was is
       (subst (λ m. StandsAt (chosen s.closed m) i glyph) (many-of bytes old s.written.old was s.written.was) at),
 )
   where
@@ -312,12 +320,12 @@ subset-draws named bytes flat s = (
         subst (λ g. Names s.written.made.naming.old_set g identifier ↔ Names s.written.made.naming.new_set i identifier) (sym (ap glyph_or one.1.is))
         (names-at (keeps_strings false s.written.old.tables.dictionary) identifier i small one s.written.made.naming.strings)
 
-pub keeping-draws : (named bytes flat : List ℕ) → IsSubset true keeping named bytes flat → DrawsNamed keeping named bytes flat
+pub keeping-draws : (named bytes flat : List ℕ) → IsSubset true keeping named bytes flat → DrawsKept keeping named bytes flat
 keeping-draws named bytes flat s = (
   s.closed,
   s.are,
-  λ old new glyph i was is named_one at.
-      draws true named s.closed bytes flat s.written.old s.written.new (keeping s.closed n) s.written.was s.written.is s.written.made s.are (λ j. j) (keeping-placed s.closed n) names old new glyph i was is named_one
+  λ old new glyph i was is at.
+      draws true (λ g. is_kept s.closed g ≡ true) bytes flat s.written.old s.written.new (keeping s.closed n) s.written.was s.written.is s.written.made (closes bytes named s.closed s.are) (λ j. j) (keeping-placed s.closed n) names old new glyph i was is
       (subst (λ m. StandsAt (keeping s.closed m) i glyph) (many-of bytes old s.written.old was s.written.was) at),
 )
   where
@@ -339,10 +347,29 @@ keeping-draws named bytes flat s = (
         named-at (kept_or_none s.closed i) i identifier (either (is_kept s.closed i) i)
         (subst (λ o. SameName s.written.made.naming.old_set o s.written.made.naming.new_set i) at (s.written.made.naming.strings.glyphs i less))
 
-pub subset-drawn : (r : Result (Vec ℕ Global) Error) (named bytes : List ℕ) → IfOk r (λ flat. IsSubset false chosen named bytes flat.items) → IfOk r (λ flat. DrawsNamed chosen named bytes flat.items)
+pub flat-draws : (bytes flat : List ℕ) → IsWritten true every bytes flat → KeepsDrawings every bytes flat
+flat-draws bytes flat w old new glyph i was is at =
+    draws true (λ g. g < n) bytes flat w.old w.new (every n) w.was w.is w.made all (λ j. j) (every-placed n) names old new glyph i was is (subst (λ m. StandsAt (every m) i glyph) (many-of bytes old w.old was w.was) at)
+  where
+    n : ℕ
+    n = length w.old.char_strings
+
+    all : Closes bytes (λ g. g < n)
+    all font from one opened less component = subst (λ m. one < m) (many-of bytes font w.old opened w.was) (component-there font from one component)
+
+    names : NamesKept (every n) w.made.naming.old_set w.made.naming.new_set (λ j. j)
+    names identifier j small less =
+        let at = every-at n j (subst (λ m. j < m) (every-many n) less) in
+        subst (λ o. SameName w.made.naming.old_set o w.made.naming.new_set j) at (w.made.naming.strings.glyphs j less) identifier
+
+pub subset-drawn : (r : Result (Vec ℕ Global) Error) (named bytes : List ℕ) → IfOk r (λ flat. IsSubset false chosen named bytes flat.items) → IfOk r (λ flat. DrawsKept chosen named bytes flat.items)
 subset-drawn (Ok flat) named bytes h = subset-draws named bytes flat.items h
 subset-drawn (Err e) named bytes h = tt
 
-pub keeping-drawn : (r : Result (Vec ℕ Global) Error) (named bytes : List ℕ) → IfOk r (λ flat. IsSubset true keeping named bytes flat.items) → IfOk r (λ flat. DrawsNamed keeping named bytes flat.items)
+pub keeping-drawn : (r : Result (Vec ℕ Global) Error) (named bytes : List ℕ) → IfOk r (λ flat. IsSubset true keeping named bytes flat.items) → IfOk r (λ flat. DrawsKept keeping named bytes flat.items)
 keeping-drawn (Ok flat) named bytes h = keeping-draws named bytes flat.items h
 keeping-drawn (Err e) named bytes h = tt
+
+pub flat-drawn : (r : Result (Vec ℕ Global) Error) (bytes : List ℕ) → IfOk r (λ flat. IsWritten true every bytes flat.items) → IfOk r (λ flat. KeepsDrawings every bytes flat.items)
+flat-drawn (Ok flat) bytes h = flat-draws bytes flat.items h
+flat-drawn (Err e) bytes h = tt

@@ -17,4 +17,6 @@ pub mod Accented
 pub mod Subsets
 pub mod Carried
 pub mod Places
+pub mod Reaching
 pub mod Drawings
+pub mod Told

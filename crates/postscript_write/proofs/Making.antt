@@ -42,6 +42,7 @@ made bytes flat old new (Some glyph) i number code parts there was is again =
       is = record { has_code = there; has_part = has_new; is_its = again };
       faultless = is.faultless;
       draws = is.draws;
+      text = is.text;
       same = parts.each number is.part new_part is.has_part has_new;
     }
 

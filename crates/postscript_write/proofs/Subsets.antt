@@ -1,20 +1,19 @@
 -- Fonts that are made of glyphs that are named and of their components.
-use Rattle.std.proofs.Common.{◌≡◌, refl, sym, ap, subst, ◌∙◌, inl, inr, ℕ, ◌-◌, ◌<◌, ◌≤◌, List, ◌++◌, length, get_or, arith}
-use Rattle.std.specs.Prelude.{Bool, Result, Ok, Err, IfOk, IfErr, Vec}
+use Rattle.std.proofs.Common.{◌≡◌, sym, subst, ◌∙◌, inl, inr, ℕ, ◌<◌, List, length, get_or, arith, true}
+use Rattle.std.specs.Prelude.{◌↔◌, Bool, Result, Ok, Err, IfOk, IfErr, Vec}
 use Rattle.std.specs.declared.alloc.Global.{Global}
-use Rattle.std.proofs.lemmas.List.{get_or_append_left, get_or-append_right, get_or_default, length-append}
 use Rattle.postscript_base.specs.Tape.Outcome.{Got}
 use Rattle.postscript_view.specs.CharSets.{IsCharSetOf}
 use Rattle.postscript_view.specs.Order.{View, view}
 use Rattle.postscript_view.specs.Value.{view_shown}
 use Rattle.postscript_view.specs.declared.font.FontView.{FontView}
 use Rattle.postscript_drawing.specs.Components.{glyphs_of}
-use Rattle.postscript_write.specs.Components.{AreClosed, AreComponents, IsComponentOf, IsOpened, IsSubset, IsUntold}
+use Rattle.postscript_write.specs.Components.{AreClosed, AreKept, IsOpened, IsReached, IsSubset}
 use Rattle.postscript_write.specs.Fonts.{IsFontOf}
 use Rattle.postscript_write.specs.Glyphs.{Sources}
-use Rattle.postscript_write.specs.Refusals.{FontRefusedBy, IsFirstPast, IsRefusedBy, IsSubsetRefusedBy}
-use Rattle.postscript_write.specs.Sources.{AreThere}
-use Rattle.postscript_write.specs.Steps.{IsNotChosen, IsNotOpened}
+use Rattle.postscript_write.specs.Refusals.{FontRefusedBy, IsChoiceRefusedBy, IsFirstPast, IsRefusedBy, IsSubsetRefusedBy}
+use Rattle.postscript_write.specs.Sources.{AreThere, is_kept, kept_of}
+use Rattle.postscript_write.specs.Steps.{IsNotChosen, IsNotClosed, IsNotOpened}
 use Rattle.postscript_write.specs.declared.error.Error.{Error}
 use Rattle.postscript_write.specs.declared.error.Error.TheVariants.{Refused, Glyph, SeveralFonts, MissingGlyph, MissingPart, MissingName, NoGlyphs, TooLarge, NotReadBack}
 use Rattle.postscript_write.proofs.Making.{is_refused}
@@ -22,8 +21,8 @@ use Rattle.postscript_write.proofs.Making.{is_refused}
 abbrev pub Choice : Type 0
 Choice = (closed : List ℕ) (glyphs : ℕ) → Sources
 
-pub closed-so : (bytes named closed : List ℕ) (font : FontView) → IsOpened bytes font → (components : List ℕ) × AreComponents font named components × (closed ≡ named ++ components) → AreClosed bytes named closed
-closed-so bytes named closed font opened h = record { font = font; opened = opened; components = h.0; are = h.1; all = h.2 }
+pub closed-so : (bytes named closed : List ℕ) (font : FontView) → IsOpened bytes font → ((glyph : ℕ) → (is_kept closed glyph ≡ true) ↔ IsReached font named glyph) → AreClosed bytes named closed
+closed-so bytes named closed font opened all = record { font = font; opened = opened; all = all }
 
 pub subset-made : (r : Result (Vec ℕ Global) Error) (kept : Bool) (choice : Choice) (font : FontView) (bytes named closed : List ℕ) (sources : Sources) → IsOpened bytes font → AreClosed bytes named closed →
     sources ≡ choice closed (length (view_shown font).char_strings) →
@@ -72,67 +71,76 @@ not-opened named choice bytes NoGlyphs h = absurd h
 not-opened named choice bytes TooLarge h = absurd h
 not-opened named choice bytes NotReadBack h = absurd h
 
--- the font has no char set
-pub untold : (named : List ℕ) (choice : Choice) (bytes : List ℕ) (font : FontView) (e : Error) → IsOpened bytes font → IsUntold font e → IsSubsetRefusedBy named choice bytes e
-untold named choice bytes font (Refused cause) opened h = λ n. inr (
+-- the font has no char set, or a glyph is named that it does not have
+pub not-closed : (named : List ℕ) (choice : Choice) (bytes : List ℕ) (font : FontView) (e : Error) → IsOpened bytes font → IsNotClosed font named e → IsSubsetRefusedBy named choice bytes e
+not-closed named choice bytes font (Refused cause) opened h = λ n. inr (view_shown font, opened.shown, inl (λ has. h n has.0 (subst (λ (bs : List ℕ). IsCharSetOf has.0 bs font.dictionary (glyphs_of font)) (sym opened.there) has.1)))
+not-closed named choice bytes font (MissingGlyph glyph) opened h = (view_shown font, opened.shown, h)
+not-closed named choice bytes font (Glyph glyph cause) opened h = absurd h
+not-closed named choice bytes font SeveralFonts opened h = absurd h
+not-closed named choice bytes font (MissingPart glyph) opened h = absurd h
+not-closed named choice bytes font (MissingName glyph) opened h = absurd h
+not-closed named choice bytes font NoGlyphs opened h = absurd h
+not-closed named choice bytes font TooLarge opened h = absurd h
+not-closed named choice bytes font NotReadBack opened h = absurd h
+
+-- where all are there, none is past the end
+not-past : (glyphs : List ℕ) (n glyph : ℕ) → AreThere glyphs n → IsFirstPast glyphs n glyph → ⊥
+not-past glyphs n glyph there past =
+    let less : get_or glyphs past.place 0 < n = there past.place past.there in
+    let is : get_or glyphs past.place 0 ≡ glyph = past.is in
+    let far = past.past in
+    omega (arith, less, is, far)
+
+pub not-chosen : (named closed : List ℕ) (choice : Choice) (bytes : List ℕ) (n : ℕ) (e : Error) → AreThere closed n → IsNotChosen closed n e → IsSubsetRefusedBy named choice bytes e
+not-chosen named closed choice bytes n (Refused cause) there h = λ other. absurd (other h)
+not-chosen named closed choice bytes n (MissingGlyph glyph) there h = absurd (not-past closed n glyph there h)
+not-chosen named closed choice bytes n (Glyph glyph cause) there h = absurd h
+not-chosen named closed choice bytes n SeveralFonts there h = absurd h
+not-chosen named closed choice bytes n (MissingPart glyph) there h = absurd h
+not-chosen named closed choice bytes n (MissingName glyph) there h = absurd h
+not-chosen named closed choice bytes n NoGlyphs there h = absurd h
+not-chosen named closed choice bytes n TooLarge there h = absurd h
+not-chosen named closed choice bytes n NotReadBack there h = absurd h
+
+-- the glyphs that are kept, told
+pub kept-so : (r : Result (Vec ℕ Global) Error) (bytes named closed : List ℕ) (font : FontView) → IsOpened bytes font → ((glyph : ℕ) → (is_kept closed glyph ≡ true) ↔ IsReached font named glyph) →
+    (others : List ℕ) → others ≡ kept_of closed (glyphs_of font) → IfOk r (λ kept. kept.items ≡ others) → IfOk r (λ kept. AreKept named bytes kept.items)
+kept-so (Ok kept) bytes named closed font opened h others same is = record { closed = closed; are = record { font = font; opened = opened; all = h }; all = is ∙ same }
+kept-so (Err e) bytes named closed font opened h others same is = tt
+
+pub choice-not-opened : (named bytes : List ℕ) (e : Error) → IsNotOpened bytes e → IsChoiceRefusedBy named bytes e
+choice-not-opened named bytes (Glyph glyph cause) h = h
+choice-not-opened named bytes (Refused cause) h = λ n. inl (h n)
+choice-not-opened named bytes SeveralFonts h = h
+choice-not-opened named bytes (MissingGlyph glyph) h = absurd h
+choice-not-opened named bytes (MissingPart glyph) h = h
+choice-not-opened named bytes (MissingName glyph) h = h
+choice-not-opened named bytes NoGlyphs h = absurd h
+choice-not-opened named bytes TooLarge h = h
+choice-not-opened named bytes NotReadBack h = h
+
+pub choice-not-closed : (named bytes : List ℕ) (font : FontView) (e : Error) → IsOpened bytes font → IsNotClosed font named e → IsChoiceRefusedBy named bytes e
+choice-not-closed named bytes font (Refused cause) opened h = λ n. inr (
   view_shown font,
   opened.shown,
-  inl (λ has.
-      h n has.0 (subst (λ (bs : List ℕ). IsCharSetOf has.0 bs font.dictionary (glyphs_of font)) (sym opened.there) has.1)),
+  λ has. h n has.0 (subst (λ (bs : List ℕ). IsCharSetOf has.0 bs font.dictionary (glyphs_of font)) (sym opened.there) has.1),
 )
-untold named choice bytes font (Glyph glyph cause) opened h = absurd h
-untold named choice bytes font SeveralFonts opened h = absurd h
-untold named choice bytes font (MissingGlyph glyph) opened h = absurd h
-untold named choice bytes font (MissingPart glyph) opened h = absurd h
-untold named choice bytes font (MissingName glyph) opened h = absurd h
-untold named choice bytes font NoGlyphs opened h = absurd h
-untold named choice bytes font TooLarge opened h = absurd h
-untold named choice bytes font NotReadBack opened h = absurd h
+choice-not-closed named bytes font (MissingGlyph glyph) opened h = (view_shown font, opened.shown, h)
+choice-not-closed named bytes font (Glyph glyph cause) opened h = h
+choice-not-closed named bytes font SeveralFonts opened h = absurd h
+choice-not-closed named bytes font (MissingPart glyph) opened h = h
+choice-not-closed named bytes font (MissingName glyph) opened h = h
+choice-not-closed named bytes font NoGlyphs opened h = absurd h
+choice-not-closed named bytes font TooLarge opened h = h
+choice-not-closed named bytes font NotReadBack opened h = h
 
--- a component is a glyph of the font
-component-there : (font : FontView) (from glyph : ℕ) → IsComponentOf font from glyph → glyph < glyphs_of font
-component-there font from glyph is = elim is.named [
-  | inl h ↦ h.first.there
-  | inr h ↦ h.first.there
-]
-
--- what is named is there where all are
-pub named-there : (named components closed : List ℕ) (glyphs : ℕ) → closed ≡ named ++ components → AreThere closed glyphs → AreThere named glyphs
-named-there named components closed glyphs all there k less =
-    subst (λ g. g < glyphs) (ap (λ xs. get_or xs k 0) all ∙ get_or_append_left named components 0 k less)
-    (there k (subst (λ (xs : List ℕ). k < length xs) (sym all) (omega (arith, less, length-append named components))))
-
--- The first one that is none of the font's glyphs is one of those that are named, since components are glyphs.
-pub named-past : (font : FontView) (named closed : List ℕ) (glyph : ℕ) → (components : List ℕ) × AreComponents font named components × (closed ≡ named ++ components) →
-    IsFirstPast closed (glyphs_of font) glyph → IsFirstPast named (glyphs_of font) glyph
-named-past font named closed glyph h past =
-    let place : past.place < length (named ++ h.0) = subst (λ (xs : List ℕ). past.place < length xs) h.2 past.there in
-    let is : get_or (named ++ h.0) past.place 0 ≡ glyph = ap (λ xs. get_or xs past.place 0) (sym h.2) ∙ past.is in
-    let behind : length named ≤ past.place → ⊥ = λ far.
-    let less : past.place - length named < length h.0 = omega (arith, place, far, length-append named h.0) in
-    let same : get_or h.0 (past.place - length named) glyph ≡ glyph =
-    sym (get_or-append_right named h.0 (length named) past.place glyph refl far) ∙ get_or_default (named ++ h.0) past.place glyph 0 place ∙ is in
-    let one = (h.1 glyph).0 (past.place - length named, less, same) in
-    let below = component-there font one.0 glyph one.2 in
-    let above = past.past in
-    omega (arith, below, above) in
-    let there : past.place < length named = omega (arith, behind) in
-    record {
-      place = past.place;
-      there = there;
-      is = sym (get_or_append_left named h.0 0 past.place there) ∙ is;
-      past = past.past;
-      before = λ i less. subst (λ g. g < glyphs_of font) (ap (λ xs. get_or xs i 0) h.2 ∙ get_or_append_left named h.0 0 i (omega (arith, less, there))) (past.before i less);
-    }
-
-pub not-chosen : (named closed : List ℕ) (choice : Choice) (bytes : List ℕ) (font : FontView) (e : Error) → IsOpened bytes font →
-    (components : List ℕ) × AreComponents font named components × (closed ≡ named ++ components) → IsNotChosen closed (glyphs_of font) e → IsSubsetRefusedBy named choice bytes e
-not-chosen named closed choice bytes font (Glyph glyph cause) opened all h = absurd h
-not-chosen named closed choice bytes font (Refused cause) opened all h = λ n. absurd (n h)
-not-chosen named closed choice bytes font SeveralFonts opened all h = absurd h
-not-chosen named closed choice bytes font (MissingGlyph glyph) opened all h = (view_shown font, opened.shown, named-past font named closed glyph all h)
-not-chosen named closed choice bytes font (MissingPart glyph) opened all h = absurd h
-not-chosen named closed choice bytes font (MissingName glyph) opened all h = absurd h
-not-chosen named closed choice bytes font NoGlyphs opened all h = absurd h
-not-chosen named closed choice bytes font TooLarge opened all h = absurd h
-not-chosen named closed choice bytes font NotReadBack opened all h = absurd h
+pub choice-not-chosen : (named closed bytes : List ℕ) (n : ℕ) (e : Error) → AreThere closed n → IsNotChosen closed n e → IsChoiceRefusedBy named bytes e
+choice-not-chosen named closed bytes n (Refused cause) there h = λ other. absurd (other h)
+choice-not-chosen named closed bytes n (MissingGlyph glyph) there h = absurd (not-past closed n glyph there h)
+choice-not-chosen named closed bytes n (Glyph glyph cause) there h = h
+choice-not-chosen named closed bytes n SeveralFonts there h = absurd h
+choice-not-chosen named closed bytes n (MissingPart glyph) there h = h
+choice-not-chosen named closed bytes n (MissingName glyph) there h = h
+choice-not-chosen named closed bytes n NoGlyphs there h = absurd h
+choice-not-chosen named closed bytes n TooLarge there h = h
+choice-not-chosen named closed bytes n NotReadBack there h = h

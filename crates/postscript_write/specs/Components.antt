@@ -1,10 +1,10 @@
 -- The components of accented glyphs, which are kept with them (Technical Note 5177, Appendix C, "Compatibility and Deprecated
 -- Operators").
-use Rattle.std.specs.Prelude.{◌≡◌, ◌≢◌, ◌⊎◌, ◌↔◌, ℕ, List, ◌++◌, Bool, Option, true}
+use Rattle.std.specs.Prelude.{◌≡◌, ◌≢◌, ◌⊎◌, ◌↔◌, ℕ, List, Bool, Option, true}
 use Rattle.std.specs.List.{Contains}
 use Rattle.std.specs.Option.{MatchOption}
 use Rattle.postscript_drawing.specs.Accents.{IsAccentOf}
-use Rattle.postscript_drawing.specs.Components.{HasCharSet, IsComponent}
+use Rattle.postscript_drawing.specs.Components.{HasCharSet, IsComponent, glyphs_of}
 use Rattle.postscript_drawing.specs.Refused.{IsAccented}
 use Rattle.postscript_drawing.specs.declared.accent.Accent.{Accent}
 use Rattle.postscript_base.specs.Tape.Outcome.{Got}
@@ -15,7 +15,7 @@ use Rattle.postscript_view.specs.Value.{view_shown}
 use Rattle.postscript_view.specs.declared.char_set.CharSetView.{CharSetView}
 use Rattle.postscript_view.specs.declared.font.FontView.{FontView}
 use Rattle.postscript_write.specs.Glyphs.{Sources}
-use Rattle.postscript_write.specs.Sources.{IsWritten, is_kept}
+use Rattle.postscript_write.specs.Sources.{IsWritten, is_kept, kept_of}
 use Rattle.postscript_write.specs.declared.error.Error.{Error}
 use Rattle.postscript_write.specs.declared.error.Error.TheVariants.{Refused}
 
@@ -25,28 +25,29 @@ pub record IsComponentOf (font : FontView) (from glyph : ℕ) : Type 0 where
   pub accented : IsAccented font from accent
   pub named : IsComponent font accent.base glyph ⊎ IsComponent font accent.accent glyph
 
--- it is a component of a glyph that is named, or of .notdef
-abbrev pub IsComponentOfOne : FontView → (named : List ℕ) → (glyph : ℕ) → Type 0
-IsComponentOfOne font named glyph = (from : ℕ) × (is_kept named from ≡ true) × IsComponentOf font from glyph
-
--- the components of the glyphs that are named and of .notdef, and no other glyphs
-abbrev pub AreComponents : FontView → (named components : List ℕ) → Type 0
-AreComponents font named components = (glyph : ℕ) → Contains components glyph ↔ IsComponentOfOne font named glyph
+-- A glyph is reached from those that are named: it is one of them, or .notdef, or a component of one that is reached.
+pub data IsReached (font : FontView) (named : List ℕ) : ℕ → Type 0 where
+  is_named : (glyph : ℕ) → is_kept named glyph ≡ true → IsReached font named glyph
+  is_drawn_with : (from glyph : ℕ) → IsReached font named from → IsComponentOf font from glyph → IsReached font named glyph
 
 -- The font that bytes begin with, opened in place.
 pub record IsOpened (bytes : List ℕ) (font : FontView) : Type 0 where
   pub shown : view bytes 0 ≡ Got (view_shown font) 0
   pub there : font.bytes.now ≡ bytes
 
--- Behind the glyphs that are named stand their components and those of .notdef, in the font that the bytes begin with.
+-- Those that are kept are the glyphs that are reached from those that are named, in the font that the bytes begin with.
 pub record AreClosed (bytes named closed : List ℕ) : Type 0 where
   pub font : FontView
   pub opened : IsOpened bytes font
-  pub components : List ℕ
-  pub are : AreComponents font named components
-  pub all : closed ≡ named ++ components
+  pub all : (glyph : ℕ) → (is_kept closed glyph ≡ true) ↔ IsReached font named glyph
 
--- The new font is made of the glyphs that this gives for those that are named and their components.
+-- The glyphs that a subset keeps, in ascending order: those that are reached from the ones that are named.
+pub record AreKept (named bytes kept : List ℕ) : Type 0 where
+  pub closed : List ℕ
+  pub are : AreClosed bytes named closed
+  pub all : kept ≡ kept_of closed (glyphs_of are.font)
+
+-- The new font is made of the glyphs that this gives for those that are reached from the ones that are named.
 pub record IsSubset (kept : Bool) (sources : (closed : List ℕ) (glyphs : ℕ) → Sources) (named bytes flat : List ℕ) : Type 0 where
   pub closed : List ℕ
   pub are : AreClosed bytes named closed

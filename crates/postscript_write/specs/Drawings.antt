@@ -1,12 +1,11 @@
 -- What the glyphs of a subset draw (Technical Note 5177, Appendix C).
-use Rattle.std.specs.Prelude.{◌≡◌, ◌↔◌, ℕ, ℤ, ◌<◌, List, true, Option, Some, None, length, slice_index_or}
+use Rattle.std.specs.Prelude.{◌≡◌, ◌↔◌, ℕ, ℤ, ◌<◌, List, Option, Some, None, length, slice_index_or}
 use Rattle.postscript_drawing.specs.Components.{glyphs_of}
 use Rattle.postscript_drawing.specs.Drawn.{IsDrawnAs}
 use Rattle.postscript_outline.specs.declared.segment.Segment.{Segment}
 use Rattle.postscript_view.specs.declared.font.FontView.{FontView}
 use Rattle.postscript_write.specs.Components.{AreClosed, IsOpened}
 use Rattle.postscript_write.specs.Glyphs.{Sources}
-use Rattle.postscript_write.specs.Sources.{is_kept}
 
 -- at a place stands a glyph
 pub record StandsAt (sources : Sources) (i glyph : ℕ) : Type 0 where
@@ -17,11 +16,10 @@ pub record StandsAt (sources : Sources) (i glyph : ℕ) : Type 0 where
 abbrev pub DrawsTheSame : (old new : FontView) → (glyph i : ℕ) → Type 0
 DrawsTheSame old new glyph i = (segments : List Segment) (width : Option ℤ) → IsDrawnAs old glyph segments width ↔ IsDrawnAs new i segments width
 
--- Each glyph that is named, and .notdef, is drawn as it was, where it stands in the new font.
-abbrev pub KeepsDrawings : (choice : (glyphs : ℕ) → Sources) → (named bytes flat : List ℕ) → Type 0
-KeepsDrawings choice named bytes flat = (old new : FontView) (glyph i : ℕ) → IsOpened bytes old → IsOpened flat new → is_kept named glyph ≡ true → StandsAt (choice (glyphs_of old)) i glyph →
-    DrawsTheSame old new glyph i
+-- Each glyph of the new font, which this gives for so many of the old one, is drawn as it was.
+abbrev pub KeepsDrawings : (sources : (glyphs : ℕ) → Sources) → (bytes flat : List ℕ) → Type 0
+KeepsDrawings sources bytes flat = (old new : FontView) (glyph i : ℕ) → IsOpened bytes old → IsOpened flat new → StandsAt (sources (glyphs_of old)) i glyph → DrawsTheSame old new glyph i
 
--- the same where the glyphs of the new font are these and their components
-abbrev pub DrawsNamed : (sources : (closed : List ℕ) (glyphs : ℕ) → Sources) → (named bytes flat : List ℕ) → Type 0
-DrawsNamed sources named bytes flat = (closed : List ℕ) × AreClosed bytes named closed × KeepsDrawings (sources closed) named bytes flat
+-- the same of the glyphs that a subset keeps
+abbrev pub DrawsKept : (sources : (closed : List ℕ) (glyphs : ℕ) → Sources) → (named bytes flat : List ℕ) → Type 0
+DrawsKept sources named bytes flat = (closed : List ℕ) × AreClosed bytes named closed × KeepsDrawings (sources closed) bytes flat

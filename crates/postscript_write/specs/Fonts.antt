@@ -1,13 +1,18 @@
 -- A font without subroutines that is made of glyphs of another one.
-use Rattle.std.specs.Prelude.{◌≡◌, ℕ, ◌<◌, List, [], ◌∷◌, Option, Some, None, Bool, IsTrue, length, slice_get, slice_index_or}
+use Rattle.std.specs.Prelude.{◌≡◌, ℕ, ◌<◌, List, [], ◌∷◌, Option, Some, None, Bool, false, IsTrue, length, take, slice_get, slice_index_or}
+use Rattle.postscript_type2.specs.Program.Inlined.{inlined_text}
 use Rattle.postscript_type2.specs.Program.Routines.{Lists}
 use Rattle.postscript_type2.specs.Program.Runs.{fault_of}
 use Rattle.postscript_view.specs.Order.{View, Part}
 use Rattle.postscript_write.specs.Glyphs.{DrawsAs, HasPart, Sources, run_in}
-use Rattle.postscript_write.specs.Naming.{KeepsCodes}
+use Rattle.postscript_write.specs.Naming.{GivesWay, KeepsCodes}
 use Rattle.postscript_write.specs.Parts.{SameAt, SamePart, SameParts}
 use Rattle.postscript_write.specs.Strings.{KeepsNames}
 use Rattle.postscript_write.specs.declared.kept.TheConstants.{KEPT}
+
+-- The header of what is written: version 1.0, of four bytes, and places of four bytes (section 6).
+abbrev pub HasHeader : List ℕ → Type 0
+HasHeader flat = take 4 flat ≡ 1 ∷ 0 ∷ 4 ∷ 4 ∷ []
 
 -- a glyph of a font has this code and this part
 pub record HasGlyph (bytes : List ℕ) (font : View) (glyph : ℕ) (code : List ℕ) (number : ℕ) (part : Part) : Type 0 where
@@ -15,8 +20,8 @@ pub record HasGlyph (bytes : List ℕ) (font : View) (glyph : ℕ) (code : List 
   pub has_part : slice_get font.parts number ≡ Some part
   pub is_its : HasPart bytes font glyph number
 
--- A glyph that is written draws, over any lists, what the glyph draws that it is made of, whose run no fault ends. Both have the
--- part of one number, and the parts say the same.
+-- A glyph that is written draws, over any lists, what the glyph draws that it is made of, whose run no fault ends. Its code is the
+-- text of that run without calls and returns. Both have the part of one number, and the parts say the same.
 pub record IsMadeOf (bytes : List ℕ) (old : View) (glyph : ℕ) (flat : List ℕ) (new : View) (i : ℕ) : Type 0 where
   pub number : ℕ
   pub old_code : List ℕ
@@ -27,6 +32,7 @@ pub record IsMadeOf (bytes : List ℕ) (old : View) (glyph : ℕ) (flat : List �
   pub is : HasGlyph flat new i new_code number new_part
   pub faultless : fault_of (run_in old old_part old_code).end ≡ None
   pub draws : (lists : Lists) → DrawsAs lists new_code (run_in old old_part old_code)
+  pub text : new_code ≡ inlined_text (run_in old old_part old_code).trace
   pub same : SamePart old_part new_part
 
 -- it is made of a glyph, or empty
@@ -42,10 +48,12 @@ pub record Repeats (old new : View) : Type 0 where
   pub parts : SameParts old.parts new.parts
 
 -- The new font is made of these glyphs of the old one, in this order. It says what the old one says: also by its encoding, where
--- glyphs keep their numbers.
+-- glyphs keep their numbers; else one of the old font's own gives way to the standard one.
 pub record IsFontOf (kept : Bool) (sources : Sources) (bytes : List ℕ) (old : View) (flat : List ℕ) (new : View) : Type 0 where
+  pub header : HasHeader flat
   pub repeats : Repeats old new
   pub many : length new.char_strings ≡ length sources
   pub glyphs : (i : ℕ) → i < length sources → IsMade bytes old (slice_index_or sources i None) flat new i
   pub naming : KeepsNames kept sources bytes old flat new
   pub codes : IsTrue kept → KeepsCodes sources bytes old flat new naming.old_set naming.new_set
+  pub encoding : kept ≡ false → GivesWay bytes old flat new

@@ -2,6 +2,7 @@
 use Rattle.std.specs.List.{AllPass}
 use Rattle.std.specs.Prelude.{◌≡◌, ◌≢◌, ◌⊎◌, ℕ, ◌<◌, List, [], ◌∷◌, Option, Some, None, length, slice_get, slice_index_or}
 use Rattle.postscript_type2.specs.Program.Evaluation.{run_of}
+use Rattle.postscript_type2.specs.Program.Inlined.{inlined_text}
 use Rattle.postscript_type2.specs.Program.Inlining.{is_flat}
 use Rattle.postscript_type2.specs.Program.Routines.{Lists, lent}
 use Rattle.postscript_type2.specs.Program.Runs.{Run, fault_of, taken_by, width_of}
@@ -27,7 +28,8 @@ pub record DrawsAs (lists : Lists) (code : List ℕ) (run : Run) : Type 0 where
   pub faultless : fault_of (run_of lists code).end ≡ None
   pub no_calls : AllPass (λ said. is_flat said.operator) (run_of lists code).trace
 
--- No fault ends the run of a glyph with the part of a number, and a code draws, over any lists, what it draws.
+-- No fault ends the run of a glyph with the part of a number, and a code draws, over any lists, what it draws. It is the text of
+-- that run without calls and returns, so hints, the bytes of masks and all other operands stay.
 pub record IsCodeOf (font : View) (glyph number : ℕ) (flat : List ℕ) : Type 0 where
   pub code : List ℕ
   pub part : Part
@@ -35,6 +37,7 @@ pub record IsCodeOf (font : View) (glyph number : ℕ) (flat : List ℕ) : Type 
   pub has_part : slice_get font.parts number ≡ Some part
   pub faultless : fault_of (run_in font part code).end ≡ None
   pub draws : (lists : Lists) → DrawsAs lists flat (run_in font part code)
+  pub text : flat ≡ inlined_text (run_in font part code).trace
 
 -- A glyph that is written is made of one of the font, or it is empty: `endchar` alone.
 abbrev pub Sources : Type 0

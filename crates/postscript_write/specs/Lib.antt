@@ -9,6 +9,8 @@ pub mod Strings
 pub mod Fonts
 pub mod Sources
 pub mod Components
+pub mod Closure
+pub mod Kept
 pub mod Drawings
 pub mod Refusals
 pub mod Steps

@@ -1,5 +1,6 @@
 -- Names, CIDs and codes of the glyphs that are written (Technical Note 5176, sections 12 and 13).
 use Rattle.std.specs.Prelude.{◌≡◌, ◌↔◌, ℕ, ◌<◌, List, Option, Some, None, length, slice_index_or}
+use Rattle.postscript_compact1.specs.declared.encoding.Encoding.TheVariants.{Standard}
 use Rattle.postscript_view.specs.Encoding.{Gives}
 use Rattle.postscript_view.specs.Encodings.{IsEncodingOf}
 use Rattle.postscript_view.specs.Naming.{Names}
@@ -29,6 +30,19 @@ SameCodes _ _ = ⊥
 pub record SameEncoding (old new : EncodingView) : Type 0 where
   pub codes : SameCodes old.codes new.codes
   pub supplements : new.supplements.now ≡ old.supplements.now
+
+-- where glyphs get new numbers, an encoding of the font's own gives way to the standard one, and a predefined one stays
+abbrev pub codes_for : Codes → Codes
+codes_for (Predefined encoding) = Predefined encoding
+codes_for (Listed codes) = Predefined Standard
+codes_for (Ranges ranges) = Predefined Standard
+
+pub record GivesWay (bytes : List ℕ) (old : View) (flat : List ℕ) (new : View) : Type 0 where
+  pub old_encoding : EncodingView
+  pub new_encoding : EncodingView
+  pub was : IsEncodingOf old_encoding bytes old.tables.dictionary
+  pub is : IsEncodingOf new_encoding flat new.tables.dictionary
+  pub codes : new_encoding.codes ≡ codes_for old_encoding.codes
 
 -- A glyph that keeps its number has the codes that it had.
 pub record KeepsCodes (sources : Sources) (bytes : List ℕ) (old : View) (flat : List ℕ) (new : View) (old_set new_set : CharSetView) : Type 0 where

@@ -114,6 +114,14 @@ pub record IsFirstPast (named : List ℕ) (glyphs glyph : ℕ) : Type 0 where
   pub past : glyphs ≤ glyph
   pub before : (i : ℕ) → i < place → slice_index_or named i 0 < glyphs
 
+-- Why the glyphs are not told that a subset keeps.
+abbrev pub IsChoiceRefusedBy : (named bytes : List ℕ) → Error → Type 0
+IsChoiceRefusedBy named bytes NoGlyphs = named ≡ []
+IsChoiceRefusedBy named bytes (MissingGlyph glyph) = OfFont bytes (λ old. IsFirstPast named (length old.char_strings) glyph)
+IsChoiceRefusedBy named bytes SeveralFonts = HasOtherFonts bytes
+IsChoiceRefusedBy named bytes (Refused cause) = cause ≢ Memory → IsRefusedAs bytes cause ⊎ OfFont bytes (λ old. HasSet bytes old → ⊥)
+IsChoiceRefusedBy named bytes _ = ⊥
+
 -- What a refusal of a subset says: of the glyphs that are named; of the bytes; or of the font, from which these are taken and their
 -- components.
 abbrev pub IsSubsetRefusedBy : (named : List ℕ) → (sources : (closed : List ℕ) (glyphs : ℕ) → Sources) → List ℕ → Error → Type 0

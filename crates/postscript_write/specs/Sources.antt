@@ -15,13 +15,13 @@ abbrev pub is_kept : (named : List ℕ) → (glyph : ℕ) → Bool
 is_kept [] glyph = glyph == 0
 is_kept (one ∷ named) glyph = (one == glyph) || is_kept named glyph
 
-abbrev pub is_chosen : (named : List ℕ) → Option ℕ → Bool
-is_chosen named None = false
-is_chosen named (Some glyph) = is_kept named glyph
-
 -- the kept ones of so many glyphs, in ascending order
+abbrev pub kept_of : (named : List ℕ) → (glyphs : ℕ) → List ℕ
+kept_of named glyphs = filter (is_kept named) (range_with_len 0 glyphs)
+
+-- a font that is made of these alone
 abbrev pub chosen : (named : List ℕ) → (glyphs : ℕ) → Sources
-chosen named glyphs = filter (is_chosen named) (every glyphs)
+chosen named glyphs = map Some (kept_of named glyphs)
 
 -- the kept ones of so many glyphs, each in its place, and empty ones between them
 abbrev pub kept_or_none : (named : List ℕ) → (glyph : ℕ) → Option ℕ

@@ -1,8 +1,11 @@
 -- What the refusals of the steps say, of which a font is written.
 use Rattle.std.specs.Prelude.{◌≡◌, ◌≢◌, ℕ, List, Option, Some}
+use Rattle.postscript_drawing.specs.Components.{HasCharSet, glyphs_of}
 use Rattle.postscript_base.specs.declared.error.Error.TheVariants.{Memory}
 use Rattle.postscript_write.specs.Glyphs.{Sources}
 use Rattle.postscript_view.specs.Order.{View}
+use Rattle.postscript_view.specs.declared.char_set.CharSetView.{CharSetView}
+use Rattle.postscript_view.specs.declared.font.FontView.{FontView}
 use Rattle.postscript_write.specs.Refusals.{HasOtherFonts, IsFirstPast, IsFirstRefused, IsRefusedAs, IsRunRefused}
 use Rattle.postscript_write.specs.declared.error.Error.{Error}
 use Rattle.postscript_write.specs.declared.error.Error.TheVariants.{Refused, Glyph, SeveralFonts, MissingGlyph, TooLarge, NotReadBack}
@@ -12,6 +15,12 @@ abbrev pub IsNotOpened : List ℕ → Error → Type 0
 IsNotOpened bytes SeveralFonts = HasOtherFonts bytes
 IsNotOpened bytes (Refused cause) = cause ≢ Memory → IsRefusedAs bytes cause
 IsNotOpened bytes _ = ⊥
+
+-- of finding the glyphs that are reached from those that are named
+abbrev pub IsNotClosed : FontView → (named : List ℕ) → Error → Type 0
+IsNotClosed font named (MissingGlyph glyph) = IsFirstPast named (glyphs_of font) glyph
+IsNotClosed font named (Refused cause) = cause ≢ Memory → (set : CharSetView) → HasCharSet font set → ⊥
+IsNotClosed font named _ = ⊥
 
 -- of choosing the glyphs that are named, of so many
 abbrev pub IsNotChosen : (named : List ℕ) → (glyphs : ℕ) → Error → Type 0

@@ -3,12 +3,13 @@ ghost use Rattle.std.specs.Prelude.{◌≡◌, ◌<◌, ℕ, IsTrue, Some, None,
 ghost use Rattle.postscript_items.specs.Lent.{items_of};
 ghost use Rattle.postscript_view.specs.Value.{part_shown, parts_shown, view_shown};
 ghost use Rattle.postscript_write.specs.Glyphs.{HasPartFor};
-ghost use Rattle.postscript_write.specs.Naming.{SameCodes, SameEncoding, SameName, SameNames};
+ghost use Rattle.postscript_write.specs.Naming.{SameCodes, SameEncoding, SameName, SameNames, codes_for};
 ghost use Rattle.postscript_write.specs.Parts.{SameFont, SamePart, SameParts};
 
 use crate::kept::{KEPT_FONT, KEPT_PRIVATE};
 use crate::same::{are_none, same_at, same_look};
 use postscript_base::compact1::{Operations, Operator};
+use postscript_compact1::encoding::Encoding;
 use postscript_view::{CharSetView, Codes, EncodingView, FontView, Part};
 
 /// Whether both have a font dictionary that says the same, or neither has one.
@@ -121,6 +122,18 @@ fn same_codes(old: &Codes<'_>, new: &Codes<'_>) -> bool
         (Codes::Predefined(old), Codes::Predefined(new)) => *new == *old,
         (Codes::Listed(old), Codes::Listed(new)) => *new == *old,
         (Codes::Ranges(old), Codes::Ranges(new)) => *new == *old,
+        _ => false,
+    }
+}
+
+/// Whether codes are those that take the place of others where glyphs get new numbers.
+pub(crate) fn give_way(old: &Codes<'_>, new: &Codes<'_>) -> bool
+    ensures { IsTrue result → new.now ≡ codes_for old.now }
+{
+    match (old, new) {
+        (Codes::Predefined(old), Codes::Predefined(new)) => *new == *old,
+        (Codes::Listed(_), Codes::Predefined(new)) => *new == Encoding::Standard,
+        (Codes::Ranges(_), Codes::Predefined(new)) => *new == Encoding::Standard,
         _ => false,
     }
 }

@@ -6,12 +6,12 @@ ghost use Rattle.postscript_base.specs.Refusal.{refusal_of};
 ghost use Rattle.postscript_base.specs.declared.error.Error.TheVariants as causes;
 ghost use Rattle.postscript_type2.specs.Program.Programs.{told_at_end};
 ghost use Rattle.postscript_type2.specs.Program.Runs.{fault_of, taken_by};
-ghost use Rattle.postscript_write.specs.Components.{AreComponents, AreComponentsOf, IsFound, IsSaid, IsSaidOf, IsUntold};
+ghost use Rattle.postscript_write.specs.Components.{AreComponentsOf, IsFound, IsSaid, IsSaidOf, IsUntold};
 ghost use Rattle.postscript_write.specs.declared.error.Error.TheVariants as errors;
 
 use crate::error::{Error, Result};
-use postscript_base::Error as Cause;
 use postscript_drawing::{Accent, Error as Undrawn, component_of};
+use postscript_base::Error as Cause;
 use postscript_type2::{Operand, Program};
 use postscript_view::{FontView, Glyph};
 use std::alloc::Global;
@@ -106,7 +106,7 @@ fn push_both(font: &FontView<'_>, accent: &Accent, components: &mut Vec<usize>) 
 }
 
 /// Appends the components of a glyph: those that the font has.
-fn push_components(
+pub(crate) fn push_components(
     alloc: Global,
     font: &FontView<'_>,
     glyph: usize,
@@ -120,37 +120,4 @@ fn push_components(
         Some(accent) => push_both(font, &accent, components),
         None => Ok(()),
     }
-}
-
-/// The components of the glyphs that are named, and of `.notdef`.
-pub(crate) fn components_of(
-    alloc: Global,
-    font: &FontView<'_>,
-    named: &[usize],
-) -> Result<Vec<usize>>
-    ensures are { IfOk result (λ components. AreComponents font.now named.now components.items) }
-    ensures untold { IfErr result (λ e. IsUntold font.now e) }
-{
-    let mut components = Vec::new(alloc);
-    push_components(alloc, font, 0, &mut components)?;
-    for i in 0..named.len() {
-        push_components(alloc, font, named[i], &mut components)?;
-    }
-    Ok(components)
-}
-
-/// Glyphs that are named, and their components behind them.
-pub(crate) fn with_components(
-    alloc: Global,
-    font: &FontView<'_>,
-    named: &[usize],
-) -> Result<Vec<usize>>
-    ensures closed { IfOk result (λ closed. (components : List ℕ) × AreComponents font.now named.now components × (closed.items ≡ named.now ++ components)) }
-    ensures untold { IfErr result (λ e. IsUntold font.now e) }
-{
-    let components = components_of(alloc, font, named)?;
-    let mut closed = Vec::new(alloc);
-    closed.extend_from_slice(named)?;
-    closed.extend_from_slice(&components)?;
-    Ok(closed)
 }

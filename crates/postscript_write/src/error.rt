@@ -38,7 +38,7 @@ pub enum Error {
     /// What is to be written is too large: an INDEX has more than 65,535 items or 32 bits of bytes, or a place more than 31 bits.
     #[error("the font is too large to be written")]
     TooLarge,
-    /// What was written is not read back as the font that was to be written. No font is known for which this comes.
+    /// What was written is not read back as the font that was to be written. No contract says that this never comes.
     #[error("the font is not read back as it was written")]
     NotReadBack,
 }

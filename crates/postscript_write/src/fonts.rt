@@ -3,16 +3,16 @@ ghost use Rattle.std.specs.Prelude.{◌≡◌, [], true, false, Err, length, IfO
 ghost use Rattle.postscript_base.specs.Tape.Outcome.{Got};
 ghost use Rattle.postscript_view.specs.Order.{View, fonts as the_fonts, view as the_view};
 ghost use Rattle.postscript_view.specs.Value.{view_shown};
-ghost use Rattle.postscript_write.specs.Components.{IsSubset};
-ghost use Rattle.postscript_write.specs.Drawings.{DrawsNamed};
-ghost use Rattle.postscript_write.specs.Refusals.{IsRefusedBy, IsSubsetRefusedBy};
+ghost use Rattle.postscript_write.specs.Components.{AreKept, IsSubset};
+ghost use Rattle.postscript_write.specs.Drawings.{DrawsKept, KeepsDrawings};
+ghost use Rattle.postscript_write.specs.Refusals.{IsChoiceRefusedBy, IsRefusedBy, IsSubsetRefusedBy};
 ghost use Rattle.postscript_write.specs.Sources.{AreThere, IsWritten, chosen as the_chosen, every as the_every, keeping as the_keeping};
 ghost use Rattle.postscript_write.specs.Steps.{IsNotOpened};
 ghost use Rattle.postscript_write.specs.declared.error.Error.TheVariants as errors;
 
-use crate::components::with_components;
+use crate::closure::closed_over;
 use crate::error::{Error, Result};
-use crate::sources::{chosen, every, keeping};
+use crate::sources::{chosen, every, keeping, kept_of};
 use crate::whole::font_of;
 use postscript_view::FontView;
 use std::alloc::Global;
@@ -38,6 +38,7 @@ fn only_font<'l>(alloc: Global, bytes: &'l [u8]) -> Result<FontView<'l>>
 /// refused, or where memory is; `MissingPart` where FDSelect gives a glyph no font dictionary; `SeveralFonts` where there is
 /// not one font; `TooLarge` where what is written is too large; `NotReadBack` where it is not read back as this font.
 pub fn flat_font(alloc: Global, bytes: &[u8]) -> Result<Vec<u8>>
+    ensures drawn { IfOk result (λ flat. KeepsDrawings the_every bytes.now flat.items) }
     ensures written { IfOk result (λ flat. IsWritten true the_every bytes.now flat.items) }
     ensures one { OnOk result (the_fonts bytes.now 0 ≡ Got 1 0) }
     ensures refused { IfErr result (λ e. IsRefusedBy the_every bytes.now e) }
@@ -47,11 +48,31 @@ pub fn flat_font(alloc: Global, bytes: &[u8]) -> Result<Vec<u8>>
     font_of(alloc, &font, &sources, true)
 }
 
+/// The glyphs that `subset` and `subset_keeping` keep of the font that the bytes begin with, in ascending order, none twice:
+/// `.notdef`, those that are named, and the base and the accent of each one that is kept and accented. The first of them is glyph 0
+/// of what `subset` writes, the second is glyph 1, and so on.
+///
+/// Refused: `NoGlyphs` where none is named; `MissingGlyph` with a number that no glyph has; `Refused` where the font or its char
+/// set is refused, or where memory is; `SeveralFonts` where there is not one font.
+pub fn kept_glyphs(alloc: Global, bytes: &[u8], named: &[usize]) -> Result<Vec<usize>>
+    ensures kept { IfOk result (λ kept. AreKept named.now bytes.now kept.items) }
+    ensures one { OnOk result (the_fonts bytes.now 0 ≡ Got 1 0) }
+    ensures refused { IfErr result (λ e. IsChoiceRefusedBy named.now bytes.now e) }
+    ensures there { OnOk result ((font : View) → the_view bytes.now 0 ≡ Got font 0 → AreThere named.now (length font.char_strings)) }
+    ensures none { named.now ≡ [] → result ≡ Err errors.NoGlyphs }
+{
+    if named.len() == 0 {
+        return Err(Error::NoGlyphs);
+    }
+    let font = only_font(alloc, bytes)?;
+    let closed = closed_over(alloc, &font, named)?;
+    kept_of(alloc, &closed, font.char_strings.len())
+}
+
 /// The font that the bytes begin with, with these glyphs alone: `.notdef`, those that are named, and the base and the accent of each
-/// of these that is accented (Technical Note 5177, Appendix C), in ascending order, without subroutines. The order in which they are
-/// named, and whether one is named twice, does not matter. Each glyph draws what it drew, with the same advance and name or CID, and
-/// one that is named is drawn with its components as before. A component that no glyph of the font is, is not kept, and the glyph
-/// cannot be drawn, as before. Of a component that is accented itself, with which nothing is drawn, the components are not kept.
+/// one that is kept and accented (Technical Note 5177, Appendix C), in ascending order, without subroutines. The order in which they
+/// are named, and whether one is named twice, does not matter. Each glyph is drawn as before, with its components, with the same
+/// advance and name or CID. A component that no glyph of the font is, is not kept, and the glyph cannot be drawn, as before.
 /// Names and dictionaries say the same, except of places; an encoding of the font's own gives way to the standard one. Strings that
 /// neither a glyph nor an operator of the font's dictionary names are left out, and the others get new identifiers, but in a CID-keyed
 /// font (Technical Note 5176, sections 9, 10 and 13).
@@ -59,7 +80,7 @@ pub fn flat_font(alloc: Global, bytes: &[u8]) -> Result<Vec<u8>>
 /// Refused: `NoGlyphs` where none is named; `MissingGlyph` with a number that no glyph has; `MissingName` where the char set
 /// has no identifier for a glyph; and as `flat_font` is, but only for these glyphs.
 pub fn subset(alloc: Global, bytes: &[u8], named: &[usize]) -> Result<Vec<u8>>
-    ensures drawn { IfOk result (λ flat. DrawsNamed the_chosen named.now bytes.now flat.items) }
+    ensures drawn { IfOk result (λ flat. DrawsKept the_chosen named.now bytes.now flat.items) }
     ensures written { IfOk result (λ flat. IsSubset false the_chosen named.now bytes.now flat.items) }
     ensures one { OnOk result (the_fonts bytes.now 0 ≡ Got 1 0) }
     ensures refused { IfErr result (λ e. IsSubsetRefusedBy named.now the_chosen bytes.now e) }
@@ -70,7 +91,7 @@ pub fn subset(alloc: Global, bytes: &[u8], named: &[usize]) -> Result<Vec<u8>>
         return Err(Error::NoGlyphs);
     }
     let font = only_font(alloc, bytes)?;
-    let closed = with_components(alloc, &font, named)?;
+    let closed = closed_over(alloc, &font, named)?;
     let sources = chosen(alloc, &closed, font.char_strings.len())?;
     font_of(alloc, &font, &sources, false)
 }
@@ -81,7 +102,7 @@ pub fn subset(alloc: Global, bytes: &[u8], named: &[usize]) -> Result<Vec<u8>>
 /// Refused: `NoGlyphs` where none is named; `MissingGlyph` with a number that no glyph has; and as `flat_font` is, but only for
 /// these glyphs.
 pub fn subset_keeping(alloc: Global, bytes: &[u8], named: &[usize]) -> Result<Vec<u8>>
-    ensures drawn { IfOk result (λ flat. DrawsNamed the_keeping named.now bytes.now flat.items) }
+    ensures drawn { IfOk result (λ flat. DrawsKept the_keeping named.now bytes.now flat.items) }
     ensures written { IfOk result (λ flat. IsSubset true the_keeping named.now bytes.now flat.items) }
     ensures one { OnOk result (the_fonts bytes.now 0 ≡ Got 1 0) }
     ensures refused { IfErr result (λ e. IsSubsetRefusedBy named.now the_keeping bytes.now e) }
@@ -92,7 +113,7 @@ pub fn subset_keeping(alloc: Global, bytes: &[u8], named: &[usize]) -> Result<Ve
         return Err(Error::NoGlyphs);
     }
     let font = only_font(alloc, bytes)?;
-    let closed = with_components(alloc, &font, named)?;
+    let closed = closed_over(alloc, &font, named)?;
     let sources = keeping(alloc, &closed, font.char_strings.len())?;
     font_of(alloc, &font, &sources, true)
 }

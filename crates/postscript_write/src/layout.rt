@@ -3,13 +3,14 @@ use crate::dictionaries::{Place, replaced, without};
 use crate::indices::put_index;
 use crate::kept::NAMED;
 use crate::naming::identifier_in;
-use crate::spans::{bytes_at, char_set_at, encoding_at};
+use crate::spans::{char_set_at, encoding_at};
 use crate::strings::Strings;
 use postscript_base::compact1::{Operations, Operator};
 use postscript_base::{Error, Result};
 use postscript_items::Items;
 use postscript_items::number::number_within;
 use postscript_view::FontView;
+use postscript_view::tables::slice_at;
 use std::alloc::Global;
 
 /// The items, copied.
@@ -82,7 +83,7 @@ fn own_private(alloc: Global, bytes: &[u8], dictionary: &Operations) -> Result<O
     if size < 0 || place < 0 {
         return Err(Error::OutOfRangeOffset);
     }
-    let source = bytes_at(bytes, place as usize, size as usize)?;
+    let source = slice_at(bytes, place as u64, size as usize)?;
     let text = without(alloc, source, &[Operator::Subrs])?;
     Ok(Some(Private { text }))
 }
@@ -116,12 +117,15 @@ pub(crate) struct Glyphs {
     pub(crate) strings: Strings,
 }
 
-/// The parts that are written behind the tables, in this order, and behind them the font dictionaries of a CID-keyed font.
+/// The parts that are written behind the tables: encoding, FDSelect, char strings, private dictionaries, the font dictionaries of
+/// a CID-keyed font, and the char set. That one is the last, since ranges that name too few glyphs end where the font ends.
 #[derive(Drop)]
 struct Parts<'g> {
     glyphs: &'g Glyphs,
     char_strings: Vec<u8>,
     privates: Vec<Option<Private>>,
+    /// How many bytes the font dictionaries have.
+    dictionaries: usize,
 }
 
 /// How many bytes there are, if any.
@@ -175,15 +179,9 @@ fn only_private(privates: &[Option<Private>], offset: usize) -> Option<Place> {
 /// The places of the parts from a place on, which the dictionary of the font names.
 fn places_from(alloc: Global, start: usize, parts: &Parts<'_>) -> Result<Vec<Place>> {
     let mut places = Vec::new(alloc);
-    let encoding = placed(
-        &mut places,
-        start,
-        Operator::CharSet,
-        &parts.glyphs.char_set,
-    )?;
     let select = placed(
         &mut places,
-        encoding,
+        start,
         Operator::Encoding,
         &parts.glyphs.encoding,
     )?;
@@ -206,15 +204,18 @@ fn places_from(alloc: Global, start: usize, parts: &Parts<'_>) -> Result<Vec<Pla
         offset,
     })?;
     let private = offset.saturating_add(parts.char_strings.len());
+    let behind = private.saturating_add(privates_len(&parts.privates));
     if parts.glyphs.select.is_some() {
         places.push(Place {
             operator: Operator::FDArray,
             size: None,
-            offset: private.saturating_add(privates_len(&parts.privates)),
+            offset: behind,
         })?;
     } else if let Some(place) = only_private(&parts.privates, private) {
         places.push(place)?;
     }
+    let end = behind.saturating_add(parts.dictionaries);
+    placed(&mut places, end, Operator::CharSet, &parts.glyphs.char_set)?;
     Ok(places)
 }
 
@@ -332,7 +333,6 @@ fn put_parts(
     font: &FontView<'_>,
     parts: &Parts<'_>,
 ) -> Result<()> {
-    put_if(out, &parts.glyphs.char_set)?;
     put_if(out, &parts.glyphs.encoding)?;
     put_if(out, &parts.glyphs.select)?;
     out.extend_from_slice(&parts.char_strings)?;
@@ -342,7 +342,23 @@ fn put_parts(
         let dictionaries = font_dictionaries(alloc, font, &parts.privates, start)?;
         put_index(out, &dictionaries)?;
     }
-    Ok(())
+    put_if(out, &parts.glyphs.char_set)
+}
+
+/// How many bytes the font dictionaries of a CID-keyed font have: as many, wherever the private dictionaries stand.
+fn dictionaries_len(
+    alloc: Global,
+    font: &FontView<'_>,
+    glyphs: &Glyphs,
+    privates: &[Option<Private>],
+) -> Result<usize> {
+    if glyphs.select.is_none() {
+        return Ok(0);
+    }
+    let mut out = Vec::new(alloc);
+    let dictionaries = font_dictionaries(alloc, font, privates, 0)?;
+    put_index(&mut out, &dictionaries)?;
+    Ok(out.len())
 }
 
 /// A font with these codes in the place of its char strings, and without subroutines.
@@ -354,10 +370,12 @@ pub(crate) fn written(
 ) -> Result<Vec<u8>> {
     let mut char_strings = Vec::new(alloc);
     put_index(&mut char_strings, codes)?;
+    let privates = own_privates(alloc, font)?;
     let parts = Parts {
         glyphs,
         char_strings,
-        privates: own_privates(alloc, font)?,
+        dictionaries: dictionaries_len(alloc, font, glyphs, &privates)?,
+        privates,
     };
     let dictionary = dictionary_with(alloc, font, &glyphs.strings)?;
     let texts = &glyphs.strings.texts;

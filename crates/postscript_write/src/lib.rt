@@ -2,6 +2,7 @@
 #![tactic(auto)]
 
 mod alike;
+mod closure;
 mod components;
 mod dictionaries;
 mod error;
@@ -22,6 +23,6 @@ mod strings;
 mod whole;
 
 pub use error::{Error, Result};
-pub use fonts::{flat_font, subset, subset_keeping};
+pub use fonts::{flat_font, kept_glyphs, subset, subset_keeping};
 pub use indices::{index, put_index};
 pub use kept::{KEPT, KEPT_FONT, KEPT_PRIVATE, NAMED};

@@ -3,6 +3,7 @@ ghost use Rattle.std.specs.Prelude.{◌≡◌, [], IsTrue, All};
 ghost use Rattle.postscript_base.specs.Compact1.Defaults.{look};
 ghost use Rattle.postscript_items.specs.Lent.{items_of};
 ghost use Rattle.postscript_type2.specs.Program.Routines.{texts};
+ghost use Rattle.postscript_write.specs.Fonts.{HasHeader};
 ghost use Rattle.postscript_write.specs.Parts.{SameAt};
 
 use postscript_base::compact1::laws::are_equal;
@@ -14,6 +15,13 @@ pub(crate) fn same_bytes(old: &[u8], new: &[u8]) -> bool
     ensures { IsTrue result → new.now ≡ old.now }
 {
     old == new
+}
+
+/// Whether bytes begin with the header that is written.
+pub(crate) fn has_header(bytes: &[u8]) -> bool
+    ensures { IsTrue result → HasHeader bytes.now }
+{
+    bytes.len() >= 4 && same_bytes(&[1, 0, 4, 4], &bytes[..4])
 }
 
 /// Whether the items are the same.

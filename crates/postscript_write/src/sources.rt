@@ -1,7 +1,7 @@
 //! The glyphs that a font is made of.
-ghost use Rattle.std.specs.Prelude.{◌≡◌, ◌<◌, ◌==◌, ◌||◌, ◌++◌, ℕ, [], ◌∷◌, Some, None, false, length, slice_index_or, if◌then◌else◌, IfOk, IfErr, OnOk};
+ghost use Rattle.std.specs.Prelude.{◌≡◌, ◌<◌, ◌==◌, ◌||◌, ◌++◌, ℕ, [], ◌∷◌, Some, None, false, length, map, slice_index_or, if◌then◌else◌, IfOk, IfErr, OnOk};
 ghost use Rattle.postscript_base.specs.declared.error.Error.TheVariants as causes;
-ghost use Rattle.postscript_write.specs.Sources.{AreMarks, AreThere, chosen as the_chosen, every as the_every, keeping as the_keeping};
+ghost use Rattle.postscript_write.specs.Sources.{AreMarks, AreThere, chosen as the_chosen, every as the_every, keeping as the_keeping, kept_of as the_kept};
 ghost use Rattle.postscript_write.specs.Steps.{IsNotChosen};
 ghost use Rattle.postscript_write.specs.declared.error.Error.TheVariants as errors;
 
@@ -54,14 +54,41 @@ fn is_kept(marks: &[bool], glyph: usize) -> bool
 }
 
 /// Appends a glyph, where it is kept.
-fn push_if(sources: &mut Vec<Option<usize>>, kept: bool, glyph: usize) -> Result<()>
-    ensures sources { OnOk result (sources.new.items ≡ sources.old.items ++ (if kept then Some glyph ∷ [] else [])) }
+fn push_if(kept: &mut Vec<usize>, keeps: bool, glyph: usize) -> Result<()>
+    ensures kept { OnOk result (kept.new.items ≡ kept.old.items ++ (if keeps then glyph ∷ [] else [])) }
     ensures memory { IfErr result (λ e. e ≡ errors.Refused causes.Memory) }
 {
-    if kept {
-        sources.push(Some(glyph))?;
+    if keeps {
+        kept.push(glyph)?;
     }
     Ok(())
+}
+
+/// The kept ones of so many glyphs, in ascending order.
+pub(crate) fn kept_of(alloc: Global, named: &[usize], glyphs: usize) -> Result<Vec<usize>>
+    ensures kept { IfOk result (λ kept. kept.items ≡ the_kept named.now glyphs) }
+    ensures there { OnOk result (AreThere named.now glyphs) }
+    ensures refused { IfErr result (λ e. IsNotChosen named.now glyphs e) }
+{
+    let marks = marked(alloc, named, glyphs)?;
+    let mut kept = Vec::new(alloc);
+    for glyph in 0..glyphs {
+        let keeps = is_kept(&marks, glyph);
+        push_if(&mut kept, keeps, glyph)?;
+    }
+    Ok(kept)
+}
+
+/// Glyphs, each of which one is made of.
+fn made_of(alloc: Global, glyphs: &[usize]) -> Result<Vec<Option<usize>>>
+    ensures sources { IfOk result (λ sources. sources.items ≡ map Some glyphs.now) }
+    ensures memory { IfErr result (λ e. e ≡ errors.Refused causes.Memory) }
+{
+    let mut sources = Vec::with_capacity(alloc, glyphs.len())?;
+    for glyph in glyphs {
+        sources.push(Some(*glyph))?;
+    }
+    Ok(sources)
 }
 
 /// The kept ones of so many glyphs, in ascending order.
@@ -70,13 +97,8 @@ pub(crate) fn chosen(alloc: Global, named: &[usize], glyphs: usize) -> Result<Ve
     ensures there { OnOk result (AreThere named.now glyphs) }
     ensures refused { IfErr result (λ e. IsNotChosen named.now glyphs e) }
 {
-    let marks = marked(alloc, named, glyphs)?;
-    let mut sources = Vec::new(alloc);
-    for glyph in 0..glyphs {
-        let kept = is_kept(&marks, glyph);
-        push_if(&mut sources, kept, glyph)?;
-    }
-    Ok(sources)
+    let kept = kept_of(alloc, named, glyphs)?;
+    made_of(alloc, &kept)
 }
 
 /// A glyph, where it is kept.

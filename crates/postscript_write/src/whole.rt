@@ -1,5 +1,5 @@
 //! A font, written and read back.
-ghost use Rattle.std.specs.Prelude.{◌≡◌, IfOk, IfErr, OnOk, IsTrue, length};
+ghost use Rattle.std.specs.Prelude.{◌≡◌, false, IfOk, IfErr, OnOk, IsTrue, length};
 ghost use Rattle.postscript_base.specs.Tape.Outcome.{Got};
 ghost use Rattle.postscript_type2.specs.Program.Routines.{texts};
 ghost use Rattle.postscript_view.specs.CharSets.{IsCharSetOf};
@@ -11,10 +11,10 @@ ghost use Rattle.postscript_write.specs.Fonts.{IsFontOf, Repeats};
 ghost use Rattle.postscript_write.specs.Glyphs.{AreCodesOf, AreNumbersOf};
 ghost use Rattle.postscript_write.specs.Refusals.{FontRefusedBy};
 ghost use Rattle.postscript_write.specs.Steps.{IsLate};
-ghost use Rattle.postscript_write.specs.Naming.{KeepsCodes, SameEncoding, SameNames};
+ghost use Rattle.postscript_write.specs.Naming.{GivesWay, KeepsCodes, SameEncoding, SameNames, codes_for};
 ghost use Rattle.postscript_write.specs.Strings.{keeps_strings, CutsStrings, KeepsStrings, SameStrings};
 
-use crate::alike::{same_encoding, same_names, same_numbers, same_parts};
+use crate::alike::{give_way, same_encoding, same_names, same_numbers, same_parts};
 use crate::error::{Error, Result, not_back, unwritten};
 use crate::glyphs::{codes_of, numbers_of};
 use crate::kept::{KEPT, NAMED};
@@ -22,7 +22,7 @@ use crate::layout::written;
 use crate::naming::{name_same, same_texts};
 use crate::needed::are_needed;
 use crate::numbering::{identifiers_of, numbered};
-use crate::same::{are_codes, are_none, same_at, same_items};
+use crate::same::{are_codes, are_none, has_header, same_at, same_items};
 use postscript_base::compact1::StringID;
 use postscript_view::{CharSetView, EncodingView, FontView};
 use std::alloc::Global;
@@ -144,7 +144,23 @@ fn back_codes<'l>(old: &EncodingView<'_>, new: &FontView<'l>) -> Result<Encoding
     }
 }
 
-/// Compares the encodings, where glyphs keep their numbers.
+/// The encoding of a font that is read back, where it is the standard one in the place of the font's own, or the same predefined one.
+fn other_codes<'l>(old: &EncodingView<'_>, new: &FontView<'l>) -> Result<EncodingView<'l>>
+    ensures is { IfOk result (λ encoding. IsEncodingOf encoding new.now.bytes.now new.now.dictionary) }
+    ensures codes { IfOk result (λ encoding. encoding.codes ≡ codes_for old.now.codes) }
+    ensures late { IfErr result (λ e. IsLate e) }
+{
+    match new.encoding() {
+        Ok(encoding) => if give_way(&old.codes, &encoding.codes) {
+            Ok(encoding)
+        } else {
+            Err(Error::NotReadBack)
+        },
+        Err(fault) => Err(not_back(fault)),
+    }
+}
+
+/// Compares the encodings: where glyphs keep their numbers, they say the same.
 fn keeps_codes(
     font: &FontView<'_>,
     encoding: &EncodingView<'_>,
@@ -157,10 +173,13 @@ fn keeps_codes(
     requires encoding { IsEncodingOf encoding.now font.now.bytes.now font.now.dictionary }
     requires names { IsTrue kept → SameNames old.now sources.now new.now }
     ensures codes { OnOk result (IsTrue kept → KeepsCodes sources.now font.now.bytes.now (view_shown font.now) again.now.bytes.now (view_shown again.now) old.now new.now) }
+    ensures encoding { OnOk result (kept ≡ false → GivesWay font.now.bytes.now (view_shown font.now) again.now.bytes.now (view_shown again.now)) }
     ensures late { IfErr result (λ e. IsLate e) }
 {
     if kept {
         back_codes(encoding, again)?;
+    } else {
+        other_codes(encoding, again)?;
     }
     Ok(())
 }
@@ -188,6 +207,9 @@ fn read_back(
         Ok(again) => again,
         Err(fault) => return Err(not_back(fault)),
     };
+    if !has_header(flat) {
+        return Err(Error::NotReadBack);
+    }
     if !says_same(font, &again) || !are_codes(codes, &again.char_strings) {
         return Err(Error::NotReadBack);
     }

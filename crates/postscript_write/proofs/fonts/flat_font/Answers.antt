@@ -5,6 +5,7 @@ use Rattle.postscript_write.specs.Fonts.{IsFontOf}
 use Rattle.postscript_write.specs.Refusals.{FontRefusedBy}
 use Rattle.postscript_write.specs.Sources.{every}
 use Rattle.std.proofs.lemmas.Result.{err_from_is_err_and}
+use Rattle.postscript_write.proofs.Drawings.{flat-drawn}
 use Rattle.postscript_write.proofs.Making.{if_ok, if_err, is_refused, memory_bytes, not_opened}
 use Rattle.postscript_write.proofs.fonts.flat_font.Goals as goal
 
@@ -40,3 +41,6 @@ pub returns-in_err-sources-clause-refused : goal.returns-in_err-sources-clause-r
 returns-in_err-sources-clause-refused c =
     let error = err_from_is_err_and c.from_residual-in_err-sources.result c.from_residual-in_err-sources.ensures.1 in
     rw (error.1, error.2) (memory_bytes every c.args.bytes.now _ c.in_err-sources.ensures.memory)
+
+pub returns-clause-drawn : goal.returns-clause-drawn
+returns-clause-drawn c = flat-drawn c.font_of.result c.args.bytes.now (returns-clause-written c)

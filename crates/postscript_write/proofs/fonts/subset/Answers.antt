@@ -11,7 +11,7 @@ use Rattle.postscript_write.specs.Steps.{IsNotChosen}
 use Rattle.postscript_write.specs.declared.error.Error.{Error}
 use Rattle.postscript_write.proofs.Making.{if_ok}
 use Rattle.postscript_write.proofs.Drawings.{subset-drawn}
-use Rattle.postscript_write.proofs.Subsets.{closed-so, named-there, not-chosen, not-opened, subset-made, subset-refused, untold}
+use Rattle.postscript_write.proofs.Subsets.{closed-so, not-chosen, not-closed, not-opened, subset-made, subset-refused}
 use Rattle.postscript_write.proofs.fonts.subset.Goals as goal
 
 pub returns-clause-written : goal.returns-clause-written
@@ -34,14 +34,10 @@ returns-clause-refused c =
 
 pub returns-clause-there : goal.returns-clause-there
 returns-clause-there c =
-    let named = c.args.named.now in
-    let there : AreThere c.deref.result.now (length (view_shown c.in_ok-font.font).char_strings) = subst (λ (n : ℕ). AreThere c.deref.result.now n) c.len.ensures c.in_ok-sources.ensures.there in
-    let all = c.in_ok-closed.ensures.closed in
-    let are = named-there named all.0 c.deref.result.now _ (c.deref.ensures.value ∙ all.2) there in
     if_ok c.font_of.result (λ flat made font is.
     let both : Got (view_shown c.in_ok-font.font) 0 ≡ Got font 0 = sym c.in_ok-font.ensures.is ∙ is in
     let same : view_shown c.in_ok-font.font ≡ font = cc in
-    subst (λ (v : View). AreThere named (length v.char_strings)) same are) c.font_of.ensures.font
+    subst (λ (v : View). AreThere c.args.named.now (length v.char_strings)) same c.in_ok-closed.ensures.named) c.font_of.ensures.font
 
 pub returns-in_err-font-clause-refused : goal.returns-in_err-font-clause-refused
 returns-in_err-font-clause-refused c =
@@ -52,15 +48,13 @@ pub returns-in_err-closed-clause-refused : goal.returns-in_err-closed-clause-ref
 returns-in_err-closed-clause-refused c =
     let error = err_from_is_err_and c.from_residual-in_err-closed.result c.from_residual-in_err-closed.ensures.1 in
     let opened : IsOpened c.args.bytes.now c.in_ok-font.font = record { shown = c.in_ok-font.ensures.is; there = c.in_ok-font.ensures.bytes } in
-    rw (error.1, error.2) (untold c.args.named.now chosen c.args.bytes.now c.in_ok-font.font _ opened c.in_err-closed.ensures.untold)
+    rw (error.1, error.2) (not-closed c.args.named.now chosen c.args.bytes.now c.in_ok-font.font _ opened c.in_err-closed.ensures.refused)
 
 pub returns-in_err-sources-clause-refused : goal.returns-in_err-sources-clause-refused
 returns-in_err-sources-clause-refused c =
     let error = err_from_is_err_and c.from_residual-in_err-sources.result c.from_residual-in_err-sources.ensures.1 in
-    let opened : IsOpened c.args.bytes.now c.in_ok-font.font = record { shown = c.in_ok-font.ensures.is; there = c.in_ok-font.ensures.bytes } in
     let same : (e : Error) → IsNotChosen c.deref.result.now c.len.result e → IsNotChosen c.in_ok-closed.closed.items (glyphs_of c.in_ok-font.font) e = λ e h. subst (λ (xs : List ℕ). IsNotChosen xs (glyphs_of c.in_ok-font.font) e) c.deref.ensures.value (subst (λ (n : ℕ). IsNotChosen c.deref.result.now n e) c.len.ensures h) in
-    rw (error.1, error.2) (not-chosen c.args.named.now c.in_ok-closed.closed.items chosen c.args.bytes.now c.in_ok-font.font _ opened c.in_ok-closed.ensures.closed
-    (same _ c.in_err-sources.ensures.refused))
+    rw (error.1, error.2) (not-chosen c.args.named.now c.in_ok-closed.closed.items chosen c.args.bytes.now (glyphs_of c.in_ok-font.font) _ c.in_ok-closed.ensures.there (same _ c.in_err-sources.ensures.refused))
 
 pub returns-clause-drawn : goal.returns-clause-drawn
 returns-clause-drawn c = subset-drawn c.font_of.result c.args.named.now c.args.bytes.now (returns-clause-written c)

@@ -19,6 +19,7 @@ returns-in-Ok-clause-code c =
       has_part = shown_part c.args.font.now number part (slice_get_read _ _ number part refl c.requires.part c.index-part.ensures);
       faultless = rw c.indexes-subroutines.ensures at c.in-Ok.ensures.faultless;
       draws = λ lists. draws_as lists c.in-Ok.flat.items _ ((rw c.indexes-subroutines.ensures at c.in-Ok.ensures.keeps) lists);
+      text = rw c.indexes-subroutines.ensures at c.in-Ok.ensures.text;
     }
 
 pub returns-in-Err-clause-refused : goal.returns-in-Err-clause-refused

@@ -6,7 +6,7 @@ use Rattle.postscript_type2.specs.Program.Routines.{texts}
 use Rattle.postscript_view.specs.CharSets.{IsCharSetOf}
 use Rattle.postscript_view.specs.Value.{view_shown}
 use Rattle.postscript_write.specs.Glyphs.{HasPartFor}
-use Rattle.postscript_write.specs.Naming.{KeepsCodes}
+use Rattle.postscript_write.specs.Naming.{GivesWay, KeepsCodes}
 use Rattle.postscript_write.specs.Strings.{SameStrings}
 use Rattle.postscript_write.proofs.Making.{made}
 use Rattle.postscript_write.proofs.whole.read_back.Goals as goal
@@ -28,6 +28,7 @@ returns-clause-font c =
       new,
       c.in-Ok.ensures.exact,
       record {
+        header = c.has_header.ensures c.if-not-has_header.false;
         repeats = repeats;
         many = ap length are ∙ many;
         glyphs = λ i less.
@@ -42,6 +43,7 @@ returns-clause-font c =
           is = subst (λ (bs : List ℕ). IsCharSetOf c.in_ok-new.new bs again.dictionary (length (items_of again.char_strings))) same c.in_ok-new.ensures.is;
           strings = subst (λ keeps. SameStrings keeps sources old c.args.set.now new c.in_ok-new.new) c.keeps_numbers.ensures c.in_ok-new.ensures.same;
         };
+        encoding = λ anew. subst (λ (bs : List ℕ). GivesWay bytes old bs new) same (c.in_ok-keeps_codes.ensures.encoding anew);
         codes = λ kept. subst (λ (bs : List ℕ). KeepsCodes sources bytes old bs new c.args.set.now c.in_ok-new.new) same (c.in_ok-keeps_codes.ensures.codes kept);
       },
     )

@@ -1,0 +1,104 @@
+//! The glyphs that are kept with those that are named: what accented ones are drawn with.
+ghost use Rattle.std.specs.Prelude.{◌≡◌, ◌<◌, ◌↔◌, ℕ, [], ◌∷◌, List, true, length, IfOk, IfErr, OnOk};
+ghost use Rattle.std.specs.List.{Contains};
+ghost use Rattle.postscript_drawing.specs.Components.{glyphs_of};
+ghost use Rattle.postscript_base.specs.declared.error.Error.TheVariants as causes;
+ghost use Rattle.postscript_write.specs.Closure.{AreMarkedAs, AreReached, Grow};
+ghost use Rattle.postscript_write.specs.Components.{AreComponentsOf, IsReached, IsUntold};
+ghost use Rattle.postscript_write.specs.Sources.{AreThere, is_kept};
+ghost use Rattle.postscript_write.specs.Steps.{IsNotChosen, IsNotClosed};
+ghost use Rattle.postscript_write.specs.declared.error.Error.TheVariants as errors;
+
+use crate::components::push_components;
+use crate::error::{Error, Result};
+use crate::sources::unmarked;
+use postscript_view::FontView;
+use std::alloc::Global;
+
+/// Appends a glyph and marks it, where it is not marked.
+fn reach(marks: &mut Vec<bool>, glyphs: &mut Vec<usize>, glyph: usize) -> Result<()>
+    requires there { glyph < length marks.old.items }
+    requires marked { AreMarkedAs marks.old.items glyphs.old.items }
+    ensures grown { OnOk result (Grow marks.old.items glyphs.old.items (glyph ∷ []) marks.new.items glyphs.new.items) }
+    ensures memory { IfErr result (λ e. e ≡ errors.Refused causes.Memory) }
+{
+    if !marks[glyph] {
+        marks[glyph] = true;
+        glyphs.push(glyph)?;
+    }
+    Ok(())
+}
+
+/// The same with each of some more.
+fn reach_all(marks: &mut Vec<bool>, glyphs: &mut Vec<usize>, added: &[usize]) -> Result<()>
+    requires marked { AreMarkedAs marks.old.items glyphs.old.items }
+    ensures grown { OnOk result (Grow marks.old.items glyphs.old.items added.now marks.new.items glyphs.new.items) }
+    ensures there { OnOk result (AreThere added.now (length marks.old.items)) }
+    ensures refused { IfErr result (λ e. IsNotChosen added.now (length marks.old.items) e) }
+{
+    for i in 0..added.len() {
+        let glyph = added[i];
+        if glyph >= marks.len() {
+            return Err(Error::MissingGlyph(glyph));
+        }
+        reach(marks, glyphs, glyph)?;
+    }
+    Ok(())
+}
+
+/// The same with the components of a glyph.
+fn reach_components(
+    alloc: Global,
+    font: &FontView<'_>,
+    glyph: usize,
+    marks: &mut Vec<bool>,
+    glyphs: &mut Vec<usize>,
+) -> Result<()>
+    requires marked { AreMarkedAs marks.old.items glyphs.old.items }
+    requires many { length marks.old.items ≡ glyphs_of font.now }
+    ensures grown { OnOk result ((added : List ℕ) × AreComponentsOf font.now glyph added × Grow marks.old.items glyphs.old.items added marks.new.items glyphs.new.items) }
+    ensures untold { IfErr result (λ e. IsUntold font.now e) }
+{
+    let mut components = Vec::new(alloc);
+    push_components(alloc, font, glyph, &mut components)?;
+    reach_all(marks, glyphs, &components)
+}
+
+/// Appends the components of the glyphs, theirs, and so on. Each glyph comes once, since it is marked.
+fn follow(
+    alloc: Global,
+    font: &FontView<'_>,
+    marks: &mut Vec<bool>,
+    glyphs: &mut Vec<usize>,
+) -> Result<()>
+    requires marked { AreMarkedAs marks.old.items glyphs.old.items }
+    requires many { length marks.old.items ≡ glyphs_of font.now }
+    requires notdef { Contains glyphs.old.items 0 }
+    ensures reached { OnOk result (AreReached font.now glyphs.old.items glyphs.new.items) }
+    ensures there { OnOk result (AreThere glyphs.new.items (glyphs_of font.now)) }
+    ensures untold { IfErr result (λ e. IsUntold font.now e) }
+{
+    let mut next = 0usize;
+    while next < glyphs.len() {
+        let glyph = glyphs[next];
+        reach_components(alloc, font, glyph, marks, glyphs)?;
+        next += 1;
+    }
+    Ok(())
+}
+
+/// The glyphs that are named, `.notdef`, and those that these are drawn with.
+pub(crate) fn closed_over(alloc: Global, font: &FontView<'_>, named: &[usize]) -> Result<Vec<usize>>
+    requires some { 0 < length named.now }
+    ensures closed { IfOk result (λ closed. (glyph : ℕ) → (is_kept closed.items glyph ≡ true) ↔ IsReached font.now named.now glyph) }
+    ensures there { IfOk result (λ closed. AreThere closed.items (glyphs_of font.now)) }
+    ensures named { OnOk result (AreThere named.now (glyphs_of font.now)) }
+    ensures refused { IfErr result (λ e. IsNotClosed font.now named.now e) }
+{
+    let mut marks = unmarked(alloc, font.char_strings.len())?;
+    let mut closed = Vec::new(alloc);
+    reach_all(&mut marks, &mut closed, named)?;
+    reach(&mut marks, &mut closed, 0)?;
+    follow(alloc, font, &mut marks, &mut closed)?;
+    Ok(closed)
+}
