@@ -7,12 +7,12 @@ ghost use Rattle.postscript_c.specs.Glyphs.{drawn_at, drawn_by, drawn_over as th
 ghost use Rattle.postscript_c.specs.Shown.{found_shown, picture_shown};
 
 use crate::font::PsfFont;
-use crate::glyph::{index_at, part_at};
+use crate::glyph::{index_at, part_at, program_over};
 use crate::part::PsfPart;
 use crate::sketch::Sketch;
 use postscript_base::Result;
 use postscript_outline::draw_program;
-use postscript_type2::{Charstring, Operand, Program, Subroutines};
+use postscript_type2::{Operand, Program};
 use std::alloc::Global;
 
 /// The segments of an outline as C holds them, and the width that the program tells.
@@ -48,8 +48,7 @@ fn drawn_over(
     };
     let globals = index_at(bytes, global)?;
     let locals = index_at(bytes, local)?;
-    let subroutines = Subroutines::indexes(globals, locals);
-    let mut program = Charstring { code, subroutines }.program(alloc);
+    let mut program = program_over(alloc, code, globals, locals);
     Ok(Some(draw(alloc, &mut program)?))
 }
 
