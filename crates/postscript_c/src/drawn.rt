@@ -5,11 +5,11 @@ ghost use Rattle.postscript_drawing.specs.DrawnProgram.{IsWanting};
 ghost use Rattle.postscript_drawing.specs.Drawn.{Takes};
 
 use crate::font::PsfFont;
-use crate::glyph::index_at;
+use crate::glyph::{index_at, program_over};
 use crate::part::PsfPart;
 use postscript_drawing::{Accent, LIMIT, Result, draw_components, draw_program};
 use postscript_outline::{Point, Sink};
-use postscript_type2::{Charstring, Operand, Program, Subroutines};
+use postscript_type2::{Operand, Program};
 use postscript_view::FontView;
 use std::alloc::Global;
 
@@ -67,8 +67,7 @@ fn draw_code<S: Sink>(
     };
     let globals = index_at(bytes, global)?;
     let locals = index_at(bytes, local)?;
-    let subroutines = Subroutines::indexes(globals, locals);
-    let mut program = Charstring { code, subroutines }.program(alloc);
+    let mut program = program_over(alloc, code, globals, locals);
     let width = draw_whole(alloc, bytes, &mut program, sink)?;
     Ok(Some(width))
 }

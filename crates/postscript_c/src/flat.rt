@@ -25,7 +25,6 @@ pub(crate) struct Flat {
 }
 
 /// The flat code of a code over subroutines.
-#[tactic(auto, using(crate::proofs::Flattening::of_text, crate::proofs::Flattening::of_refusal))]
 fn flatten(
     alloc: Global,
     code: &[u8],

@@ -4,6 +4,9 @@ ghost use Rattle.postscript_base.specs.Tape.Outcome.{Answers, same};
 ghost use Rattle.postscript_c.specs.Glyphs.{index_at as the_index, program_at, program_of as the_program};
 ghost use Rattle.postscript_c.specs.CidParts.{HasPart, IsPartOf};
 ghost use Rattle.postscript_items.specs.Lent.{items_of};
+ghost use Rattle.postscript_type2.specs.Program.Evaluation.{run_of};
+ghost use Rattle.postscript_type2.specs.Program.Programs.{begun};
+ghost use Rattle.postscript_type2.specs.Program.Routines.{lent};
 
 use crate::font::PsfFont;
 use crate::part::{PsfPart, part_of};
@@ -57,6 +60,19 @@ pub(crate) fn part_at(alloc: Global, bytes: &[u8], font: &PsfFont, glyph: usize)
     cid_part(alloc, bytes, font, glyph)
 }
 
+/// The program of a code over subroutines in place.
+pub(crate) fn program_over<'l>(
+    alloc: Global,
+    code: &'l [u8],
+    globals: Items<'l>,
+    locals: Items<'l>,
+) -> Program<'l>
+    ensures { result ≡ begun (run_of (lent (items_of globals.entry) (items_of locals.entry)) code.now) }
+{
+    let subroutines = Subroutines::indexes(globals, locals);
+    Charstring { code, subroutines }.program(alloc)
+}
+
 /// The program of a code over the subroutines at two places.
 #[tactic(auto, unfolding(crate::specs::Glyphs::program_of))]
 fn program_of<'l>(
@@ -73,8 +89,7 @@ fn program_of<'l>(
     };
     let globals = index_at(bytes, global)?;
     let locals = index_at(bytes, local)?;
-    let subroutines = Subroutines::indexes(globals, locals);
-    Ok(Some(Charstring { code, subroutines }.program(alloc)))
+    Ok(Some(program_over(alloc, code, globals, locals)))
 }
 
 /// The program of a glyph. None where there is no such glyph.
