@@ -7,7 +7,4 @@ pub returns : goal.returns
 returns c =
     let same : to_z w32 (of_z w32 c.bound.result) ≡ c.bound.result = search rules in
     let P : ℤ → Type 0 = λ status. TellsBounds (traced_shown c.traced_glyph-answer.result) status c.args.bounds.now c.bound.new.bounds in
-    record {
-      cid = λ h. ((traced_shown c.traced_glyph-answer.result), c.traced_glyph-answer.ensures.cid h, subst P (sym same) c.bound.ensures);
-      plain = λ h. ((traced_shown c.traced_glyph-answer.result), c.traced_glyph-answer.ensures.plain h, subst P (sym same) c.bound.ensures);
-    }
+    ((traced_shown c.traced_glyph-answer.result), c.traced_glyph-answer.ensures, subst P (sym same) c.bound.ensures)

@@ -7,7 +7,4 @@ pub returns : goal.returns
 returns c =
     let same : to_z w32 (of_z w32 c.tell.result) ≡ c.tell.result = search rules in
     let P : ℤ → Type 0 = λ status. Tells (found_shown c.found_glyph-answer.result) status (room c.args.segments.now c.args.count.now c.args.info.now) (room c.tell.new.segments c.tell.new.count c.tell.new.info) in
-    record {
-      cid = λ h. ((found_shown c.found_glyph-answer.result), c.found_glyph-answer.ensures.cid h, subst P (sym same) c.tell.ensures);
-      plain = λ h. ((found_shown c.found_glyph-answer.result), c.found_glyph-answer.ensures.plain h, subst P (sym same) c.tell.ensures);
-    }
+    ((found_shown c.found_glyph-answer.result), c.found_glyph-answer.ensures, subst P (sym same) c.tell.ensures)

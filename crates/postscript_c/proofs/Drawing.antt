@@ -1,0 +1,55 @@
+-- What is drawn of a glyph and of what it names.
+use Rattle.std.proofs.Common.{◌≡◌, ◌≢◌, ◌⊎◌, inl, inr, ℕ, ℤ, List, ◌++◌, length, fold, [], ◌∷◌, Option, Some, None, Result, Ok, Err, refl, sym, ap, subst, ◌∙◌}
+use Rattle.std.specs.Prelude.{IfErr, IfOk, IsErrAnd, MatchOption, OnOk}
+use Rattle.postscript_base.specs.Tape.Outcome.{Outcome, Got}
+use Rattle.postscript_c.specs.Drawn.{AreNamed, DrawsWhole, IsFirst, IsNamedBy, IsNamedRefused, IsWholeRefused, wanting, undrawn}
+use Rattle.postscript_drawing.specs.Accents.{IsAccent}
+use Rattle.postscript_drawing.specs.DrawnProgram.{DrawsProgram, IsProgramRefused, IsWanting}
+use Rattle.postscript_drawing.specs.Drawn.{DrawsComponents, Takes, zero_point}
+use Rattle.postscript_drawing.specs.Refused.{AreRefused}
+use Rattle.postscript_drawing.specs.declared.accent.Accent.{Accent}
+use Rattle.postscript_drawing.specs.declared.error.Error.{Error}
+use Rattle.postscript_outline.specs.declared.segment.Segment.{Segment}
+use Rattle.postscript_type2.specs.Program.Programs.{Pending}
+use Rattle.postscript_type2.specs.Program.Runs.{taken_by}
+use Rattle.postscript_view.specs.declared.font.FontView.{FontView}
+
+pub fold-append : {T : Type 0} (after : T → Segment → T) (t : T) (xs ys : List Segment) → fold after t (xs ++ ys) ≡ fold after (fold after t xs) ys
+fold-append after t [] ys = refl
+fold-append after t (x ∷ xs) ys = fold-append after (after t x) xs ys
+
+-- a refusal that is passed on
+pub if-err : {A E : Type 0} (r : Result A E) (e : E) (P : E → Type 0) → IsErrAnd r (λ x. x ≡ e) → P e → IfErr r P
+if-err (Ok x) e P same holds = tt
+if-err (Err x) e P same holds = subst P (sym same) holds
+
+-- the base and the accent that are named
+pub named-drawn : {T : Type 0} (after : T → Segment → T) (old new : T) (r : Result (Unit {0}) Error) (bytes : List ℕ) (named : Option Accent) (accent : Accent) (font : FontView) → named ≡ Some accent → IsFirst bytes font →
+    OnOk r (Takes after old new (DrawsComponents font accent)) → OnOk r (Takes after old new (AreNamed bytes named))
+named-drawn after old new (Ok done) bytes named accent font is first takes =
+    (takes.0, subst (λ (a : Option Accent). AreNamed bytes a takes.0) (sym is) (font, first, takes.1), takes.2)
+named-drawn after old new (Err e) bytes named accent font is first takes = tt
+
+pub named-refused : (left : ℕ) (r : Result (Unit {0}) Error) (bytes : List ℕ) (named : Option Accent) (accent : Accent) (font : FontView) → named ≡ Some accent → IsFirst bytes font →
+    IfErr r (λ e. IsWanting left e ⊎ AreRefused font accent e) → IfErr r (λ e. IsWanting left e ⊎ IsNamedRefused bytes named e)
+named-refused left (Ok done) bytes named accent font is first why = tt
+named-refused left (Err e) bytes named accent font is first (inl want) = inl want
+named-refused left (Err e) bytes named accent font is first (inr why) =
+    inr (subst (λ (a : Option Accent). IsNamedRefused bytes a e) (sym is) (inr (font, first, why)))
+
+-- a program and what its glyph names
+pub whole-drawn : {T : Type 0} (after : T → Segment → T) (old middle new : T) (bytes : List ℕ) (program : Pending) (width : Option ℤ) (named : Option Accent) → DrawsProgram after zero_point old middle width program →
+    IsNamedBy (taken_by program.end) named → Takes after middle new (AreNamed bytes named) → Takes after old new (λ segments. DrawsWhole bytes program segments width)
+whole-drawn after old middle new bytes program width named own names more = (
+  own.segments ++ more.0,
+  record { accent = named; own = own.segments; more = more.0; names = names; draws_own = own.drawn; draws_more = more.1; all = refl; width_is = own.width_is },
+  more.2 ∙ ap (λ t. fold after t more.0) own.taken ∙ sym (fold-append after old own.segments more.0),
+)
+
+pub by-program : (left : ℕ) (bytes : List ℕ) (program : Pending) (e : Error) → IsProgramRefused zero_point program left e → IsWholeRefused bytes program e
+by-program left bytes program e (inl want) = wanting left want
+by-program left bytes program e (inr why) = undrawn why
+
+pub named-so : (named : Option Accent) (told taken : List ℤ) → told ≡ taken → MatchOption named (length told ≢ 4) (λ accent. IsAccent told accent) → IsNamedBy taken named
+named-so None told taken same other = subst (λ (xs : List ℤ). length xs ≢ 4) same other
+named-so (Some accent) told taken same is = subst (λ (xs : List ℤ). IsAccent xs accent) same is
