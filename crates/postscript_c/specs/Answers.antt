@@ -13,7 +13,7 @@ use Rattle.postscript_c.specs.Glyphs.{Drawn, Glyph, drawn_at}
 use Rattle.postscript_c.specs.Segments.{shown as segment_shown}
 use Rattle.postscript_outline.specs.declared.bounds.Bounds.{Bounds}
 use Rattle.postscript_outline.specs.Bounds.{IsBoundsOf, points}
-use Rattle.postscript_outline.specs.Drawing.{point}
+use Rattle.postscript_outline.specs.Points.{point}
 use Rattle.postscript_outline.specs.Tight.{IsTightBoundsOf, arcs}
 
 -- the width of a glyph: the default one, or the nominal one and the one that the program tells, as far as 64 bits go

@@ -5,7 +5,7 @@ ghost use Rattle.postscript_c.specs.Answers.{IsOf, TellsBounds, sides_of};
 ghost use Rattle.postscript_c.specs.CidAnswers.{IsOfCid};
 ghost use Rattle.postscript_c.specs.Glyphs.{drawn_at, drawn_by, drawn_if};
 ghost use Rattle.postscript_c.specs.Shown.{outline_shown, traced_shown};
-ghost use Rattle.postscript_outline.specs.Drawing.{point};
+ghost use Rattle.postscript_outline.specs.Points.{point};
 ghost use Rattle.postscript_outline.specs.Tight.{IsTightBoundsOf, arcs};
 
 use crate::font::PsfFont;

@@ -1,7 +1,7 @@
 //! Accented glyphs: a font whose glyphs name others by their codes in the standard encoding.
 use crate::checks::{bytes_of, holds, holds_at, is_text, put_shown};
 use postscript::type2::{Operand, Program};
-use postscript_accent::{draw_glyph, outline_of};
+use postscript_drawing::{draw_glyph, outline_of};
 use postscript_outline::Segment;
 use postscript_view::FontView;
 use std::alloc::Global;

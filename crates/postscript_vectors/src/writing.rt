@@ -2,7 +2,7 @@
 use crate::checks::{bytes_of, holds, holds_at, is_text};
 use crate::views::rows::{CID, PLAIN, SELECTIONS};
 use crate::views::{codes_of, joined, told};
-use postscript_accent::outline_of;
+use postscript_drawing::outline_of;
 use postscript_view::FontView;
 use postscript_write::{Error, flat_font, index, kept_glyphs, subset, subset_keeping};
 use std::alloc::Global;
@@ -200,7 +200,7 @@ fn components_wanting(rt: HostRuntime) {
         &rt,
         matches!(
             refused,
-            Err(postscript_accent::Error::MissingComponent(194))
+            Err(postscript_drawing::Error::MissingComponent(194))
         ),
         "no accent",
     );
@@ -225,7 +225,7 @@ fn components_of_components(rt: HostRuntime) {
     let refused = outline_of(alloc, &font, 4);
     holds(
         &rt,
-        matches!(refused, Err(postscript_accent::Error::NestedAccent(195))),
+        matches!(refused, Err(postscript_drawing::Error::NestedAccent(195))),
         "nested",
     );
 }

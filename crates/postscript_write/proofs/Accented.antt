@@ -3,12 +3,12 @@ use Rattle.std.proofs.Common.{◌≡◌, ◌≢◌, refl, sym, ap, subst, ◌∙
 use Rattle.std.specs.Prelude.{◌⊎◌, ◌||◌, IfOk, OnOk, option_to_list}
 use Rattle.std.specs.List.{Contains}
 use Rattle.std.proofs.lemmas.List.Elements.{Contains-append_left, Contains-append_right, Contains-append_cases}
-use Rattle.postscript_accent.specs.Accents.{IsAccent, IsAccentOf, run_by}
-use Rattle.postscript_accent.specs.Components.{HasNoComponent, IsComponent, glyphs_of}
-use Rattle.postscript_accent.specs.Refused.{IsAccented}
-use Rattle.postscript_accent.specs.declared.accent.Accent.{Accent}
-use Rattle.postscript_accent.specs.declared.error.Error as accents
-use Rattle.postscript_accent.specs.declared.error.Error.TheVariants.{Font, NoSuchGlyph, NoCode, NoAccents, MissingComponent, NestedAccent}
+use Rattle.postscript_drawing.specs.Accents.{IsAccent, IsAccentOf, run_by}
+use Rattle.postscript_drawing.specs.Components.{HasNoComponent, IsComponent, glyphs_of}
+use Rattle.postscript_drawing.specs.Refused.{IsAccented}
+use Rattle.postscript_drawing.specs.declared.accent.Accent.{Accent}
+use Rattle.postscript_drawing.specs.declared.error.Error as accents
+use Rattle.postscript_drawing.specs.declared.error.Error.TheVariants.{Font, NoSuchGlyph, NoCode, NoAccents, MissingComponent, NestedAccent}
 use Rattle.postscript_base.specs.Refusal.{Refusal}
 use Rattle.postscript_items.specs.Lent.{items_of}
 use Rattle.postscript_type2.specs.Program.Evaluation.{run_of}

@@ -1,14 +1,15 @@
 -- What a glyph of one font draws, a glyph of another one draws, where its run and those of its components say the same.
 use Rattle.std.proofs.Common.{◌≡◌, refl, sym, ap, subst, ◌∙◌, inl, inr, ℕ, ℤ, List, Option, Some, None, Result, Ok, Err}
 use Rattle.std.specs.Prelude.{◌⊎◌}
-use Rattle.postscript_accent.specs.Accents.{IsAccent}
-use Rattle.postscript_accent.specs.Components.{IsComponent}
-use Rattle.postscript_accent.specs.Drawn.{DrawsAt, DrawsComponent, IsDrawnAs, zero_point}
-use Rattle.postscript_accent.specs.Refused.{IsAccented}
-use Rattle.postscript_accent.specs.declared.accent.Accent.{Accent}
+use Rattle.postscript_drawing.specs.Accents.{IsAccent}
+use Rattle.postscript_drawing.specs.Components.{IsComponent}
+use Rattle.postscript_drawing.specs.Drawn.{DrawsAt, DrawsComponent, IsDrawnAs, zero_point}
+use Rattle.postscript_drawing.specs.Refused.{IsAccented}
+use Rattle.postscript_drawing.specs.declared.accent.Accent.{Accent}
 use Rattle.postscript_base.specs.Refusal.{Refusal}
-use Rattle.postscript_outline.specs.Drawing.{Drawing, ◌>>=◌, blank_at, closed, point}
-use Rattle.postscript_outline.specs.Outline.{drawing_of, finished}
+use Rattle.postscript_drawing.specs.Drawing.{Drawing, ◌>>=◌, blank_at, closed}
+use Rattle.postscript_outline.specs.Points.{point}
+use Rattle.postscript_drawing.specs.Outline.{drawing_of, finished}
 use Rattle.postscript_outline.specs.declared.point.Point.{Point}
 use Rattle.postscript_outline.specs.declared.segment.Segment.{Segment}
 use Rattle.postscript_type2.specs.Program.Runs.{End, UsedUp, Returned, Finished, Fault, Run, fault_of, taken_by, width_of}

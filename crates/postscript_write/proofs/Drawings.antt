@@ -7,10 +7,10 @@ use Rattle.postscript_write.specs.declared.error.Error.{Error}
 use Rattle.std.specs.declared.alloc.Global.{Global}
 use Rattle.std.proofs.lemmas.Option.{slice_get-map, slice_get_within}
 use Rattle.std.specs.Option.{IsSome}
-use Rattle.postscript_accent.specs.Accents.{IsAccent}
-use Rattle.postscript_accent.specs.Components.{IsComponent, glyphs_of, standard_identifier}
-use Rattle.postscript_accent.specs.Refused.{IsAccented}
-use Rattle.postscript_accent.specs.declared.accent.Accent.{Accent}
+use Rattle.postscript_drawing.specs.Accents.{IsAccent}
+use Rattle.postscript_drawing.specs.Components.{IsComponent, glyphs_of, standard_identifier}
+use Rattle.postscript_drawing.specs.Refused.{IsAccented}
+use Rattle.postscript_drawing.specs.declared.accent.Accent.{Accent}
 use Rattle.postscript_base.specs.Tape.Outcome.{Got}
 use Rattle.postscript_items.specs.Lent.{items_of}
 use Rattle.postscript_type2.specs.Program.Runs.{Run}

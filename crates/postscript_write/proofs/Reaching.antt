@@ -5,7 +5,7 @@ use Rattle.std.specs.List.{Contains}
 use Rattle.std.proofs.lemmas.Bool.{eqb-true, eq-eqb}
 use Rattle.std.proofs.lemmas.List.{append-nil, get_or-set_same, get_or-set_other, get_or_append_left, get_or_default, get_or_past, length-append}
 use Rattle.std.proofs.lemmas.List.Elements.{Contains-append_left, Contains-append_right, Contains-append_cases, Contains-get_or, Contains-push, Contains-push_cases}
-use Rattle.postscript_accent.specs.Components.{glyphs_of}
+use Rattle.postscript_drawing.specs.Components.{glyphs_of}
 use Rattle.postscript_view.specs.declared.font.FontView.{FontView}
 use Rattle.postscript_write.specs.Closure.{AreMarkedAs, AreReached, Grow, unmarked_in}
 use Rattle.postscript_write.specs.Components.{AreComponentsOf, IsComponentOf, IsReached, is_named, is_drawn_with}

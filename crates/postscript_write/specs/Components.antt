@@ -3,10 +3,10 @@
 use Rattle.std.specs.Prelude.{◌≡◌, ◌≢◌, ◌⊎◌, ◌↔◌, ℕ, List, Bool, Option, true}
 use Rattle.std.specs.List.{Contains}
 use Rattle.std.specs.Option.{MatchOption}
-use Rattle.postscript_accent.specs.Accents.{IsAccentOf}
-use Rattle.postscript_accent.specs.Components.{HasCharSet, IsComponent, glyphs_of}
-use Rattle.postscript_accent.specs.Refused.{IsAccented}
-use Rattle.postscript_accent.specs.declared.accent.Accent.{Accent}
+use Rattle.postscript_drawing.specs.Accents.{IsAccentOf}
+use Rattle.postscript_drawing.specs.Components.{HasCharSet, IsComponent, glyphs_of}
+use Rattle.postscript_drawing.specs.Refused.{IsAccented}
+use Rattle.postscript_drawing.specs.declared.accent.Accent.{Accent}
 use Rattle.postscript_base.specs.Tape.Outcome.{Got}
 use Rattle.postscript_base.specs.declared.error.Error.TheVariants.{Memory}
 use Rattle.postscript_type2.specs.Program.Runs.{Run}

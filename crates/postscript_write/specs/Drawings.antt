@@ -1,7 +1,7 @@
 -- What the glyphs of a subset draw (Technical Note 5177, Appendix C).
 use Rattle.std.specs.Prelude.{◌≡◌, ◌↔◌, ℕ, ℤ, ◌<◌, List, Option, Some, None, length, slice_index_or}
-use Rattle.postscript_accent.specs.Components.{glyphs_of}
-use Rattle.postscript_accent.specs.Drawn.{IsDrawnAs}
+use Rattle.postscript_drawing.specs.Components.{glyphs_of}
+use Rattle.postscript_drawing.specs.Drawn.{IsDrawnAs}
 use Rattle.postscript_outline.specs.declared.segment.Segment.{Segment}
 use Rattle.postscript_view.specs.declared.font.FontView.{FontView}
 use Rattle.postscript_write.specs.Components.{AreClosed, IsOpened}

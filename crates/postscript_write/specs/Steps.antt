@@ -1,6 +1,6 @@
 -- What the refusals of the steps say, of which a font is written.
 use Rattle.std.specs.Prelude.{◌≡◌, ◌≢◌, ℕ, List, Option, Some}
-use Rattle.postscript_accent.specs.Components.{HasCharSet, glyphs_of}
+use Rattle.postscript_drawing.specs.Components.{HasCharSet, glyphs_of}
 use Rattle.postscript_base.specs.declared.error.Error.TheVariants.{Memory}
 use Rattle.postscript_write.specs.Glyphs.{Sources}
 use Rattle.postscript_view.specs.Order.{View}

@@ -1,7 +1,7 @@
 //! The glyphs that are kept with those that are named: what accented ones are drawn with.
 ghost use Rattle.std.specs.Prelude.{◌≡◌, ◌<◌, ◌↔◌, ℕ, [], ◌∷◌, List, true, length, IfOk, IfErr, OnOk};
 ghost use Rattle.std.specs.List.{Contains};
-ghost use Rattle.postscript_accent.specs.Components.{glyphs_of};
+ghost use Rattle.postscript_drawing.specs.Components.{glyphs_of};
 ghost use Rattle.postscript_base.specs.declared.error.Error.TheVariants as causes;
 ghost use Rattle.postscript_write.specs.Closure.{AreMarkedAs, AreReached, Grow};
 ghost use Rattle.postscript_write.specs.Components.{AreComponentsOf, IsReached, IsUntold};

@@ -1,7 +1,7 @@
 //! The components of accented glyphs, which are kept with them (Technical Note 5177, Appendix C).
 ghost use Rattle.std.specs.Prelude.{◌≡◌, ◌⊎◌, ◌++◌, ℕ, List, Option, Some, IfOk, IfErr, OnOk, MatchOption, option_to_list};
-ghost use Rattle.postscript_accent.specs.Accents.{IsAccent, run_by};
-ghost use Rattle.postscript_accent.specs.declared.accent.Accent.{Accent as AnAccent};
+ghost use Rattle.postscript_drawing.specs.Accents.{IsAccent, run_by};
+ghost use Rattle.postscript_drawing.specs.declared.accent.Accent.{Accent as AnAccent};
 ghost use Rattle.postscript_base.specs.Refusal.{refusal_of};
 ghost use Rattle.postscript_base.specs.declared.error.Error.TheVariants as causes;
 ghost use Rattle.postscript_type2.specs.Program.Programs.{told_at_end};
@@ -10,7 +10,7 @@ ghost use Rattle.postscript_write.specs.Components.{AreComponentsOf, IsFound, Is
 ghost use Rattle.postscript_write.specs.declared.error.Error.TheVariants as errors;
 
 use crate::error::{Error, Result};
-use postscript_accent::{Accent, Error as Undrawn, component_of};
+use postscript_drawing::{Accent, Error as Undrawn, component_of};
 use postscript_base::Error as Cause;
 use postscript_type2::{Operand, Program};
 use postscript_view::{FontView, Glyph};

@@ -1,6 +1,6 @@
 //! Glyphs that come along with those that are named: the bases and accents of accented ones.
 use crate::failure::Failure;
-use postscript_accent::{Accent, component_of};
+use postscript_drawing::{Accent, component_of};
 use postscript_type2::Program;
 use postscript_view::FontView;
 

@@ -1,7 +1,7 @@
 //! Drawings of glyphs.
 use crate::face::Face;
 use crate::failure::Refusal;
-use postscript_accent::{Error as Undrawn, outline_of};
+use postscript_drawing::{Error as Undrawn, outline_of};
 use postscript_outline::Outline;
 use postscript_view::{Advance, Glyph};
 use std::alloc::Global;

@@ -1,7 +1,7 @@
 use Rattle.std.proofs.Common.{◌≡◌, ◌∙◌, ap, subst}
 use Rattle.std.specs.Prelude.{MatchOption}
-use Rattle.postscript_accent.specs.Accents.{IsAccent, run_by}
-use Rattle.postscript_accent.specs.declared.accent.Accent.{Accent}
+use Rattle.postscript_drawing.specs.Accents.{IsAccent, run_by}
+use Rattle.postscript_drawing.specs.declared.accent.Accent.{Accent}
 use Rattle.postscript_type2.specs.Program.Runs.{taken_by}
 use Rattle.postscript_write.proofs.components.said_by.Goals as goal
 

@@ -4,7 +4,7 @@ use Rattle.std.proofs.lemmas.Result.{err_from_is_err_and}
 use Rattle.postscript_base.specs.Tape.Outcome.{Got}
 use Rattle.postscript_view.specs.Order.{View}
 use Rattle.postscript_view.specs.Value.{view_shown}
-use Rattle.postscript_accent.specs.Components.{glyphs_of}
+use Rattle.postscript_drawing.specs.Components.{glyphs_of}
 use Rattle.postscript_write.specs.Components.{IsOpened}
 use Rattle.postscript_write.specs.Sources.{AreThere, keeping}
 use Rattle.postscript_write.specs.Steps.{IsNotChosen}
