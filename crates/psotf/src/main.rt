@@ -2,6 +2,7 @@
 //! fonts of some glyphs.
 #![tactic(auto)]
 
+mod along;
 mod characters;
 mod choice;
 mod commands;

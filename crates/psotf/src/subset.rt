@@ -4,10 +4,10 @@ use crate::face::{Face, needed};
 use crate::failure::Failure;
 use crate::file::{Table, file_of, put_halves, put_words};
 use crate::map::{Pair, table_of};
-use crate::saving;
+use crate::{along, saving};
 use clap::ArgMatches;
 use postscript_items::number::number_within;
-use postscript_write::{subset, subset_keeping};
+use postscript_write::{kept_glyphs, subset, subset_keeping};
 use std::alloc::{AllocError, Global};
 use std::io::Write;
 
@@ -17,13 +17,13 @@ fn number_of(glyphs: &[usize], glyph: u32) -> u32 {
     u32::try_from(before).unwrap_or(0)
 }
 
-/// The characters, with the new numbers of their glyphs.
-fn numbered(alloc: Global, choice: &Choice) -> Result<Vec<Pair>, AllocError> {
+/// Characters, with the new numbers of their glyphs.
+fn numbered(alloc: Global, chars: &[Pair], kept: &[usize]) -> Result<Vec<Pair>, AllocError> {
     let mut pairs = Vec::new(alloc);
-    for pair in &choice.pairs {
+    for pair in chars {
         pairs.push(Pair {
             char: pair.char,
-            glyph: number_of(&choice.glyphs, pair.glyph),
+            glyph: number_of(kept, pair.glyph),
         })?;
     }
     Ok(pairs)
@@ -109,15 +109,20 @@ fn with_counts(
     })
 }
 
-/// The tables of these glyphs with new numbers, in their order.
-fn renumbered(alloc: Global, face: &Face<'_>, choice: &Choice) -> Result<Written, Failure> {
+/// The tables of the glyphs that are kept with new numbers, in their order.
+fn renumbered(
+    alloc: Global,
+    face: &Face<'_>,
+    choice: &Choice,
+    kept: &[usize],
+) -> Result<Written, Failure> {
     let font = subset(alloc, face.cff, &choice.glyphs)?;
-    let map = table_of(alloc, &numbered(alloc, choice)?)?;
-    let hmtx = metrics(alloc, face, &choice.glyphs)?;
-    with_counts(alloc, face, font, map, hmtx, choice.glyphs.len())
+    let map = table_of(alloc, &numbered(alloc, &choice.pairs, kept)?)?;
+    let hmtx = metrics(alloc, face, kept)?;
+    with_counts(alloc, face, font, map, hmtx, kept.len())
 }
 
-/// The tables of these glyphs with their numbers.
+/// The tables of all glyphs with their numbers, where those that are not kept are empty.
 fn keeping(alloc: Global, face: &Face<'_>, choice: &Choice) -> Result<Written, Failure> {
     let font = subset_keeping(alloc, face.cff, &choice.glyphs)?;
     let map = table_of(alloc, &choice.pairs)?;
@@ -161,7 +166,7 @@ fn file_with(alloc: Global, face: &Face<'_>, made: &Written) -> Result<Vec<u8>, 
     file_of(alloc, tables.as_slice())
 }
 
-/// Writes a file of the glyphs that words name.
+/// Writes a file of the glyphs that words name and of those that these are drawn with, and tells of the latter.
 pub fn write<W: Write>(
     rt: &HostRuntime,
     face: &Face<'_>,
@@ -170,11 +175,13 @@ pub fn write<W: Write>(
 ) -> Result<(), Failure> {
     let alloc = rt.alloc();
     let choice = Choice::read(alloc, face, words)?;
+    let kept = kept_glyphs(alloc, face.cff, &choice.glyphs)?;
     let made = if words.get_flag("retain-gids") {
         keeping(alloc, face, &choice)?
     } else {
-        renumbered(alloc, face, &choice)?
+        renumbered(alloc, face, &choice, &kept)?
     };
+    along::tell(rt, &face.font, &choice.glyphs, &kept)?;
     let file = file_with(alloc, face, &made)?;
     saving::put(rt, words, &file, out)
 }
