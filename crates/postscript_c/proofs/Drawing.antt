@@ -1,7 +1,9 @@
 -- What is drawn of a glyph and of what it names.
 use Rattle.std.proofs.Common.{◌≡◌, ◌≢◌, ◌⊎◌, inl, inr, ℕ, ℤ, List, ◌++◌, length, fold, [], ◌∷◌, Option, Some, None, Result, Ok, Err, refl, sym, ap, subst, ◌∙◌}
-use Rattle.std.specs.Prelude.{IfErr, IfOk, IsErrAnd, MatchOption, OnOk}
-use Rattle.postscript_base.specs.Tape.Outcome.{Outcome, Got}
+use Rattle.std.specs.Prelude.{IfErr, IsErrAnd, MatchOption, OnOk, option_map}
+use denote.Ref.{Bor}
+use Rattle.postscript_base.specs.Tape.Outcome.{Got, after}
+use Rattle.postscript_c.specs.Glyphs.{index_at, program_of}
 use Rattle.postscript_c.specs.Drawn.{AreNamed, DrawsWhole, IsFirst, IsNamedBy, IsNamedRefused, IsWholeRefused, wanting, undrawn}
 use Rattle.postscript_drawing.specs.Accents.{IsAccent}
 use Rattle.postscript_drawing.specs.DrawnProgram.{DrawsProgram, IsProgramRefused, IsWanting}
@@ -10,7 +12,9 @@ use Rattle.postscript_drawing.specs.Refused.{AreRefused}
 use Rattle.postscript_drawing.specs.declared.accent.Accent.{Accent}
 use Rattle.postscript_drawing.specs.declared.error.Error.{Error}
 use Rattle.postscript_outline.specs.declared.segment.Segment.{Segment}
-use Rattle.postscript_type2.specs.Program.Programs.{Pending}
+use Rattle.postscript_type2.specs.Program.Evaluation.{run_of}
+use Rattle.postscript_type2.specs.Program.Programs.{Pending, begun}
+use Rattle.postscript_type2.specs.Program.Routines.{lent}
 use Rattle.postscript_type2.specs.Program.Runs.{taken_by}
 use Rattle.postscript_view.specs.declared.font.FontView.{FontView}
 
@@ -53,3 +57,14 @@ by-program left bytes program e (inr why) = undrawn why
 pub named-so : (named : Option Accent) (told taken : List ℤ) → told ≡ taken → MatchOption named (length told ≢ 4) (λ accent. IsAccent told accent) → IsNamedBy taken named
 named-so None told taken same other = subst (λ (xs : List ℤ). length xs ≢ 4) same other
 named-so (Some accent) told taken same is = subst (λ (xs : List ℤ). IsAccent xs accent) same is
+
+-- the program of a code, where both INDEXes stand
+pub program-there : (code : Option (Bor (List ℕ))) (there : Bor (List ℕ)) (global local : ℕ) (bytes : List ℕ) (globals locals : List (List ℕ)) (program : Pending) → code ≡ Some there →
+    index_at global bytes 0 ≡ Got globals 0 → index_at local bytes 0 ≡ Got locals 0 → program ≡ begun (run_of (lent globals locals) there.now) →
+    program_of (option_map (λ code. code.now) code) global local bytes 0 ≡ Got (Some program) 0
+unfolding program_of
+program-there code there global local bytes globals locals program is global_is local_is program_is =
+    ap (λ (c : Option (Bor (List ℕ))). program_of (option_map (λ code. code.now) c) global local bytes 0) is
+    ∙ ap (λ o. after o (λ globals at. after (index_at local bytes at) (λ locals next. Got (Some (begun (run_of (lent globals locals) there.now))) next))) global_is
+    ∙ ap (λ o. after o (λ locals next. Got (Some (begun (run_of (lent globals locals) there.now))) next)) local_is
+    ∙ ap (λ p. Got (Some p) 0) (sym program_is)

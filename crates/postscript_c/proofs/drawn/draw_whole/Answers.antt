@@ -4,7 +4,6 @@ use Rattle.postscript_c.proofs.Drawing.{by-program, if-err, named-so, whole-draw
 use Rattle.postscript_c.proofs.drawn.draw_whole.Goals as goal
 use Rattle.postscript_drawing.specs.Accents.{HasNoCodes}
 use Rattle.postscript_drawing.specs.DrawnProgram.{IsWanting}
-use Rattle.postscript_drawing.specs.declared.error.Error.TheVariants as errors
 use Rattle.postscript_type2.specs.Program.Programs.{told_at_end}
 use Rattle.postscript_type2.specs.Program.Runs.{taken_by}
 
