@@ -220,14 +220,18 @@ const COUNTS: &[(&str, &str)] = &[
 ];
 
 /// Draws a code into a sink, from the origin.
-fn drawn<S: Sink>(alloc: Global, code: &[u8], sink: &mut S) -> Result<Option<Operand>, Error> {
+fn drawn<S: Sink>(
+    alloc: Global,
+    code: &[u8],
+    sink: &mut S,
+) -> postscript_drawing::Result<Option<Operand>> {
     let mut limit = LIMIT;
     let mut program = Program::new(alloc, code, &[], &[]);
     draw_program(&mut program, Point::ORIGIN, &mut limit, sink)
 }
 
 /// The outline of a code.
-fn outline_of(alloc: Global, code: &[u8]) -> Result<Outline, Error> {
+fn outline_of(alloc: Global, code: &[u8]) -> postscript_drawing::Result<Outline> {
     let mut segments = Vec::new(alloc);
     let width = drawn(alloc, code, &mut segments)?;
     Ok(Outline { segments, width })
@@ -457,7 +461,7 @@ fn path_of_two(
     alloc: Global,
     first: &[u8],
     second: &[u8],
-) -> Result<(Vec<Segment>, Option<Operand>), Error> {
+) -> postscript_drawing::Result<(Vec<Segment>, Option<Operand>)> {
     let mut segments = Vec::new(alloc);
     drawn(alloc, first, &mut segments)?;
     let width = drawn(alloc, second, &mut segments)?;
