@@ -28,7 +28,7 @@ CRATES = (
     "postscript_type2",
     "postscript_view",
     "postscript_outline",
-    "postscript_accent",
+    "postscript_drawing",
     "postscript_sfnt",
     "postscript_write",
 )

@@ -28,9 +28,9 @@ sys.dont_write_bytecode = True
 import building
 from font_files import write_glyphs
 
-USES = "postscript_outline postscript_type2 postscript_items postscript_base hex anyhow"
+USES = "postscript_drawing postscript_outline postscript_type2 postscript_items postscript_base hex anyhow"
 ALONE = 300
-WAYS = ["step", "step_over", "next", "next_over", "run", "flat_len", "flatten", "draw"]
+WAYS = ["step", "step_over", "next", "next_over", "run", "flat_len", "flatten", "draw_program"]
 ALIKE = ["step", "step_over", "next", "next_over"]
 ROUNDS = 2
 

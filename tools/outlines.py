@@ -36,7 +36,7 @@ from fontTools.ttLib import TTFont
 import building
 from font_files import files_of, glyph_lines, spelled
 
-USES = "postscript_outline postscript_type2 postscript_base hex anyhow"
+USES = "postscript_drawing postscript_outline postscript_type2 postscript_base hex anyhow"
 LETTERS = "ABCDEFGHIJKLMNOPQRSTUVWXYZabcdefghijklmn"
 NAMES = {"M": "moveTo", "L": "lineTo", "C": "curveTo", "Z": "closePath"}
 
