@@ -233,7 +233,7 @@ static void check_accents(const uint8_t *cff, size_t size) {
     holds(psf_glyph_outline(cff, size, &font, 3, segments, 6, &count, &info) == PSF_NO_ROOM && count == 7, "too small a room");
     holds(psf_glyph_outline(cff, size, &font, 3, segments, 7, &count, &info) == PSF_OK && count == 7, "an accented glyph");
     for (int i = 0; i < 7; i++) holds(is_segment(&segments[i], accented[i]), "a segment of the base or of the accent");
-    holds(info.advance == 0 && info.has_width == 0, "the width is not that of the base");
+    holds(info.advance == 0 && info.has_width == 0, "its own width, which it does not tell");
     holds(info.has_bounds == 1 && info.left == 10 * 65536 && info.bottom == -38 * 65536, "the low bounds of both");
     holds(info.right == 110 * 65536 && info.top == 70 * 65536, "the high bounds of both");
     holds(psf_glyph_bounds(cff, size, &font, 3, &bounds) == PSF_OK && bounds.has_bounds == 1, "the bounds of curves of both");
