@@ -192,9 +192,10 @@ int32_t psf_font_fits(const uint8_t *cff, size_t length, uint64_t *limit);
 
 /* The outline of a glyph, to the front of segments[0..room]; its number of segments, its width and its bounds.
  * An accented glyph, whose endchar takes the four numbers adx ady bchar achar (Technical Note 5177, Appendix C), is drawn whole:
- * its own contours, those of the base, and those of the accent, with its origin at (adx, ady). These are the first glyphs that
- * have the names of the two codes in the standard encoding, in the font that the bytes begin with. The width is that of the
- * glyph's own run. The three runs share a limit of 20,000,000, which is spent as psf_font_fits says.
+ * its own contours, those of the base, and those of the accent, with its origin at (adx, ady). Base and accent are the first
+ * glyphs that have the names of the two codes in the standard encoding (.notdef where it lists none), in the font that the bytes
+ * begin with. The width is that of the glyph's own run. The three runs share a limit of 20,000,000, which is spent as
+ * psf_font_fits says.
  * On PSF_OK and PSF_NO_ROOM *count and *info are told, and on PSF_OK segments[0..*count] is the outline: contours, each from
  * a PSF_MOVE to a PSF_CLOSE. With a room of 0 the call tells how much room is needed.
  * Also answered: PSF_NO_GLYPH; PSF_TOO_LONG where the limit is used up; of an accented glyph PSF_NO_CODE, PSF_NO_ACCENTS,

@@ -338,15 +338,16 @@ class Font:
 
     def flat(self) -> bytes:
         """The table `CFF ` of the same glyphs without subroutines: each draws what it drew, with the same advance, name or CID, and
-        codes. Refused with a `WriteError`."""
+        codes. Knows no limit. Refused with a `WriteError`."""
         cff = self._cff
         return _font_of(
             2 * len(cff) + 1024, lambda room, size, count, refusal: _library.psf_font_flat(cff, len(cff), room, size, count, refusal)
         )
 
     def subset(self, glyphs: Iterable[int], keep_numbers: bool = False) -> bytes:
-        """The table `CFF ` of `.notdef` and these glyphs alone, without subroutines: numbered anew in ascending order, or with
-        their numbers and empty glyphs between them. Refused with a `WriteError`."""
+        """The table `CFF ` of `.notdef`, these glyphs, and the base and the accent of each one that is kept and accented, without
+        subroutines: numbered anew in ascending order, or with their numbers and empty glyphs between them. Knows no limit. Refused
+        with a `WriteError`."""
         cff, numbers = self._cff, list(glyphs)
         named = (c_size_t * len(numbers))(*numbers)
         return _font_of(

@@ -183,7 +183,7 @@ impl<'a> Font<'a> {
     }
 
     /// The table `CFF ` of the same glyphs without subroutines: each glyph draws what it drew, with the same advance, name or
-    /// CID, and codes.
+    /// CID, and codes. Knows no limit.
     ///
     /// # Errors
     ///
@@ -193,8 +193,8 @@ impl<'a> Font<'a> {
         c::font_flat(self.cff).map_err(WriteError::of)
     }
 
-    /// The table `CFF ` of `.notdef` and these glyphs alone, numbered anew in ascending order, without subroutines. An encoding
-    /// of the font's own gives way to the standard one.
+    /// The table `CFF ` of `.notdef`, these glyphs, and the base and the accent of each one that is kept and accented, numbered anew in
+    /// ascending order, without subroutines. An encoding of the font's own gives way to the standard one. Knows no limit.
     ///
     /// # Errors
     ///
