@@ -123,8 +123,8 @@ impl<'a> Font<'a> {
     /// # Errors
     ///
     /// [`Error::NoGlyph`] where the font has no such glyph; [`Error::TooLong`] where the limit is used up; of an accented glyph
-    /// [`Error::NoCode`], [`Error::NoAccents`], [`Error::NoComponent`] and [`Error::NestedAccent`]; and where its program, or that of
-    /// the base or the accent, is refused: see [`Error`].
+    /// [`Error::NoCode`], [`Error::NoAccents`], [`Error::NoComponent`] and [`Error::NestedAccent`]; and where its program, or that
+    /// of the base or the accent, is refused: see [`Error`].
     pub fn outline(&self, glyph: usize) -> Result<Outline> {
         let mut segments = Vec::new();
         let told = c::outline(self.cff, &self.font, glyph, &mut segments)?;
@@ -193,8 +193,8 @@ impl<'a> Font<'a> {
         c::font_flat(self.cff).map_err(WriteError::of)
     }
 
-    /// The table `CFF ` of `.notdef`, these glyphs, and the base and the accent of each one that is kept and accented, numbered anew in
-    /// ascending order, without subroutines. An encoding of the font's own gives way to the standard one. Knows no limit.
+    /// The table `CFF ` of `.notdef`, these glyphs, and the base and the accent of each one that is kept and accented, numbered
+    /// anew in ascending order, without subroutines. An encoding of the font's own gives way to the standard one. Knows no limit.
     ///
     /// # Errors
     ///
