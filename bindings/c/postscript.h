@@ -15,6 +15,13 @@
  *
  * Nothing has to be freed, and nothing is kept between calls: threads may share bytes and a psf_font.
  *
+ * Time and memory: psf_glyph_outline and psf_glyph_bounds read at most 20,000,000 bytes of phrases a call (operators with the
+ * numbers before them; a roll counts as 4096 more) and one phrase besides, which takes well under a second, and they keep about
+ * a segment for each of these bytes at most. psf_glyph_flat, psf_glyph_operations, psf_font_flat and psf_font_subset know no
+ * limit: ask psf_font_fits first for fonts of strangers.
+ *
+ * The library is built for 64-bit machines only.
+ *
  * Units: coordinates, widths and bounds are in 65536ths of a unit of the font. Glyphs, faces and bytes are counted from 0.
  */
 #ifndef POSTSCRIPT_H
@@ -78,7 +85,11 @@ enum {
     PSF_NO_GLYPHS = 43,                   /* no glyphs are named */
     PSF_NOT_READ_BACK = 44,               /* what was written is not read back as the font */
     PSF_TOO_LARGE = 45,                   /* what is to be written is too large */
-    PSF_TOO_LONG = 46                     /* the runs of the glyphs do not come to their ends within a limit */
+    PSF_TOO_LONG = 46,                    /* the run of a glyph, or the runs of all, do not come to their ends within the limit */
+    PSF_NO_CODE = 47,                     /* an accented glyph names no codes, whole numbers from 0 to 255 */
+    PSF_NO_ACCENTS = 48,                  /* an accented glyph of a CID-keyed font, whose glyphs have no names */
+    PSF_NO_COMPONENT = 49,                /* no glyph of the font is the base or the accent of an accented glyph */
+    PSF_NESTED_ACCENT = 50                /* the base or the accent of an accented glyph is accented itself */
 };
 
 /* What a segment is. */
@@ -173,30 +184,40 @@ int32_t psf_font_open(const uint8_t *cff, size_t length, psf_font *font);
 
 /* Whether the runs of all glyphs of a font come to their ends within a limit, which they share. A font of a few bytes may
  * name more calls of subroutines than can be run in years: a caller that does not trust one asks this once, before the calls
- * below. An operator takes a unit of the limit for each of its bytes, with the numbers before it, and a roll 4096 more.
+ * that know no limit. An operator takes a unit of the limit for each of its bytes, with the numbers before it, and a roll 4096
+ * more.
  * On PSF_OK each glyph's run ends, or is refused, with the *limit that was given. On PSF_TOO_LONG *limit is 0. Also answered:
  * errors from 1 to 15. Else *limit is what is left. */
 int32_t psf_font_fits(const uint8_t *cff, size_t length, uint64_t *limit);
 
 /* The outline of a glyph, to the front of segments[0..room]; its number of segments, its width and its bounds.
+ * An accented glyph, whose endchar takes the four numbers adx ady bchar achar (Technical Note 5177, Appendix C), is drawn whole:
+ * its own contours, those of the base, and those of the accent, with its origin at (adx, ady). Base and accent are the first
+ * glyphs that have the names of the two codes in the standard encoding (.notdef where it lists none), in the font that the bytes
+ * begin with. The width is that of the glyph's own run. The three runs share a limit of 20,000,000, which is spent as
+ * psf_font_fits says.
  * On PSF_OK and PSF_NO_ROOM *count and *info are told, and on PSF_OK segments[0..*count] is the outline: contours, each from
  * a PSF_MOVE to a PSF_CLOSE. With a room of 0 the call tells how much room is needed.
- * Also answered: PSF_NO_GLYPH, and errors from 1 to 30; then nothing is written. */
+ * Also answered: PSF_NO_GLYPH; PSF_TOO_LONG where the limit is used up; of an accented glyph PSF_NO_CODE, PSF_NO_ACCENTS,
+ * PSF_NO_COMPONENT and PSF_NESTED_ACCENT; and errors from 1 to 30, also of the base and the accent. Then segments, *count and
+ * *info are all as they were. */
 int32_t psf_glyph_outline(const uint8_t *cff, size_t length, const psf_font *font, size_t glyph,
                           psf_segment *segments, size_t room, size_t *count, psf_glyph *info);
 
-/* The bounds of the lines and curves of a glyph. (psf_glyph_outline tells those of all points, control points too.)
- * On PSF_OK *bounds is told. Also answered: PSF_NO_GLYPH, and errors from 1 to 30; then *bounds is as it was. */
+/* The bounds of the lines and curves of a glyph: those of the outline that psf_glyph_outline draws, an accented one whole, within
+ * the same limit. (psf_glyph_outline tells the bounds of all points, control points too.)
+ * On PSF_OK *bounds is told. Also answered: what psf_glyph_outline answers besides PSF_NO_ROOM; then *bounds is as it was. */
 int32_t psf_glyph_bounds(const uint8_t *cff, size_t length, const psf_font *font, size_t glyph, psf_bounds *bounds);
 
 /* The code of a glyph without calls of subroutines, to the front of code[0..room]: over any subroutines it has the operations
- * and the width of the glyph.
+ * and the width of the glyph. Knows no limit.
  * On PSF_OK and PSF_NO_ROOM *count is how many bytes it has. Also answered: PSF_NO_GLYPH, and errors from 1 to 30. */
 int32_t psf_glyph_flat(const uint8_t *cff, size_t length, const psf_font *font, size_t glyph,
                        uint8_t *code, size_t room, size_t *count);
 
 /* The operations of a glyph, in the order of its run, to the front of operations[0..room], and the operands of all of them to
- * the front of operands[0..operand_room]. Those of operations[i] are operands[first..first + count].
+ * the front of operands[0..operand_room]. Those of operations[i] are operands[first..first + count]. An accented glyph has its own
+ * operations alone. Knows no limit.
  * On PSF_OK and PSF_NO_ROOM *count and *operand_count tell how many there are of each; on PSF_NO_ROOM one of them is more than
  * its room, and nothing else is written. Also answered: PSF_NO_GLYPH, and errors from 1 to 30; then nothing is written. */
 int32_t psf_glyph_operations(const uint8_t *cff, size_t length, const psf_font *font, size_t glyph,

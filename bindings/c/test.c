@@ -1,4 +1,4 @@
-/* test FONT.hex: calls each function of postscript.h over the font whose bytes are spelled there, and compares. */
+/* test FONT.hex ACCENTS.hex: calls each function of postscript.h over the fonts whose bytes are spelled there, and compares. */
 #include <stdio.h>
 #include <stdlib.h>
 #include <string.h>
@@ -21,6 +21,14 @@ static size_t read_hex(const char *name, uint8_t *bytes, size_t room) {
     size_t length = 0;
     while (file && length < room && fscanf(file, "%2x", &byte) == 1) bytes[length++] = (uint8_t)byte;
     if (file) fclose(file);
+    return length;
+}
+
+/* The bytes that the hexadecimal digits of a text spell. */
+static size_t spell(const char *text, uint8_t *bytes, size_t room) {
+    unsigned byte;
+    size_t length = 0;
+    while (length < room && sscanf(text + 2 * length, "%2x", &byte) == 1) bytes[length++] = (uint8_t)byte;
     return length;
 }
 
@@ -76,7 +84,8 @@ static void check_spoiled(const uint8_t *cff, size_t size, const psf_font *font)
             memcpy((uint8_t *)&spoiled + 8 * field, &value, 8);
             segments[1].kind = 0xa5a5a5a5u;
             int32_t status = psf_glyph_outline(cff, size, &spoiled, 3, segments, 1, &count, &info);
-            holds(status >= 0 && status <= PSF_NO_ROOM, "a status");
+            int is_answer = (status >= 0 && status <= PSF_NO_ROOM) || (status >= PSF_TOO_LONG && status <= PSF_NESTED_ACCENT);
+            holds(is_answer, "a status");
             holds(segments[1].kind == 0xa5a5a5a5u, "nothing behind the room of a spoiled font");
         }
     }
@@ -179,6 +188,121 @@ static void check_refused(const uint8_t *cff, size_t size) {
     holds(refusal.glyph == 2 && refusal.cause == PSF_RETURN_WITHOUT_CALLER, "which, and why");
 }
 
+/* The outline of the accented glyph `C`, in units: its base `A`, and its accent `acute`, 30 to the right and 40 down. */
+static const int accented[][7] = {
+    {PSF_MOVE, 0, 0, 0, 0, 10, 20},  {PSF_LINE, 0, 0, 0, 0, 110, 20},         {PSF_LINE, 0, 0, 0, 0, 110, 70},
+    {PSF_CLOSE, 0, 0, 0, 0, 0, 0},   {PSF_MOVE, 0, 0, 0, 0, 31, -38},         {PSF_CURVE, 34, -34, 39, -28, 46, -20},
+    {PSF_CLOSE, 0, 0, 0, 0, 0, 0},
+};
+
+static int is_blank(const void *room, size_t size) {
+    const uint8_t *bytes = room;
+    for (size_t i = 0; i < size; i++)
+        if (bytes[i] != 0xa5) return 0;
+    return 1;
+}
+
+/* What a glyph is refused with by both calls that draw it. All that they are lent is left as it was. */
+static int32_t refusal_of(const uint8_t *cff, size_t size, size_t glyph) {
+    psf_font font;
+    psf_segment segments[16];
+    psf_glyph info;
+    psf_bounds bounds;
+    size_t count = 77;
+    memset(segments, 0xa5, sizeof segments);
+    memset(&info, 0xa5, sizeof info);
+    memset(&bounds, 0xa5, sizeof bounds);
+    holds(psf_font_open(cff, size, &font) == PSF_OK, "the font of a refused glyph");
+    int32_t status = psf_glyph_outline(cff, size, &font, glyph, segments, 16, &count, &info);
+    holds(psf_glyph_bounds(cff, size, &font, glyph, &bounds) == status, "the same of its bounds");
+    holds(is_blank(segments, sizeof segments) && count == 77 && is_blank(&info, sizeof info), "nothing of its outline");
+    holds(is_blank(&bounds, sizeof bounds), "nothing of its bounds");
+    return status;
+}
+
+static void check_accents(const uint8_t *cff, size_t size) {
+    static const size_t named[] = {3};
+    psf_font font;
+    psf_segment segments[16];
+    psf_glyph info;
+    psf_bounds bounds;
+    uint8_t written[512];
+    psf_refusal refusal;
+    size_t count = 0;
+    holds(psf_font_open(cff, size, &font) == PSF_OK && font.glyphs == 13, "the font of accented glyphs");
+    holds(psf_glyph_outline(cff, size, &font, 3, segments, 6, &count, &info) == PSF_NO_ROOM && count == 7, "too small a room");
+    holds(psf_glyph_outline(cff, size, &font, 3, segments, 7, &count, &info) == PSF_OK && count == 7, "an accented glyph");
+    for (int i = 0; i < 7; i++) holds(is_segment(&segments[i], accented[i]), "a segment of the base or of the accent");
+    holds(info.advance == 0 && info.has_width == 0, "its own width, which it does not tell");
+    holds(info.has_bounds == 1 && info.left == 10 * 65536 && info.bottom == -38 * 65536, "the low bounds of both");
+    holds(info.right == 110 * 65536 && info.top == 70 * 65536, "the high bounds of both");
+    holds(psf_glyph_bounds(cff, size, &font, 3, &bounds) == PSF_OK && bounds.has_bounds == 1, "the bounds of curves of both");
+    holds(bounds.left == 10 * 65536 && bounds.bottom == -38 * 65536, "their low ends");
+    holds(bounds.right == 110 * 65536 && bounds.top == 70 * 65536, "their high ends");
+    /* a width of 9 and a contour of its own, and the accent 201 to the right and 300 up */
+    holds(psf_glyph_outline(cff, size, &font, 4, segments, 16, &count, &info) == PSF_OK && count == 10, "its own contour too");
+    holds(segments[0].x == 5 * 65536 && segments[3].x == 10 * 65536 && segments[7].x == 201 * 65536, "which comes first");
+    holds(info.advance == 9 * 65536 && info.has_width == 1, "and its own width");
+    holds(psf_font_subset(cff, size, named, 1, 0, written, 512, &count, &refusal) == PSF_OK, "the font of an accented glyph");
+    check_alike(cff, size, 3, written, count, 3);
+}
+
+/* A CID-keyed font of four glyphs, of which glyph 2 ends over four operands: 0 0 65 65 endchar. */
+static const char cid[] =
+    "010004010001010102430001010121f81bf81c8b0c1e8177f7c0f824051c004a0f1c0053111c00650c241c00990c2500020101060e41646f6265"
+    "4964656e74697479000201010103bd0b02000a0001006400000004010102060b0b0e879f200a8b8bcccc0e00020101161b1e0a0005ff8b8b1e0a"
+    "0005ff8b8b0c07931c008512901c009412f88814f8ec1593130001010103160ef78e146d150000000101";
+
+static void check_refused_accents(const uint8_t *cff, size_t size) {
+    uint8_t font[sizeof cid / 2];
+    holds(refusal_of(cff, size, 5) == PSF_NESTED_ACCENT, "the base is accented itself");
+    holds(refusal_of(cff, size, 6) == PSF_NO_COMPONENT, "no glyph is the base");
+    holds(refusal_of(cff, size, 7) == PSF_NO_CODE, "65.5 is no code");
+    holds(refusal_of(cff, size, 8) == PSF_OVERFLOW, "the accent is moved out of the range");
+    holds(refusal_of(cff, size, 11) == PSF_NO_COMPONENT, "no glyph is the accent");
+    holds(refusal_of(cff, size, 13) == PSF_NO_GLYPH, "no such glyph");
+    holds(refusal_of(font, spell(cid, font, sizeof font), 2) == PSF_NO_ACCENTS, "no accents by CIDs");
+}
+
+/* Makes a font whose glyph calls the first of ten nested global subroutines. Each but the last calls the next ten times, so that
+ * its run has thousands of millions of bytes of phrases. */
+static size_t make_nested(uint8_t *cff) {
+    static const uint8_t head[] = {
+        1, 0, 4, 1,                                         /* the header */
+        0, 1, 1, 1, 2, 'N',                                 /* one name */
+        0, 1, 1, 1, 8, 0x1c, 0, 228, 17, 0x8b, 0x8b, 0x12,  /* one dictionary: 228 CharStrings 0 0 Private */
+        0, 0,                                               /* no string */
+        0, 10, 1,                                           /* ten global subroutines, with offsets of a byte */
+    };
+    /* one char string: the subroutine 0, callgsubr endchar */
+    static const uint8_t tail[] = {0, 1, 1, 1, 4, 32, 29, 14};
+    uint8_t *at = cff;
+    memcpy(at, head, sizeof head);
+    at += sizeof head;
+    for (int i = 0; i < 10; i++) *at++ = (uint8_t)(1 + 21 * i);
+    *at++ = 191;
+    for (int next = 1; next < 10; next++) {
+        for (int call = 0; call < 10; call++) {
+            *at++ = (uint8_t)(32 + next); /* its number, less the bias of 107 */
+            *at++ = 29;                   /* callgsubr */
+        }
+        *at++ = 11; /* return */
+    }
+    *at++ = 11;
+    memcpy(at, tail, sizeof tail);
+    return (size_t)(at - cff) + sizeof tail;
+}
+
+/* A run that would take minutes is stopped. */
+static void check_nested(void) {
+    uint8_t cff[512];
+    size_t size = make_nested(cff);
+    uint64_t limit = 1000000;
+    holds(size == 236, "the length of the font of nested calls");
+    holds(psf_font_fits(cff, size, &limit) == PSF_TOO_LONG && limit == 0, "it does not fit");
+    holds(refusal_of(cff, size, 0) == PSF_TOO_LONG, "nor does its glyph fit the limit of a call");
+}
+
 static void check_fits(const uint8_t *cff, size_t size) {
     uint64_t limit = 1000;
     holds(psf_font_fits(cff, size, &limit) == PSF_OK && limit > 0 && limit < 1000, "all glyphs come to their ends");
@@ -191,17 +315,17 @@ static void check_texts(void) {
     uint8_t text[80];
     size_t count = 0;
     holds(psf_version() == PSF_VERSION, "the version of the header");
-    for (int32_t status = 0; status <= PSF_TOO_LONG; status++)
+    for (int32_t status = 0; status <= PSF_NESTED_ACCENT; status++)
         holds(psf_status_text(status, text, sizeof text, &count) == PSF_OK && count > 0, "a text");
     holds(psf_status_text(PSF_NO_GLYPH, text, sizeof text, &count) == PSF_OK && memcmp(text, "no such glyph", 13) == 0, "its words");
     holds(psf_status_text(PSF_NO_GLYPH, text, 3, &count) == PSF_NO_ROOM && count == 13, "no room for a text");
-    holds(psf_status_text(PSF_TOO_LONG + 1, text, sizeof text, &count) == PSF_NO_STATUS, "no text");
+    holds(psf_status_text(PSF_NESTED_ACCENT + 1, text, sizeof text, &count) == PSF_NO_STATUS, "no text");
     holds(psf_status_text(-1, text, sizeof text, &count) == PSF_NO_STATUS, "no text below 0");
 }
 
 int main(int argc, char **argv) {
-    uint8_t file[1024];
-    if (argc != 2) return 2;
+    uint8_t file[1024], accents[256];
+    if (argc != 3) return 2;
     size_t length = read_hex(argv[1], file, sizeof file), faces = 0, place = 0, size = 0, glyph = 99;
     holds(length == 228, "the length of the font");
     holds(psf_file_faces(file, length, &faces) == PSF_OK && faces == 1, "one face");
@@ -228,6 +352,11 @@ int main(int argc, char **argv) {
     check_operations(file + place, size, &font);
     check_written(file + place, size);
     check_refused(file + place, size);
+    length = read_hex(argv[2], accents, sizeof accents);
+    holds(length == 177, "the length of the font of accented glyphs");
+    check_accents(accents, length);
+    check_refused_accents(accents, length);
+    check_nested();
     check_texts();
     printf("postscript.h: %s\n", failures ? "tests failed" : "all tests passed");
     return failures != 0;

@@ -110,6 +110,10 @@ class Status(enum.IntEnum):
     NOT_READ_BACK = 44
     TOO_LARGE = 45
     TOO_LONG = 46
+    NO_CODE = 47
+    NO_ACCENTS = 48
+    NO_COMPONENT = 49
+    NESTED_ACCENT = 50
 
 
 def _status(number: int) -> Union[Status, int]:
@@ -323,8 +327,9 @@ class Font:
 
     def fits(self, limit: int) -> bool:
         """Whether the runs of all glyphs come to their ends within a limit, which they share. An operator takes a unit for each of
-        its bytes, with the numbers before it, and a roll 4096 more. Ask it of a font that you do not trust before you draw: a few
-        bytes may name more calls of subroutines than can be run in years."""
+        its bytes, with the numbers before it, and a roll 4096 more. Ask it of a font that you do not trust before the calls that
+        know no limit (`flat_code`, `operations`, `flat` and `subset`): a few bytes may name more calls of subroutines than can be
+        run in years."""
         status = _library.psf_font_fits(self._cff, len(self._cff), byref(c_uint64(limit)))
         if status == Status.TOO_LONG:
             return False
@@ -333,15 +338,16 @@ class Font:
 
     def flat(self) -> bytes:
         """The table `CFF ` of the same glyphs without subroutines: each draws what it drew, with the same advance, name or CID, and
-        codes. Refused with a `WriteError`."""
+        codes. Knows no limit. Refused with a `WriteError`."""
         cff = self._cff
         return _font_of(
             2 * len(cff) + 1024, lambda room, size, count, refusal: _library.psf_font_flat(cff, len(cff), room, size, count, refusal)
         )
 
     def subset(self, glyphs: Iterable[int], keep_numbers: bool = False) -> bytes:
-        """The table `CFF ` of `.notdef` and these glyphs alone, without subroutines: numbered anew in ascending order, or with
-        their numbers and empty glyphs between them. Refused with a `WriteError`."""
+        """The table `CFF ` of `.notdef`, these glyphs, and the base and the accent of each one that is kept and accented, without
+        subroutines: numbered anew in ascending order, or with their numbers and empty glyphs between them. Knows no limit. Refused
+        with a `WriteError`."""
         cff, numbers = self._cff, list(glyphs)
         named = (c_size_t * len(numbers))(*numbers)
         return _font_of(
@@ -368,7 +374,13 @@ class Font:
 
 
 class Glyph:
-    """A glyph of a font. It is drawn where something of it is asked for."""
+    """A glyph of a font. It is drawn where something of it is asked for.
+
+    An accented glyph, whose `endchar` names a base and an accent (Technical Note 5177, Appendix C), is drawn whole: its own
+    contours, those of the base, and those of the accent where the glyph says. The width is its own. The runs share a limit of
+    20,000,000, which is spent as `Font.fits` says. Refused with `Status.NO_GLYPH`; with `Status.TOO_LONG` where the limit is used
+    up; an accented glyph with `Status.NO_CODE`, `NO_ACCENTS`, `NO_COMPONENT` and `NESTED_ACCENT`; and with what a run is refused
+    with."""
 
     def __init__(self, font: Font, number: int) -> None:
         self.font, self.number = font, number
@@ -411,7 +423,8 @@ class Glyph:
 
     @property
     def tight_bounds(self) -> Optional[Bounds]:
-        """The bounds of the lines and curves, to a 65536th of a unit more. None where there is no point."""
+        """The bounds of the lines and curves, to a 65536th of a unit more: of an accented glyph those of the whole. None where there is
+        no point."""
         cff, told = self.font._cff, _Bounds()
         _checked(_library.psf_glyph_bounds(cff, len(cff), byref(self.font._font), self.number, byref(told)))
         return _bounds(told)
@@ -429,13 +442,14 @@ class Glyph:
         return text.decode("ascii", "backslashreplace")
 
     def flat_code(self) -> bytes:
-        """The code without calls of subroutines: over any subroutines it has the operations and the width of the glyph."""
+        """The code without calls of subroutines: over any subroutines it has the operations and the width of the glyph. Knows no
+        limit."""
         cff, font = self.font._cff, byref(self.font._font)
         return _bytes_of(lambda room, size, count: _library.psf_glyph_flat(cff, len(cff), font, self.number, room, size, count))
 
     def operations(self) -> List[Operation]:
         """The operations, in the order of the run: with subroutines called, the width taken off, and numbers worked out. `endchar` is not
-        one of them."""
+        one of them. An accented glyph has its own alone. Knows no limit."""
         cff, font = self.font._cff, byref(self.font._font)
         room, operand_room, count, operand_count = 64, 256, c_size_t(), c_size_t()
         while True:

@@ -1,6 +1,7 @@
-"""Tests over the font whose bytes `bindings/font.hex` spells, and over fonts that are installed: python3 -m unittest.
+"""Tests over the fonts whose bytes `bindings/font.hex` and `bindings/accents.hex` spell, and over fonts that are installed:
+python3 -m unittest.
 
-The font has four glyphs, `.notdef`, `space`, `A` and `flower`. The expected values are the numbers of its char strings and of
+The first font has four glyphs, `.notdef`, `space`, `A` and `flower`. The expected values are the numbers of its char strings and of
 its dictionary, added up by hand.
 """
 
@@ -31,9 +32,50 @@ CID = bytes.fromhex(
     "146d15"
 )
 
+# What the glyphs of the second font are drawn as, or refused with: `.notdef`, `A`, `acute`, and ten more, most of them accented. The
+# paths are those of fontTools, where it draws the glyph.
+ACCENTED = [
+    "",
+    "M10 20L110 20L110 70Z",
+    "M1 2C4 6 9 12 16 20Z",
+    # the base, and then the accent, 30 to the right and 40 down
+    "M10 20L110 20L110 70ZM31 -38C34 -34 39 -28 46 -20Z",
+    # with a contour of its own
+    "M5 0L13 8ZM10 20L110 20L110 70ZM201 302C204 306 209 312 216 320Z",
+    Status.NESTED_ACCENT,
+    # no glyph is the base
+    Status.NO_COMPONENT,
+    # 65.5 is no code
+    Status.NO_CODE,
+    # the accent is moved out of the range
+    Status.OVERFLOW,
+    # the operands of the end stand in a subroutine
+    "M10 20L110 20L110 70ZM31 -38C34 -34 39 -28 46 -20Z",
+    # three operands name nothing
+    "",
+    # no glyph is the accent
+    Status.NO_COMPONENT,
+    "M5 0L13 8Z",
+]
+
+
+def spelled(name):
+    """The bytes that the digits of a file beside the bindings spell."""
+    return bytes.fromhex((pathlib.Path(__file__).resolve().parent.parent / name).read_text())
+
 
 def small():
-    return bytes.fromhex((pathlib.Path(__file__).resolve().parent.parent / "font.hex").read_text())
+    return spelled("font.hex")
+
+
+def nested():
+    """A font whose glyph calls the first of ten nested global subroutines, each of which but the last calls the next ten times."""
+    # the header, a name, a dictionary (228 CharStrings 0 0 Private), no string, and where the ten subroutines begin and end
+    font = bytes.fromhex("01000401 00010101024e 00010101081c00e4118b8b12 0000 000a01 01162b40556a7f94a9bebf")
+    for following in range(1, 10):
+        font += bytes([32 + following, 0x1D]) * 10 + b"\x0b"
+    # one char string: the subroutine 0, callgsubr endchar
+    return font + b"\x0b" + bytes.fromhex("0001010104 201d0e")
 
 
 class Recorder:
@@ -46,14 +88,16 @@ class Recorder:
         return lambda *points: self.value.append((method, points))
 
 
-class Small(unittest.TestCase):
-    def setUp(self):
-        self.font = Font.from_bytes(small())
-
+class Case(unittest.TestCase):
     def refused(self, status, call, *arguments):
         with self.assertRaises(Error) as caught:
             call(*arguments)
         self.assertEqual(caught.exception.status, status)
+
+
+class Small(Case):
+    def setUp(self):
+        self.font = Font.from_bytes(small())
 
     def test_glyph_of_a_character(self):
         glyph = self.font.glyph_of("\u2698")
@@ -150,6 +194,56 @@ class Small(unittest.TestCase):
                     self.assertTrue(all(glyph.segments is not None for glyph in (font[0], font[len(font) - 1])))
                 except (Error, IndexError):
                     pass
+
+
+class Accented(Case):
+    def setUp(self):
+        self.font = Font(spelled("accents.hex"))
+
+    def undrawn(self, status, glyph):
+        pen = Recorder()
+        self.refused(status, glyph.draw, pen)
+        self.assertEqual(pen.value, [])
+        for part in ("segments", "advance", "bounds", "tight_bounds"):
+            self.refused(status, getattr, glyph, part)
+
+    def test_outlines(self):
+        self.assertEqual(len(self.font), len(ACCENTED))
+        for glyph, row in zip(self.font, ACCENTED):
+            if isinstance(row, Status):
+                self.undrawn(row, glyph)
+            else:
+                self.assertEqual(glyph.svg_path(), row)
+        drawn = [glyph.advance for glyph, row in zip(self.font, ACCENTED) if isinstance(row, str)]
+        self.assertEqual(drawn, [0, 0, 7, 0, 9, 55, 3, 0])
+
+    def test_pen_and_bounds(self):
+        pen, glyph = Recorder(), self.font[3]
+        glyph.draw(pen)
+        base = [("moveTo", ((10, 20),)), ("lineTo", ((110, 20),)), ("lineTo", ((110, 70),)), ("closePath", ())]
+        accent = [("moveTo", ((31, -38),)), ("curveTo", ((34, -34), (39, -28), (46, -20))), ("closePath", ())]
+        self.assertEqual(pen.value, base + accent)
+        self.assertEqual((glyph.bounds, glyph.tight_bounds), ((10, -38, 110, 70), (10, -38, 110, 70)))
+
+    def test_subset(self):
+        subset = Font(self.font.subset([3]))
+        self.assertEqual([glyph.name for glyph in subset], [".notdef", "A", "acute", "C"])
+        self.assertEqual([glyph.svg_path() for glyph in subset], ACCENTED[:4])
+
+    def test_cid_keyed(self):
+        # glyph 2 is 0 0 65 65 endchar
+        font = Font(CID.replace(bytes.fromhex("92211d160e"), bytes.fromhex("8b8bcccc0e")) + bytes.fromhex("0000000101"))
+        self.undrawn(Status.NO_ACCENTS, font[2])
+        self.assertEqual(str(Error(Status.NO_ACCENTS)), "a CID-keyed font has no accented glyphs")
+
+    def test_a_run_that_takes_too_long(self):
+        font = Font(nested())
+        self.assertFalse(font.fits(1_000_000))
+        self.refused(Status.TOO_LONG, font[0].svg_path)
+        self.refused(Status.TOO_LONG, getattr, font[0], "tight_bounds")
+
+    def test_texts(self):
+        self.assertFalse([status for status in Status if str(Error(status)) == f"status {int(status)}"])
 
 
 class Installed(unittest.TestCase):

@@ -90,14 +90,22 @@ pub enum Error {
     NotReadBack = 44,
     /// What is to be written is too large.
     TooLarge = 45,
-    /// The runs of the glyphs do not come to their ends within a limit.
+    /// The run of a glyph, or the runs of all, do not come to their ends within the limit.
     TooLong = 46,
+    /// An accented glyph names no codes, whole numbers from 0 to 255.
+    NoCode = 47,
+    /// An accented glyph of a CID-keyed font, whose glyphs have no names.
+    NoAccents = 48,
+    /// No glyph of the font is the base or the accent of an accented glyph.
+    NoComponent = 49,
+    /// The base or the accent of an accented glyph is accented itself.
+    NestedAccent = 50,
     /// A status that this crate does not know.
     Other = -1,
 }
 
 /// All that have a number.
-const ERRORS: [Error; 41] = [
+const ERRORS: [Error; 45] = [
     Error::UnexpectedEof,
     Error::Memory,
     Error::MalformedOffset,
@@ -139,6 +147,10 @@ const ERRORS: [Error; 41] = [
     Error::NotReadBack,
     Error::TooLarge,
     Error::TooLong,
+    Error::NoCode,
+    Error::NoAccents,
+    Error::NoComponent,
+    Error::NestedAccent,
 ];
 
 impl Error {

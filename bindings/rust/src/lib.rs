@@ -100,7 +100,8 @@ impl<'a> Font<'a> {
 
     /// Whether the runs of all glyphs come to their ends within a limit, which they share; what is left of it is told. An
     /// operator takes a unit for each of its bytes, with the numbers before it, and a roll 4096 more. Ask it of a font that you
-    /// do not trust before the calls below: a few bytes may name more calls of subroutines than can be run in years.
+    /// do not trust before the calls that know no limit ([`Font::flat_code`], [`Font::operations`], [`Font::flat`] and
+    /// [`Font::subset`]): a few bytes may name more calls of subroutines than can be run in years.
     ///
     /// # Errors
     ///
@@ -115,9 +116,15 @@ impl<'a> Font<'a> {
 
     /// The outline of a glyph, with its width and its bounds.
     ///
+    /// An accented glyph, whose `endchar` names a base and an accent (Technical Note 5177, Appendix C), is drawn whole: its own
+    /// contours, those of the base, and those of the accent where the glyph says. The width is its own. The runs share a limit of
+    /// 20,000,000, which is spent as [`Font::fits`] says.
+    ///
     /// # Errors
     ///
-    /// [`Error::NoGlyph`] where the font has no such glyph, and where its program is refused: see [`Error`].
+    /// [`Error::NoGlyph`] where the font has no such glyph; [`Error::TooLong`] where the limit is used up; of an accented glyph
+    /// [`Error::NoCode`], [`Error::NoAccents`], [`Error::NoComponent`] and [`Error::NestedAccent`]; and where its program, or that
+    /// of the base or the accent, is refused: see [`Error`].
     pub fn outline(&self, glyph: usize) -> Result<Outline> {
         let mut segments = Vec::new();
         let told = c::outline(self.cff, &self.font, glyph, &mut segments)?;
@@ -135,7 +142,8 @@ impl<'a> Font<'a> {
         Ok(outline.glyph())
     }
 
-    /// The bounds of the lines and curves of a glyph, to a 65536th of a unit more. `None` where it has no point.
+    /// The bounds of the lines and curves of a glyph, to a 65536th of a unit more: those of [`Font::outline`], of an accented glyph
+    /// whole. `None` where it has no point.
     ///
     /// # Errors
     ///
@@ -145,17 +153,17 @@ impl<'a> Font<'a> {
     }
 
     /// The code of a glyph without calls of subroutines: over any subroutines it has the operations and the width of the
-    /// glyph.
+    /// glyph. Knows no limit.
     ///
     /// # Errors
     ///
-    /// As [`Font::outline`].
+    /// [`Error::NoGlyph`] where the font has no such glyph, and where its program is refused: see [`Error`].
     pub fn flat_code(&self, glyph: usize) -> Result<Vec<u8>> {
         c::flat(self.cff, &self.font, glyph)
     }
 
     /// The operations of a glyph, in the order of its run: with subroutines called, widths taken off, and numbers worked out.
-    /// `endchar` is not one of them.
+    /// `endchar` is not one of them. An accented glyph has its own alone. Knows no limit.
     ///
     /// ```no_run
     /// # let bytes = Vec::new();
@@ -168,14 +176,14 @@ impl<'a> Font<'a> {
     ///
     /// # Errors
     ///
-    /// As [`Font::outline`].
+    /// As [`Font::flat_code`].
     pub fn operations(&self, glyph: usize) -> Result<Vec<Operation>> {
         let (told, operands) = c::operations(self.cff, &self.font, glyph)?;
         Ok(told.into_iter().map(|told| Operation::of(told, &operands)).collect())
     }
 
     /// The table `CFF ` of the same glyphs without subroutines: each glyph draws what it drew, with the same advance, name or
-    /// CID, and codes.
+    /// CID, and codes. Knows no limit.
     ///
     /// # Errors
     ///
@@ -185,8 +193,8 @@ impl<'a> Font<'a> {
         c::font_flat(self.cff).map_err(WriteError::of)
     }
 
-    /// The table `CFF ` of `.notdef` and these glyphs alone, numbered anew in ascending order, without subroutines. An encoding
-    /// of the font's own gives way to the standard one.
+    /// The table `CFF ` of `.notdef`, these glyphs, and the base and the accent of each one that is kept and accented, numbered
+    /// anew in ascending order, without subroutines. An encoding of the font's own gives way to the standard one. Knows no limit.
     ///
     /// # Errors
     ///

@@ -1,5 +1,5 @@
 //! The font whose bytes `bindings/font.hex` spells: four glyphs, `.notdef`, `space`, `A` and `flower`. The expected values are
-//! the numbers of its char strings and of its dictionary, added up by hand.
+//! the numbers of its char strings and of its dictionary, added up by hand. `bindings/accents.hex` spells one of accented glyphs.
 use postscript::{Bounds, Error, Font, Operation, Outline, OutlineSink, Point, Segment, WriteError};
 
 fn bytes() -> Vec<u8> {
@@ -201,6 +201,96 @@ fn glyphs_of_a_cid_keyed_font() {
         let called = Operation { operator: 0x16, operands: vec![20.0] };
         assert_eq!(font.operations(1).unwrap(), [called]);
     }
+}
+
+/// The font whose bytes `bindings/accents.hex` spells: `.notdef`, `A`, `acute`, and ten more, most of them accented.
+fn accents() -> Vec<u8> {
+    hex(include_str!("../../accents.hex"))
+}
+
+/// What its glyphs are drawn as, or refused with. The paths are those of fontTools, where it draws the glyph.
+const ACCENTED: [Result<&str, Error>; 13] = [
+    Ok(""),
+    Ok("M10 20L110 20L110 70Z"),
+    Ok("M1 2C4 6 9 12 16 20Z"),
+    // the base, and then the accent, 30 to the right and 40 down
+    Ok("M10 20L110 20L110 70ZM31 -38C34 -34 39 -28 46 -20Z"),
+    // with a contour of its own
+    Ok("M5 0L13 8ZM10 20L110 20L110 70ZM201 302C204 306 209 312 216 320Z"),
+    Err(Error::NestedAccent),
+    // no glyph is the base
+    Err(Error::NoComponent),
+    // 65.5 is no code
+    Err(Error::NoCode),
+    // the accent is moved out of the range
+    Err(Error::Overflow),
+    // the operands of the end stand in a subroutine
+    Ok("M10 20L110 20L110 70ZM31 -38C34 -34 39 -28 46 -20Z"),
+    // three operands name nothing
+    Ok(""),
+    // no glyph is the accent
+    Err(Error::NoComponent),
+    Ok("M5 0L13 8Z"),
+];
+
+#[test]
+fn accented_glyphs() {
+    let bytes = accents();
+    let font = Font::from_table(&bytes).unwrap();
+    let paths: Vec<_> = font.outlines().map(|outline| outline.map(|outline| outline.svg_path())).collect();
+    assert_eq!(paths, ACCENTED.map(|row| row.map(String::from)));
+    let advances: Vec<f64> = font.outlines().flatten().map(|outline| outline.advance).collect();
+    assert_eq!(advances, [0.0, 0.0, 7.0, 0.0, 9.0, 55.0, 3.0, 0.0]);
+    let mut sink = Kinds::default();
+    let bounds = Some(Bounds { low: p(10.0, -38.0), high: p(110.0, 70.0) });
+    assert_eq!(font.draw(3, &mut sink).unwrap().bounds, bounds);
+    assert_eq!(sink.0, "MLLZMCZ");
+    assert_eq!(font.tight_bounds(3), Ok(bounds));
+    let subset = font.subset(&[3]).unwrap();
+    assert_eq!(drawn(&subset, &[0, 1, 2, 3]), drawn(&bytes, &[0, 1, 2, 3]));
+}
+
+#[test]
+fn accented_glyphs_that_are_not_drawn() {
+    let bytes = accents();
+    let font = Font::from_table(&bytes).unwrap();
+    for (glyph, row) in ACCENTED.iter().enumerate() {
+        let mut sink = Kinds::default();
+        assert_eq!(font.draw(glyph, &mut sink).err(), row.err());
+        assert_eq!(font.tight_bounds(glyph).err(), row.err());
+        assert!(row.is_ok() || sink.0.is_empty());
+    }
+    // glyph 2 of a CID-keyed font: 0 0 65 65 endchar
+    let bytes = hex(&format!("{}0000000101", CID.replace("92211d160e", "8b8bcccc0e")));
+    let font = Font::from_table(&bytes).unwrap();
+    assert_eq!(font.outline(2), Err(Error::NoAccents));
+    assert_eq!(font.tight_bounds(2), Err(Error::NoAccents));
+    assert_eq!(Error::NoAccents.to_string(), "a CID-keyed font has no accented glyphs");
+    assert_eq!(Error::NestedAccent.status(), 50);
+}
+
+/// A font whose glyph calls the first of ten nested global subroutines, each of which but the last calls the next ten times.
+fn nested() -> Vec<u8> {
+    // the header, a name, a dictionary (228 CharStrings 0 0 Private), no string, and where the ten subroutines begin and end
+    let mut font = hex("01000401 00010101024e 00010101081c00e4118b8b12 0000 000a01 01162b40556a7f94a9bebf");
+    for next in 1..10 {
+        font.extend([32 + next, 0x1d].repeat(10));
+        font.push(0x0b);
+    }
+    font.push(0x0b);
+    // one char string: the subroutine 0, callgsubr endchar
+    font.extend(hex("0001010104 201d0e"));
+    font
+}
+
+#[test]
+fn a_run_that_takes_too_long() {
+    let bytes = nested();
+    let font = Font::from_table(&bytes).unwrap();
+    assert_eq!(font.fits(&mut 1_000_000), Ok(false));
+    assert_eq!(font.outline(0), Err(Error::TooLong));
+    assert_eq!(font.tight_bounds(0), Err(Error::TooLong));
+    assert_eq!(Error::TooLong.to_string(), "the run takes longer than the limit");
 }
 
 /// Each beginning of the table, and each table with one byte changed, is opened and drawn, or refused.

@@ -4,18 +4,21 @@ use Rattle.std.specs.Prelude.{IfErr, IsErrAnd, MatchOption, OnOk, option_map}
 use denote.Ref.{Bor}
 use Rattle.postscript_base.specs.Tape.Outcome.{Got, after}
 use Rattle.postscript_c.specs.Glyphs.{index_at, program_of}
-use Rattle.postscript_c.specs.Drawn.{AreNamed, DrawsWhole, IsFirst, IsNamedBy, IsNamedRefused, IsWholeRefused, wanting, undrawn}
+use Rattle.postscript_c.specs.Drawn.{AreNamed, DrawsWhole, IsFirst, IsNamedBy, IsNamedRefused, IsSpentOnNamed, IsUsedUp, IsWantingIn, IsWholeRefused, by_components, by_itself, limit, unnamed, wanting, undrawn}
 use Rattle.postscript_drawing.specs.Accents.{IsAccent}
 use Rattle.postscript_drawing.specs.DrawnProgram.{DrawsProgram, IsProgramRefused, IsWanting}
 use Rattle.postscript_drawing.specs.Drawn.{DrawsComponents, Takes, zero_point}
 use Rattle.postscript_drawing.specs.Refused.{AreRefused}
 use Rattle.postscript_drawing.specs.declared.accent.Accent.{Accent}
+use Rattle.postscript_drawing.specs.Spending.{SpendsOnRuns}
 use Rattle.postscript_drawing.specs.declared.error.Error.{Error}
+use Rattle.postscript_drawing.specs.declared.error.Error.TheVariants.{Font, Full, TooLong, NoSuchGlyph, NoCode, NoAccents, MissingComponent, NestedAccent}
 use Rattle.postscript_outline.specs.declared.segment.Segment.{Segment}
 use Rattle.postscript_type2.specs.Program.Evaluation.{run_of}
+use Rattle.postscript_type2.specs.Program.Limit.{Spends}
 use Rattle.postscript_type2.specs.Program.Programs.{Pending, begun}
 use Rattle.postscript_type2.specs.Program.Routines.{lent}
-use Rattle.postscript_type2.specs.Program.Runs.{taken_by}
+use Rattle.postscript_type2.specs.Program.Runs.{Said, taken_by}
 use Rattle.postscript_view.specs.declared.font.FontView.{FontView}
 
 pub fold-append : {T : Type 0} (after : T → Segment → T) (t : T) (xs ys : List Segment) → fold after t (xs ++ ys) ≡ fold after (fold after t xs) ys
@@ -34,11 +37,11 @@ named-drawn after old new (Ok done) bytes named accent font is first takes =
     (takes.0, subst (λ (a : Option Accent). AreNamed bytes a takes.0) (sym is) (font, first, takes.1), takes.2)
 named-drawn after old new (Err e) bytes named accent font is first takes = tt
 
-pub named-refused : (left : ℕ) (r : Result (Unit {0}) Error) (bytes : List ℕ) (named : Option Accent) (accent : Accent) (font : FontView) → named ≡ Some accent → IsFirst bytes font →
-    IfErr r (λ e. IsWanting left e ⊎ AreRefused font accent e) → IfErr r (λ e. IsWanting left e ⊎ IsNamedRefused bytes named e)
-named-refused left (Ok done) bytes named accent font is first why = tt
-named-refused left (Err e) bytes named accent font is first (inl want) = inl want
-named-refused left (Err e) bytes named accent font is first (inr why) =
+pub named-refused : (before left : ℕ) (r : Result (Unit {0}) Error) (bytes : List ℕ) (named : Option Accent) (accent : Accent) (font : FontView) → named ≡ Some accent → IsFirst bytes font → SpendsOnRuns font 2 before left →
+    IfErr r (λ e. IsWanting left e ⊎ AreRefused font accent e) → IfErr r (λ e. (IsWanting left e × IsSpentOnNamed bytes before left) ⊎ IsNamedRefused bytes named e)
+named-refused before left (Ok done) bytes named accent font is first spends why = tt
+named-refused before left (Err e) bytes named accent font is first spends (inl want) = inl (want, inr (font, first, spends))
+named-refused before left (Err e) bytes named accent font is first spends (inr why) =
     inr (subst (λ (a : Option Accent). IsNamedRefused bytes a e) (sym is) (inr (font, first, why)))
 
 -- a program and what its glyph names
@@ -50,9 +53,38 @@ whole-drawn after old middle new bytes program width named own names more = (
   more.2 ∙ ap (λ t. fold after t more.0) own.taken ∙ sym (fold-append after old own.segments more.0),
 )
 
-pub by-program : (left : ℕ) (bytes : List ℕ) (program : Pending) (e : Error) → IsProgramRefused zero_point program left e → IsWholeRefused bytes program e
-by-program left bytes program e (inl want) = wanting left want
-by-program left bytes program e (inr why) = undrawn why
+own-wanting : (left : ℕ) (bytes : List ℕ) (program : Pending) (e : Error) (rest : List Said) → Spends limit program.trace left rest → IsWanting left e → IsWantingIn bytes program e
+own-wanting left bytes program (Font cause) rest spends want = want
+own-wanting left bytes program Full rest spends want = tt
+own-wanting left bytes program TooLong rest spends want = by_itself rest (subst (λ n. Spends limit program.trace n rest) want spends)
+own-wanting left bytes program (NoSuchGlyph glyph) rest spends want = want
+own-wanting left bytes program NoCode rest spends want = want
+own-wanting left bytes program NoAccents rest spends want = want
+own-wanting left bytes program (MissingComponent code) rest spends want = want
+own-wanting left bytes program (NestedAccent code) rest spends want = want
+
+pub by-program : (left : ℕ) (bytes : List ℕ) (program : Pending) (e : Error) → (rest : List Said) × Spends limit program.trace left rest → IsProgramRefused zero_point program left e → IsWholeRefused bytes program e
+by-program left bytes program e spends (inl want) = wanting (own-wanting left bytes program e spends.0 spends.1 want)
+by-program left bytes program e spends (inr why) = undrawn why
+
+named-used-up : (before left : ℕ) (bytes : List ℕ) (program : Pending) → Spends limit program.trace before [] → IsSpentOnNamed bytes before left → left ≡ 0 → IsUsedUp bytes program
+named-used-up before left bytes program own (inl same) none = by_itself [] (subst (λ n. Spends limit program.trace n []) (sym same ∙ none) own)
+named-used-up before left bytes program own (inr (font, first, spends)) none = by_components font before first own (subst (λ n. SpendsOnRuns font 2 before n) none spends)
+
+named-wanting : (before left : ℕ) (bytes : List ℕ) (program : Pending) (e : Error) → Spends limit program.trace before [] → IsSpentOnNamed bytes before left → IsWanting left e → IsWantingIn bytes program e
+named-wanting before left bytes program (Font cause) own spends want = want
+named-wanting before left bytes program Full own spends want = tt
+named-wanting before left bytes program TooLong own spends want = named-used-up before left bytes program own spends want
+named-wanting before left bytes program (NoSuchGlyph glyph) own spends want = want
+named-wanting before left bytes program NoCode own spends want = want
+named-wanting before left bytes program NoAccents own spends want = want
+named-wanting before left bytes program (MissingComponent code) own spends want = want
+named-wanting before left bytes program (NestedAccent code) own spends want = want
+
+pub by-named : (before left : ℕ) (bytes : List ℕ) (program : Pending) (named : Option Accent) (e : Error) → Spends limit program.trace before [] → IsNamedBy (taken_by program.end) named →
+    (IsWanting left e × IsSpentOnNamed bytes before left) ⊎ IsNamedRefused bytes named e → IsWholeRefused bytes program e
+by-named before left bytes program named e own names (inl want) = wanting (named-wanting before left bytes program e own want.1 want.0)
+by-named before left bytes program named e own names (inr why) = unnamed named names why
 
 pub named-so : (named : Option Accent) (told taken : List ℤ) → told ≡ taken → MatchOption named (length told ≢ 4) (λ accent. IsAccent told accent) → IsNamedBy taken named
 named-so None told taken same other = subst (λ (xs : List ℤ). length xs ≢ 4) same other

@@ -13,10 +13,12 @@ use Rattle.postscript_drawing.specs.Outline.{outlined_at}
 use Rattle.postscript_drawing.specs.Refused.{AreRefused}
 use Rattle.postscript_drawing.specs.declared.accent.Accent.{Accent}
 use Rattle.postscript_drawing.specs.declared.error.Error.{Error}
-use Rattle.postscript_drawing.specs.declared.error.Error.TheVariants.{Font, NoCode}
+use Rattle.postscript_drawing.specs.declared.error.Error.TheVariants.{Font, NoCode, TooLong}
 use Rattle.postscript_outline.specs.declared.segment.Segment.{Segment}
+use Rattle.postscript_drawing.specs.Spending.{SpendsOnRuns}
+use Rattle.postscript_type2.specs.Program.Limit.{Spends}
 use Rattle.postscript_type2.specs.Program.Programs.{Pending}
-use Rattle.postscript_type2.specs.Program.Runs.{taken_by, width_by}
+use Rattle.postscript_type2.specs.Program.Runs.{Said, taken_by, width_by}
 use Rattle.postscript_view.specs.Order.{view}
 use Rattle.postscript_view.specs.Value.{view_shown}
 use Rattle.postscript_view.specs.declared.font.FontView.{FontView}
@@ -40,6 +42,10 @@ abbrev pub AreNamed : (bytes : List ℕ) → Option Accent → List Segment → 
 AreNamed bytes None segments = segments ≡ []
 AreNamed bytes (Some accent) segments = (font : FontView) × IsFirst bytes font × DrawsComponents font accent segments
 
+-- what was spent was spent on nothing, or on the runs of two glyphs of the font at most
+abbrev pub IsSpentOnNamed : (bytes : List ℕ) → (before left : ℕ) → Type 0
+IsSpentOnNamed bytes before left = (left ≡ before) ⊎ ((font : FontView) × IsFirst bytes font × SpendsOnRuns font 2 before left)
+
 -- why these are not drawn
 abbrev pub IsNamedRefused : (bytes : List ℕ) → Option Accent → Error → Type 0
 IsNamedRefused bytes None e = ⊥
@@ -56,9 +62,23 @@ pub record DrawsWhole (bytes : List ℕ) (program : Pending) (segments : List Se
   pub all : segments ≡ own ++ more
   pub width_is : width ≡ width_by program.width program.answers program.end
 
+-- the units that a drawing may take (`LIMIT` of postscript_drawing)
+abbrev pub limit : ℕ
+limit = 20000000
+
+-- The limit is used up: on phrases at the front of the program, or on all of them and on the runs of two glyphs of the font at most.
+pub data IsUsedUp (bytes : List ℕ) (program : Pending) : Type 0 where
+  by_itself : (rest : List Said) → Spends limit program.trace 0 rest → IsUsedUp bytes program
+  by_components : (font : FontView) (left : ℕ) → IsFirst bytes font → Spends limit program.trace left [] → SpendsOnRuns font 2 left 0 → IsUsedUp bytes program
+
+-- memory is wanting, also where it is for the segments, or the limit is used up
+abbrev pub IsWantingIn : (bytes : List ℕ) → Pending → Error → Type 0
+IsWantingIn bytes program TooLong = IsUsedUp bytes program
+IsWantingIn bytes program e = IsWanting 0 e
+
 -- Why it does not: something is wanting, its own run or what it names is refused, or it names no codes.
 pub data IsWholeRefused (bytes : List ℕ) (program : Pending) (e : Error) : Type 0 where
-  wanting : (left : ℕ) → IsWanting left e → IsWholeRefused bytes program e
+  wanting : IsWantingIn bytes program e → IsWholeRefused bytes program e
   undrawn : IsUndrawn zero_point e program.answers program.end → IsWholeRefused bytes program e
   unread : e ≡ NoCode → HasNoCodes (taken_by program.end) → IsWholeRefused bytes program e
   unnamed : (accent : Option Accent) → IsNamedBy (taken_by program.end) accent → IsNamedRefused bytes accent e → IsWholeRefused bytes program e

@@ -51,7 +51,7 @@ pub fn outline_of(
 /// Refused: `NoSuchGlyph`; `NoCode`, as `Accent::named_by` is; `NoAccents` and `MissingComponent`, as `component_of` is, for the
 /// base or the accent; `NestedAccent` where one of these is accented itself; `TooLong` where the limit is used up before the end;
 /// `Full` where the sink takes no more; `Font` with what a run or the char set is refused with, with `Overflow` where a coordinate
-/// leaves the range, and with `Memory`. The sink has been given the segments up to there.
+/// leaves the range, and with `Memory`. What the sink has been given up to there is open.
 pub fn draw_glyph<S: Sink>(
     alloc: Global,
     font: &FontView<'_>,

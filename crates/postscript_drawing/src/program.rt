@@ -11,8 +11,7 @@ use crate::pen::Pen;
 use postscript_outline::{Point, Sink};
 use postscript_type2::{Operand, Program, Within};
 
-/// A limit that no glyph comes near that is not made to: the glyphs of a font of some 10,000 cost some two million units together.
-/// A run that uses it up takes well under a second.
+/// A limit for a glyph of a font that may be a stranger's, in units of `Program::step_within`.
 pub const LIMIT: u64 = 20_000_000;
 
 /// Draws what a program still answers into a sink, with the origin of the glyph at a point: gives the sink the segments, one after

@@ -15,7 +15,7 @@ pub struct Full;
 /// What a sink answers that is given a segment.
 pub type Given = std::result::Result<(), Full>;
 
-/// What is given the segments of an outline, one after another, and makes of them what it will: a list, bounds, a text.
+/// What is given the segments of an outline, one after another, and makes of them what it will: a list, or bounds.
 pub trait Sink {
     ghost use Rattle.postscript_outline.specs.declared.segment.Segment.{Segment};
 

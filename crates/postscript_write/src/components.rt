@@ -10,8 +10,8 @@ ghost use Rattle.postscript_write.specs.Components.{AreComponentsOf, IsFound, Is
 ghost use Rattle.postscript_write.specs.declared.error.Error.TheVariants as errors;
 
 use crate::error::{Error, Result};
-use postscript_drawing::{Accent, Error as Undrawn, component_of};
 use postscript_base::Error as Cause;
+use postscript_drawing::{Accent, Error as Undrawn, component_of};
 use postscript_type2::{Operand, Program};
 use postscript_view::{FontView, Glyph};
 use std::alloc::Global;

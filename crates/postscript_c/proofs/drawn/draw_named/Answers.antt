@@ -10,4 +10,4 @@ returns-clause-drawn g c =
 pub returns-clause-why : goal.returns-clause-why
 returns-clause-why g c =
     let first : IsFirst c.args.bytes.now c.in_ok-font.font = record { shown = c.in_ok-font.ensures.exact; there = c.in_ok-font.ensures.bytes } in
-    named-refused c.draw_components.new.limit c.draw_components.result c.args.bytes.now c.args.accent c.in-Some.accent c.in_ok-font.font c.in-Some.is first c.draw_components.ensures.why
+    named-refused c.args.limit.now c.draw_components.new.limit c.draw_components.result c.args.bytes.now c.args.accent c.in-Some.accent c.in_ok-font.font c.in-Some.is first c.draw_components.ensures.spends c.draw_components.ensures.why
