@@ -101,6 +101,6 @@ agrees bytes v n p m e h =
       glyphs = sym count_p ∙ c.1 ∙ ap (λ (s : List (List ℕ)). length s) codes_v;
     }
 
-pub font_of : (answer : Result PsfFont Error) (bytes : List ℕ) → Answers placed answer 0 (places bytes 0) → IfOk answer (λ font. TellsWidths bytes font.part) → IsFontOf bytes answer
+pub font_of : (answer : Result PsfFont Error) (bytes : List ℕ) → Answers placed answer 0 (places bytes 0) → IfOk answer (λ font. TellsWidths bytes font) → IsFontOf bytes answer
 font_of (Ok font) bytes e w = record { reads = e; widths = w; same = λ v next h. agrees bytes v next (placed font) 0 h e }
 font_of (Err refusal) bytes e w = record { reads = e; widths = tt; same = tt }

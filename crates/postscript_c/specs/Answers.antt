@@ -1,6 +1,7 @@
 -- What C is told of a glyph.
 use Rattle.std.specs.Prelude.{◌≡◌, ◌≢◌, ◌⊎◌, ℕ, ◌<◌, ◌==◌, ℤ, pos, ◌+ℤ◌, if◌then◌else◌, List, length, take, map, Option, Some, None, Result, Ok, Err}
 use Rattle.std.specs.Int.{saturate_signed, w64}
+use Rattle.std.specs.Option.{is_some}
 use Rattle.postscript_base.specs.Error.{code}
 use Rattle.postscript_base.specs.declared.error.Error.{Error as Cause}
 use Rattle.postscript_base.specs.declared.error.Error.TheVariants.{Memory}
@@ -44,10 +45,20 @@ pub record IsToldOf (drawn : Drawn) (part : PsfPart) (told : PsfGlyph) : Type 0 
   pub advance : told.advance ≡ advance drawn.width part
   pub bounds : IsBoundsOf (bounds_of told) (points drawn.segments)
 
+-- the bounds are 0 where there is no point
+abbrev pub HasZeros : PsfGlyph → Type 0
+HasZeros told = told.has_bounds ≡ 0 → (told.left ≡ pos 0) × (told.bottom ≡ pos 0) × (told.right ≡ pos 0) × (told.top ≡ pos 0)
+
+-- whether the program tells a width is told
+abbrev pub TellsWidth : Drawn → PsfGlyph → Type 0
+TellsWidth drawn told = told.has_width ≡ (if is_some drawn.width then 1 else 0)
+
 -- The number of segments is told. On 0 they stand at the front of the room, and on 32 they are more than the room.
 pub record Hands (found : Glyph) (status : ℤ) (segments : List PsfSegment) (count : ℕ) (told : PsfGlyph) : Type 0 where
   pub counted : count ≡ length found.drawn.segments
   pub tells : IsToldOf found.drawn found.part told
+  pub zeros : HasZeros told
+  pub width : TellsWidth found.drawn told
   pub handed : ((status ≡ pos 0) × (take count segments ≡ map segment_shown found.drawn.segments)) ⊎ ((status ≡ pos 32) × (length segments < count))
 
 -- what C lends to a call, as it stands at one time
@@ -88,6 +99,8 @@ sides_of told = if told.has_bounds == 0 then None else Some (record { low = poin
 
 -- What C is told of the bounds of an answer's lines and curves: a refusal by its number, and 31 where there is no such glyph.
 abbrev pub TellsBounds : Result (Option Glyph) Error → (status : ℤ) → (old new : PsfBounds) → Type 0
-TellsBounds (Ok (Some found)) status old new = (status ≡ pos 0) × IsTightBoundsOf (sides_of new) (arcs (point (pos 0) (pos 0)) found.drawn.segments)
+TellsBounds (Ok (Some found)) status old new =
+    (status ≡ pos 0) × IsTightBoundsOf (sides_of new) (arcs (point (pos 0) (pos 0)) found.drawn.segments)
+    × (new.has_bounds ≡ 0 → (new.left ≡ pos 0) × (new.bottom ≡ pos 0) × (new.right ≡ pos 0) × (new.top ≡ pos 0))
 TellsBounds (Ok None) status old new = (status ≡ pos 31) × (new ≡ old)
 TellsBounds (Err e) status old new = (status ≡ pos (undrawn_code e)) × (new ≡ old)

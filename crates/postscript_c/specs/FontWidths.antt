@@ -1,9 +1,11 @@
--- The widths that C is told of a font that is not CID-keyed.
+-- What C is told of a font besides its INDEXes: the widths of one that is not CID-keyed, and whether it is.
 use Rattle.std.specs.Prelude.{◌≡◌, ℕ, List, None}
 use Rattle.postscript_base.specs.Compact1.Defaults.{look}
 use Rattle.postscript_base.specs.Compact1.Dictionary.{Dictionary}
 use Rattle.postscript_base.specs.declared.compact1.operator.Operator.TheVariants as operators
 use Rattle.postscript_base.specs.Tape.Outcome.{Got}
+use Rattle.postscript_c.specs.Keyed.{IsKeyedBy}
+use Rattle.postscript_c.specs.declared.font.PsfFont.{PsfFont}
 use Rattle.postscript_c.specs.declared.part.PsfPart.{PsfPart}
 use Rattle.postscript_c.specs.Places.{tables}
 use Rattle.postscript_c.specs.Widths.{AreWidths}
@@ -13,11 +15,12 @@ use Rattle.postscript_view.specs.Order.{aside, header_size}
 abbrev pub HaveWidths : List ℕ → Dictionary → PsfPart → Type 0
 HaveWidths bytes map part = look map operators.ROS ≡ None → AreWidths bytes map part.default_width part.nominal_width
 
--- they are those of the first font
-pub record TellsWidths (bytes : List ℕ) (part : PsfPart) : Type 0 where
+-- they are those of the first font, which is CID-keyed or not as its dictionary says
+pub record TellsWidths (bytes : List ℕ) (font : PsfFont) : Type 0 where
   pub size : ℕ
   pub map : Dictionary
   pub global : ℕ
   pub header : header_size bytes 0 ≡ Got size 0
   pub stands : aside size tables bytes 0 ≡ Got (map, global) 0
-  pub have : HaveWidths bytes map part
+  pub have : HaveWidths bytes map font.part
+  pub keyed : IsKeyedBy map font

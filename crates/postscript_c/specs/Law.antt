@@ -16,5 +16,5 @@ pub record AreOf (bytes : List ℕ) (v : View) (p : Places) : Type 0 where
 -- The places and the widths that are read, or the refusal; and where the font is opened in place, they are of it.
 pub record IsFontOf (bytes : List ℕ) (answer : Result PsfFont Error) : Type 0 where
   pub reads : Answers placed answer 0 (places bytes 0)
-  pub widths : IfOk answer (λ font. TellsWidths bytes font.part)
+  pub widths : IfOk answer (λ font. TellsWidths bytes font)
   pub same : IfOk answer (λ font. (v : View) (next : ℕ) → view bytes 0 ≡ Got v next → AreOf bytes v (placed font))

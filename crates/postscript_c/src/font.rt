@@ -1,7 +1,8 @@
 //! Fonts as plain numbers.
-ghost use Rattle.std.specs.Prelude.{◌≡◌, ℕ, IfOk, slice_get};
+ghost use Rattle.std.specs.Prelude.{◌≡◌, ℕ, IfOk, slice_get, true, false};
 ghost use Rattle.postscript_base.specs.Tape.Outcome.{Answers, same};
 ghost use Rattle.postscript_c.specs.Places.{codes as the_codes, local as the_local, placed, places, places_of, tables as the_tables};
+ghost use Rattle.postscript_c.specs.Keyed.{IsKeyedBy, IsPlaceOrNone};
 ghost use Rattle.postscript_c.specs.FontWidths.{HaveWidths, TellsWidths};
 ghost use Rattle.postscript_items.specs.Lent.{items_of};
 ghost use Rattle.postscript_view.specs.Order.{aside, map_from};
@@ -59,10 +60,12 @@ fn tables(alloc: Global, bytes: &[u8], start: usize) -> Result<(Operations, u64)
 }
 
 /// The place that an operator names; 0 where it is lacking, or names none.
-fn place_or_none(dictionary: &Operations, operator: Operator) -> u64 {
+fn place_or_none(dictionary: &Operations, operator: Operator) -> u64
+    ensures { IsPlaceOrNone dictionary.now operator result }
+{
     match place_at(0, 0, dictionary, operator) {
         Ok(place) => place,
-        Err(_) => 0,
+        Err(_e) => 0,
     }
 }
 
@@ -90,7 +93,10 @@ fn local(alloc: Global, bytes: &[u8], dictionary: &Operations) -> Result<PsfPart
 }
 
 /// The place that an operator names, of a CID-keyed font; else 0.
-fn cid_place(dictionary: &Operations, is_cid: bool, operator: Operator) -> u64 {
+fn cid_place(dictionary: &Operations, is_cid: bool, operator: Operator) -> u64
+    ensures cid { is_cid ≡ true → IsPlaceOrNone dictionary.now operator result }
+    ensures plain { is_cid ≡ false → result ≡ 0 }
+{
     if is_cid {
         place_or_none(dictionary, operator)
     } else {
@@ -108,6 +114,7 @@ fn font_of(
 ) -> Result<PsfFont>
     ensures exact { (place : ℕ) → Answers placed result place (places_of dictionary.now global_subroutines bytes.now place) }
     ensures widths { IfOk result (λ font. HaveWidths bytes.now dictionary.now font.part) }
+    ensures keyed { IfOk result (λ font. IsKeyedBy dictionary.now font) }
 {
     let (char_strings, glyphs) = codes(bytes, dictionary)?;
     let part = local(alloc, bytes, dictionary)?;
@@ -127,7 +134,7 @@ fn font_of(
 #[tactic(auto, unfolding(crate::specs::Places::places))]
 pub(crate) fn opened(alloc: Global, bytes: &[u8]) -> Result<PsfFont>
     ensures exact { (place : ℕ) → Answers placed result place (places bytes.now place) }
-    ensures widths { IfOk result (λ font. TellsWidths bytes.now font.part) }
+    ensures widths { IfOk result (λ font. TellsWidths bytes.now font) }
 {
     let size = header_size(bytes)?;
     let (dictionary, global_subroutines) = tables(alloc, bytes, size)?;

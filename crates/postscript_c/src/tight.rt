@@ -1,5 +1,5 @@
 //! The bounds of the lines and curves of a glyph.
-ghost use Rattle.std.specs.Prelude.{pos};
+ghost use Rattle.std.specs.Prelude.{◌≡◌, pos};
 ghost use Rattle.postscript_c.specs.Answers.{IsOf, TellsBounds, sides_of};
 ghost use Rattle.postscript_c.specs.Shown.{traced_shown};
 ghost use Rattle.postscript_outline.specs.Points.{point};
@@ -57,7 +57,8 @@ pub struct PsfBounds {
 
 /// The bounds of the lines and curves of an outline.
 pub(crate) fn tight(outline: &Outline) -> PsfBounds
-    ensures { IsTightBoundsOf (sides_of result) (arcs (point (pos 0) (pos 0)) outline.now.segments.items) }
+    ensures bounds { IsTightBoundsOf (sides_of result) (arcs (point (pos 0) (pos 0)) outline.now.segments.items) }
+    ensures none { result.has_bounds ≡ 0 → (result.left ≡ pos 0) × (result.bottom ≡ pos 0) × (result.right ≡ pos 0) × (result.top ≡ pos 0) }
 {
     match outline.tight_bounds() {
         Some(bounds) => PsfBounds {

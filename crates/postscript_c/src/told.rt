@@ -1,7 +1,7 @@
 //! What is told of a glyph besides its segments.
 ghost use Rattle.std.specs.Prelude.{◌≡◌, pos};
 ghost use Rattle.postscript_base.specs.Error.{code};
-ghost use Rattle.postscript_c.specs.Answers.{advance as the_advance, IsToldOf, undrawn_code};
+ghost use Rattle.postscript_c.specs.Answers.{advance as the_advance, HasZeros, IsToldOf, TellsWidth, undrawn_code};
 ghost use Rattle.postscript_c.specs.Shown.{drawn_shown};
 
 use crate::part::PsfPart;
@@ -63,7 +63,9 @@ fn advance(width: Option<Operand>, part: &PsfPart) -> i64
 
 /// What is told of a glyph.
 pub(crate) fn told(found: &Found) -> PsfGlyph
-    ensures { IsToldOf (drawn_shown found.now) found.now.part result }
+    ensures told { IsToldOf (drawn_shown found.now) found.now.part result }
+    ensures zeros { HasZeros result }
+    ensures width { TellsWidth (drawn_shown found.now) result }
 {
     let advance = advance(found.width, &found.part);
     let has_width = u32::from(found.width.is_some());
