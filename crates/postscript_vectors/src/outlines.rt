@@ -478,7 +478,7 @@ fn programs_drawn_into_one_list(rt: HostRuntime) {
     let outline = Outline { segments, width };
     let path = outline.to_string(alloc).expect(&rt, "memory");
     is_text(&rt, path.as_str(), "M1 2L4 2ZM4 0L4 5Z", "both");
-    let width = width.and_then(|width| width.to_int());
+    let width = outline.width.and_then(|width| width.to_int());
     holds(&rt, width == Some(5), "the width");
 }
 
