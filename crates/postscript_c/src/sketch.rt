@@ -55,6 +55,8 @@ impl Sink for Sketch {
 
     ghost after = { λ segments segment. segments ++ segment ∷ [] };
 
+    ghost refuses = { λ _. Unit {0} };
+
     #[inline(always)]
     fn add(&mut self, segment: Segment) -> Given {
         self.segments.push(shown(segment))?;

@@ -21,10 +21,10 @@ fold-append after t [] ys = refl
 fold-append after t (x ∷ xs) ys = fold-append after (after t x) xs ys
 
 -- a refusal that is passed on
-pub passed-on : {T : Type 0} {after : T → Segment → T} {strokes : List Stroke} {pen pen' : Pen} {old new : T} (r : Result (Unit {0}) Undrawn) (e : Undrawn) → IsErrAnd r (λ x. x ≡ e) →
-    DrawsStrokes after strokes pen old (Err e) pen' new → DrawsStrokes after strokes pen old r pen' new
+pub passed-on : {T : Type 0} {after : T → Segment → T} {refuses : T → Type 0} {strokes : List Stroke} {pen pen' : Pen} {old new : T} (r : Result (Unit {0}) Undrawn) (e : Undrawn) → IsErrAnd r (λ x. x ≡ e) →
+    DrawsStrokes after refuses strokes pen old (Err e) pen' new → DrawsStrokes after refuses strokes pen old r pen' new
 passed-on (Ok x) e same draws = absurd same
-passed-on {T} {after} {strokes} {pen} {pen'} {old} {new} (Err x) e same draws = subst (λ x. DrawsStrokes after strokes pen old (Err x) pen' new) (sym same) draws
+passed-on {T} {after} {refuses} {strokes} {pen} {pen'} {old} {new} (Err x) e same draws = subst (λ x. DrawsStrokes after refuses strokes pen old (Err x) pen' new) (sym same) draws
 
 -- strokes, and others behind them
 
@@ -46,9 +46,9 @@ both-drawn : (these those : List Stroke) (pen mid : Pen) (given : List Segment) 
 both-drawn these those pen mid given first =
     drawing-append these those (held pen []) ∙ ap (λ r. r >>= drawing those) first ∙ drawing-behind those (held mid given)
 
-pub joined : {T : Type 0} {after : T → Segment → T} {these those : List Stroke} {pen mid pen' : Pen} {old between new : T} {done : Unit {0}} {r : Result (Unit {0}) Undrawn} →
-    DrawsStrokes after these pen old (Ok done) mid between → DrawsStrokes after those mid between r pen' new → DrawsStrokes after (these ++ those) pen old r pen' new
-joined {T} {after} {these} {those} {pen} {mid} {pen'} {old} {between} {new} {done} {r} first next =
+pub joined : {T : Type 0} {after : T → Segment → T} {refuses : T → Type 0} {these those : List Stroke} {pen mid pen' : Pen} {old between new : T} {done : Unit {0}} {r : Result (Unit {0}) Undrawn} →
+    DrawsStrokes after refuses these pen old (Ok done) mid between → DrawsStrokes after refuses those mid between r pen' new → DrawsStrokes after refuses (these ++ those) pen old r pen' new
+joined {T} {after} {refuses} {these} {those} {pen} {mid} {pen'} {old} {between} {new} {done} {r} first next =
     let whole = sym (both-drawn these those pen mid first.given first.draws.exact) in
     let wanted = drawing those (held mid []) in
     record {
@@ -58,6 +58,7 @@ joined {T} {after} {these} {those} {pen} {mid} {pen'} {old} {between} {new} {don
         front = subst (λ w. OnErr r (IfOk w (λ d. IsFront (first.given ++ next.given) d.segments))) whole (mapped-front first.given wanted r next.given next.draws.front);
       };
       taken = next.taken ∙ ap (λ t. fold after t next.given) first.taken ∙ sym (fold-append after old first.given next.given);
+      full = next.full;
     }
 
 -- the first are refused: so are they all
@@ -65,9 +66,9 @@ first-into : (these those : List Stroke) (d new : Drawing) (e : Undrawn) → Dra
 first-into these those d new Full wanted = tt
 first-into these those d new Overflow wanted = drawing-append these those d ∙ ap (λ r. r >>= drawing those) wanted
 
-pub first-refused : {T : Type 0} {after : T → Segment → T} {these : List Stroke} (those : List Stroke) {pen pen' : Pen} {old new : T} {e : Undrawn} →
-    DrawsStrokes after these pen old (Err e) pen' new → DrawsStrokes after (these ++ those) pen old (Err e) pen' new
-first-refused {T} {after} {these} those {pen} {pen'} {old} {new} {e} draws =
+pub first-refused : {T : Type 0} {after : T → Segment → T} {refuses : T → Type 0} {these : List Stroke} (those : List Stroke) {pen pen' : Pen} {old new : T} {e : Undrawn} →
+    DrawsStrokes after refuses these pen old (Err e) pen' new → DrawsStrokes after refuses (these ++ those) pen old (Err e) pen' new
+first-refused {T} {after} {refuses} {these} those {pen} {pen'} {old} {new} {e} draws =
     let Fronts : Result Drawing Refusal → Type 0 = λ w. IfOk w (λ d. IsFront draws.given d.segments) in
     let grows = front-through (λ d. d.segments) (λ d. d.segments) draws.given (drawing these (held pen [])) (drawing those) draws.draws.front (drawing-grows those) in
     record {
@@ -77,19 +78,20 @@ first-refused {T} {after} {these} those {pen} {pen'} {old} {new} {e} draws =
         front = subst Fronts (sym (drawing-append these those (held pen []))) grows;
       };
       taken = draws.taken;
+      full = draws.full;
     }
 
 -- Some of the strokes are drawn, and these are left.
-pub record SoFar {T : Type 0} (after : T → Segment → T) (all left : List Stroke) (pen : Pen) (old : T) (pen' : Pen) (new : T) : Type 0 where
+pub record SoFar {T : Type 0} (after : T → Segment → T) (refuses : T → Type 0) (all left : List Stroke) (pen : Pen) (old : T) (pen' : Pen) (new : T) : Type 0 where
   pub done : List Stroke
   pub parts : all ≡ done ++ left
-  pub draws : DrawsStrokes after done pen old (Ok tt) pen' new
+  pub draws : DrawsStrokes after refuses done pen old (Ok tt) pen' new
 
-pub at_first : {T : Type 0} {after : T → Segment → T} {all : List Stroke} {pen : Pen} {old : T} → SoFar after all all pen old pen old
-at_first = record { done = []; parts = refl; draws = record { given = []; draws = record { exact = refl; front = tt }; taken = refl } }
+pub at_first : {T : Type 0} {after : T → Segment → T} {refuses : T → Type 0} {all : List Stroke} {pen : Pen} {old : T} → SoFar after refuses all all pen old pen old
+at_first = record { done = []; parts = refl; draws = record { given = []; draws = record { exact = refl; front = tt }; taken = refl; full = tt } }
 
-pub so_more : {T : Type 0} {after : T → Segment → T} {all left : List Stroke} (these rest : List Stroke) {pen mid pen' : Pen} {old between new : T} {done : Unit {0}} → left ≡ these ++ rest →
-    SoFar after all left pen old mid between → DrawsStrokes after these mid between (Ok done) pen' new → SoFar after all rest pen old pen' new
+pub so_more : {T : Type 0} {after : T → Segment → T} {refuses : T → Type 0} {all left : List Stroke} (these rest : List Stroke) {pen mid pen' : Pen} {old between new : T} {done : Unit {0}} → left ≡ these ++ rest →
+    SoFar after refuses all left pen old mid between → DrawsStrokes after refuses these mid between (Ok done) pen' new → SoFar after refuses all rest pen old pen' new
 so_more these rest parts far draws = record {
   done = far.done ++ these;
   parts = far.parts ∙ ap (λ v. far.done ++ v) parts ∙ sym (append_assoc far.done these rest);
@@ -97,28 +99,29 @@ so_more these rest parts far draws = record {
 }
 
 -- those that are left are drawn to their end, or refused
-pub so_rest : {T : Type 0} {after : T → Segment → T} {all left : List Stroke} {pen mid pen' : Pen} {old between new : T} {r : Result (Unit {0}) Undrawn} →
-    SoFar after all left pen old mid between → DrawsStrokes after left mid between r pen' new → DrawsStrokes after all pen old r pen' new
-so_rest {T} {after} {all} {left} {pen} {mid} {pen'} {old} {between} {new} {r} far draws =
-    subst (λ v. DrawsStrokes after v pen old r pen' new) (sym far.parts) (joined far.draws draws)
+pub so_rest : {T : Type 0} {after : T → Segment → T} {refuses : T → Type 0} {all left : List Stroke} {pen mid pen' : Pen} {old between new : T} {r : Result (Unit {0}) Undrawn} →
+    SoFar after refuses all left pen old mid between → DrawsStrokes after refuses left mid between r pen' new → DrawsStrokes after refuses all pen old r pen' new
+so_rest {T} {after} {refuses} {all} {left} {pen} {mid} {pen'} {old} {between} {new} {r} far draws =
+    subst (λ v. DrawsStrokes after refuses v pen old r pen' new) (sym far.parts) (joined far.draws draws)
 
-pub so_refused : {T : Type 0} {after : T → Segment → T} {all left : List Stroke} (these rest : List Stroke) {pen mid pen' : Pen} {old between new : T} {e : Undrawn} → left ≡ these ++ rest →
-    SoFar after all left pen old mid between → DrawsStrokes after these mid between (Err e) pen' new → DrawsStrokes after all pen old (Err e) pen' new
-so_refused {T} {after} {all} {left} these rest {pen} {mid} {pen'} {old} {between} {new} {e} parts far draws =
-    so_rest far (subst (λ v. DrawsStrokes after v mid between (Err e) pen' new) (sym parts) (first-refused rest draws))
+pub so_refused : {T : Type 0} {after : T → Segment → T} {refuses : T → Type 0} {all left : List Stroke} (these rest : List Stroke) {pen mid pen' : Pen} {old between new : T} {e : Undrawn} → left ≡ these ++ rest →
+    SoFar after refuses all left pen old mid between → DrawsStrokes after refuses these mid between (Err e) pen' new → DrawsStrokes after refuses all pen old (Err e) pen' new
+so_refused {T} {after} {refuses} {all} {left} these rest {pen} {mid} {pen'} {old} {between} {new} {e} parts far draws =
+    so_rest far (subst (λ v. DrawsStrokes after refuses v mid between (Err e) pen' new) (sym parts) (first-refused rest draws))
 
-pub so_all : {T : Type 0} {after : T → Segment → T} {all left : List Stroke} {pen pen' : Pen} {old new : T} → left ≡ [] → SoFar after all left pen old pen' new → DrawsStrokes after all pen old (Ok tt) pen' new
-so_all {T} {after} {all} {left} {pen} {pen'} {old} {new} none far =
-    subst (λ v. DrawsStrokes after v pen old (Ok tt) pen' new) (sym (far.parts ∙ ap (λ v. far.done ++ v) none ∙ append-nil far.done)) far.draws
+pub so_all : {T : Type 0} {after : T → Segment → T} {refuses : T → Type 0} {all left : List Stroke} {pen pen' : Pen} {old new : T} → left ≡ [] → SoFar after refuses all left pen old pen' new → DrawsStrokes after refuses all pen old (Ok tt) pen' new
+so_all {T} {after} {refuses} {all} {left} {pen} {pen'} {old} {new} none far =
+    subst (λ v. DrawsStrokes after refuses v pen old (Ok tt) pen' new) (sym (far.parts ∙ ap (λ v. far.done ++ v) none ∙ append-nil far.done)) far.draws
 
 -- one stroke
 
 -- it leaves the range: nothing is given
-pub overflows : {T : Type 0} {after : T → Segment → T} (s : Stroke) (pen pen' : Pen) {old new : T} → drawn s (held pen []) ≡ Err overflow → new ≡ old → DrawsStrokes after (s ∷ []) pen old (Err Overflow) pen' new
+pub overflows : {T : Type 0} {after : T → Segment → T} {refuses : T → Type 0} (s : Stroke) (pen pen' : Pen) {old new : T} → drawn s (held pen []) ≡ Err overflow → new ≡ old → DrawsStrokes after refuses (s ∷ []) pen old (Err Overflow) pen' new
 overflows s pen pen' out same = record {
   given = [];
   draws = record { exact = ap (λ r. r >>= drawing []) out; front = by-refusal (drawing (s ∷ []) (held pen [])) (ap (λ r. r >>= drawing []) out) };
   taken = same;
+  full = tt;
 }
   where
     by-refusal : (w : Result Drawing Refusal) → w ≡ Err overflow → IfOk w (λ d. IsFront [] d.segments)
@@ -130,28 +133,30 @@ any-front : (w : Result Drawing Refusal) → IfOk w (λ d. IsFront [] d.segments
 any-front (Ok d) = refl
 any-front (Err e) = tt
 
-pub full_at_once : {T : Type 0} {after : T → Segment → T} (s : Stroke) (pen pen' : Pen) {old new : T} → new ≡ old → DrawsStrokes after (s ∷ []) pen old (Err Full) pen' new
-full_at_once s pen pen' same = record { given = []; draws = record { exact = tt; front = any-front (drawing (s ∷ []) (held pen [])) }; taken = same }
+pub full_at_once : {T : Type 0} {after : T → Segment → T} {refuses : T → Type 0} (s : Stroke) (pen pen' : Pen) {old new : T} → new ≡ old → refuses new → DrawsStrokes after refuses (s ∷ []) pen old (Err Full) pen' new
+full_at_once s pen pen' same full = record { given = []; draws = record { exact = tt; front = any-front (drawing (s ∷ []) (held pen [])) }; taken = same; full = full }
 
 -- the contour is ended, or begun, and the segment itself is not taken
-pub full_behind : {T : Type 0} {after : T → Segment → T} (s : Stroke) (pen pen' : Pen) (first : List Segment) (segment : Segment) (d : Drawing) {old mid new : T} →
-    drawn s (held pen []) ≡ Ok d → d.segments ≡ first ++ segment ∷ [] → mid ≡ fold after old first → new ≡ mid → DrawsStrokes after (s ∷ []) pen old (Err Full) pen' new
-full_behind {T} {after} s pen pen' first segment d {old} {mid} {new} is all begun same = record {
+pub full_behind : {T : Type 0} {after : T → Segment → T} {refuses : T → Type 0} (s : Stroke) (pen pen' : Pen) (first : List Segment) (segment : Segment) (d : Drawing) {old mid new : T} →
+    drawn s (held pen []) ≡ Ok d → d.segments ≡ first ++ segment ∷ [] → mid ≡ fold after old first → new ≡ mid → refuses new → DrawsStrokes after refuses (s ∷ []) pen old (Err Full) pen' new
+full_behind {T} {after} {refuses} s pen pen' first segment d {old} {mid} {new} is all begun same full = record {
   given = first;
   draws = record {
     exact = tt;
     front = subst (λ (w : Result Drawing Refusal). IfOk w (λ e. IsFront first e.segments)) (sym (ap (λ r. r >>= drawing []) is)) (subst (IsFront first) (sym all) (front-of first (segment ∷ [])));
   };
   taken = same ∙ begun;
+  full = full;
 }
 
 -- it is drawn
-pub stroke_drawn : {T : Type 0} {after : T → Segment → T} (s : Stroke) (pen pen' : Pen) (first : List Segment) (segment : Segment) (d : Drawing) {done : Unit {0}} {old mid new : T} →
-    drawn s (held pen []) ≡ Ok d → d ≡ held pen' (first ++ segment ∷ []) → mid ≡ fold after old first → new ≡ after mid segment → DrawsStrokes after (s ∷ []) pen old (Ok done) pen' new
-stroke_drawn {T} {after} s pen pen' first segment d {done} {old} {mid} {new} is all begun same = record {
+pub stroke_drawn : {T : Type 0} {after : T → Segment → T} {refuses : T → Type 0} (s : Stroke) (pen pen' : Pen) (first : List Segment) (segment : Segment) (d : Drawing) {done : Unit {0}} {old mid new : T} →
+    drawn s (held pen []) ≡ Ok d → d ≡ held pen' (first ++ segment ∷ []) → mid ≡ fold after old first → new ≡ after mid segment → DrawsStrokes after refuses (s ∷ []) pen old (Ok done) pen' new
+stroke_drawn {T} {after} {refuses} s pen pen' first segment d {done} {old} {mid} {new} is all begun same = record {
   given = first ++ segment ∷ [];
   draws = record { exact = ap (λ r. r >>= drawing []) is ∙ ap Ok all; front = tt };
   taken = same ∙ ap (λ t. after t segment) begun ∙ sym (fold-append after old first (segment ∷ []));
+  full = tt;
 }
 
 -- what a stroke draws, from a pen that stands there

@@ -20,16 +20,16 @@ pub all-appended : (xs given : List Segment) → fold appended xs given ≡ xs +
 all-appended xs [] = sym (append-nil xs)
 all-appended xs (segment ∷ given) = all-appended (xs ++ segment ∷ []) given ∙ append_assoc xs (segment ∷ []) given
 
-pub list-drawn : (strokes : List Stroke) (pen pen' : Pen) (old new : List Segment) (done : Unit {0}) → DrawsStrokes appended strokes pen old (Ok done) pen' new →
+pub list-drawn : {refuses : List Segment → Type 0} (strokes : List Stroke) (pen pen' : Pen) (old new : List Segment) (done : Unit {0}) → DrawsStrokes appended refuses strokes pen old (Ok done) pen' new →
     drawing strokes (held pen old) ≡ Ok (held pen' new)
 list-drawn strokes pen pen' old new done draws =
     drawing-behind strokes (held pen old) ∙ ap (mapped (prefixed old)) draws.draws.exact ∙ ap (λ v. Ok (held pen' v)) (sym (draws.taken ∙ all-appended old draws.given))
 
-pub list-refused : (strokes : List Stroke) (pen pen' : Pen) (old new : List Segment) (e : Undrawn) (cause : Error) → cause ≡ cause_of e → DrawsStrokes appended strokes pen old (Err e) pen' new →
+pub list-refused : {refuses : List Segment → Type 0} (strokes : List Stroke) (pen pen' : Pen) (old new : List Segment) (e : Undrawn) (cause : Error) → cause ≡ cause_of e → DrawsStrokes appended refuses strokes pen old (Err e) pen' new →
     (cause ≡ causes.Memory) ⊎ (drawing strokes (held pen old) ≡ Err (refusal_of cause))
 list-refused strokes pen pen' old new Full cause is draws = inl is
 list-refused strokes pen pen' old new Overflow cause is draws =
     inr (drawing-behind strokes (held pen old) ∙ ap (mapped (prefixed old)) draws.draws.exact ∙ ap (λ c. Err (refusal_of c)) (sym is))
 
-pub list-kept : (strokes : List Stroke) (pen pen' : Pen) (old new : List Segment) (r : Result (Unit {0}) Undrawn) → DrawsStrokes appended strokes pen old r pen' new → IsFront old new
+pub list-kept : {refuses : List Segment → Type 0} (strokes : List Stroke) (pen pen' : Pen) (old new : List Segment) (r : Result (Unit {0}) Undrawn) → DrawsStrokes appended refuses strokes pen old r pen' new → IsFront old new
 list-kept strokes pen pen' old new r draws = subst (IsFront old) (sym (draws.taken ∙ all-appended old draws.given)) (front-of old draws.given)

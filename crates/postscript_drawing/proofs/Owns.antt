@@ -1,6 +1,7 @@
 -- What a glyph by itself gives: a plain glyph, a component, or an accented one.
 use Rattle.std.proofs.Common.{◌≡◌, ◌≢◌, ◌⊎◌, ℕ, ℤ, List, [], ◌++◌, length, fold, Option, Some, None, Result, Ok, Err, ap, inl, inr, refl, subst, sym, ◌∙◌}
-use Rattle.std.specs.Prelude.{IfErr, IfOk, IsErrAnd, MatchOption, OnOk}
+use Rattle.std.proofs.lemmas.List.{append-nil}
+use Rattle.std.specs.Prelude.{IfErr, IfOk, IsErrAnd, MatchOption, OnErr, OnOk}
 use Rattle.postscript_items.specs.Lent.{items_of}
 use Rattle.postscript_outline.specs.Points.{point}
 use Rattle.postscript_outline.specs.declared.point.Point.{Point}
@@ -8,17 +9,22 @@ use Rattle.postscript_outline.specs.declared.segment.Segment.{Segment}
 use Rattle.postscript_type2.specs.Program.Endings.{AreFourOrNone, IsRunsEnd}
 use Rattle.postscript_type2.specs.Program.Evaluation.{run_of}
 use Rattle.postscript_type2.specs.Program.Routines.{lent}
-use Rattle.postscript_type2.specs.Program.Runs.{End, Fault, Finished, Returned, Run, UsedUp, taken_by, width_of}
+use Rattle.postscript_type2.specs.Program.Runs.{Answer, End, Fault, Finished, Returned, Run, UsedUp, taken_by, width_of}
 use Rattle.postscript_view.specs.Advances.{HasRun}
 use Rattle.postscript_view.specs.Glyphs.{HasGlyph}
 use Rattle.postscript_view.specs.declared.font.FontView.{FontView}
 use Rattle.postscript_view.specs.declared.font.Glyph.{Glyph}
 use Rattle.postscript_drawing.specs.Accents.{IsAccent, IsTold, run_by}
 use Rattle.postscript_drawing.specs.Components.{IsComponent}
-use Rattle.postscript_drawing.specs.DrawnProgram.{IsUndrawn, IsWanting}
+use Rattle.postscript_base.specs.Refusal.{Refusal}
+use Rattle.postscript_drawing.specs.DrawnProgram.{DrawsFront, IsUndrawn, IsWanting}
+use Rattle.postscript_drawing.specs.Drawing.{Drawing, ◌>>=◌, IsFront, blank_at, closed}
+use Rattle.postscript_drawing.specs.Given.{GivesComponent, GivesComponents, GivesGlyph, GivesOwn, GivesOwnFront}
+use Rattle.postscript_drawing.specs.Outline.{drawing_of, finished, outlined_at}
 use Rattle.postscript_drawing.specs.Drawn.{DrawsAt, DrawsComponent, DrawsComponents, HasOwn, IsDrawnAs, Takes, zero_point}
 use Rattle.postscript_drawing.specs.Refused.{AreRefused, IsAccented, IsComponentRefused, IsGlyphRefused, IsNested, IsRefused, IsUnread}
 use Rattle.postscript_drawing.proofs.DrawsLaws.{fold-append}
+use Rattle.postscript_drawing.proofs.GivenLaws.{front-of}
 use Rattle.postscript_drawing.specs.declared.accent.Accent.{Accent}
 use Rattle.postscript_drawing.specs.declared.glyph.Own.{Own}
 use Rattle.postscript_drawing.specs.declared.error.Error.{Error}
@@ -147,3 +153,48 @@ pub component-undrawn : (left : ℕ) (font : FontView) (code glyph : ℕ) (origi
     IsWanting left e ⊎ IsGlyphRefused font glyph origin e → IsWanting left e ⊎ IsComponentRefused font code origin e
 component-undrawn left font code glyph origin e component (inl wanting) = inl wanting
 component-undrawn left font code glyph origin e component (inr refused) = inr (inr (inl (record { glyph = glyph; component = component; refused = refused })))
+
+-- what is given of a drawing that is refused
+
+-- all that a run draws is a front of what its operations draw
+pub whole-front : {T : Type 0} {after : T → Segment → T} {old new : T} (origin : Point) (answers : List Answer) (end : End) (segments : List Segment) → outlined_at origin answers end ≡ Ok segments → new ≡ fold after old segments →
+    DrawsFront after origin old new answers
+whole-front {T} {after} {old} {new} origin answers end segments drawn taken = record { given = segments; front = by-drawing (drawing_of answers (blank_at origin)) end drawn; taken = taken }
+  where
+    by-drawing : (r : Result Drawing Refusal) (end : End) → r >>= finished end ≡ Ok segments → IfOk (r >>= finished UsedUp) (λ all. IsFront segments all)
+    by-drawing (Err e) end is = tt
+    by-drawing (Ok d) (Fault e) is = cc
+    by-drawing (Ok d) UsedUp is = let same : (closed d).segments ≡ segments = cc in subst (IsFront segments) (append-nil segments ∙ sym same) (front-of segments [])
+    by-drawing (Ok d) (Returned st) is = let same : (closed d).segments ≡ segments = cc in subst (IsFront segments) (append-nil segments ∙ sym same) (front-of segments [])
+    by-drawing (Ok d) (Finished taken width) is = let same : (closed d).segments ≡ segments = cc in subst (IsFront segments) (append-nil segments ∙ sym same) (front-of segments [])
+
+pub own-front : {A : Type 0} {T : Type 0} (after : T → Segment → T) (old new : T) (r : Result A Error) (font : FontView) (i : ℕ) (glyph : Glyph) (origin : Point) → HasRun font i glyph.part.now (run_by glyph) →
+    OnErr r (DrawsFront after origin old new (run_by glyph).answers) → OnErr r (GivesOwn after origin old new font i)
+own-front after old new (Ok own) font i glyph origin has front = tt
+own-front after old new (Err e) font i glyph origin has front = inr (record { part = glyph.part.now; run = run_by glyph; has = has; front = front })
+
+-- of a glyph that is drawn by itself
+pub own-whole : {T : Type 0} {after : T → Segment → T} {old new : T} (font : FontView) (glyph : ℕ) (origin : Point) (segments : List Segment) (width : Option ℤ) (accent : Option Accent) →
+    HasOwn font glyph origin segments width accent → new ≡ fold after old segments → GivesOwnFront after origin old new font glyph
+own-whole font glyph origin segments width accent own taken =
+    record { part = own.part; run = own.run; has = own.has; front = whole-front origin own.run.answers own.run.end segments own.draws taken }
+
+pub component-front : {T : Type 0} {after : T → Segment → T} {old new : T} (font : FontView) (code glyph : ℕ) (origin : Point) → IsComponent font code glyph →
+    GivesOwn after origin old new font glyph → GivesComponent after origin old new font code
+component-front font code glyph origin component (inl none) = inl none
+component-front font code glyph origin component (inr front) = inr (glyph, component, front)
+
+pub accented-front : {T : Type 0} {after : T → Segment → T} {old between new : T} (font : FontView) (glyph : ℕ) (segments : List Segment) (width : Option ℤ) (accent : Accent) →
+    HasOwn font glyph zero_point segments width (Some accent) → between ≡ fold after old segments → GivesComponents after between new font accent → GivesGlyph after old new font glyph
+accented-front {T} {after} {old} {between} font glyph segments width accent own taken some =
+    inr (record { accent = accent; between = between; part = own.part; run = own.run; has = own.has; accented = own.told; own = (segments, own.draws, taken); some = some })
+
+pub on-err : {A : Type 0} {P : Type 0} (r : Result A Error) → P → OnErr r P
+on-err (Ok x) holds = tt
+on-err (Err e) holds = holds
+
+-- the base is drawn, and some of the accent
+pub accent-front : {T : Type 0} (after : T → Segment → T) (old between new : T) (r : Result (Unit {0}) Error) (font : FontView) (accent : Accent) → Takes after old between (DrawsComponent font accent.base zero_point) →
+    OnErr r (GivesComponent after (point accent.dx accent.dy) between new font accent.accent) → OnErr r (GivesComponents after old new font accent)
+accent-front after old between new (Ok done) font accent base some = tt
+accent-front after old between new (Err e) font accent base some = inr (between, base, some)

@@ -70,10 +70,10 @@ finished-sound (Fault e) d sound = absurd (none sound)
     none sound = elim sound [ ]
 
 -- All is drawn, and the contour is ended.
-pub drawn-whole : {T : Type 0} {after : T → Segment → T} {origin : Point} {old now new : T} (pen : Pen) (answers left : List Answer) (end : End) → IsSound end → left ≡ [] →
-    SoFar after (strokes_of answers) (strokes_of left) (pen_at origin) old pen now → new ≡ fold after now (closing pen) →
+pub drawn-whole : {T : Type 0} {after : T → Segment → T} {refuses : T → Type 0} {origin : Point} {old now new : T} (pen : Pen) (answers left : List Answer) (end : End) → IsSound end → left ≡ [] →
+    SoFar after refuses (strokes_of answers) (strokes_of left) (pen_at origin) old pen now → new ≡ fold after now (closing pen) →
     (segments : List Segment) × (outlined_at origin answers end ≡ Ok segments) × (new ≡ fold after old segments)
-drawn-whole {T} {after} {origin} {old} {now} {new} pen answers left end sound none far ended =
+drawn-whole {T} {after} {refuses} {origin} {old} {now} {new} pen answers left end sound none far ended =
     let draws = so_all (ap strokes_of none) far in
     let segments = draws.given ++ closing pen in (
       segments,
@@ -93,24 +93,24 @@ front-of-all given origin answers front =
     subst (λ (r : Result (List Segment) Refusal). IfOk r (λ segments. IsFront given segments)) (sym (outlined-so origin answers UsedUp))
     (front-through (λ d. d.segments) (λ ss. ss) given (drawing (strokes_of answers) (held (pen_at origin) [])) (finished UsedUp) front (λ d. closed-grows d.place d.is_open d.segments))
 
-pub front-so-far : {T : Type 0} {after : T → Segment → T} {origin : Point} {old now new : T} {pen : Pen} (answers : List Answer) {left : List Stroke} → SoFar after (strokes_of answers) left (pen_at origin) old pen now → new ≡ now →
+pub front-so-far : {T : Type 0} {after : T → Segment → T} {refuses : T → Type 0} {origin : Point} {old now new : T} {pen : Pen} (answers : List Answer) {left : List Stroke} → SoFar after refuses (strokes_of answers) left (pen_at origin) old pen now → new ≡ now →
     DrawsFront after origin old new answers
-front-so-far {T} {after} {origin} {old} {now} {new} {pen} answers {left} far same =
+front-so-far {T} {after} {refuses} {origin} {old} {now} {new} {pen} answers {left} far same =
     let start = held (pen_at origin) [] in
     let given = far.draws.given in
     let all = ap (λ v. drawing v start) far.parts ∙ drawing-append far.done left start ∙ ap (λ r. r >>= drawing left) far.draws.draws.exact in
     let grows = subst (λ (r : Result Drawing Refusal). IfOk r (λ d. IsFront given d.segments)) (sym all) (drawing-grows left (held pen given)) in
     record { given = given; front = front-of-all given origin answers grows; taken = same ∙ far.draws.taken }
 
-pub front-refused : {T : Type 0} {after : T → Segment → T} {origin : Point} {old new : T} {pen : Pen} {e : Undrawn} (answers : List Answer) → DrawsStrokes after (strokes_of answers) (pen_at origin) old (Err e) pen new →
+pub front-refused : {T : Type 0} {after : T → Segment → T} {refuses : T → Type 0} {origin : Point} {old new : T} {pen : Pen} {e : Undrawn} (answers : List Answer) → DrawsStrokes after refuses (strokes_of answers) (pen_at origin) old (Err e) pen new →
     DrawsFront after origin old new answers
-front-refused {T} {after} {origin} answers draws = record { given = draws.given; front = front-of-all draws.given origin answers draws.draws.front; taken = draws.taken }
+front-refused {T} {after} {refuses} {origin} answers draws = record { given = draws.given; front = front-of-all draws.given origin answers draws.draws.front; taken = draws.taken }
 
 -- why a program is not drawn
 
-pub at-fault : {T : Type 0} {after : T → Segment → T} {origin : Point} {old now : T} {pen : Pen} (answers left : List Answer) (end : End) (cause : Cause) → left ≡ [] → end ≡ Fault (refusal_of cause) →
-    SoFar after (strokes_of answers) (strokes_of left) (pen_at origin) old pen now → IsUndrawn origin (errors.Font cause) answers end
-at-fault {T} {after} {origin} {old} {now} {pen} answers left end cause none fault far =
+pub at-fault : {T : Type 0} {after : T → Segment → T} {refuses : T → Type 0} {origin : Point} {old now : T} {pen : Pen} (answers left : List Answer) (end : End) (cause : Cause) → left ≡ [] → end ≡ Fault (refusal_of cause) →
+    SoFar after refuses (strokes_of answers) (strokes_of left) (pen_at origin) old pen now → IsUndrawn origin (errors.Font cause) answers end
+at-fault {T} {after} {refuses} {origin} {old} {now} {pen} answers left end cause none fault far =
     let draws = so_all (ap strokes_of none) far in
     record {
       cause = cause;
@@ -118,10 +118,10 @@ at-fault {T} {after} {origin} {old} {now} {pen} answers left end cause none faul
       refused = outlined-so origin answers end ∙ ap (λ r. r >>= finished end) draws.draws.exact ∙ ap (λ v. finished v (held pen draws.given)) fault;
     }
 
-pub stroke-refused : {T : Type 0} {after : T → Segment → T} {origin : Point} {old new : T} {pen : Pen} (answers : List Answer) (end : End) (left : _) (e : Undrawn) → DrawsStrokes after (strokes_of answers) (pen_at origin) old (Err e) pen new →
+pub stroke-refused : {T : Type 0} {after : T → Segment → T} {refuses : T → Type 0} {origin : Point} {old new : T} {pen : Pen} (answers : List Answer) (end : End) (left : _) (e : Undrawn) → DrawsStrokes after refuses (strokes_of answers) (pen_at origin) old (Err e) pen new →
     IsWanting left (error_of e) ⊎ IsUndrawn origin (error_of e) answers end
-stroke-refused {T} {after} {origin} answers end left Full draws = inl tt
-stroke-refused {T} {after} {origin} answers end left Overflow draws =
+stroke-refused {T} {after} {refuses} {origin} answers end left Full draws = inl tt
+stroke-refused {T} {after} {refuses} {origin} answers end left Overflow draws =
     inr (record { cause = causes.Overflow; is = refl; refused = outlined-so origin answers end ∙ ap (λ r. r >>= finished end) draws.draws.exact })
 
 -- what a step tells
@@ -137,10 +137,10 @@ at-end old new limit left is steps =
     let step = subst (λ (r : Result Within Cause). StepsWithin old limit r new left) is steps in (step.0.0, sound-end old.end old.width new.width step.0.1)
 
 -- where a step is refused so is the program
-pub step-refused : {T : Type 0} {after : T → Segment → T} {origin : Point} {old now : T} {pen : Pen} (answers : List Answer) (end : End) (wanting : ℕ) (program : Pending) (cause : Cause) {answer : Result Within Cause} →
-    answer ≡ Err cause → IsHeadWithin program answer → program.end ≡ end → SoFar after (strokes_of answers) (strokes_of program.answers) (pen_at origin) old pen now →
+pub step-refused : {T : Type 0} {after : T → Segment → T} {refuses : T → Type 0} {origin : Point} {old now : T} {pen : Pen} (answers : List Answer) (end : End) (wanting : ℕ) (program : Pending) (cause : Cause) {answer : Result Within Cause} →
+    answer ≡ Err cause → IsHeadWithin program answer → program.end ≡ end → SoFar after refuses (strokes_of answers) (strokes_of program.answers) (pen_at origin) old pen now →
     IsWanting wanting (errors.Font cause) ⊎ IsUndrawn origin (errors.Font cause) answers end
-step-refused {T} {after} {origin} {old} {now} {pen} answers end wanting program cause is head same far = by_head (subst (λ (r : Result Within Cause). IsHeadWithin program r) is head)
+step-refused {T} {after} {refuses} {origin} {old} {now} {pen} answers end wanting program cause is head same far = by_head (subst (λ (r : Result Within Cause). IsHeadWithin program r) is head)
   where
     by_head : (cause ≡ causes.Memory) ⊎ ((program.answers ≡ []) × (program.end ≡ Fault (refusal_of cause))) → IsWanting wanting (errors.Font cause) ⊎ IsUndrawn origin (errors.Font cause) answers end
     by_head (inl memory) = inl memory

@@ -102,11 +102,17 @@ pub record DrawsTo (wanted : Result Drawing Refusal) (answered : Result (Unit {0
   pub exact : DrawsInto wanted answered new
   pub front : OnErr answered (IfOk wanted (λ d. IsFront new.segments d.segments))
 
+-- the sink takes no more only where it may refuse, by what it holds then
+abbrev pub IsFullWhere : {T : Type 0} (refuses : T → Type 0) → Result (Unit {0}) Undrawn → (new : T) → Type 0
+IsFullWhere refuses (Err Full) new = refuses new
+IsFullWhere refuses answered new = Unit {0}
+
 -- A pen draws strokes from where it stands, and a sink has taken the segments, one after another.
-pub record DrawsStrokes {T : Type 0} (after : T → Segment → T) (strokes : List Stroke) (pen : Pen) (old : T) (answered : Result (Unit {0}) Undrawn) (pen' : Pen) (new : T) : Type 0 where
+pub record DrawsStrokes {T : Type 0} (after : T → Segment → T) (refuses : T → Type 0) (strokes : List Stroke) (pen : Pen) (old : T) (answered : Result (Unit {0}) Undrawn) (pen' : Pen) (new : T) : Type 0 where
   pub given : List Segment
   pub draws : DrawsTo (drawing strokes (held pen [])) answered (held pen' given)
   pub taken : new ≡ fold after old given
+  pub full : IsFullWhere refuses answered new
 
 -- what ends an open contour, and what begins one where none is open
 abbrev pub closing : Pen → List Segment

@@ -7,6 +7,7 @@ pub mod Drawn
 pub mod DrawnProgram
 pub mod Fitting
 pub mod Flat
+pub mod Given
 pub mod Left
 pub mod Operations
 pub mod Operators

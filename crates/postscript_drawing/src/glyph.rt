@@ -1,10 +1,13 @@
 //! Glyphs that are drawn, accented ones with their components.
-ghost use Rattle.std.specs.Prelude.{◌≡◌, ◌⊎◌, List, IfOk, IfErr, OnOk};
+ghost use Rattle.std.specs.Prelude.{◌≡◌, ◌≢◌, ◌⊎◌, Err, List, IfOk, IfErr, OnErr, OnOk};
+ghost use Rattle.postscript_base.specs.declared.error.Error.TheVariants as causes;
 ghost use Rattle.postscript_drawing.specs.Accents.{IsTold, run_by};
-ghost use Rattle.postscript_drawing.specs.DrawnProgram.{IsUndrawn, IsWanting};
+ghost use Rattle.postscript_drawing.specs.DrawnProgram.{DrawsFront, IsUndrawn, IsWanting};
 ghost use Rattle.postscript_drawing.specs.Drawn.{DrawsAt, DrawsComponent, DrawsComponents, DrawsGlyph, HasOwn, IsDrawnAs, Takes};
+ghost use Rattle.postscript_drawing.specs.Given.{GivesComponent, GivesComponents, GivesGlyph, GivesOwn};
 ghost use Rattle.postscript_drawing.specs.Refused.{AreRefused, IsComponentRefused, IsGlyphRefused, IsRefused, IsUnread};
 ghost use Rattle.postscript_drawing.specs.Spending.{SpendsOnRuns};
+ghost use Rattle.postscript_drawing.specs.declared.error.Error.TheVariants as errors;
 ghost use Rattle.postscript_outline.specs.Points.{point};
 ghost use Rattle.postscript_type2.specs.Program.Limit.{Spends};
 ghost use Rattle.postscript_type2.specs.Program.Runs.{Said as ASaid, width_of};
@@ -13,6 +16,7 @@ use crate::accent::Accent;
 use crate::component::component_of;
 use crate::error::{Error, Result};
 use crate::program::draw_program;
+use postscript_base::Error as Cause;
 use postscript_outline::{Outline, Point, Sink};
 use postscript_type2::Operand;
 use postscript_type2::laws::runs_end_so;
@@ -25,13 +29,26 @@ const ROOM: usize = 32;
 /// The outline of a glyph of a font: the segments that `draw_glyph` gives, and the width. Coordinates and the width are in 16.16
 /// bits, in the units of the font.
 ///
-/// Refused: as `draw_glyph` is.
+/// Refused: as `draw_glyph` is, but never with `Full`: where its list asks for memory that is refused it is `Font` with `Memory`.
 pub fn outline_of(
     alloc: Global,
     font: &FontView<'_>,
     glyph: usize,
     limit: &mut u64,
 ) -> Result<Outline>
+    ensures found { IfOk result (λ outline. IsDrawnAs font.now glyph outline.segments.items outline.width) }
+    ensures why { IfErr result (λ e. IsRefused font.now glyph limit.new e) }
+    ensures memory { result ≢ Err errors.Full }
+    ensures spends { SpendsOnRuns font.now 3 limit.old limit.new }
+{
+    match outlined(alloc, font, glyph, limit) {
+        Err(Error::Full) => Err(Error::Font(Cause::Memory)),
+        answer => answer,
+    }
+}
+
+/// The same, but that a list that takes no more is told as such.
+fn outlined(alloc: Global, font: &FontView<'_>, glyph: usize, limit: &mut u64) -> Result<Outline>
     ensures found { IfOk result (λ outline. IsDrawnAs font.now glyph outline.segments.items outline.width) }
     ensures why { IfErr result (λ e. IsRefused font.now glyph limit.new e) }
     ensures spends { SpendsOnRuns font.now 3 limit.old limit.new }
@@ -51,7 +68,8 @@ pub fn outline_of(
 /// Refused: `NoSuchGlyph`; `NoCode`, as `Accent::named_by` is; `NoAccents` and `MissingComponent`, as `component_of` is, for the
 /// base or the accent; `NestedAccent` where one of these is accented itself; `TooLong` where the limit is used up before the end;
 /// `Full` where the sink takes no more; `Font` with what a run or the char set is refused with, with `Overflow` where a coordinate
-/// leaves the range, and with `Memory`. What the sink has been given up to there is open.
+/// leaves the range, and with `Memory`. The sink has been given a front of what is drawn: nothing, or some of the glyph's own run, or
+/// all of that and some of the components.
 pub fn draw_glyph<S: Sink>(
     alloc: Global,
     font: &FontView<'_>,
@@ -61,6 +79,8 @@ pub fn draw_glyph<S: Sink>(
 ) -> Result<Option<Operand>>
     ensures drawn { IfOk result (λ width. DrawsGlyph S.after (S.state sink.old) (S.state sink.new) font.now glyph width) }
     ensures why { IfErr result (λ e. IsRefused font.now glyph limit.new e) }
+    ensures front { OnErr result (GivesGlyph S.after (S.state sink.old) (S.state sink.new) font.now glyph) }
+    ensures full { result ≡ Err errors.Full → S.refuses (S.state sink.new) }
     ensures spends { SpendsOnRuns font.now 3 limit.old limit.new }
 {
     let Own { width, accent } = draw_own(alloc, font, glyph, Point::ORIGIN, limit, sink)?;
@@ -102,6 +122,8 @@ fn draw_own<S: Sink>(
     ensures own { IfOk result (λ own. Takes S.after (S.state sink.old) (S.state sink.new) (λ segments. HasOwn font.now glyph origin segments own.width own.accent)) }
     ensures spends { SpendsOnRuns font.now 1 limit.old limit.new }
     ensures why { IfErr result (λ e. IsWanting limit.new e ⊎ IsGlyphRefused font.now glyph origin e) }
+    ensures front { OnErr result (GivesOwn S.after origin (S.state sink.old) (S.state sink.new) font.now glyph) }
+    ensures full { result ≡ Err errors.Full → S.refuses (S.state sink.new) }
 {
     match font.glyph(glyph) {
         Some(found) => draw_run(alloc, &found, origin, limit, sink),
@@ -122,6 +144,8 @@ fn draw_run<S: Sink>(
     ensures told { IfOk result (λ own. IsTold own.accent (run_by glyph.now)) }
     ensures spends { (rest : List ASaid) × Spends limit.old (run_by glyph.now).trace limit.new rest }
     ensures why { IfErr result (λ e. IsWanting limit.new e ⊎ IsUndrawn origin e (run_by glyph.now).answers (run_by glyph.now).end ⊎ IsUnread e (run_by glyph.now)) }
+    ensures front { OnErr result (DrawsFront S.after origin (S.state sink.old) (S.state sink.new) (run_by glyph.now).answers) }
+    ensures full { result ≡ Err errors.Full → S.refuses (S.state sink.new) }
 {
     runs_end_so();
     let mut program = glyph.program(alloc);
@@ -144,6 +168,8 @@ pub fn draw_components<S: Sink>(
     ensures drawn { OnOk result (Takes S.after (S.state sink.old) (S.state sink.new) (DrawsComponents font.now accent.now)) }
     ensures spends { SpendsOnRuns font.now 2 limit.old limit.new }
     ensures why { IfErr result (λ e. IsWanting limit.new e ⊎ AreRefused font.now accent.now e) }
+    ensures front { OnErr result (GivesComponents S.after (S.state sink.old) (S.state sink.new) font.now accent.now) }
+    ensures full { result ≡ Err errors.Full → S.refuses (S.state sink.new) }
 {
     draw_component(alloc, font, accent.base, Point::ORIGIN, limit, sink)?;
     draw_component(alloc, font, accent.accent, place_of(accent), limit, sink)
@@ -161,6 +187,8 @@ fn draw_component<S: Sink>(
     ensures drawn { OnOk result (Takes S.after (S.state sink.old) (S.state sink.new) (DrawsComponent font.now code origin)) }
     ensures spends { SpendsOnRuns font.now 1 limit.old limit.new }
     ensures why { IfErr result (λ e. IsWanting limit.new e ⊎ IsComponentRefused font.now code origin e) }
+    ensures front { OnErr result (GivesComponent S.after origin (S.state sink.old) (S.state sink.new) font.now code) }
+    ensures full { result ≡ Err errors.Full → S.refuses (S.state sink.new) }
 {
     let glyph = component_of(font, code)?;
     let own = draw_own(alloc, font, glyph, origin, limit, sink)?;

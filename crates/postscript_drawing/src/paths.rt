@@ -21,7 +21,7 @@ impl Pen {
         operands: &[Operand],
         sink: &mut S,
     ) -> Stroked
-        ensures { DrawsStrokes S.after (the_strokes operator operands.now) self.old (S.state sink.old) result self.new (S.state sink.new) }
+        ensures { DrawsStrokes S.after S.refuses (the_strokes operator operands.now) self.old (S.state sink.old) result self.new (S.state sink.new) }
     {
         match operator {
             Operator::RMoveTo => self.go(operands, sink),
@@ -48,14 +48,14 @@ impl Pen {
     /// What a flex draws. It stays a call, since few glyphs have one and strokes take much room.
     #[inline(never)]
     fn flexes<S: Sink>(&mut self, operator: Operator, operands: &[Operand], sink: &mut S) -> Stroked
-        ensures { DrawsStrokes S.after (the_strokes operator operands.now) self.old (S.state sink.old) result self.new (S.state sink.new) }
+        ensures { DrawsStrokes S.after S.refuses (the_strokes operator operands.now) self.old (S.state sink.old) result self.new (S.state sink.new) }
     {
         self.draw_all(Strokes::of(operator, operands), sink)
     }
 
     /// dx1 dy1
     fn go<S: Sink>(&mut self, operands: &[Operand], sink: &mut S) -> Stroked
-        ensures { DrawsStrokes S.after (the_move operands.now) self.old (S.state sink.old) result self.new (S.state sink.new) }
+        ensures { DrawsStrokes S.after S.refuses (the_move operands.now) self.old (S.state sink.old) result self.new (S.state sink.new) }
     {
         match operands {
             [dx1, dy1] => self.move_by(by(*dx1, *dy1), sink),
@@ -65,7 +65,7 @@ impl Pen {
 
     /// d1
     fn go_along<S: Sink>(&mut self, axis: Axis, operands: &[Operand], sink: &mut S) -> Stroked
-        ensures { DrawsStrokes S.after (the_move_along axis operands.now) self.old (S.state sink.old) result self.new (S.state sink.new) }
+        ensures { DrawsStrokes S.after S.refuses (the_move_along axis operands.now) self.old (S.state sink.old) result self.new (S.state sink.new) }
     {
         match operands {
             [d1] => self.move_by(axis.along(wide(*d1)), sink),
@@ -76,7 +76,7 @@ impl Pen {
     /// {dxa dya}+
     #[inline(always)]
     fn lines<S: Sink>(&mut self, operands: &[Operand], sink: &mut S) -> Stroked
-        ensures { DrawsStrokes S.after (the_lines operands.now) self.old (S.state sink.old) result self.new (S.state sink.new) }
+        ensures { DrawsStrokes S.after S.refuses (the_lines operands.now) self.old (S.state sink.old) result self.new (S.state sink.new) }
     {
         let mut ahead = operands;
         while let Some((a, rest)) = vector(ahead) {
@@ -89,7 +89,7 @@ impl Pen {
     /// {da}+: a round draws one line along each axis.
     #[inline(always)]
     fn lines_in_turn<S: Sink>(&mut self, first: Axis, operands: &[Operand], sink: &mut S) -> Stroked
-        ensures { DrawsStrokes S.after (the_lines_in_turn first operands.now) self.old (S.state sink.old) result self.new (S.state sink.new) }
+        ensures { DrawsStrokes S.after S.refuses (the_lines_in_turn first operands.now) self.old (S.state sink.old) result self.new (S.state sink.new) }
     {
         let mut ahead = operands;
         while let Some((a, behind)) = line_in_turn(first, ahead) {
@@ -106,7 +106,7 @@ impl Pen {
     /// {dxa dya dxb dyb dxc dyc}+
     #[inline(always)]
     fn curves<S: Sink>(&mut self, operands: &[Operand], sink: &mut S) -> Stroked
-        ensures { DrawsStrokes S.after (the_curves operands.now) self.old (S.state sink.old) result self.new (S.state sink.new) }
+        ensures { DrawsStrokes S.after S.refuses (the_curves operands.now) self.old (S.state sink.old) result self.new (S.state sink.new) }
     {
         let mut ahead = operands;
         while let Some(bend) = curve(ahead) {
@@ -118,7 +118,7 @@ impl Pen {
 
     /// d1? {da dxb dyb dc}+
     fn curves_level<S: Sink>(&mut self, axis: Axis, operands: &[Operand], sink: &mut S) -> Stroked
-        ensures { DrawsStrokes S.after (the_curves_level axis operands.now) self.old (S.state sink.old) result self.new (S.state sink.new) }
+        ensures { DrawsStrokes S.after S.refuses (the_curves_level axis operands.now) self.old (S.state sink.old) result self.new (S.state sink.new) }
     {
         let (first, rest) = first_aside(operands);
         self.curves_along(axis, first, rest, sink)
@@ -133,7 +133,7 @@ impl Pen {
         operands: &[Operand],
         sink: &mut S,
     ) -> Stroked
-        ensures { DrawsStrokes S.after (the_curves_along axis first operands.now) self.old (S.state sink.old) result self.new (S.state sink.new) }
+        ensures { DrawsStrokes S.after S.refuses (the_curves_along axis first operands.now) self.old (S.state sink.old) result self.new (S.state sink.new) }
     {
         let mut off = first;
         let mut ahead = operands;
@@ -153,7 +153,7 @@ impl Pen {
         operands: &[Operand],
         sink: &mut S,
     ) -> Stroked
-        ensures { DrawsStrokes S.after (the_curves_in_turn first operands.now) self.old (S.state sink.old) result self.new (S.state sink.new) }
+        ensures { DrawsStrokes S.after S.refuses (the_curves_in_turn first operands.now) self.old (S.state sink.old) result self.new (S.state sink.new) }
     {
         let mut ahead = operands;
         while let Some(bend) = curve_in_turn(first, ahead) {
@@ -169,7 +169,7 @@ impl Pen {
 
     /// {dxa dya dxb dyb dxc dyc}+ dxd dyd
     fn curves_then_line<S: Sink>(&mut self, operands: &[Operand], sink: &mut S) -> Stroked
-        ensures { DrawsStrokes S.after (the_curves_then_line operands.now) self.old (S.state sink.old) result self.new (S.state sink.new) }
+        ensures { DrawsStrokes S.after S.refuses (the_curves_then_line operands.now) self.old (S.state sink.old) result self.new (S.state sink.new) }
     {
         let (these, those) = operands.split_at(operands.len().saturating_sub(2));
         self.curves(these, sink)?;
@@ -178,7 +178,7 @@ impl Pen {
 
     /// {dxa dya}+ dxb dyb dxc dyc dxd dyd
     fn lines_then_curve<S: Sink>(&mut self, operands: &[Operand], sink: &mut S) -> Stroked
-        ensures { DrawsStrokes S.after (the_lines_then_curve operands.now) self.old (S.state sink.old) result self.new (S.state sink.new) }
+        ensures { DrawsStrokes S.after S.refuses (the_lines_then_curve operands.now) self.old (S.state sink.old) result self.new (S.state sink.new) }
     {
         let (these, those) = operands.split_at(operands.len().saturating_sub(6));
         self.lines(these, sink)?;

@@ -52,6 +52,7 @@ impl Pen {
     pub(crate) fn end<S: Sink>(&mut self, sink: &mut S) -> Given
         ensures ended { OnOk result (S.state sink.new ≡ fold S.after (S.state sink.old) (closing self.old)) }
         ensures full { OnErr result (S.state sink.new ≡ S.state sink.old) }
+        ensures refuses { OnErr result (S.refuses (S.state sink.new)) }
     {
         if self.is_open {
             sink.add(Segment::Close)?;
@@ -65,6 +66,7 @@ impl Pen {
     fn begin<S: Sink>(&mut self, sink: &mut S) -> Given
         ensures begun { OnOk result (S.state sink.new ≡ fold S.after (S.state sink.old) (opening self.old)) }
         ensures full { OnErr result (S.state sink.new ≡ S.state sink.old) }
+        ensures refuses { OnErr result (S.refuses (S.state sink.new)) }
         ensures stays { self.new.at ≡ self.old.at }
     {
         if !self.is_open {
@@ -77,7 +79,7 @@ impl Pen {
     /// Goes without drawing, and begins a contour there.
     #[inline(always)]
     pub(crate) fn move_by<S: Sink>(&mut self, by: Vector, sink: &mut S) -> Stroked
-        ensures { DrawsStrokes S.after (Stroke.Move by ∷ []) self.old (S.state sink.old) result self.new (S.state sink.new) }
+        ensures { DrawsStrokes S.after S.refuses (Stroke.Move by ∷ []) self.old (S.state sink.old) result self.new (S.state sink.new) }
     {
         let Some(at) = reach(self.at, by) else {
             return Err(Undrawn::Overflow);
@@ -91,7 +93,7 @@ impl Pen {
     /// A line from here.
     #[inline(always)]
     pub(crate) fn line_by<S: Sink>(&mut self, by: Vector, sink: &mut S) -> Stroked
-        ensures { DrawsStrokes S.after (Stroke.Line by ∷ []) self.old (S.state sink.old) result self.new (S.state sink.new) }
+        ensures { DrawsStrokes S.after S.refuses (Stroke.Line by ∷ []) self.old (S.state sink.old) result self.new (S.state sink.new) }
     {
         let Some(at) = reach(self.at, by) else {
             return Err(Undrawn::Overflow);
@@ -111,7 +113,7 @@ impl Pen {
         c: Vector,
         sink: &mut S,
     ) -> Stroked
-        ensures { DrawsStrokes S.after (Stroke.Curve a b c ∷ []) self.old (S.state sink.old) result self.new (S.state sink.new) }
+        ensures { DrawsStrokes S.after S.refuses (Stroke.Curve a b c ∷ []) self.old (S.state sink.old) result self.new (S.state sink.new) }
     {
         let Some((first, second, at)) = reach_by_curve(self.at, a, b, c) else {
             return Err(Undrawn::Overflow);
@@ -124,7 +126,7 @@ impl Pen {
 
     /// A stroke from here.
     fn draw<S: Sink>(&mut self, stroke: Stroke, sink: &mut S) -> Stroked
-        ensures { DrawsStrokes S.after (stroke ∷ []) self.old (S.state sink.old) result self.new (S.state sink.new) }
+        ensures { DrawsStrokes S.after S.refuses (stroke ∷ []) self.old (S.state sink.old) result self.new (S.state sink.new) }
     {
         match stroke {
             Stroke::Move(by) => self.move_by(by, sink),
@@ -135,7 +137,7 @@ impl Pen {
 
     /// Strokes from here, one after another.
     pub(crate) fn draw_all<S: Sink>(&mut self, strokes: Strokes<'_>, sink: &mut S) -> Stroked
-        ensures { DrawsStrokes S.after (left strokes.entry) self.old (S.state sink.old) result self.new (S.state sink.new) }
+        ensures { DrawsStrokes S.after S.refuses (left strokes.entry) self.old (S.state sink.old) result self.new (S.state sink.new) }
     {
         let mut ahead = strokes;
         while let Some((stroke, behind)) = ahead.next() {

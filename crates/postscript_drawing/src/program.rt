@@ -32,6 +32,7 @@ pub fn draw_program<S: Sink>(
     ensures drawn { IfOk result (λ width. DrawsProgram S.after origin (S.state sink.old) (S.state sink.new) width program.old) }
     ensures why { IfErr result (λ e. IsProgramRefused origin program.old limit.new e) }
     ensures front { OnErr result (DrawsFront S.after origin (S.state sink.old) (S.state sink.new) program.old.answers) }
+    ensures full { result ≡ Err errors.Full → S.refuses (S.state sink.new) }
     ensures ended { IfOk result (λ width. program.new ≡ ended_over (taken_by program.old.end) width) }
     ensures spends { IsSpent limit.old program.old.trace limit.new result }
     ensures suffices { cost program.old.trace < limit.old → result ≢ Err errors.TooLong }

@@ -28,12 +28,16 @@ pub trait Sink {
     /// What it holds after one more segment.
     ghost after: { State → Segment → State };
 
+    /// Where it may take no more, by what it holds: everywhere, if it asks for memory.
+    ghost refuses: { State → Type 0 };
+
     /// Takes one more segment.
     ///
     /// Refused: where it takes no more. It holds what it held before.
     fn add(&mut self, segment: Segment) -> Given
         ensures taken { OnOk result (state self.new ≡ after (state self.old) segment) }
-        ensures full { OnErr result (state self.new ≡ state self.old) };
+        ensures full { OnErr result (state self.new ≡ state self.old) }
+        ensures refuses { OnErr result (refuses (state self.old)) };
 }
 
 /// A list holds the segments that it has been given.
@@ -46,6 +50,8 @@ impl Sink for Vec<Segment> {
     ghost state = { λ segments. segments.items };
 
     ghost after = { λ segments segment. segments ++ segment ∷ [] };
+
+    ghost refuses = { λ _. Unit {0} };
 
     #[inline(always)]
     fn add(&mut self, segment: Segment) -> Given {
@@ -66,6 +72,8 @@ impl Sink for Option<Bounds> {
 
     ghost after = { taking };
 
+    ghost refuses = { λ _. ⊥ };
+
     #[inline(always)]
     fn add(&mut self, segment: Segment) -> Given {
         *self = Bounds::taking(*self, segment);
@@ -85,6 +93,8 @@ impl<S: Sink> Sink for (S, Option<Bounds>) {
 
     ghost after = { λ both segment. (S.after both.0 segment, taking both.1 segment) };
 
+    ghost refuses = { λ both. S.refuses both.0 };
+
     #[inline(always)]
     fn add(&mut self, segment: Segment) -> Given {
         self.0.add(segment)?;
@@ -99,6 +109,7 @@ impl<S: Sink> Sink for (S, Option<Bounds>) {
 pub fn give<S: Sink>(segments: &[Segment], sink: &mut S) -> Given
     ensures given { OnOk result (S.state sink.new ≡ fold S.after (S.state sink.old) segments.now) }
     ensures front { OnErr result (Took S.after (S.state sink.old) segments.now (S.state sink.new)) }
+    ensures full { OnErr result (S.refuses (S.state sink.new)) }
 {
     for segment in segments {
         sink.add(*segment)?;

@@ -415,6 +415,8 @@ impl Sink for Few {
 
     ghost after = { λ segments segment. segments ++ segment ∷ [] };
 
+    ghost refuses = { λ _. Unit {0} };
+
     fn add(&mut self, segment: Segment) -> Given {
         match self.left.checked_sub(1) {
             Some(left) => {
@@ -497,6 +499,8 @@ impl Sink for Last {
     ghost state = { λ last. last.segment };
 
     ghost after = { λ _ segment. Some segment };
+
+    ghost refuses = { λ _. ⊥ };
 
     fn add(&mut self, segment: Segment) -> Given {
         self.segment = Some(segment);

@@ -2,7 +2,7 @@ use Rattle.std.proofs.Common.{Option, inr, refl, subst}
 use Rattle.postscript_drawing.specs.Drawn.{HasOwn}
 use Rattle.postscript_drawing.specs.declared.accent.Accent.{Accent}
 use Rattle.postscript_drawing.proofs.GlyphSpending.{nothing-spent}
-use Rattle.postscript_drawing.proofs.Owns.{component-undrawn, draws-component, is-nested, passed-on}
+use Rattle.postscript_drawing.proofs.Owns.{component-front, component-undrawn, draws-component, is-nested, on-err, own-whole, passed-on}
 use Rattle.postscript_drawing.proofs.glyph.draw_component.Goals as goal
 
 pub returns-in_err-glyph-clause-spends : goal.returns-in_err-glyph-clause-spends
@@ -27,3 +27,12 @@ returns-in-Some-clause-why g c =
     let width = c.in_ok-own.own.width in
     let P : Option Accent → Type 0 = λ accent. HasOwn c.args.font.now c.in_ok-glyph.glyph c.args.origin own.0 width accent in
     inr (inr (inr (refl, is-nested c.args.font.now c.args.code c.in_ok-glyph.glyph c.args.origin own.0 width c.in-Some.field-0 c.in_ok-glyph.ensures.found (subst P c.in-Some.is own.1))))
+
+pub returns-in_err-own-clause-front : goal.returns-in_err-own-clause-front
+returns-in_err-own-clause-front g c =
+    on-err c.from_residual-in_err-own.result (component-front c.args.font.now c.args.code c.in_ok-glyph.glyph c.args.origin c.in_ok-glyph.ensures.found c.in_err-own.ensures.front)
+
+pub returns-in-Some-clause-front : goal.returns-in-Some-clause-front
+returns-in-Some-clause-front g c =
+    let own = c.in_ok-own.ensures.own in
+    inr (c.in_ok-glyph.glyph, c.in_ok-glyph.ensures.found, own-whole c.args.font.now c.in_ok-glyph.glyph c.args.origin own.0 c.in_ok-own.own.width c.in_ok-own.own.accent own.1 own.2)

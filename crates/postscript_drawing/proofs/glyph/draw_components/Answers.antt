@@ -1,11 +1,12 @@
-use Rattle.std.proofs.Common.{subst}
-use Rattle.std.specs.Prelude.{IfErr, OnOk, ◌⊎◌}
+use Rattle.std.proofs.Common.{inl, subst}
+use Rattle.std.specs.Prelude.{IfErr, OnErr, OnOk, ◌⊎◌}
 use Rattle.postscript_outline.specs.declared.point.Point.{Point}
 use Rattle.postscript_drawing.specs.DrawnProgram.{IsWanting}
 use Rattle.postscript_drawing.specs.Drawn.{DrawsComponent, Takes}
+use Rattle.postscript_drawing.specs.Given.{GivesComponent}
 use Rattle.postscript_drawing.specs.Refused.{IsComponentRefused}
 use Rattle.postscript_drawing.proofs.GlyphSpending.{spends-both, spends-more}
-use Rattle.postscript_drawing.proofs.Owns.{accent-refused, draws-both}
+use Rattle.postscript_drawing.proofs.Owns.{accent-front, accent-refused, draws-both, on-err}
 use Rattle.postscript_drawing.proofs.glyph.draw_components.Goals as goal
 
 pub returns-in_err-draw_component-clause-spends : goal.returns-in_err-draw_component-clause-spends
@@ -28,3 +29,15 @@ returns-clause-why g c =
     let accent = c.args.accent.now in
     let P : Point → Type 0 = λ origin. IfErr c.draw_component-2.result (λ e. IsWanting c.draw_component-2.new.limit e ⊎ IsComponentRefused font accent.accent origin e) in
     accent-refused c.draw_component-2.new.limit c.draw_component-2.result font accent (subst P c.place_of.ensures c.draw_component-2.ensures.why)
+
+pub returns-in_err-draw_component-clause-front : goal.returns-in_err-draw_component-clause-front
+returns-in_err-draw_component-clause-front g c = on-err c.from_residual.result (inl c.in_err-draw_component.ensures.front)
+
+pub returns-clause-front : goal.returns-clause-front
+returns-clause-front g c =
+    let font = c.args.font.now in
+    let accent = c.args.accent.now in
+    let between = g.S.Sink.state c.draw_component.new.sink in
+    let new = g.S.Sink.state c.draw_component-2.new.sink in
+    let P : Point → Type 0 = λ origin. OnErr c.draw_component-2.result (GivesComponent g.S.Sink.after origin between new font accent.accent) in
+    accent-front g.S.Sink.after (g.S.Sink.state c.args.sink.now) between new c.draw_component-2.result font accent c.in_ok-draw_component.ensures.drawn (subst P c.place_of.ensures c.draw_component-2.ensures.front)

@@ -2,7 +2,7 @@ use Rattle.std.proofs.Common.{◌++◌, Option, subst}
 use Rattle.postscript_drawing.specs.Drawn.{HasOwn, zero_point}
 use Rattle.postscript_drawing.specs.declared.accent.Accent.{Accent}
 use Rattle.postscript_drawing.proofs.GlyphSpending.{spends-both, spends-more}
-use Rattle.postscript_drawing.proofs.Owns.{components-refused, draws-accented, draws-plain, passed-on, taken-both}
+use Rattle.postscript_drawing.proofs.Owns.{accented-front, components-refused, draws-accented, draws-plain, on-err, passed-on, taken-both}
 use Rattle.postscript_drawing.proofs.glyph.draw_glyph.Goals as goal
 
 pub returns-in_err-width-clause-spends : goal.returns-in_err-width-clause-spends
@@ -46,3 +46,11 @@ returns-in_err-draw_components-in-Some-clause-why g c =
     let has = subst P c.in-Some.is own.1 in
     passed-on c.from_residual-in_err-draw_components-in-Some.result e _ c.from_residual-in_err-draw_components-in-Some.ensures.1
     (components-refused c.draw_components.new.limit c.args.font.now c.args.glyph zero_point own.0 width c.in-Some.accent e has c.in_err-draw_components-in-Some.ensures.why)
+
+pub returns-in_err-draw_components-in-Some-clause-front : goal.returns-in_err-draw_components-in-Some-clause-front
+returns-in_err-draw_components-in-Some-clause-front g c =
+    let own = c.in_ok-width.ensures.own in
+    let width = c.in_ok-width.field-0.width in
+    let P : Option Accent → Type 0 = λ accent. HasOwn c.args.font.now c.args.glyph zero_point own.0 width accent in
+    on-err c.from_residual-in_err-draw_components-in-Some.result
+    (accented-front c.args.font.now c.args.glyph own.0 width c.in-Some.accent (subst P c.in-Some.is own.1) own.2 c.in_err-draw_components-in-Some.ensures.front)

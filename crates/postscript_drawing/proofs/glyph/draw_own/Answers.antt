@@ -1,6 +1,6 @@
 use Rattle.postscript_drawing.specs.Accents.{run_by}
 use Rattle.postscript_drawing.proofs.GlyphSpending.{nothing-spent, spends-one}
-use Rattle.postscript_drawing.proofs.Owns.{has-run, own-so, refused-so}
+use Rattle.postscript_drawing.proofs.Owns.{has-run, own-front, own-so, refused-so}
 use Rattle.postscript_drawing.proofs.glyph.draw_own.Goals as goal
 
 pub returns-in-Some-clause-own : goal.returns-in-Some-clause-own
@@ -20,3 +20,8 @@ returns-in-Some-clause-why g c =
 
 pub returns-in-None-clause-spends : goal.returns-in-None-clause-spends
 returns-in-None-clause-spends g c = nothing-spent c.args.font.now 0 c.args.limit.now
+
+pub returns-in-Some-clause-front : goal.returns-in-Some-clause-front
+returns-in-Some-clause-front g c =
+    let has = has-run c.args.font.now c.args.glyph c.in-Some.found c.in-Some.ensures.found c.in-Some.ensures.subroutines in
+    own-front g.S.Sink.after (g.S.Sink.state c.args.sink.now) (g.S.Sink.state c.draw_run.new.sink) c.draw_run.result c.args.font.now c.args.glyph c.in-Some.found c.args.origin has c.draw_run.ensures.front

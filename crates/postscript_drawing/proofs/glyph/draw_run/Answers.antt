@@ -1,10 +1,10 @@
-use Rattle.std.proofs.Common.{◌≡◌, ◌∙◌, ap, inr, subst}
+use Rattle.std.proofs.Common.{◌≡◌, ◌∙◌, ap, inr, rules, subst}
 use Rattle.postscript_items.specs.Lent.{items_of}
 use Rattle.postscript_type2.specs.Program.Programs.{told_at_end}
 use Rattle.postscript_type2.specs.Program.Routines.{lent}
 use Rattle.postscript_type2.specs.Program.Runs.{taken_by}
 use Rattle.postscript_drawing.specs.Accents.{HasNoCodes, run_by}
-use Rattle.postscript_drawing.proofs.Owns.{passed-on, told-so}
+use Rattle.postscript_drawing.proofs.Owns.{on-err, passed-on, told-so, whole-front}
 use Rattle.postscript_drawing.proofs.glyph.draw_run.Goals as goal
 
 pub returns-in_err-accent-clause-why : goal.returns-in_err-accent-clause-why
@@ -21,3 +21,9 @@ returns-clause-told g c =
     c.operands_at_end.ensures ∙ ap told_at_end c.in_ok-width.ensures.ended ∙ ap (λ p. taken_by p.end) c.program-program.ensures in
     told-so c.in_ok-accent.accent c.operands_at_end.result.now (run_by glyph) same
     (c.runs_end_so.ensures (lent (items_of glyph.global_subroutines) (items_of glyph.part.now.subroutines)) glyph.code.now) c.in_ok-accent.ensures.told
+
+pub returns-in_err-accent-clause-front : goal.returns-in_err-accent-clause-front
+returns-in_err-accent-clause-front g c =
+    let run = run_by c.args.glyph.now in
+    let drawn = c.in_ok-width.ensures.drawn in
+    on-err c.from_residual-in_err-accent.result (whole-front c.args.origin run.answers run.end drawn.segments (search rules) drawn.taken)

@@ -2,7 +2,7 @@ use Rattle.std.proofs.Common.{◌≡◌, [], ◌++◌, ap, subst, sym, ◌∙◌
 use Rattle.postscript_drawing.specs.Drawn.{IsDrawnAs}
 use Rattle.postscript_drawing.proofs.GlyphSpending.{nothing-spent}
 use Rattle.postscript_drawing.proofs.ListLaws.{all-appended}
-use Rattle.postscript_drawing.proofs.glyph.outline_of.Goals as goal
+use Rattle.postscript_drawing.proofs.glyph.outlined.Goals as goal
 
 pub returns-in_err-segments-clause-spends : goal.returns-in_err-segments-clause-spends
 returns-in_err-segments-clause-spends c = nothing-spent c.args.font.now 2 c.args.limit.now
