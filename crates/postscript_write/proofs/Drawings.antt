@@ -3,6 +3,8 @@ use Rattle.std.proofs.Common.{◌≡◌, refl, sym, ap, subst, ◌∙◌, inl, i
 use Rattle.std.specs.Prelude.{◌⊎◌, ◌↔◌, ◌&&◌, Option, Some, None, Result, Ok, Err, Vec, IfOk, option_map, nat_le, nat_lt, if◌then◌else◌}
 use Rattle.std.proofs.lemmas.Bool.{leb-true, ltb-true}
 use Rattle.std.proofs.lemmas.List.{length-map}
+use Rattle.postscript_base.specs.Compact1.Defaults.{look}
+use Rattle.postscript_write.proofs.Operators.{ros-stays}
 use Rattle.postscript_write.specs.declared.error.Error.{Error}
 use Rattle.std.specs.declared.alloc.Global.{Global}
 use Rattle.std.proofs.lemmas.Option.{slice_get-map, slice_get_within}
@@ -256,11 +258,17 @@ draws kept_numbers kept bytes flat ov nv sources shown_old shown_new made all or
       place = λ g is_one less. let one = placed.all g is_one less in (one.0, one.1.there, one.2);
     }
 
+    same_key : look nv.tables.dictionary ROS ≡ look ov.tables.dictionary ROS
+    same_key = elim (made.repeats.dictionary ROS) [
+      | inl same ↦ same
+      | inr among ↦ absurd (ros-stays among)
+    ]
+
     keyed : IsCidKeyed nv.tables.dictionary → IsCidKeyed ov.tables.dictionary
-    keyed h = subst (λ o. IsSome o) (made.repeats.dictionary 31 ROS (omega arith)) h
+    keyed h = subst (λ o. IsSome o) same_key h
 
     unkeyed : IsCidKeyed ov.tables.dictionary → IsCidKeyed nv.tables.dictionary
-    unkeyed h = subst (λ o. IsSome o) (sym (made.repeats.dictionary 31 ROS (omega arith))) h
+    unkeyed h = subst (λ o. IsSome o) (sym same_key) h
 
     codes-forth : CarriesComponents old new glyph
     codes-forth accent code one accented is_code component =

@@ -20,3 +20,4 @@ pub mod Places
 pub mod Reaching
 pub mod Drawings
 pub mod Told
+pub mod Operators

@@ -1,11 +1,11 @@
 -- What is found alike.
-use Rattle.std.proofs.Common.{◌≡◌, refl, sym, ap, subst, ◌∙◌, ℕ, ◌+◌, ◌<◌, ◌≤◌, List, length, get_or, arith, below_more, slice_get}
+use Rattle.std.proofs.Common.{◌≡◌, refl, sym, ap, subst, ◌∙◌, ℕ, ◌+◌, ◌<◌, ◌≤◌, List, [], ◌∷◌, length, get_or, arith, below_more, slice_get}
 use Rattle.std.specs.Prelude.{Option, Some, None, ℤ, option_map}
 use Rattle.std.proofs.lemmas.List.{length-map}
 use Rattle.std.proofs.lemmas.Option.{slice_get-map, slice_get_read, slice_get_within}
 use Rattle.postscript_base.specs.Compact1.Defaults.{look, first_of}
 use Rattle.postscript_base.specs.Compact1.Dictionary.{Dictionary}
-use Rattle.postscript_base.specs.declared.compact1.operator.Operator.TheVariants.{DefaultWidthX, NominalWidthX}
+use Rattle.postscript_base.specs.declared.compact1.operator.Operator.TheVariants.{DefaultWidthX, NominalWidthX, Private}
 use Rattle.postscript_view.specs.Advances.{advance_of}
 use Rattle.postscript_view.specs.Naming.{Names}
 use Rattle.postscript_view.specs.Order as order
@@ -15,10 +15,9 @@ use Rattle.postscript_view.specs.declared.char_set.CharSetView.{CharSetView}
 use Rattle.postscript_view.specs.declared.part.Part.{Part}
 use Rattle.postscript_view.proofs.Naming.{named_once}
 use Rattle.postscript_write.specs.Naming.{SameName}
-use Rattle.postscript_write.specs.Parts.{SameAt, SameFont, SamePart, SameParts}
-use Rattle.postscript_write.specs.declared.kept.TheConstants.{KEPT_FONT}
+use Rattle.postscript_write.specs.Parts.{SameBut, SameFont, SamePart, SameParts}
 
-pub same_font_by : (old new : Option Dictionary) (a b : Dictionary) → old ≡ Some a → new ≡ Some b → SameAt KEPT_FONT a b → SameFont old new
+pub same_font_by : (old new : Option Dictionary) (a b : Dictionary) → old ≡ Some a → new ≡ Some b → SameBut (Private ∷ []) a b → SameFont old new
 same_font_by old new a b e f h = subst (λ o. SameFont o new) (sym e) (subst (λ n. SameFont (Some a) n) (sym f) h)
 
 -- where the widths are the same, advances are

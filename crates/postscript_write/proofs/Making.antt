@@ -1,6 +1,6 @@
 -- A font that is made of glyphs.
 use Rattle.std.proofs.Common.{◌≡◌, refl, sym, subst, ap, ◌∙◌, ℕ, ◌<◌, List, [], length, slice_get, slice_index_or, inl, inr}
-use Rattle.std.specs.Prelude.{◌≢◌, ◌⊎◌, Option, Some, None, option_map, Result, Ok, Err, IfOk, IfErr}
+use Rattle.std.specs.Prelude.{◌≢◌, ◌⊎◌, Option, Some, None, Result, Ok, Err, IfOk, IfErr}
 use Rattle.std.proofs.lemmas.Option.{slice_get-get_or}
 use Rattle.postscript_base.specs.Refusal.{refusal_of}
 use Rattle.postscript_base.specs.Tape.Outcome.{Got}
@@ -18,7 +18,7 @@ use Rattle.postscript_view.specs.Value.{view_shown, part_shown, parts_shown}
 use Rattle.postscript_view.specs.declared.char_set.CharSetView.{CharSetView}
 use Rattle.postscript_view.specs.declared.font.FontView.{FontView}
 use Rattle.postscript_write.specs.Fonts.{IsMade}
-use Rattle.postscript_write.specs.Glyphs.{AreCodesOf, AreNumbersOf, HasPartFor, IsCodeFor, Sources, run_in}
+use Rattle.postscript_write.specs.Glyphs.{AreCodesOf, AreNumbersOf, HasPart, HasPartFor, IsCodeFor, Sources, run_in}
 use Rattle.postscript_write.specs.Parts.{SameParts}
 use Rattle.postscript_write.specs.Refusals.{AreSound, FontRefusedBy, IsFaultless, IsRefusedBy}
 use Rattle.postscript_write.specs.Steps.{IsLate, IsNotOpened, RefusedBy, RefusedFor}
@@ -26,8 +26,8 @@ use Rattle.postscript_write.specs.declared.error.Error.{Error}
 use Rattle.postscript_write.specs.declared.error.Error.TheVariants.{Refused, Glyph, SeveralFonts, MissingGlyph, MissingPart, MissingName, NoGlyphs, TooLarge, NotReadBack}
 
 pub made : (bytes flat : List ℕ) (old new : View) (source : Option ℕ) (i number : ℕ) (code : List ℕ) → SameParts old.parts new.parts → slice_get new.char_strings i ≡ Some code →
-    HasPartFor bytes old source number → IsCodeFor old source number code → HasPartFor flat new (option_map (λ _. i) source) number → IsMade bytes old source flat new i
-made bytes flat old new None i number code parts there was is again = there ∙ ap Some is
+    HasPartFor bytes old source number → IsCodeFor old source number code → HasPart flat new i number → IsMade bytes old source flat new i
+made bytes flat old new None i number code parts there was is again = record { code = there ∙ ap Some is; part = subst (HasPart flat new i) was again }
 made bytes flat old new (Some glyph) i number code parts there was is again =
     let within : number < length new.parts = again.there in
     let new_part : Part = slice_index_or new.parts number is.part in

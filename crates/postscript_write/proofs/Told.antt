@@ -2,12 +2,11 @@
 use Rattle.std.proofs.Common.{◌≡◌, refl, sym, ap, subst, ◌∙◌, ℕ, List, [], ◌∷◌, ◌++◌, length, Bool, true, false}
 use Rattle.std.specs.Prelude.{Some, map, if◌then◌else◌}
 use Rattle.postscript_view.specs.declared.font.FontView.{FontView}
-use Rattle.postscript_drawing.specs.Components.{glyphs_of}
-use Rattle.postscript_write.specs.Components.{AreClosed, AreKept, IsOpened, IsReached, IsSubset, is_named, is_drawn_with}
+use Rattle.postscript_write.specs.Components.{AreClosed, IsOpened, IsReached, is_named, is_drawn_with}
 use Rattle.postscript_write.specs.Fonts.{IsFontOf}
 use Rattle.postscript_write.specs.Glyphs.{Sources}
 use Rattle.postscript_write.specs.Kept.{KeptAreWritten}
-use Rattle.postscript_write.specs.Sources.{IsWritten, chosen, is_kept, kept_of}
+use Rattle.postscript_write.specs.Sources.{chosen, is_kept, kept_of}
 use Rattle.postscript_write.proofs.Drawings.{component-moved, many-of}
 use Rattle.postscript_write.proofs.Marks.{kept_more}
 use Rattle.std.proofs.Common.{add-one, zero, suc}

@@ -1,14 +1,13 @@
 -- A font without subroutines that is made of glyphs of another one.
-use Rattle.std.specs.Prelude.{◌≡◌, ℕ, ◌<◌, List, [], ◌∷◌, Option, Some, None, Bool, false, IsTrue, length, take, slice_get, slice_index_or}
+use Rattle.std.specs.Prelude.{◌≡◌, ℕ, ◌<◌, List, [], ◌∷◌, ◌++◌, Option, Some, None, Bool, false, IsTrue, length, take, slice_get, slice_index_or}
 use Rattle.postscript_type2.specs.Program.Inlined.{inlined_text}
 use Rattle.postscript_type2.specs.Program.Routines.{Lists}
 use Rattle.postscript_type2.specs.Program.Runs.{fault_of}
 use Rattle.postscript_view.specs.Order.{View, Part}
 use Rattle.postscript_write.specs.Glyphs.{DrawsAs, HasPart, Sources, run_in}
 use Rattle.postscript_write.specs.Naming.{GivesWay, KeepsCodes}
-use Rattle.postscript_write.specs.Parts.{SameAt, SamePart, SameParts}
+use Rattle.postscript_write.specs.Parts.{SameBut, SamePart, SameParts, naming, placing}
 use Rattle.postscript_write.specs.Strings.{KeepsNames}
-use Rattle.postscript_write.specs.declared.kept.TheConstants.{KEPT}
 
 -- The header of what is written: version 1.0, of four bytes, and places of four bytes (section 6).
 abbrev pub HasHeader : List ℕ → Type 0
@@ -35,16 +34,21 @@ pub record IsMadeOf (bytes : List ℕ) (old : View) (glyph : ℕ) (flat : List �
   pub text : new_code ≡ inlined_text (run_in old old_part old_code).trace
   pub same : SamePart old_part new_part
 
+-- An empty glyph is `endchar` alone, with the first part.
+pub record IsEmpty (flat : List ℕ) (new : View) (i : ℕ) : Type 0 where
+  pub code : slice_get new.char_strings i ≡ Some (0x0e ∷ [])
+  pub part : HasPart flat new i 0
+
 -- it is made of a glyph, or empty
 abbrev pub IsMade : List ℕ → View → Option ℕ → List ℕ → View → (i : ℕ) → Type 0
-IsMade bytes old None flat new i = slice_get new.char_strings i ≡ Some (0x0e ∷ [])
+IsMade bytes old None flat new i = IsEmpty flat new i
 IsMade bytes old (Some glyph) flat new i = IsMadeOf bytes old glyph flat new i
 
 -- The new font has no subroutines, and what the old one has besides its glyphs, what names places, and strings with what names them.
 pub record Repeats (old new : View) : Type 0 where
   pub names : new.tables.names ≡ old.tables.names
   pub no_global : new.tables.subroutines ≡ []
-  pub dictionary : SameAt KEPT old.tables.dictionary new.tables.dictionary
+  pub dictionary : SameBut (placing ++ naming) old.tables.dictionary new.tables.dictionary
   pub parts : SameParts old.parts new.parts
 
 -- The new font is made of these glyphs of the old one, in this order. It says what the old one says: also by its encoding, where

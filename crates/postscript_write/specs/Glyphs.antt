@@ -60,8 +60,9 @@ pub record AreCodesOf (font : View) (sources : Sources) (numbers : List ℕ) (fl
   pub many : length flats ≡ length sources
   pub each : (i : ℕ) → i < length sources → IsCodeFor font (slice_index_or sources i None) (slice_index_or numbers i 0) (slice_index_or flats i [])
 
+-- the number of the part of a glyph; an empty one gets the first
 abbrev pub HasPartFor : List ℕ → View → Option ℕ → (number : ℕ) → Type 0
-HasPartFor bytes font None number = Unit {0}
+HasPartFor bytes font None number = number ≡ 0
 HasPartFor bytes font (Some glyph) number = HasPart bytes font glyph number
 
 -- as many numbers of parts, each of the glyph in its place

@@ -12,5 +12,6 @@ pub mod Components
 pub mod Closure
 pub mod Kept
 pub mod Drawings
+pub mod Readings
 pub mod Refusals
 pub mod Steps

@@ -13,8 +13,7 @@ use Rattle.postscript_view.specs.Strings.{HasString, string_of}
 use Rattle.postscript_view.specs.declared.char_set.CharSetView.{CharSetView}
 use Rattle.postscript_write.specs.Glyphs.{Sources}
 use Rattle.postscript_write.specs.Naming.{SameNames}
-use Rattle.postscript_write.specs.Parts.{SameAt}
-use Rattle.postscript_write.specs.declared.kept.TheConstants.{NAMED}
+use Rattle.postscript_write.specs.Parts.{SameAt, naming}
 
 -- the identifier that an operator names a string by: its first operand, where that is a whole number of two bytes
 abbrev pub identifier_from : Option ℤ → Option ℕ
@@ -37,7 +36,7 @@ pub record NamesSame (old new : Tables) (operator : Operator) : Type 0 where
   pub operands : own_named old operator ≡ None → look new.dictionary operator ≡ look old.dictionary operator
 
 abbrev pub NameSame : (old new : Tables) → Type 0
-NameSame old new = All (NamesSame old new) NAMED
+NameSame old new = All (NamesSame old new) naming
 
 -- An identifier names the same string of the font's own as another one; where that names none of them, it is the same.
 pub record SameString (old : List (List ℕ)) (was : ℕ) (new : List (List ℕ)) (is : ℕ) : Type 0 where
@@ -59,7 +58,7 @@ SameTexts old old_strings sources new new_strings = (i : ℕ) → i < length sou
 -- An operator of the dictionary names the string of a number, or it names a glyph.
 abbrev pub IsNeeded : View → CharSetView → (number : ℕ) → Type 0
 IsNeeded font set number =
-    Any (λ operator. identifier_in font.tables.dictionary operator ≡ Some (391 + number)) NAMED ⊎ ((glyph : ℕ) × (glyph < length font.char_strings) × Names set glyph (391 + number))
+    Any (λ operator. identifier_in font.tables.dictionary operator ≡ Some (391 + number)) naming ⊎ ((glyph : ℕ) × (glyph < length font.char_strings) × Names set glyph (391 + number))
 
 abbrev pub AreNeeded : View → CharSetView → Type 0
 AreNeeded font set = (number : ℕ) → number < length font.tables.strings → IsNeeded font set number
@@ -71,7 +70,7 @@ AreNeededMarks font set marks = (number : ℕ) → slice_index_or marks number f
 -- Strings stay as they are, and so do the identifiers that name them, in the dictionary and of glyphs.
 pub record KeepsStrings (sources : Sources) (old : View) (old_set : CharSetView) (new : View) (new_set : CharSetView) : Type 0 where
   pub strings : new.tables.strings ≡ old.tables.strings
-  pub operators : SameAt NAMED old.tables.dictionary new.tables.dictionary
+  pub operators : SameAt naming old.tables.dictionary new.tables.dictionary
   pub glyphs : SameNames old_set sources new_set
 
 -- Operators and glyphs name the same strings, and no string stands there that none of them names.

@@ -1,13 +1,12 @@
 //! Parts, names and codes of a font that is read back, compared with those that it was made of.
-ghost use Rattle.std.specs.Prelude.{◌≡◌, ◌<◌, ℕ, IsTrue, Some, None, length, option_map, slice_index_or};
+ghost use Rattle.std.specs.Prelude.{◌≡◌, ◌<◌, ℕ, IsTrue, Some, length, slice_index_or};
 ghost use Rattle.postscript_items.specs.Lent.{items_of};
 ghost use Rattle.postscript_view.specs.Value.{part_shown, parts_shown, view_shown};
-ghost use Rattle.postscript_write.specs.Glyphs.{HasPartFor};
+ghost use Rattle.postscript_write.specs.Glyphs.{HasPart};
 ghost use Rattle.postscript_write.specs.Naming.{SameCodes, SameEncoding, SameName, SameNames, codes_for};
 ghost use Rattle.postscript_write.specs.Parts.{SameFont, SamePart, SameParts};
 
-use crate::kept::{KEPT_FONT, KEPT_PRIVATE};
-use crate::same::{are_none, same_at, same_look};
+use crate::same::{are_none, same_but, same_look};
 use postscript_base::compact1::{Operations, Operator};
 use postscript_compact1::encoding::Encoding;
 use postscript_view::{CharSetView, Codes, EncodingView, FontView, Part};
@@ -18,7 +17,7 @@ fn same_font(old: &Option<Operations>, new: &Option<Operations>) -> bool
 {
     match (old, new) {
         (None, None) => true,
-        (Some(old), Some(new)) => same_at(&KEPT_FONT, old, new),
+        (Some(old), Some(new)) => same_but(&[Operator::Private], old, new),
         _ => false,
     }
 }
@@ -31,7 +30,7 @@ fn same_part(old: &Part<'_>, new: &Part<'_>) -> bool
     if !same_look(Operator::DefaultWidthX, a, b) || !same_look(Operator::NominalWidthX, a, b) {
         return false;
     }
-    if !same_at(&KEPT_PRIVATE, a, b) || !are_none(&new.subroutines) {
+    if !same_but(&[Operator::Subrs], a, b) || !are_none(&new.subroutines) {
         return false;
     }
     same_font(&old.font_dictionary, &new.font_dictionary)
@@ -52,25 +51,22 @@ pub(crate) fn same_parts(old: &[Part<'_>], new: &[Part<'_>]) -> bool
     true
 }
 
-/// Whether a glyph has the part of a number, if it is made of one.
-fn same_number(source: Option<usize>, number: usize, new: &FontView<'_>, i: usize) -> bool
-    ensures { IsTrue result → HasPartFor new.now.bytes.now (view_shown new.now) (option_map (λ _. i) source) number }
+/// Whether a glyph has the part of a number.
+fn has_number(number: usize, new: &FontView<'_>, i: usize) -> bool
+    ensures { IsTrue result → HasPart new.now.bytes.now (view_shown new.now) i number }
 {
-    match (source, new.part_of(i)) {
-        (None, _) => true,
-        (Some(_), Some(found)) => found == number,
-        (Some(_), None) => false,
+    match new.part_of(i) {
+        Some(found) => found == number,
+        None => false,
     }
 }
 
 /// Whether each glyph has the part of its number.
-pub(crate) fn same_numbers(sources: &[Option<usize>], numbers: &[usize], new: &FontView<'_>) -> bool
-    requires { length numbers.now ≡ length sources.now }
-    ensures { IsTrue result → (i : ℕ) → i < length sources.now →
-        HasPartFor new.now.bytes.now (view_shown new.now) (option_map (λ _. i) (slice_index_or sources.now i None)) (slice_index_or numbers.now i 0) }
+pub(crate) fn same_numbers(numbers: &[usize], new: &FontView<'_>) -> bool
+    ensures { IsTrue result → (i : ℕ) → i < length numbers.now → HasPart new.now.bytes.now (view_shown new.now) i (slice_index_or numbers.now i 0) }
 {
-    for i in 0..sources.len() {
-        if !same_number(sources[i], numbers[i], new, i) {
+    for i in 0..numbers.len() {
+        if !has_number(numbers[i], new, i) {
             return false;
         }
     }

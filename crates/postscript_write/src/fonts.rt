@@ -5,6 +5,7 @@ ghost use Rattle.postscript_view.specs.Order.{View, fonts as the_fonts, view as 
 ghost use Rattle.postscript_view.specs.Value.{view_shown};
 ghost use Rattle.postscript_write.specs.Components.{AreKept, IsSubset};
 ghost use Rattle.postscript_write.specs.Drawings.{DrawsKept, KeepsDrawings};
+ghost use Rattle.postscript_write.specs.Readings.{HasLenientFont};
 ghost use Rattle.postscript_write.specs.Refusals.{IsChoiceRefusedBy, IsRefusedBy, IsSubsetRefusedBy};
 ghost use Rattle.postscript_write.specs.Sources.{AreThere, IsWritten, chosen as the_chosen, every as the_every, keeping as the_keeping};
 ghost use Rattle.postscript_write.specs.Steps.{IsNotOpened};
@@ -32,7 +33,8 @@ fn only_font<'l>(alloc: Global, bytes: &'l [u8]) -> Result<FontView<'l>>
 }
 
 /// The font that the bytes begin with, written anew without subroutines. Each glyph, over any subroutines, draws what it drew,
-/// with the same advance, name or CID, and codes. Names, strings and dictionaries say the same, except of places.
+/// with the same advance, name or CID, and codes. Names, strings and dictionaries say the same, except of places. Where
+/// `FontSet::read_lenient` reads the font, it reads what is written too.
 ///
 /// Refused: `Glyph` with the first glyph whose run is refused, and why; `Refused` where the font, its char set or its encoding is
 /// refused, or where memory is; `MissingPart` where FDSelect gives a glyph no font dictionary; `SeveralFonts` where there is
@@ -40,6 +42,7 @@ fn only_font<'l>(alloc: Global, bytes: &'l [u8]) -> Result<FontView<'l>>
 pub fn flat_font(alloc: Global, bytes: &[u8]) -> Result<Vec<u8>>
     ensures drawn { IfOk result (λ flat. KeepsDrawings the_every bytes.now flat.items) }
     ensures written { IfOk result (λ flat. IsWritten true the_every bytes.now flat.items) }
+    ensures lenient { IfOk result (λ flat. HasLenientFont bytes.now → HasLenientFont flat.items) }
     ensures one { OnOk result (the_fonts bytes.now 0 ≡ Got 1 0) }
     ensures refused { IfErr result (λ e. IsRefusedBy the_every bytes.now e) }
 {
@@ -75,13 +78,14 @@ pub fn kept_glyphs(alloc: Global, bytes: &[u8], named: &[usize]) -> Result<Vec<u
 /// advance and name or CID. A component that no glyph of the font is, is not kept, and the glyph cannot be drawn, as before.
 /// Names and dictionaries say the same, except of places; an encoding of the font's own gives way to the standard one. Strings that
 /// neither a glyph nor an operator of the font's dictionary names are left out, and the others get new identifiers, but in a CID-keyed
-/// font (Technical Note 5176, sections 9, 10 and 13).
+/// font (Technical Note 5176, sections 9, 10 and 13). Where `FontSet::read_lenient` reads the font, it reads what is written too.
 ///
 /// Refused: `NoGlyphs` where none is named; `MissingGlyph` with a number that no glyph has; `MissingName` where the char set
 /// has no identifier for a glyph; and as `flat_font` is, but only for these glyphs.
 pub fn subset(alloc: Global, bytes: &[u8], named: &[usize]) -> Result<Vec<u8>>
     ensures drawn { IfOk result (λ flat. DrawsKept the_chosen named.now bytes.now flat.items) }
     ensures written { IfOk result (λ flat. IsSubset false the_chosen named.now bytes.now flat.items) }
+    ensures lenient { IfOk result (λ flat. HasLenientFont bytes.now → HasLenientFont flat.items) }
     ensures one { OnOk result (the_fonts bytes.now 0 ≡ Got 1 0) }
     ensures refused { IfErr result (λ e. IsSubsetRefusedBy named.now the_chosen bytes.now e) }
     ensures there { OnOk result ((font : View) → the_view bytes.now 0 ≡ Got font 0 → AreThere named.now (length font.char_strings)) }
@@ -104,6 +108,7 @@ pub fn subset(alloc: Global, bytes: &[u8], named: &[usize]) -> Result<Vec<u8>>
 pub fn subset_keeping(alloc: Global, bytes: &[u8], named: &[usize]) -> Result<Vec<u8>>
     ensures drawn { IfOk result (λ flat. DrawsKept the_keeping named.now bytes.now flat.items) }
     ensures written { IfOk result (λ flat. IsSubset true the_keeping named.now bytes.now flat.items) }
+    ensures lenient { IfOk result (λ flat. HasLenientFont bytes.now → HasLenientFont flat.items) }
     ensures one { OnOk result (the_fonts bytes.now 0 ≡ Got 1 0) }
     ensures refused { IfErr result (λ e. IsSubsetRefusedBy named.now the_keeping bytes.now e) }
     ensures there { OnOk result ((font : View) → the_view bytes.now 0 ≡ Got font 0 → AreThere named.now (length font.char_strings)) }

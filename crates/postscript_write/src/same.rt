@@ -1,11 +1,13 @@
 //! What was written, compared with what was to be written.
-ghost use Rattle.std.specs.Prelude.{◌≡◌, [], IsTrue, All};
+ghost use Rattle.std.specs.List.{Contains};
+ghost use Rattle.std.specs.Prelude.{◌≡◌, ◌⊎◌, [], IsTrue, All};
 ghost use Rattle.postscript_base.specs.Compact1.Defaults.{look};
 ghost use Rattle.postscript_items.specs.Lent.{items_of};
 ghost use Rattle.postscript_type2.specs.Program.Routines.{texts};
 ghost use Rattle.postscript_write.specs.Fonts.{HasHeader};
-ghost use Rattle.postscript_write.specs.Parts.{SameAt};
+ghost use Rattle.postscript_write.specs.Parts.{IsAmong, SameAt, SameBut};
 
+use crate::kept::OPERATORS;
 use postscript_base::compact1::laws::are_equal;
 use postscript_base::compact1::{Operand, Operations, Operator};
 use postscript_items::Items;
@@ -94,6 +96,43 @@ pub(crate) fn same_at(operators: &[Operator], old: &Operations, new: &Operations
 {
     for operator in operators {
         if !same_look(*operator, old, new) {
+            return false;
+        }
+    }
+    true
+}
+
+/// Whether an operator is one of these.
+fn is_among(operator: Operator, operators: &[Operator]) -> bool
+    ensures { IsTrue result → Contains operators.now operator }
+{
+    for i in 0..operators.len() {
+        if operators[i] == operator {
+            return true;
+        }
+    }
+    false
+}
+
+/// Whether an operator has the same operands, or is one of these.
+#[tactic(auto, using(crate::proofs::Operators::among))]
+fn same_or_among(
+    operator: Operator,
+    operators: &[Operator],
+    old: &Operations,
+    new: &Operations,
+) -> bool
+    ensures { IsTrue result → (look new.now operator ≡ look old.now operator) ⊎ IsAmong operator operators.now }
+{
+    is_among(operator, operators) || same_look(operator, old, new)
+}
+
+/// Whether all operators but these have the same operands.
+pub(crate) fn same_but(operators: &[Operator], old: &Operations, new: &Operations) -> bool
+    ensures { IsTrue result → SameBut operators.now old.now new.now }
+{
+    for operator in &OPERATORS {
+        if !same_or_among(*operator, operators, old, new) {
             return false;
         }
     }

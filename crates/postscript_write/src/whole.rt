@@ -9,6 +9,7 @@ ghost use Rattle.postscript_items.specs.Lent.{items_of};
 ghost use Rattle.postscript_view.specs.Value.{view_shown};
 ghost use Rattle.postscript_write.specs.Fonts.{IsFontOf, Repeats};
 ghost use Rattle.postscript_write.specs.Glyphs.{AreCodesOf, AreNumbersOf};
+ghost use Rattle.postscript_write.specs.Readings.{HasLenientFont};
 ghost use Rattle.postscript_write.specs.Refusals.{FontRefusedBy};
 ghost use Rattle.postscript_write.specs.Steps.{IsLate};
 ghost use Rattle.postscript_write.specs.Naming.{GivesWay, KeepsCodes, SameEncoding, SameNames, codes_for};
@@ -17,12 +18,13 @@ ghost use Rattle.postscript_write.specs.Strings.{keeps_strings, CutsStrings, Kee
 use crate::alike::{give_way, same_encoding, same_names, same_numbers, same_parts};
 use crate::error::{Error, Result, not_back, unwritten};
 use crate::glyphs::{codes_of, numbers_of};
-use crate::kept::{KEPT, NAMED};
+use crate::kept::{CHANGED, NAMED};
 use crate::layout::written;
 use crate::naming::{name_same, same_texts};
 use crate::needed::are_needed;
 use crate::numbering::{identifiers_of, numbered};
-use crate::same::{are_codes, are_none, has_header, same_at, same_items};
+use crate::readings::stays_read;
+use crate::same::{are_codes, are_none, has_header, same_at, same_but, same_items};
 use postscript_base::compact1::StringID;
 use postscript_view::{CharSetView, EncodingView, FontView};
 use std::alloc::Global;
@@ -34,7 +36,7 @@ fn says_same(old: &FontView<'_>, new: &FontView<'_>) -> bool
     if !same_items(&old.names, &new.names) {
         return false;
     }
-    if !are_none(&new.global_subroutines) || !same_at(&KEPT, &old.dictionary, &new.dictionary) {
+    if !are_none(&new.global_subroutines) || !same_but(&CHANGED, &old.dictionary, &new.dictionary) {
         return false;
     }
     same_parts(&old.parts, &new.parts)
@@ -213,7 +215,7 @@ fn read_back(
     if !says_same(font, &again) || !are_codes(codes, &again.char_strings) {
         return Err(Error::NotReadBack);
     }
-    if !same_numbers(sources, numbers, &again) {
+    if !same_numbers(numbers, &again) {
         return Err(Error::NotReadBack);
     }
     let new = back_names(alloc, font, set, sources, &again, keeps_numbers(font, kept))?;
@@ -239,6 +241,7 @@ fn put_together(
     requires numbers { AreNumbersOf font.now.bytes.now (view_shown font.now) sources.now numbers.now }
     requires codes { AreCodesOf (view_shown font.now) sources.now numbers.now (texts codes.now) }
     ensures font { IfOk result (λ flat. (new : View) × (the_view flat.items 0 ≡ Got new 0) × IsFontOf kept sources.now font.now.bytes.now (view_shown font.now) flat.items new) }
+    ensures lenient { IfOk result (λ flat. HasLenientFont font.now.bytes.now → HasLenientFont flat.items) }
     ensures late { IfErr result (λ e. IsLate e) }
 {
     let glyphs = numbered(alloc, font, numbers, identifiers)?;
@@ -249,6 +252,7 @@ fn put_together(
     read_back(
         alloc, font, set, encoding, sources, numbers, codes, kept, &flat,
     )?;
+    stays_read(alloc, font.bytes, &flat)?;
     Ok(flat)
 }
 
@@ -277,6 +281,7 @@ pub(crate) fn font_of(
     kept: bool,
 ) -> Result<Vec<u8>>
     ensures font { IfOk result (λ flat. (new : View) × (the_view flat.items 0 ≡ Got new 0) × IsFontOf kept sources.now font.now.bytes.now (view_shown font.now) flat.items new) }
+    ensures lenient { IfOk result (λ flat. HasLenientFont font.now.bytes.now → HasLenientFont flat.items) }
     ensures refused { IfErr result (λ e. FontRefusedBy font.now.bytes.now (view_shown font.now) sources.now e) }
 {
     let set = font.char_set()?;

@@ -6,6 +6,7 @@ use Rattle.postscript_view.specs.Order.{View}
 use Rattle.postscript_view.specs.Value.{view_shown}
 use Rattle.postscript_drawing.specs.Components.{glyphs_of}
 use Rattle.postscript_write.specs.Components.{IsOpened}
+use Rattle.postscript_write.specs.Readings.{HasLenientFont}
 use Rattle.postscript_write.specs.Sources.{AreThere, chosen}
 use Rattle.postscript_write.specs.Steps.{IsNotChosen}
 use Rattle.postscript_write.specs.declared.error.Error.{Error}
@@ -58,3 +59,7 @@ returns-in_err-sources-clause-refused c =
 
 pub returns-clause-drawn : goal.returns-clause-drawn
 returns-clause-drawn c = subset-drawn c.font_of.result c.args.named.now c.args.bytes.now (returns-clause-written c)
+
+pub returns-clause-lenient : goal.returns-clause-lenient
+returns-clause-lenient c =
+    if_ok c.font_of.result (λ flat stays. subst (λ (bs : List ℕ). HasLenientFont bs → HasLenientFont flat.items) c.in_ok-font.ensures.bytes stays) c.font_of.ensures.lenient

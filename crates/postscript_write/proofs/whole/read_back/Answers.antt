@@ -1,11 +1,11 @@
 use Rattle.std.proofs.Common.{◌≡◌, ◌∙◌, sym, ap, subst, ℕ, List, [], length, arith, slice_get, slice_index_or}
-use Rattle.std.specs.Prelude.{Some, None, option_map}
+use Rattle.std.specs.Prelude.{Some, None}
 use Rattle.std.proofs.lemmas.Option.{slice_get-get_or}
 use Rattle.postscript_items.specs.Lent.{items_of}
 use Rattle.postscript_type2.specs.Program.Routines.{texts}
 use Rattle.postscript_view.specs.CharSets.{IsCharSetOf}
 use Rattle.postscript_view.specs.Value.{view_shown}
-use Rattle.postscript_write.specs.Glyphs.{HasPartFor}
+use Rattle.postscript_write.specs.Glyphs.{HasPart}
 use Rattle.postscript_write.specs.Naming.{GivesWay, KeepsCodes}
 use Rattle.postscript_write.specs.Strings.{SameStrings}
 use Rattle.postscript_write.proofs.Making.{made}
@@ -24,6 +24,7 @@ returns-clause-font c =
     let same : again.bytes.now ≡ flat = c.in-Ok.ensures.bytes in
     let repeats = c.says_same.ensures c.if-not-says_same.false in
     let are : new.char_strings ≡ codes = c.are_codes.ensures c.if-not-are_codes.false in
+    let numbered : length numbers ≡ length sources = c.requires.numbers.many in
     let many : length codes ≡ length sources = c.requires.codes.many in (
       new,
       c.in-Ok.ensures.exact,
@@ -35,7 +36,7 @@ returns-clause-font c =
             let code = slice_index_or codes i [] in
             let there : slice_get new.char_strings i ≡ Some code = subst (λ (cs : List (List ℕ)). slice_get cs i ≡ Some code) (sym are) (slice_get-get_or codes i [] (omega (arith, less, many))) in
             made bytes flat old new (slice_index_or sources i None) i (slice_index_or numbers i 0) code repeats.parts there (c.requires.numbers.each i less) (c.requires.codes.each i less)
-            (subst (λ (bs : List ℕ). HasPartFor bs new (option_map (λ _. i) (slice_index_or sources i None)) (slice_index_or numbers i 0)) same (c.same_numbers.ensures c.if-not-same_numbers.false i less));
+            (subst (λ (bs : List ℕ). HasPart bs new i (slice_index_or numbers i 0)) same (c.same_numbers.ensures c.if-not-same_numbers.false i (omega (arith, less, numbered))));
         naming = record {
           old_set = c.args.set.now;
           new_set = c.in_ok-new.new;
