@@ -104,7 +104,8 @@ enum {
 #define PSF_TAG(a, b, c, d) \
     ((uint32_t)(uint8_t)(a) << 24 | (uint32_t)(uint8_t)(b) << 16 | (uint32_t)(uint8_t)(c) << 8 | (uint32_t)(uint8_t)(d))
 
-/* What a private dictionary says of glyphs. Widths are exact where they are whole numbers of 32 bits; finer ones are cut to 65536ths. */
+/* What a private dictionary says of glyphs. Widths are cut towards zero to 65536ths, which changes no whole number, and one beyond 64
+ * bits is told as the nearest number of 64 bits. */
 typedef struct psf_part {
     uint64_t local_subroutines; /* the place of their INDEX; 0: there is none */
     int64_t default_width;      /* the width of glyphs whose programs tell none */

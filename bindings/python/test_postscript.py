@@ -193,6 +193,11 @@ class Small(Case):
                     self.assertEqual(glyph.advance, advance)
             self.refused(Status.NO_GLYPH, postscript.Glyph(font, 4).flat_code)
 
+    def test_width_of_many_digits(self):
+        # the first private dictionary has a default width of .3333333333 alone, which is 21845.33 of 65536
+        font = Font(CID.replace(bytes.fromhex("f88814f8ec159313"), bytes.fromhex("1ea3333333333f14")) + bytes.fromhex("0000000101"))
+        self.assertEqual(font[0].advance, 21845 / 65536)
+
     def test_refusals(self):
         file = small()
         self.assertEqual(postscript.faces(file), 1)
