@@ -81,7 +81,7 @@ enum {
     PSF_NO_STATUS = 39,                   /* no status has the number */
     PSF_REFUSED_GLYPH = 40,               /* the run of a glyph is refused, and so no font is written */
     PSF_SEVERAL_FONTS = 41,               /* the font set has several fonts, or none */
-    PSF_NO_PART = 42,                     /* a glyph of a CID-keyed font has no font dictionary */
+    PSF_NO_PART = 42,                     /* FDSelect gives a glyph of a CID-keyed font no font dictionary that is there */
     PSF_NO_GLYPHS = 43,                   /* no glyphs are named */
     PSF_NOT_READ_BACK = 44,               /* what was written is not read back as the font */
     PSF_TOO_LARGE = 45,                   /* what is to be written is too large */
@@ -104,7 +104,8 @@ enum {
 #define PSF_TAG(a, b, c, d) \
     ((uint32_t)(uint8_t)(a) << 24 | (uint32_t)(uint8_t)(b) << 16 | (uint32_t)(uint8_t)(c) << 8 | (uint32_t)(uint8_t)(d))
 
-/* What a private dictionary says of glyphs. Widths are exact where they are whole numbers of 32 bits; finer ones are cut to 65536ths. */
+/* What a private dictionary says of glyphs. Widths are cut towards zero to 65536ths, which changes no whole number, and one beyond 64
+ * bits is told as the nearest number of 64 bits. */
 typedef struct psf_part {
     uint64_t local_subroutines; /* the place of their INDEX; 0: there is none */
     int64_t default_width;      /* the width of glyphs whose programs tell none */
@@ -196,11 +197,13 @@ int32_t psf_font_fits(const uint8_t *cff, size_t length, uint64_t *limit);
  * glyphs that have the names of the two codes in the standard encoding (.notdef where it lists none), in the font that the bytes
  * begin with. The width is that of the glyph's own run. The three runs share a limit of 20,000,000, which is spent as
  * psf_font_fits says.
+ * A glyph of a CID-keyed font has the subroutines and the widths of the font dictionary that FDSelect gives it, in format 0 or 3
+ * (Technical Note 5176, section 19); where there is one font dictionary, it is that of all glyphs, and FDSelect is not asked.
  * On PSF_OK and PSF_NO_ROOM *count and *info are told, and on PSF_OK segments[0..*count] is the outline: contours, each from
  * a PSF_MOVE to a PSF_CLOSE. With a room of 0 the call tells how much room is needed.
- * Also answered: PSF_NO_GLYPH; PSF_TOO_LONG where the limit is used up; of an accented glyph PSF_NO_CODE, PSF_NO_ACCENTS,
- * PSF_NO_COMPONENT and PSF_NESTED_ACCENT; and errors from 1 to 30, also of the base and the accent. Then segments, *count and
- * *info are all as they were. */
+ * Also answered: PSF_NO_GLYPH; PSF_NO_PART, also where FDSelect is cut or of another format; PSF_TOO_LONG where the limit is used
+ * up; of an accented glyph PSF_NO_CODE, PSF_NO_ACCENTS, PSF_NO_COMPONENT and PSF_NESTED_ACCENT; and errors from 1 to 30, also of the
+ * base and the accent. Then segments, *count and *info are all as they were. */
 int32_t psf_glyph_outline(const uint8_t *cff, size_t length, const psf_font *font, size_t glyph,
                           psf_segment *segments, size_t room, size_t *count, psf_glyph *info);
 
@@ -211,7 +214,8 @@ int32_t psf_glyph_bounds(const uint8_t *cff, size_t length, const psf_font *font
 
 /* The code of a glyph without calls of subroutines, to the front of code[0..room]: over any subroutines it has the operations
  * and the width of the glyph. Knows no limit.
- * On PSF_OK and PSF_NO_ROOM *count is how many bytes it has. Also answered: PSF_NO_GLYPH, and errors from 1 to 30. */
+ * On PSF_OK and PSF_NO_ROOM *count is how many bytes it has. Also answered: PSF_NO_GLYPH, PSF_NO_PART as by psf_glyph_outline, and
+ * errors from 1 to 30. */
 int32_t psf_glyph_flat(const uint8_t *cff, size_t length, const psf_font *font, size_t glyph,
                        uint8_t *code, size_t room, size_t *count);
 
@@ -219,7 +223,8 @@ int32_t psf_glyph_flat(const uint8_t *cff, size_t length, const psf_font *font, 
  * the front of operands[0..operand_room]. Those of operations[i] are operands[first..first + count]. An accented glyph has its own
  * operations alone. Knows no limit.
  * On PSF_OK and PSF_NO_ROOM *count and *operand_count tell how many there are of each; on PSF_NO_ROOM one of them is more than
- * its room, and nothing else is written. Also answered: PSF_NO_GLYPH, and errors from 1 to 30; then nothing is written. */
+ * its room, and nothing else is written. Also answered: PSF_NO_GLYPH, PSF_NO_PART as by psf_glyph_outline, and errors from 1 to 30;
+ * then nothing is written. */
 int32_t psf_glyph_operations(const uint8_t *cff, size_t length, const psf_font *font, size_t glyph,
                              psf_operation *operations, size_t room, size_t *count,
                              int32_t *operands, size_t operand_room, size_t *operand_count);

@@ -262,6 +262,9 @@ static void check_refused_accents(const uint8_t *cff, size_t size) {
     holds(refusal_of(cff, size, 11) == PSF_NO_COMPONENT, "no glyph is the accent");
     holds(refusal_of(cff, size, 13) == PSF_NO_GLYPH, "no such glyph");
     holds(refusal_of(font, spell(cid, font, sizeof font), 2) == PSF_NO_ACCENTS, "no accents by CIDs");
+    font[sizeof font - 5] = 5;
+    holds(refusal_of(font, sizeof font, 2) == PSF_NO_PART, "FDSelect is of format 5");
+    holds(refusal_of(font, sizeof font, 4) == PSF_NO_GLYPH, "no such glyph of it");
 }
 
 /* Makes a font whose glyph calls the first of ten nested global subroutines. Each but the last calls the next ten times, so that

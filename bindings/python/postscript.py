@@ -378,9 +378,9 @@ class Glyph:
 
     An accented glyph, whose `endchar` names a base and an accent (Technical Note 5177, Appendix C), is drawn whole: its own
     contours, those of the base, and those of the accent where the glyph says. The width is its own. The runs share a limit of
-    20,000,000, which is spent as `Font.fits` says. Refused with `Status.NO_GLYPH`; with `Status.TOO_LONG` where the limit is used
-    up; an accented glyph with `Status.NO_CODE`, `NO_ACCENTS`, `NO_COMPONENT` and `NESTED_ACCENT`; and with what a run is refused
-    with."""
+    20,000,000, which is spent as `Font.fits` says. Refused with `Status.NO_GLYPH`; with `Status.NO_PART` where FDSelect gives a glyph
+    of a CID-keyed font no font dictionary; with `Status.TOO_LONG` where the limit is used up; an accented glyph with
+    `Status.NO_CODE`, `NO_ACCENTS`, `NO_COMPONENT` and `NESTED_ACCENT`; and with what a run is refused with."""
 
     def __init__(self, font: Font, number: int) -> None:
         self.font, self.number = font, number

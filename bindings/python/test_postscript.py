@@ -170,6 +170,34 @@ class Small(Case):
             self.assertEqual([glyph.advance for glyph in font], [500, 596, -23, 250])
             self.assertEqual([glyph.svg_path() for glyph in font], ["", "M20 0Z", "M50 0Z", ""])
 
+    def test_selections(self):
+        none = Status.NO_PART
+        rows = [
+            # of format 5, and of format 0 with a byte too few
+            ("0500020000000002010004", [none, none, none, none]),
+            ("00000001", [none, none, none, none]),
+            # glyph 2 has the font dictionary 2, which is not there
+            ("0000000201", [500, 596, none, 250]),
+            # the first range begins with glyph 1
+            ("0300020001000002010004", [none, 596, -23, 250]),
+            # of ranges that are not in order the first one holds no glyph, and the second one all
+            ("0300020002010000000004", [500, 596, 607, 500]),
+        ]
+        for selection, advances in rows:
+            font = Font(CID + bytes.fromhex(selection))
+            for glyph, advance in zip(font, advances):
+                if advance is none:
+                    for call in (glyph.operations, glyph.flat_code, lambda: glyph.advance, lambda: glyph.tight_bounds):
+                        self.refused(none, call)
+                else:
+                    self.assertEqual(glyph.advance, advance)
+            self.refused(Status.NO_GLYPH, postscript.Glyph(font, 4).flat_code)
+
+    def test_width_of_many_digits(self):
+        # the first private dictionary has a default width of .3333333333 alone, which is 21845.33 of 65536
+        font = Font(CID.replace(bytes.fromhex("f88814f8ec159313"), bytes.fromhex("1ea3333333333f14")) + bytes.fromhex("0000000101"))
+        self.assertEqual(font[0].advance, 21845 / 65536)
+
     def test_refusals(self):
         file = small()
         self.assertEqual(postscript.faces(file), 1)

@@ -82,7 +82,7 @@ pub enum Error {
     RefusedGlyph = 40,
     /// The font set has several fonts, or none.
     SeveralFonts = 41,
-    /// A glyph of a CID-keyed font has no font dictionary.
+    /// FDSelect gives a glyph of a CID-keyed font no font dictionary that is there.
     NoPart = 42,
     /// No glyphs are named.
     NoGlyphs = 43,

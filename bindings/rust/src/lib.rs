@@ -122,9 +122,10 @@ impl<'a> Font<'a> {
     ///
     /// # Errors
     ///
-    /// [`Error::NoGlyph`] where the font has no such glyph; [`Error::TooLong`] where the limit is used up; of an accented glyph
-    /// [`Error::NoCode`], [`Error::NoAccents`], [`Error::NoComponent`] and [`Error::NestedAccent`]; and where its program, or that
-    /// of the base or the accent, is refused: see [`Error`].
+    /// [`Error::NoGlyph`] where the font has no such glyph; [`Error::NoPart`] where FDSelect gives it no font dictionary;
+    /// [`Error::TooLong`] where the limit is used up; of an accented glyph [`Error::NoCode`], [`Error::NoAccents`],
+    /// [`Error::NoComponent`] and [`Error::NestedAccent`]; and where its program, or that of the base or the accent, is refused: see
+    /// [`Error`].
     pub fn outline(&self, glyph: usize) -> Result<Outline> {
         let mut segments = Vec::new();
         let told = c::outline(self.cff, &self.font, glyph, &mut segments)?;
@@ -157,7 +158,8 @@ impl<'a> Font<'a> {
     ///
     /// # Errors
     ///
-    /// [`Error::NoGlyph`] where the font has no such glyph, and where its program is refused: see [`Error`].
+    /// [`Error::NoGlyph`] where the font has no such glyph, [`Error::NoPart`] where FDSelect gives it no font dictionary, and where its
+    /// program is refused: see [`Error`].
     pub fn flat_code(&self, glyph: usize) -> Result<Vec<u8>> {
         c::flat(self.cff, &self.font, glyph)
     }

@@ -203,6 +203,29 @@ fn glyphs_of_a_cid_keyed_font() {
     }
 }
 
+#[test]
+fn glyphs_without_a_font_dictionary() {
+    let none: Result<f64, Error> = Err(Error::NoPart);
+    let rows = [
+        // of format 5, and of format 0 with a byte too few
+        ("0500020000000002010004", [none; 4]),
+        ("00000001", [none; 4]),
+        // glyph 2 has the font dictionary 2, which is not there
+        ("0000000201", [Ok(500.0), Ok(596.0), none, Ok(250.0)]),
+        // the first range begins with glyph 1
+        ("0300020001000002010004", [none, Ok(596.0), Ok(-23.0), Ok(250.0)]),
+        // of ranges that are not in order the first one holds no glyph, and the second one all
+        ("0300020002010000000004", [Ok(500.0), Ok(596.0), Ok(607.0), Ok(500.0)]),
+    ];
+    for (selection, advances) in rows {
+        let bytes = hex(&format!("{CID}{selection}"));
+        let font = Font::from_table(&bytes).unwrap();
+        let found: Vec<Result<f64, Error>> = font.outlines().map(|outline| outline.map(|outline| outline.advance)).collect();
+        assert_eq!(found, advances);
+        assert_eq!(font.flat_code(4), Err(Error::NoGlyph));
+    }
+}
+
 /// The font whose bytes `bindings/accents.hex` spells: `.notdef`, `A`, `acute`, and ten more, most of them accented.
 fn accents() -> Vec<u8> {
     hex(include_str!("../../accents.hex"))

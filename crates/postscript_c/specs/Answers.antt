@@ -1,11 +1,10 @@
 -- What C is told of a glyph.
-use Rattle.std.specs.Prelude.{◌≡◌, ◌≢◌, ◌⊎◌, ℕ, ◌<◌, ◌==◌, ℤ, pos, ◌+ℤ◌, if◌then◌else◌, List, length, take, map, Option, Some, None, Result, Ok, Err}
+use Rattle.std.specs.Prelude.{◌≡◌, ◌⊎◌, ℕ, ◌<◌, ◌==◌, ℤ, pos, ◌+ℤ◌, if◌then◌else◌, List, length, take, map, Option, Some, None, Result, Ok, Err}
 use Rattle.std.specs.Int.{saturate_signed, w64}
 use Rattle.std.specs.Option.{is_some}
 use Rattle.postscript_base.specs.Error.{code}
 use Rattle.postscript_base.specs.declared.error.Error.{Error as Cause}
 use Rattle.postscript_base.specs.declared.error.Error.TheVariants.{Memory}
-use Rattle.postscript_c.specs.CidParts.{HasPart}
 use Rattle.postscript_c.specs.Drawn.{HasNone, IsDrawnOver, IsUndrawnOver}
 use Rattle.postscript_c.specs.declared.fill.PsfSegment.{PsfSegment}
 use Rattle.postscript_c.specs.declared.font.PsfFont.{PsfFont}
@@ -13,6 +12,7 @@ use Rattle.postscript_c.specs.declared.part.PsfPart.{PsfPart}
 use Rattle.postscript_c.specs.declared.tight.PsfBounds.{PsfBounds}
 use Rattle.postscript_c.specs.declared.told.PsfGlyph.{PsfGlyph}
 use Rattle.postscript_c.specs.Glyphs.{Drawn, Glyph}
+use Rattle.postscript_c.specs.Parts.{TellsByPart}
 use Rattle.postscript_c.specs.Segments.{shown as segment_shown}
 use Rattle.postscript_drawing.specs.declared.error.Error.{Error}
 use Rattle.postscript_drawing.specs.declared.error.Error.TheVariants.{Font, Full, TooLong, NoSuchGlyph, NoCode, NoAccents, MissingComponent, NestedAccent}
@@ -76,17 +76,17 @@ Tells (Ok (Some found)) status old new = Hands found status new.segments new.cou
 Tells (Ok None) status old new = (status ≡ pos 31) × (new ≡ old)
 Tells (Err e) status old new = (status ≡ pos (undrawn_code e)) × (new ≡ old)
 
--- the part of a glyph: that of the font, or of a CID-keyed font the one of its font dictionary
-abbrev pub IsPartIn : (bytes : List ℕ) (font : PsfFont) (glyph : ℕ) (part : PsfPart) → Type 0
-IsPartIn bytes font glyph part = (font.is_cid ≡ 0 → part ≡ font.part) × (font.is_cid ≢ 0 → HasPart bytes font glyph part)
+-- What is answered of a glyph by a part: the glyph as it is drawn, accented ones with their components; that there is no such glyph;
+-- or why it is not drawn.
+abbrev pub IsOf : (bytes : List ℕ) (font : PsfFont) (part : PsfPart) (glyph : ℕ) → Result (Option Glyph) Error → Type 0
+IsOf bytes font part glyph (Ok (Some found)) = (found.part ≡ part) × IsDrawnOver bytes font part glyph found.drawn.segments found.drawn.width
+IsOf bytes font part glyph (Ok None) = HasNone bytes font part glyph
+IsOf bytes font part glyph (Err e) = (e ≡ Font Memory) ⊎ IsUndrawnOver bytes font part glyph e
 
--- What is answered: the glyph as it is drawn with its part, accented ones with their components; that there is no such glyph; or why
--- it is not drawn. Why a glyph of a CID-keyed font has no part is open.
-abbrev pub IsOf : (bytes : List ℕ) (font : PsfFont) (glyph : ℕ) → Result (Option Glyph) Error → Type 0
-IsOf bytes font glyph (Ok (Some found)) = IsPartIn bytes font glyph found.part × IsDrawnOver bytes font found.part glyph found.drawn.segments found.drawn.width
-IsOf bytes font glyph (Ok None) = (part : PsfPart) × IsPartIn bytes font glyph part × HasNone bytes font part glyph
-IsOf bytes font glyph (Err e) =
-    ((font.is_cid ≢ 0) × ((cause : Cause) × (e ≡ Font cause))) ⊎ (e ≡ Font Memory) ⊎ ((part : PsfPart) × IsPartIn bytes font glyph part × IsUndrawnOver bytes font part glyph e)
+-- what C is told of the outline of a glyph
+abbrev pub TellsOutline : (bytes : List ℕ) (font : PsfFont) (glyph : ℕ) (status : ℤ) (old new : Room) → Type 0
+TellsOutline bytes font glyph status old new =
+    TellsByPart bytes font glyph status (λ part. (answer : Result (Option Glyph) Error) × IsOf bytes font part glyph answer × Tells answer status old new) (new ≡ old)
 
 -- What C is told of a font: its numbers on 0, or a refusal by its number, which leaves what was there.
 abbrev pub TellsFont : Result PsfFont Cause → (status : ℤ) → (old new : PsfFont) → Type 0
@@ -104,3 +104,8 @@ TellsBounds (Ok (Some found)) status old new =
     × (new.has_bounds ≡ 0 → (new.left ≡ pos 0) × (new.bottom ≡ pos 0) × (new.right ≡ pos 0) × (new.top ≡ pos 0))
 TellsBounds (Ok None) status old new = (status ≡ pos 31) × (new ≡ old)
 TellsBounds (Err e) status old new = (status ≡ pos (undrawn_code e)) × (new ≡ old)
+
+-- what C is told of the bounds of a glyph
+abbrev pub TellsBoundsOf : (bytes : List ℕ) (font : PsfFont) (glyph : ℕ) (status : ℤ) (old new : PsfBounds) → Type 0
+TellsBoundsOf bytes font glyph status old new =
+    TellsByPart bytes font glyph status (λ part. (answer : Result (Option Glyph) Error) × IsOf bytes font part glyph answer × TellsBounds answer status old new) (new ≡ old)

@@ -1,14 +1,40 @@
 -- What a glyph of a CID-keyed font has of its font dictionary (Technical Note 5176, sections 18 and 19).
-use Rattle.std.specs.Prelude.{◌≡◌, ℕ, List, slice_get, Some}
+use Rattle.std.specs.Prelude.{◌≡◌, ◌≢◌, ◌⊎◌, ℕ, ◌<◌, List, length, slice_get, Option, Some, None, Result, Ok, Err}
 use Rattle.postscript_base.specs.Compact1.Dictionary.{Dictionary}
-use Rattle.postscript_base.specs.Tape.Outcome.{Got}
+use Rattle.postscript_base.specs.Tape.Outcome.{Reading, Got, RefusedAs, ◌>>=◌}
+use Rattle.postscript_base.specs.declared.error.Error.{Error}
+use Rattle.postscript_base.specs.declared.error.Error.TheVariants.{Memory}
 use Rattle.postscript_c.specs.Glyphs.{index_at}
 use Rattle.postscript_c.specs.Places.{part}
-use Rattle.postscript_c.specs.Selection.{IsSelectedAt}
 use Rattle.postscript_c.specs.Widths.{AreWidths}
 use Rattle.postscript_c.specs.declared.font.PsfFont.{PsfFont}
 use Rattle.postscript_c.specs.declared.part.PsfPart.{PsfPart}
 use Rattle.postscript_compact1.specs.Kinds.{map_of}
+use Rattle.postscript_view.specs.Select.{Selects}
+
+-- The number of a glyph's font dictionary: of several that which FDSelect gives the glyph, where there is an FDSelect; a single one is
+-- that of all glyphs.
+abbrev pub HasNumber : List ℕ → PsfFont → (dictionaries glyph fd : ℕ) → Type 0
+HasNumber bytes font dictionaries glyph fd = ((dictionaries ≡ 1) × (fd ≡ 0)) ⊎ ((dictionaries ≢ 1) × (font.selection ≢ 0) × Selects bytes font.selection font.glyphs glyph fd)
+
+-- there is such a glyph, and its font dictionary is this item of FDArray
+pub record HasItem (bytes : List ℕ) (font : PsfFont) (items : List (List ℕ)) (glyph : ℕ) (item : List ℕ) : Type 0 where
+  pub fd : ℕ
+  pub there : glyph < font.glyphs
+  pub numbered : HasNumber bytes font (length items) glyph fd
+  pub listed : slice_get items fd ≡ Some item
+
+-- FDArray stands, and the glyph has this item of it
+abbrev pub HasDictionary : List ℕ → PsfFont → (glyph : ℕ) → (item : List ℕ) → Type 0
+HasDictionary bytes font glyph item = (items : List (List ℕ)) × (index_at font.font_dictionaries bytes 0 ≡ Got items 0) × HasItem bytes font items glyph item
+
+-- FDArray stands, and the glyph has no item of it
+abbrev pub LacksDictionary : List ℕ → PsfFont → (glyph : ℕ) → Type 0
+LacksDictionary bytes font glyph = (items : List (List ℕ)) × (index_at font.font_dictionaries bytes 0 ≡ Got items 0) × ((item : List ℕ) → HasItem bytes font items glyph item → ⊥)
+
+-- the place of the local subroutines of the font dictionary that an item is
+unfoldable pub item_part : List ℕ → Reading ℕ
+item_part item = map_of item >>= part
 
 -- the place of the local subroutines and the widths of the font dictionary that an item is
 pub record IsPartOf (bytes item : List ℕ) (found : PsfPart) : Type 0 where
@@ -17,12 +43,16 @@ pub record IsPartOf (bytes item : List ℕ) (found : PsfPart) : Type 0 where
   pub subroutines : part map bytes 0 ≡ Got found.local_subroutines 0
   pub widths : AreWidths bytes map found.default_width found.nominal_width
 
--- those of the font dictionary that FDSelect gives the glyph
-pub record HasPart (bytes : List ℕ) (font : PsfFont) (glyph : ℕ) (found : PsfPart) : Type 0 where
-  pub dictionaries : List (List ℕ)
-  pub fd : ℕ
-  pub item : List ℕ
-  pub stand : index_at font.font_dictionaries bytes 0 ≡ Got dictionaries 0
-  pub selects : IsSelectedAt bytes font.selection glyph fd
-  pub names : slice_get dictionaries fd ≡ Some item
-  pub has : IsPartOf bytes item found
+-- those of the font dictionary of a glyph
+abbrev pub HasPart : List ℕ → PsfFont → (glyph : ℕ) → PsfPart → Type 0
+HasPart bytes font glyph found = (item : List ℕ) × HasDictionary bytes font glyph item × IsPartOf bytes item found
+
+-- Why they are refused: FDArray does not stand, or the font dictionary of the glyph or its private dictionary does not.
+abbrev pub NoPart : Error → List ℕ → PsfFont → (glyph : ℕ) → Type 0
+NoPart e bytes font glyph = RefusedAs e (index_at font.font_dictionaries bytes 0) ⊎ ((item : List ℕ) × HasDictionary bytes font glyph item × RefusedAs e (item_part item bytes 0))
+
+-- What is answered: the part of a glyph, or that it has no font dictionary, or why its part is refused, where memory is not wanting.
+abbrev pub IsCidPart : List ℕ → PsfFont → (glyph : ℕ) → Result (Option PsfPart) Error → Type 0
+IsCidPart bytes font glyph (Ok (Some found)) = HasPart bytes font glyph found
+IsCidPart bytes font glyph (Ok None) = LacksDictionary bytes font glyph
+IsCidPart bytes font glyph (Err e) = e ≢ Memory → NoPart e bytes font glyph

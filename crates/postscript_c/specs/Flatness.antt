@@ -2,13 +2,12 @@
 use Rattle.std.specs.Prelude.{◌≡◌, ℕ, ℤ, pos, List, Option, Some, None, option_map, Result, Ok, Err}
 use Rattle.postscript_base.specs.Error.{code}
 use Rattle.postscript_base.specs.declared.error.Error.{Error}
-use Rattle.postscript_base.specs.Tape.Outcome.{Got}
-use Rattle.postscript_c.specs.CidParts.{HasPart}
+use Rattle.postscript_base.specs.Tape.Outcome.{Answers}
 use Rattle.postscript_c.specs.Flats.{flat_at}
+use Rattle.postscript_c.specs.Parts.{TellsByPart}
 use Rattle.postscript_c.specs.Texts.{HandsBytes}
 use Rattle.postscript_c.specs.declared.flat.Flat.{Flat}
 use Rattle.postscript_c.specs.declared.font.PsfFont.{PsfFont}
-use Rattle.postscript_c.specs.declared.part.PsfPart.{PsfPart}
 
 abbrev pub flat_shown : Flat → List ℕ
 flat_shown flat = flat.code.items
@@ -19,7 +18,17 @@ TellsFlat (Ok (Some flat)) status room count = HandsBytes (flat_shown flat) stat
 TellsFlat (Ok None) status room count = status ≡ pos 31
 TellsFlat (Err e) status room count = status ≡ pos (code e)
 
--- Where it is answered, it is the flat code of the glyph over these numbers with the part of its font dictionary.
-abbrev pub IsFlatOfCid : List ℕ → PsfFont → (glyph : ℕ) → Result (Option Flat) Error → Type 0
-IsFlatOfCid bytes font glyph (Ok flat) = (part : PsfPart) × HasPart bytes font glyph part × (flat_at font part glyph bytes 0 ≡ Got (option_map flat_shown flat) 0)
-IsFlatOfCid bytes font glyph (Err e) = Unit {0}
+-- what C lends to the call, as it stands at one time
+pub record FlatRoom : Type 0 where
+  pub code : List ℕ
+  pub count : ℕ
+
+abbrev pub flat_room : List ℕ → ℕ → FlatRoom
+flat_room code count = record { code = code; count = count }
+
+-- what C is told of the flat code of a glyph
+abbrev pub TellsFlatOf : (bytes : List ℕ) (font : PsfFont) (glyph : ℕ) (status : ℤ) (old new : FlatRoom) → Type 0
+TellsFlatOf bytes font glyph status old new =
+    TellsByPart bytes font glyph status
+    (λ part. (answer : Result (Option Flat) Error) × Answers (option_map flat_shown) answer 0 (flat_at font part glyph bytes 0) × TellsFlat answer status new.code new.count)
+    (new ≡ old)

@@ -2,13 +2,12 @@
 use Rattle.std.specs.Prelude.{◌≡◌, ◌⊎◌, ℕ, ◌<◌, ℤ, pos, List, length, take, Option, Some, None, option_map, Result, Ok, Err}
 use Rattle.postscript_base.specs.Error.{code}
 use Rattle.postscript_base.specs.declared.error.Error.{Error}
-use Rattle.postscript_base.specs.Tape.Outcome.{Got}
-use Rattle.postscript_c.specs.CidParts.{HasPart}
+use Rattle.postscript_base.specs.Tape.Outcome.{Answers}
 use Rattle.postscript_c.specs.Operations.{listed_at, shown}
+use Rattle.postscript_c.specs.Parts.{TellsByPart}
 use Rattle.postscript_c.specs.declared.font.PsfFont.{PsfFont}
 use Rattle.postscript_c.specs.declared.operations.Listed.{Listed}
 use Rattle.postscript_c.specs.declared.operations.PsfOperation.{PsfOperation}
-use Rattle.postscript_c.specs.declared.part.PsfPart.{PsfPart}
 
 -- what C lends to a call, as it stands at one time
 pub record Rooms : Type 0 where
@@ -45,7 +44,9 @@ TellsOperations (Ok (Some listed)) status old new = HandsOperations listed statu
 TellsOperations (Ok None) status old new = (status ≡ pos 31) × (new ≡ old)
 TellsOperations (Err e) status old new = (status ≡ pos (code e)) × (new ≡ old)
 
--- Where it is answered, it is what the glyph's run answers over these numbers with the part of its font dictionary.
-abbrev pub AreOfCid : List ℕ → PsfFont → (glyph : ℕ) → Result (Option Listed) Error → Type 0
-AreOfCid bytes font glyph (Ok listed) = (part : PsfPart) × HasPart bytes font glyph part × (listed_at font part glyph bytes 0 ≡ Got (option_map shown listed) 0)
-AreOfCid bytes font glyph (Err e) = Unit {0}
+-- what C is told of the operations of a glyph
+abbrev pub TellsOperationsOf : (bytes : List ℕ) (font : PsfFont) (glyph : ℕ) (status : ℤ) (old new : Rooms) → Type 0
+TellsOperationsOf bytes font glyph status old new =
+    TellsByPart bytes font glyph status
+    (λ part. (answer : Result (Option Listed) Error) × Answers (option_map shown) answer 0 (listed_at font part glyph bytes 0) × TellsOperations answer status old new)
+    (new ≡ old)

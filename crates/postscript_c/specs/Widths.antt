@@ -1,19 +1,40 @@
 -- The widths that a private dictionary tells (Technical Note 5176, Table 23, "defaultWidthX" and "nominalWidthX").
-use Rattle.std.specs.Prelude.{◌≡◌, ◌⊎◌, ℕ, ℤ, pos, List, Option, Some, None, IfSome}
-use Rattle.postscript_base.specs.Compact1.Decimal.{Decimal}
+use Rattle.std.specs.Prelude.{◌≡◌, ◌⊎◌, ℕ, suc, ◌+◌, ◌*◌, ◌^◌, ◌<◌, ◌≤◌, ℤ, pos, negsuc, int_lt, List, Option, Some, None}
+use Rattle.std.specs.Int.{saturate_signed, w64}
+use Rattle.std.specs.Int.RustNames.{unsigned_abs}
+use Rattle.postscript_base.specs.Compact1.Decimal.{Decimal, signed}
 use Rattle.postscript_base.specs.Compact1.Defaults.{look, first_of, first_two_of}
 use Rattle.postscript_base.specs.Compact1.Dictionary.{Dictionary}
 use Rattle.postscript_base.specs.declared.compact1.operator.Operator.TheVariants as operators
 use Rattle.postscript_base.specs.Tape.Outcome.{Got}
 use Rattle.postscript_compact1.specs.FontSet.Operands.{bounds}
 use Rattle.postscript_compact1.specs.Kinds.{map_of}
-use Rattle.postscript_view.specs.Advances.{whole_bits}
 use Rattle.postscript_view.specs.Order.{slice_at}
 
--- a width in 65536ths of a unit is exact where it is a whole number of 32 bits, and 0 where there is none
+-- ten to an exponent is the first of these two by the second
+abbrev pub over : ℤ → ℕ
+over (pos n) = 10 ^ n
+over (negsuc n) = 1
+
+abbrev pub under : ℤ → ℕ
+under (pos n) = 1
+under (negsuc n) = 10 ^ suc n
+
+-- so many 65536ths, and not one more, are in mantissa * 10 ^ exponent
+pub record AreIn (mantissa : ℕ) (exponent : ℤ) (bits : ℕ) : Type 0 where
+  pub at_least : bits * under exponent ≤ mantissa * 65536 * over exponent
+  pub less_than : mantissa * 65536 * over exponent < (bits + 1) * under exponent
+
+-- a decimal in 65536ths, cut towards zero: so many as are in it without its sign, with its sign
+pub record IsCut (width : Decimal) (bits : ℤ) : Type 0 where
+  pub magnitude : ℕ
+  pub are_in : AreIn (unsigned_abs width.mantissa) width.exponent magnitude
+  pub has_sign : bits ≡ signed (int_lt width.mantissa (pos 0)) magnitude
+
+-- a width in 65536ths of a unit, cut towards zero, as far as 64 bits go; 0 where there is none
 abbrev pub IsWidth : Option Decimal → ℤ → Type 0
 IsWidth None bits = bits ≡ pos 0
-IsWidth (Some width) bits = IfSome (whole_bits width) (λ whole. bits ≡ whole)
+IsWidth (Some width) bits = (cut : ℤ) × IsCut width cut × (bits ≡ saturate_signed w64 cut)
 
 -- the widths of the private dictionary that a dictionary names
 pub record HasWidths (bytes : List ℕ) (map : Dictionary) (default_bits nominal_bits : ℤ) : Type 0 where

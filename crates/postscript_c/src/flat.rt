@@ -1,14 +1,14 @@
 //! Glyphs as code without calls.
-ghost use Rattle.std.specs.Prelude.{◌≡◌, ◌≢◌, ℕ, List, option_map};
+ghost use Rattle.std.specs.Prelude.{ℕ, List, option_map};
 ghost use Rattle.postscript_base.specs.Tape.Outcome.{Answers};
 ghost use Rattle.postscript_c.specs.Flats.{flat_at, flat_of as the_flat_of, flattened};
-ghost use Rattle.postscript_c.specs.Flatness.{flat_shown, IsFlatOfCid, TellsFlat};
+ghost use Rattle.postscript_c.specs.Flatness.{flat_shown, TellsFlat};
 ghost use Rattle.postscript_items.specs.Lent.{items_of};
 ghost use Rattle.postscript_type2.specs.Program.Evaluation.{run_of};
 ghost use Rattle.postscript_type2.specs.Program.Routines.{lent};
 
 use crate::font::PsfFont;
-use crate::glyph::{index_at, part_at};
+use crate::glyph::index_at;
 use crate::part::PsfPart;
 use crate::status::NO_GLYPH;
 use crate::texts::hand_bytes;
@@ -59,9 +59,9 @@ fn flat_of(
     flatten(alloc, code, globals, locals)
 }
 
-/// The flat code of a glyph over a part. None where there is no such glyph.
+/// The flat code of a glyph by its part. None where there is no such glyph.
 #[tactic(auto, unfolding(crate::specs::Flats::flat_at))]
-fn flat_in(
+pub(crate) fn flat_glyph(
     alloc: Global,
     bytes: &[u8],
     font: &PsfFont,
@@ -78,20 +78,6 @@ fn flat_in(
         font.global_subroutines,
         part.local_subroutines,
     )
-}
-
-/// The flat code of a glyph. None where there is no such glyph.
-pub(crate) fn flat_glyph(
-    alloc: Global,
-    bytes: &[u8],
-    font: &PsfFont,
-    glyph: usize,
-) -> Result<Option<Flat>>
-    ensures plain { font.now.is_cid ≡ 0 → Answers (option_map flat_shown) result 0 (flat_at font.now font.now.part glyph bytes.now 0) }
-    ensures cid { font.now.is_cid ≢ 0 → IsFlatOfCid bytes.now font.now glyph result }
-{
-    let part = part_at(alloc, bytes, font, glyph)?;
-    flat_in(alloc, bytes, font, &part, glyph)
 }
 
 /// Hands an answer over.

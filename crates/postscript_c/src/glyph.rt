@@ -1,8 +1,9 @@
 //! Glyphs by number.
-ghost use Rattle.std.specs.Prelude.{◌≡◌, ◌≢◌, ℕ, option_map, IfOk, Ok};
+ghost use Rattle.std.specs.Prelude.{◌≡◌, ℕ, ◌<◌, ◌≤◌, pos, List, option_map, IfNone, IfOk, IfSome, MatchResult};
 ghost use Rattle.postscript_base.specs.Tape.Outcome.{Answers, same};
 ghost use Rattle.postscript_c.specs.Glyphs.{index_at as the_index, program_at, program_of as the_program};
-ghost use Rattle.postscript_c.specs.CidParts.{HasPart, IsPartOf};
+ghost use Rattle.postscript_c.specs.CidParts.{HasItem, HasNumber, IsCidPart, IsPartOf, item_part as the_item_part};
+ghost use Rattle.postscript_c.specs.Parts.{IsPartIn, IsPartless};
 ghost use Rattle.postscript_items.specs.Lent.{items_of};
 ghost use Rattle.postscript_type2.specs.Program.Evaluation.{run_of};
 ghost use Rattle.postscript_type2.specs.Program.Programs.{begun};
@@ -10,10 +11,12 @@ ghost use Rattle.postscript_type2.specs.Program.Routines.{lent};
 
 use crate::font::PsfFont;
 use crate::part::{PsfPart, part_of};
-use crate::select::selected;
-use postscript_base::{Error, Result};
+use crate::status::{NO_GLYPH, NO_PART};
+use crate::told::status;
+use postscript_base::Result;
 use postscript_items::Items;
 use postscript_type2::{Charstring, Program, Subroutines};
+use postscript_view::FdSelect;
 use postscript_view::tables::operations_of;
 use std::alloc::Global;
 
@@ -29,35 +32,93 @@ pub(crate) fn index_at(bytes: &[u8], there: u64) -> Result<Items<'_>>
     Ok(items)
 }
 
+/// The number of a glyph's font dictionary, of so many: the one that FDSelect gives it, or of a single one 0. None where FDSelect
+/// gives it none.
+fn number_of(bytes: &[u8], font: &PsfFont, dictionaries: usize, glyph: usize) -> Option<usize>
+    ensures found { IfSome result (λ fd. HasNumber bytes.now font.now dictionaries glyph fd) }
+    ensures none { IfNone result ((fd : ℕ) → HasNumber bytes.now font.now dictionaries glyph fd → ⊥) }
+{
+    if dictionaries == 1 {
+        return Some(0);
+    }
+    if font.selection == 0 {
+        return None;
+    }
+    FdSelect::at(bytes, font.selection as usize, font.glyphs as usize).part_of(glyph)
+}
+
+/// The font dictionary of a glyph. None where there is no such glyph, or none of its number.
+fn item_of<'l>(
+    bytes: &[u8],
+    font: &PsfFont,
+    dictionaries: &Items<'l>,
+    glyph: usize,
+) -> Option<&'l [u8]>
+    ensures found { IfSome result (λ item. HasItem bytes.now font.now (items_of dictionaries.now) glyph item.now) }
+    ensures none { IfNone result ((item : List ℕ) → HasItem bytes.now font.now (items_of dictionaries.now) glyph item → ⊥) }
+{
+    if glyph as u64 >= font.glyphs {
+        return None;
+    }
+    let Some(fd) = number_of(bytes, font, dictionaries.len(), glyph) else {
+        return None;
+    };
+    dictionaries.get(fd)
+}
+
 /// The part of the font dictionary that an item is.
+#[tactic(auto, unfolding(crate::specs::CidParts::item_part))]
 fn item_part(alloc: Global, bytes: &[u8], item: &[u8]) -> Result<PsfPart>
-    ensures { IfOk result (λ part. IsPartOf bytes.now item.now part) }
+    ensures exact { (place : ℕ) → Answers (λ part. part.local_subroutines) result place (the_item_part item.now bytes.now place) }
+    ensures part { IfOk result (λ part. IsPartOf bytes.now item.now part) }
 {
     let dictionary = operations_of(alloc, item)?;
     part_of(alloc, bytes, &dictionary)
 }
 
-/// The part of a glyph of a CID-keyed font.
-fn cid_part(alloc: Global, bytes: &[u8], font: &PsfFont, glyph: usize) -> Result<PsfPart>
-    ensures { IfOk result (λ part. HasPart bytes.now font.now glyph part) }
+/// The part of a glyph of a CID-keyed font. None where the glyph has no font dictionary.
+fn cid_part(alloc: Global, bytes: &[u8], font: &PsfFont, glyph: usize) -> Result<Option<PsfPart>>
+    ensures { IsCidPart bytes.now font.now glyph result }
 {
     let dictionaries = index_at(bytes, font.font_dictionaries)?;
-    let fd = selected(bytes, font.selection as usize, glyph)?;
-    match dictionaries.get(fd) {
-        Some(item) => item_part(alloc, bytes, item),
-        None => Err(Error::UnexpectedEof),
+    let Some(item) = item_of(bytes, font, &dictionaries, glyph) else {
+        return Ok(None);
+    };
+    match item_part(alloc, bytes, item) {
+        Ok(part) => Ok(Some(part)),
+        Err(e) => Err(e),
     }
 }
 
-/// The part of a glyph.
-pub(crate) fn part_at(alloc: Global, bytes: &[u8], font: &PsfFont, glyph: usize) -> Result<PsfPart>
-    ensures plain { font.now.is_cid ≡ 0 → result ≡ Ok font.now.part }
-    ensures cid { font.now.is_cid ≢ 0 → IfOk result (λ part. HasPart bytes.now font.now glyph part) }
+/// The status of a glyph that has no font dictionary.
+fn partless(font: &PsfFont, glyph: usize) -> i32
+    ensures no_glyph { font.now.glyphs ≤ glyph → result ≡ pos 31 }
+    ensures no_dictionary { glyph < font.now.glyphs → result ≡ pos 42 }
+{
+    if glyph as u64 >= font.glyphs {
+        NO_GLYPH
+    } else {
+        NO_PART
+    }
+}
+
+/// The part of a glyph, or the status that tells why it has none.
+pub(crate) fn part_at(
+    alloc: Global,
+    bytes: &[u8],
+    font: &PsfFont,
+    glyph: usize,
+) -> std::result::Result<PsfPart, i32>
+    ensures { MatchResult result (λ part. IsPartIn bytes.now font.now glyph part) (λ status. IsPartless bytes.now font.now glyph status) }
 {
     if font.is_cid == 0 {
         return Ok(font.part);
     }
-    cid_part(alloc, bytes, font, glyph)
+    match cid_part(alloc, bytes, font, glyph) {
+        Ok(Some(part)) => Ok(part),
+        Ok(None) => Err(partless(font, glyph)),
+        Err(e) => Err(status(&e)),
+    }
 }
 
 /// The program of a code over subroutines in place.

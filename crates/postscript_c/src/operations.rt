@@ -1,15 +1,15 @@
 //! Operations of glyphs as C holds them.
-ghost use Rattle.std.specs.Prelude.{◌≡◌, ◌≢◌, ◌⊎◌, ◌++◌, ℕ, List, Some, None, map, option_map, MatchResult, OnOk, IfErr};
+ghost use Rattle.std.specs.Prelude.{◌≡◌, ◌⊎◌, ◌++◌, ℕ, List, Some, None, map, option_map, MatchResult, OnOk, IfErr};
 ghost use Rattle.postscript_base.specs.Refusal.{refusal_of};
 ghost use Rattle.postscript_base.specs.Tape.Outcome.{Answers};
 ghost use Rattle.postscript_base.specs.declared.error.Error.TheVariants as errors;
-ghost use Rattle.postscript_c.specs.Listing.{AreOfCid, HandsOperations, TellsOperations, rooms};
+ghost use Rattle.postscript_c.specs.Listing.{HandsOperations, TellsOperations, rooms};
 ghost use Rattle.postscript_c.specs.Operations.{answered, listed_at, listed_by, listed_if, shown};
 ghost use Rattle.postscript_type2.specs.Program.Runs.{fault_of};
 
 use crate::codes::code_of;
 use crate::font::PsfFont;
-use crate::glyph::{part_at, program};
+use crate::glyph::program;
 use crate::part::PsfPart;
 use crate::status::{NO_GLYPH, NO_ROOM};
 use crate::texts::copy;
@@ -85,9 +85,9 @@ fn read_if(alloc: Global, program: Option<Program<'_>>) -> Result<Option<Listed>
     Ok(Some(read(alloc, &mut program)?))
 }
 
-/// The operations of a glyph over a part. None where there is no such glyph.
+/// The operations of a glyph by its part. None where there is no such glyph.
 #[tactic(auto, unfolding(crate::specs::Operations::listed_at))]
-fn listed_in(
+pub(crate) fn operations_of(
     alloc: Global,
     bytes: &[u8],
     font: &PsfFont,
@@ -98,20 +98,6 @@ fn listed_in(
 {
     let program = program(alloc, bytes, font, part, glyph)?;
     read_if(alloc, program)
-}
-
-/// The operations of a glyph. None where there is no such glyph.
-pub(crate) fn operations_of(
-    alloc: Global,
-    bytes: &[u8],
-    font: &PsfFont,
-    glyph: usize,
-) -> Result<Option<Listed>>
-    ensures plain { font.now.is_cid ≡ 0 → Answers (option_map shown) result 0 (listed_at font.now font.now.part glyph bytes.now 0) }
-    ensures cid { font.now.is_cid ≢ 0 → AreOfCid bytes.now font.now glyph result }
-{
-    let part = part_at(alloc, bytes, font, glyph)?;
-    listed_in(alloc, bytes, font, &part, glyph)
 }
 
 /// Hands operations over: 0, or `NO_ROOM`.

@@ -1,6 +1,8 @@
 //! Private dictionaries as plain numbers.
-ghost use Rattle.std.specs.Prelude.{◌≡◌, ℕ, pos, IfOk};
-ghost use Rattle.postscript_c.specs.Widths.{AreWidths, HasWidths, IsWidth};
+ghost use Rattle.std.specs.Prelude.{◌≡◌, ℕ, ◌-◌, ◌^◌, min, pos, IfOk};
+ghost use Rattle.std.specs.Int.{saturate_signed, w64};
+ghost use Rattle.postscript_base.specs.Compact1.Decimal.{signed};
+ghost use Rattle.postscript_c.specs.Widths.{AreIn, AreWidths, HasWidths, IsWidth};
 ghost use Rattle.postscript_base.specs.Tape.Outcome.{Answers, same};
 ghost use Rattle.postscript_c.specs.Places.{own_part as the_own_part, part as the_part, subroutines as the_subroutines};
 
@@ -37,29 +39,43 @@ impl PsfPart {
     }
 }
 
-/// A decimal with a fraction in 65536ths, cut where it is finer, and 0 where it is beyond 32 bits of these.
-fn finer(operand: Operand) -> i32 {
-    let exponent = operand.exponent();
-    if exponent >= 0 || exponent < -9 {
-        return 0;
+/// How many 65536ths are in `mantissa * 10^exponent`; 2^128 - 1 where there are more.
+fn magnitude(mantissa: u64, exponent: i32) -> u128
+    ensures { (bits : ℕ) × AreIn mantissa exponent bits × (result ≡ min bits (2 ^ 128 - 1)) }
+{
+    let bits = u128::from(mantissa) * 65536;
+    let power = 10u128.saturating_pow(exponent.unsigned_abs());
+    if exponent < 0 {
+        bits / power
+    } else {
+        bits.saturating_mul(power)
     }
-    let bits = (i128::from(operand.mantissa()) * 65536)
-        .checked_div(i128::from(10u32.pow((-exponent) as u32)))
-        .unwrap_or(0);
-    i32::try_from(bits).unwrap_or(0)
 }
 
-/// A width of a private dictionary in 65536ths of a unit: exact where it is a whole number of 32 bits, and 0 where there is none.
+/// A number with a sign, as far as 64 bits go.
+fn with_sign(negative: bool, bits: u128) -> i64
+    ensures { result ≡ saturate_signed w64 (signed negative bits) }
+{
+    match i64::try_from(bits) {
+        Ok(bits) if negative => -bits,
+        Ok(bits) => bits,
+        Err(_) if negative => i64::MIN,
+        Err(_) => i64::MAX,
+    }
+}
+
+/// A width of a private dictionary in 65536ths of a unit, cut towards zero, as far as 64 bits go; 0 where there is none.
 fn width_in_bits(width: Option<Operand>) -> i64
     ensures { IsWidth width result }
 {
     let Some(width) = width else {
         return 0;
     };
-    match width.to_i32() {
-        Some(whole) => i64::from(whole) * 65536,
-        None => i64::from(finer(width)),
-    }
+    let mantissa = width.mantissa();
+    with_sign(
+        mantissa < 0,
+        magnitude(mantissa.unsigned_abs(), width.exponent()),
+    )
 }
 
 /// The place of the local subroutines of a private dictionary at an offset.

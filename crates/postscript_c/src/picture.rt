@@ -4,7 +4,6 @@ ghost use Rattle.postscript_c.specs.Shown.{found_shown};
 
 use crate::drawn::draw_over;
 use crate::font::PsfFont;
-use crate::glyph::part_at;
 use crate::part::PsfPart;
 use crate::sketch::Sketch;
 use postscript_drawing::Result;
@@ -19,16 +18,16 @@ pub(crate) struct Found {
     pub(crate) part: PsfPart,
 }
 
-/// What a glyph draws. None where there is no such glyph.
+/// What a glyph draws by its part. None where there is no such glyph.
 pub(crate) fn found_glyph(
     alloc: Global,
     bytes: &[u8],
     font: &PsfFont,
+    part: PsfPart,
     glyph: usize,
 ) -> Result<Option<Found>>
-    ensures { IsOf bytes.now font.now glyph (found_shown result) }
+    ensures { IsOf bytes.now font.now part glyph (found_shown result) }
 {
-    let part = part_at(alloc, bytes, font, glyph)?;
     let mut sketch = Sketch::new(alloc)?;
     match draw_over(alloc, bytes, font, &part, glyph, &mut sketch)? {
         Some(width) => Ok(Some(Found {

@@ -7,7 +7,6 @@ ghost use Rattle.postscript_outline.specs.Tight.{IsTightBoundsOf, arcs};
 
 use crate::drawn::draw_over;
 use crate::font::PsfFont;
-use crate::glyph::part_at;
 use crate::part::PsfPart;
 use crate::status::NO_GLYPH;
 use crate::told::undrawn_status;
@@ -22,16 +21,16 @@ pub(crate) struct Traced {
     pub(crate) part: PsfPart,
 }
 
-/// The outline of a glyph, with its part. None where there is no such glyph.
+/// The outline of a glyph by its part. None where there is no such glyph.
 pub(crate) fn traced_glyph(
     alloc: Global,
     bytes: &[u8],
     font: &PsfFont,
+    part: PsfPart,
     glyph: usize,
 ) -> Result<Option<Traced>>
-    ensures { IsOf bytes.now font.now glyph (traced_shown result) }
+    ensures { IsOf bytes.now font.now part glyph (traced_shown result) }
 {
-    let part = part_at(alloc, bytes, font, glyph)?;
     let mut segments = Vec::new(alloc);
     match draw_over(alloc, bytes, font, &part, glyph, &mut segments)? {
         Some(width) => Ok(Some(Traced {

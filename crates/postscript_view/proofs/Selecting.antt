@@ -65,17 +65,27 @@ named Unknown bytes map place glyphs names h = λ glyph fd selected.
     h glyph fd (subst (λ p. Selects bytes p glyphs glyph fd) same selected.2)
 
 -- where the ranges give none, none is selected
+none_at_place : (r : Ranges) (glyph : ℕ) → ((fd : ℕ) → IsInRanges r.bytes.now r.place glyph fd → ⊥) → (bytes : List ℕ) (place glyphs fd : ℕ) → StandsAt (InRanges r) bytes place glyphs → Selects bytes place glyphs glyph fd → ⊥
+none_at_place r glyph none bytes place glyphs fd stands selects =
+    let bytes_are = stands.0 in
+    let place_is = stands.1 in
+    let format : number_at bytes place 1 ≡ number_at r.bytes.now r.place 1 = cc in
+    elim selects [
+      | inl listed ↦ absurd (omega (arith, listed.format, r.format, format))
+      | inr ranges ↦ none fd (subst (λ p. IsInRanges r.bytes.now p glyph fd) (sym place_is) (subst (λ b. IsInRanges b place glyph fd) (sym bytes_are) ranges))
+    ]
+
 ranges_none : (r : Ranges) (glyph : ℕ) → ((fd : ℕ) → IsInRanges r.bytes.now r.place glyph fd → ⊥) → (bytes : List ℕ) (map : Dictionary) (glyphs fd : ℕ) → IsOf (InRanges r) bytes map glyphs → IsSelected bytes map glyphs glyph fd → ⊥
 ranges_none r glyph none bytes map glyphs fd is selected =
-    let bytes_are = is.0 in
     let names = is.1 in
     let other = selected.1 in
-    let same : selected.0 ≡ r.place = cc in
-    let format : number_at bytes selected.0 1 ≡ number_at r.bytes.now r.place 1 = cc in
-    elim selected.2 [
-      | inl listed ↦ absurd (omega (arith, listed.format, r.format, format))
-      | inr ranges ↦ none fd (subst (λ p. IsInRanges r.bytes.now p glyph fd) same (subst (λ b. IsInRanges b selected.0 glyph fd) (sym bytes_are) ranges))
-    ]
+    let same : r.place ≡ selected.0 = cc in
+    none_at_place r glyph none bytes selected.0 glyphs fd (is.0, same) selected.2
+
+pub none_in_ranges_at : (o : Option ℕ) (s : Select) (r : Ranges) (glyph : ℕ) → s ≡ InRanges r → IfNone o ((fd : ℕ) → IsInRanges r.bytes.now r.place glyph fd → ⊥)
+    → IfNone o ((bytes : List ℕ) (place glyphs fd : ℕ) → StandsAt s bytes place glyphs → Selects bytes place glyphs glyph fd → ⊥)
+none_in_ranges_at (Some fd) s r glyph is h = tt
+none_in_ranges_at None s r glyph is h = λ bytes place glyphs fd stands selects. none_at_place r glyph h bytes place glyphs fd (subst (λ s. StandsAt s bytes place glyphs) is stands) selects
 
 pub none_in_ranges : (o : Option ℕ) (s : Select) (r : Ranges) (glyph : ℕ) → s ≡ InRanges r → IfNone o ((fd : ℕ) → IsInRanges r.bytes.now r.place glyph fd → ⊥)
     → IfNone o ((bytes : List ℕ) (map : Dictionary) (glyphs fd : ℕ) → IsOf s bytes map glyphs → IsSelected bytes map glyphs glyph fd → ⊥)
@@ -84,3 +94,6 @@ none_in_ranges None s r glyph is h = λ bytes map glyphs fd of selected. ranges_
 
 pub none_known : (s : Select) (glyph : ℕ) → s ≡ Unknown → (bytes : List ℕ) (map : Dictionary) (glyphs fd : ℕ) → IsOf s bytes map glyphs → IsSelected bytes map glyphs glyph fd → ⊥
 none_known s glyph is bytes map glyphs fd of selected = subst (λ s. IsOf s bytes map glyphs) is of glyph fd selected
+
+pub none_known_at : (s : Select) (glyph : ℕ) → s ≡ Unknown → (bytes : List ℕ) (place glyphs fd : ℕ) → StandsAt s bytes place glyphs → Selects bytes place glyphs glyph fd → ⊥
+none_known_at s glyph is bytes place glyphs fd stands selects = subst (λ s. StandsAt s bytes place glyphs) is stands glyph fd selects

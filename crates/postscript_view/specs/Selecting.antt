@@ -24,3 +24,8 @@ pub of_prop : (s : Select) (bytes : List ℕ) (map : Dictionary) (glyphs : ℕ) 
 of_prop (Listed list) bytes map glyphs = Prim.hlevel props
 of_prop (InRanges ranges) bytes map glyphs = Prim.hlevel props
 of_prop Unknown bytes map glyphs = Prim.hlevel props
+
+pub stands_prop : (s : Select) (bytes : List ℕ) (place glyphs : ℕ) → IsProp (StandsAt s bytes place glyphs)
+stands_prop (Listed list) bytes place glyphs = Prim.hlevel props
+stands_prop (InRanges ranges) bytes place glyphs = Prim.hlevel props
+stands_prop Unknown bytes place glyphs = Prim.hlevel props

@@ -1,11 +1,14 @@
-use Rattle.std.proofs.Common.{ap, sym, ◌∙◌, ℕ, List, Bor}
-use Rattle.std.specs.Prelude.{Option, option_map}
+use Rattle.std.proofs.Common.{inr}
 use Rattle.postscript_items.specs.Lent.{items_of}
-use Rattle.postscript_c.proofs.Selecting.{of_item}
 use Rattle.postscript_c.proofs.glyph.cid_part.Goals as goal
 
-pub returns-in-Some : goal.returns-in-Some
-returns-in-Some c =
-    let there : Option (Bor (List ℕ)) → Option (List ℕ) = option_map (λ item. item.now) in
-    of_item c.args.bytes.now c.args.font.now c.args.glyph (items_of c.in_ok-dictionaries.dictionaries) c.in_ok-fd.fd c.in-Some.item.now c.item_part.result
-    (c.in_ok-dictionaries.ensures.exact 0) c.in_ok-fd.ensures (sym c.get.ensures ∙ ap there c.in-Some.is) c.item_part.ensures
+pub returns-in-Ok : goal.returns-in-Ok
+returns-in-Ok c =
+    (c.in-Some.item.now, (items_of c.in_ok-dictionaries.dictionaries, c.in_ok-dictionaries.ensures.exact 0, c.in-Some.ensures.found), c.in-Ok.ensures.part)
+
+pub returns-in-Err : goal.returns-in-Err
+returns-in-Err c = λ other.
+    inr (c.in-Some.item.now, (items_of c.in_ok-dictionaries.dictionaries, c.in_ok-dictionaries.ensures.exact 0, c.in-Some.ensures.found), c.in-Err.ensures.exact 0 other)
+
+pub returns-in_default : goal.returns-in_default
+returns-in_default c = (items_of c.in_ok-dictionaries.dictionaries, c.in_ok-dictionaries.ensures.exact 0, c.in_default.ensures.none)

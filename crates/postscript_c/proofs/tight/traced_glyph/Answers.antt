@@ -1,4 +1,4 @@
-use Rattle.std.proofs.Common.{◌≡◌, ℤ, [], ◌∷◌, ◌++◌, Option, subst, sym, rules}
+use Rattle.std.proofs.Common.{◌≡◌, ℤ, [], ◌∷◌, ◌++◌, Option, refl, subst, sym, rules}
 use Rattle.std.specs.Prelude.{MatchOption}
 use Rattle.postscript_c.specs.Drawn.{HasNone, IsDrawnOver}
 use Rattle.postscript_drawing.specs.Drawn.{Takes}
@@ -7,10 +7,9 @@ use Rattle.postscript_c.proofs.tight.traced_glyph.Goals as goal
 
 pub returns-in-Some : goal.returns-in-Some
 returns-in-Some c =
-    let Found : Option (Option ℤ) → Type 0 = λ found. MatchOption found (HasNone c.args.bytes.now c.args.font.now c.in_ok-part.part c.args.glyph)
-    (λ width. Takes (λ xs segment. xs ++ segment ∷ []) c.new-segments.result.items c.draw_over.new.sink.items (λ segments. IsDrawnOver c.args.bytes.now c.args.font.now c.in_ok-part.part c.args.glyph segments width)) in
+    let Found : Option (Option ℤ) → Type 0 = λ found. MatchOption found (HasNone c.args.bytes.now c.args.font.now c.args.part c.args.glyph)
+    (λ width. Takes (λ xs segment. xs ++ segment ∷ []) c.new-segments.result.items c.draw_over.new.sink.items (λ segments. IsDrawnOver c.args.bytes.now c.args.font.now c.args.part c.args.glyph segments width)) in
     let drawn = subst Found c.in-Some.is c.in_ok-width.ensures.drawn in
     let empty : c.new-segments.result.items ≡ [] = search rules in
     let same = all-given c.new-segments.result.items c.draw_over.new.sink.items drawn.0 empty drawn.2 in
-    let plain : c.args.font.now.is_cid ≡ 0 → c.in_ok-part.part ≡ c.args.font.now.part = λ h. let same = c.in_ok-part.ensures.plain h in cc in
-    ((plain, c.in_ok-part.ensures.cid), subst (λ segments. IsDrawnOver c.args.bytes.now c.args.font.now c.in_ok-part.part c.args.glyph segments c.in-Some.width) (sym same) drawn.1)
+    (refl, subst (λ segments. IsDrawnOver c.args.bytes.now c.args.font.now c.args.part c.args.glyph segments c.in-Some.width) (sym same) drawn.1)
