@@ -15,10 +15,11 @@
  *
  * Nothing has to be freed, and nothing is kept between calls: threads may share bytes and a psf_font.
  *
- * Time and memory: psf_glyph_outline and psf_glyph_bounds read at most 20,000,000 bytes of phrases a call (operators with the
- * numbers before them; a roll counts as 4096 more) and one phrase besides, which takes well under a second, and they keep about
- * a segment for each of these bytes at most. psf_glyph_flat, psf_glyph_operations, psf_font_flat and psf_font_subset know no
- * limit: ask psf_font_fits first for fonts of strangers.
+ * Time and memory: each call that takes a psf_font runs a glyph, an accented one with its base and its accent, within font->limit,
+ * which the caller may change. Of the 20,000,000 units that psf_font_open tells it reads at most as many bytes of phrases (operators
+ * with the numbers before them; a roll counts as 4096 more) and one phrase besides, which takes well under a second; psf_glyph_flat
+ * and psf_glyph_operations read them twice. What they keep is in proportion. psf_font_flat and psf_font_subset know no limit: ask
+ * psf_font_fits first for fonts of strangers.
  *
  * The library is built for 64-bit machines only.
  *
@@ -112,6 +113,9 @@ typedef struct psf_part {
     int64_t nominal_width;      /* what is added to the width that a program tells */
 } psf_part;
 
+/* The limit that psf_font_open tells. */
+#define PSF_LIMIT 20000000u
+
 /* A font: where its parts stand in the bytes. It may be copied, kept and sent, and any numbers in it are safe: a call over
  * others answers something else, or refuses. A place of 0 stands for nothing. */
 typedef struct psf_font {
@@ -122,6 +126,7 @@ typedef struct psf_font {
     psf_part part;               /* of any other font */
     uint64_t glyphs;             /* how many glyphs there are */
     uint32_t is_cid;             /* 1 of a CID-keyed font, else 0 */
+    uint64_t limit;              /* how long a call may run a glyph, in units of psf_font_fits: psf_font_open tells PSF_LIMIT */
 } psf_font;
 
 /* A piece of an outline. Numbers that its kind does not have are 0. */
@@ -184,8 +189,8 @@ int32_t psf_map_glyph(const uint8_t *cmap, size_t length, uint32_t character, si
 int32_t psf_font_open(const uint8_t *cff, size_t length, psf_font *font);
 
 /* Whether the runs of all glyphs of a font come to their ends within a limit, which they share. A font of a few bytes may
- * name more calls of subroutines than can be run in years: a caller that does not trust one asks this once, before the calls
- * that know no limit. An operator takes a unit of the limit for each of its bytes, with the numbers before it, and a roll 4096
+ * name more calls of subroutines than can be run in years: a caller that does not trust one asks this once, before psf_font_flat and
+ * psf_font_subset. An operator takes a unit of the limit for each of its bytes, with the numbers before it, and a roll 4096
  * more.
  * On PSF_OK each glyph's run ends, or is refused, with the *limit that was given. On PSF_TOO_LONG *limit is 0. Also answered:
  * errors from 1 to 15. Else *limit is what is left. */
@@ -195,8 +200,7 @@ int32_t psf_font_fits(const uint8_t *cff, size_t length, uint64_t *limit);
  * An accented glyph, whose endchar takes the four numbers adx ady bchar achar (Technical Note 5177, Appendix C), is drawn whole:
  * its own contours, those of the base, and those of the accent, with its origin at (adx, ady). Base and accent are the first
  * glyphs that have the names of the two codes in the standard encoding (.notdef where it lists none), in the font that the bytes
- * begin with. The width is that of the glyph's own run. The three runs share a limit of 20,000,000, which is spent as
- * psf_font_fits says.
+ * begin with. The width is that of the glyph's own run. The three runs share font->limit, which is spent as psf_font_fits says.
  * A glyph of a CID-keyed font has the subroutines and the widths of the font dictionary that FDSelect gives it, in format 0 or 3
  * (Technical Note 5176, section 19); where there is one font dictionary, it is that of all glyphs, and FDSelect is not asked.
  * On PSF_OK and PSF_NO_ROOM *count and *info are told, and on PSF_OK segments[0..*count] is the outline: contours, each from
@@ -213,18 +217,18 @@ int32_t psf_glyph_outline(const uint8_t *cff, size_t length, const psf_font *fon
 int32_t psf_glyph_bounds(const uint8_t *cff, size_t length, const psf_font *font, size_t glyph, psf_bounds *bounds);
 
 /* The code of a glyph without calls of subroutines, to the front of code[0..room]: over any subroutines it has the operations
- * and the width of the glyph. Knows no limit.
- * On PSF_OK and PSF_NO_ROOM *count is how many bytes it has. Also answered: PSF_NO_GLYPH, PSF_NO_PART as by psf_glyph_outline, and
- * errors from 1 to 30. */
+ * and the width of the glyph. Its run is held against font->limit first.
+ * On PSF_OK and PSF_NO_ROOM *count is how many bytes it has. Also answered: PSF_NO_GLYPH, PSF_NO_PART as by psf_glyph_outline,
+ * PSF_TOO_LONG where the limit is used up, and errors from 1 to 30. */
 int32_t psf_glyph_flat(const uint8_t *cff, size_t length, const psf_font *font, size_t glyph,
                        uint8_t *code, size_t room, size_t *count);
 
 /* The operations of a glyph, in the order of its run, to the front of operations[0..room], and the operands of all of them to
  * the front of operands[0..operand_room]. Those of operations[i] are operands[first..first + count]. An accented glyph has its own
- * operations alone. Knows no limit.
+ * operations alone. Its run is held against font->limit first.
  * On PSF_OK and PSF_NO_ROOM *count and *operand_count tell how many there are of each; on PSF_NO_ROOM one of them is more than
- * its room, and nothing else is written. Also answered: PSF_NO_GLYPH, PSF_NO_PART as by psf_glyph_outline, and errors from 1 to 30;
- * then nothing is written. */
+ * its room, and nothing else is written. Also answered: PSF_NO_GLYPH, PSF_NO_PART as by psf_glyph_outline, PSF_TOO_LONG where the
+ * limit is used up, and errors from 1 to 30; then nothing is written. */
 int32_t psf_glyph_operations(const uint8_t *cff, size_t length, const psf_font *font, size_t glyph,
                              psf_operation *operations, size_t room, size_t *count,
                              int32_t *operands, size_t operand_room, size_t *operand_count);

@@ -304,6 +304,23 @@ static void check_nested(void) {
     holds(size == 236, "the length of the font of nested calls");
     holds(psf_font_fits(cff, size, &limit) == PSF_TOO_LONG && limit == 0, "it does not fit");
     holds(refusal_of(cff, size, 0) == PSF_TOO_LONG, "nor does its glyph fit the limit of a call");
+    psf_font font;
+    holds(psf_font_open(cff, size, &font) == PSF_OK && font.limit == PSF_LIMIT, "the limit that is told");
+    uint8_t code[8] = {7};
+    psf_operation operations[2];
+    int32_t operands[2];
+    size_t count = 5, operand_count = 6;
+    holds(psf_glyph_flat(cff, size, &font, 0, code, sizeof code, &count) == PSF_TOO_LONG, "nor has it flat code");
+    holds(psf_glyph_operations(cff, size, &font, 0, operations, 2, &count, operands, 2, &operand_count) == PSF_TOO_LONG, "nor operations");
+    holds(code[0] == 7 && count == 5 && operand_count == 6, "nothing is told then");
+}
+
+static void check_limit(const uint8_t *cff, size_t size, psf_font font) {
+    psf_bounds bounds;
+    font.limit = 5;
+    holds(psf_glyph_bounds(cff, size, &font, 3, &bounds) == PSF_TOO_LONG, "a limit of the caller's");
+    font.limit = 1000;
+    holds(psf_glyph_bounds(cff, size, &font, 3, &bounds) == PSF_OK, "another one");
 }
 
 static void check_fits(const uint8_t *cff, size_t size) {
@@ -348,6 +365,7 @@ int main(int argc, char **argv) {
     holds(psf_font_open(file + place, 2, &font) == PSF_UNEXPECTED_EOF && font.glyphs == 4, "a cut font");
     holds(psf_font_open(file, 0, &font) == PSF_UNEXPECTED_EOF, "no bytes");
     check_fits(file + place, size);
+    check_limit(file + place, size, font);
     check_outline(file + place, size, &font);
     check_spoiled(file + place, size, &font);
     check_names(file + place, size);

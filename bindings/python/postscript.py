@@ -23,7 +23,7 @@ from ctypes import POINTER, Structure, byref, c_char_p, c_int32, c_int64, c_size
 from pathlib import Path
 from typing import Callable, Iterable, Iterator, List, NamedTuple, Optional, Protocol, Tuple, Type, Union
 
-__all__ = ["Bounds", "Error", "Font", "Glyph", "Operation", "Pen", "Segment", "Status", "WriteError", "faces", "version"]
+__all__ = ["LIMIT", "Bounds", "Error", "Font", "Glyph", "Operation", "Pen", "Segment", "Status", "WriteError", "faces", "version"]
 
 #: A point in units of the font; both coordinates are whole numbers of 65536ths, so they are exact.
 Point = Tuple[float, float]
@@ -150,6 +150,13 @@ _OPERATORS = {
 }  # fmt: skip
 
 
+#: the limit of a font, where none is given: how long a call may run a glyph
+LIMIT = 20_000_000
+
+#: how many times its limit all glyphs of a font may take together that is written
+_GLYPHS = 20
+
+
 class _Part(Structure):
     _fields_ = [("local_subroutines", c_uint64), ("default_width", c_int64), ("nominal_width", c_int64)]
 
@@ -163,6 +170,7 @@ class _Font(Structure):
         ("part", _Part),
         ("glyphs", c_uint64),
         ("is_cid", c_uint32),
+        ("limit", c_uint64),
     ]
 
 
@@ -289,17 +297,18 @@ def _table(file: bytes, face: int, tag: bytes) -> bytes:
 class Font:
     """A font: the bytes of its table `CFF `, and of its table `cmap` where there is one."""
 
-    def __init__(self, cff: bytes, cmap: Optional[bytes] = None) -> None:
+    def __init__(self, cff: bytes, cmap: Optional[bytes] = None, limit: int = LIMIT) -> None:
         self._cff, self._cmap, self._font = bytes(cff), cmap, _Font()
         _checked(_library.psf_font_open(self._cff, len(self._cff), byref(self._font)))
+        self._font.limit = limit
 
     @classmethod
-    def open(cls: Type[Font], path: Union[str, os.PathLike[str]], face: int = 0) -> Font:
+    def open(cls: Type[Font], path: Union[str, os.PathLike[str]], face: int = 0, limit: int = LIMIT) -> Font:
         """A face of an OpenType file by its path, counted from 0."""
-        return cls.from_bytes(Path(path).read_bytes(), face)
+        return cls.from_bytes(Path(path).read_bytes(), face, limit)
 
     @classmethod
-    def from_bytes(cls: Type[Font], file: bytes, face: int = 0) -> Font:
+    def from_bytes(cls: Type[Font], file: bytes, face: int = 0, limit: int = LIMIT) -> Font:
         """A face of an OpenType file by its bytes, counted from 0."""
         cff, cmap = _table(file, face, b"CFF "), None
         try:
@@ -307,7 +316,7 @@ class Font:
         except Error as e:
             if e.status != Status.NO_TABLE:
                 raise
-        return cls(cff, cmap)
+        return cls(cff, cmap, limit)
 
     def __len__(self) -> int:
         return int(self._font.glyphs)
@@ -325,20 +334,31 @@ class Font:
         """Whether the glyphs have numbers in place of names."""
         return bool(self._font.is_cid)
 
+    @property
+    def limit(self) -> int:
+        """How long each call may run a glyph, an accented one with its base and its accent: at first `LIMIT`. An operator takes a unit
+        for each of its bytes, with the numbers before it, and a roll 4096 more. A font of a few bytes may name more calls of
+        subroutines than can be run in years: this is what stops them, with `Status.TOO_LONG`."""
+        return int(self._font.limit)
+
     def fits(self, limit: int) -> bool:
-        """Whether the runs of all glyphs come to their ends within a limit, which they share. An operator takes a unit for each of
-        its bytes, with the numbers before it, and a roll 4096 more. Ask it of a font that you do not trust before the calls that
-        know no limit (`flat_code`, `operations`, `flat` and `subset`): a few bytes may name more calls of subroutines than can be
-        run in years."""
+        """Whether the runs of all glyphs come to their ends within a limit, which they share, and which is spent as `limit` says."""
         status = _library.psf_font_fits(self._cff, len(self._cff), byref(c_uint64(limit)))
         if status == Status.TOO_LONG:
             return False
         _checked(status)
         return True
 
+    def _keep_to_limit(self) -> None:
+        """Refused with `Status.TOO_LONG` where the runs of all glyphs use up so many times the limit."""
+        left = c_uint64(min(self.limit * _GLYPHS, 2**64 - 1))
+        if _library.psf_font_fits(self._cff, len(self._cff), byref(left)) == Status.TOO_LONG:
+            raise WriteError(Status.TOO_LONG, 0, 0)
+
     def flat(self) -> bytes:
         """The table `CFF ` of the same glyphs without subroutines: each draws what it drew, with the same advance, name or CID, and
-        codes. Knows no limit. Refused with a `WriteError`."""
+        codes. Refused with a `WriteError`, also where the runs of all glyphs use up twenty times the limit."""
+        self._keep_to_limit()
         cff = self._cff
         return _font_of(
             2 * len(cff) + 1024, lambda room, size, count, refusal: _library.psf_font_flat(cff, len(cff), room, size, count, refusal)
@@ -346,8 +366,9 @@ class Font:
 
     def subset(self, glyphs: Iterable[int], keep_numbers: bool = False) -> bytes:
         """The table `CFF ` of `.notdef`, these glyphs, and the base and the accent of each one that is kept and accented, without
-        subroutines: numbered anew in ascending order, or with their numbers and empty glyphs between them. Knows no limit. Refused
-        with a `WriteError`."""
+        subroutines: numbered anew in ascending order, or with their numbers and empty glyphs between them. Refused with a `WriteError`,
+        as `flat` is."""
+        self._keep_to_limit()
         cff, numbers = self._cff, list(glyphs)
         named = (c_size_t * len(numbers))(*numbers)
         return _font_of(
@@ -377,8 +398,8 @@ class Glyph:
     """A glyph of a font. It is drawn where something of it is asked for.
 
     An accented glyph, whose `endchar` names a base and an accent (Technical Note 5177, Appendix C), is drawn whole: its own
-    contours, those of the base, and those of the accent where the glyph says. The width is its own. The runs share a limit of
-    20,000,000, which is spent as `Font.fits` says. Refused with `Status.NO_GLYPH`; with `Status.NO_PART` where FDSelect gives a glyph
+    contours, those of the base, and those of the accent where the glyph says. The width is its own. The runs share
+    the limit of the font. Refused with `Status.NO_GLYPH`; with `Status.NO_PART` where FDSelect gives a glyph
     of a CID-keyed font no font dictionary; with `Status.TOO_LONG` where the limit is used up; an accented glyph with
     `Status.NO_CODE`, `NO_ACCENTS`, `NO_COMPONENT` and `NESTED_ACCENT`; and with what a run is refused with."""
 
@@ -442,14 +463,14 @@ class Glyph:
         return text.decode("ascii", "backslashreplace")
 
     def flat_code(self) -> bytes:
-        """The code without calls of subroutines: over any subroutines it has the operations and the width of the glyph. Knows no
-        limit."""
+        """The code without calls of subroutines: over any subroutines it has the operations and the width of the glyph. Refused with
+        `Status.TOO_LONG` where its run uses up the font's limit."""
         cff, font = self.font._cff, byref(self.font._font)
         return _bytes_of(lambda room, size, count: _library.psf_glyph_flat(cff, len(cff), font, self.number, room, size, count))
 
     def operations(self) -> List[Operation]:
         """The operations, in the order of the run: with subroutines called, the width taken off, and numbers worked out. `endchar` is not
-        one of them. An accented glyph has its own alone. Knows no limit."""
+        one of them. An accented glyph has its own alone. Refused with `Status.TOO_LONG` where its run uses up the font's limit."""
         cff, font = self.font._cff, byref(self.font._font)
         room, operand_room, count, operand_count = 64, 256, c_size_t(), c_size_t()
         while True:

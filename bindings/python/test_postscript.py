@@ -9,7 +9,7 @@ import pathlib
 import unittest
 
 import postscript
-from postscript import Error, Font, Status, WriteError
+from postscript import LIMIT, Error, Font, Status, WriteError
 
 FONTS = pathlib.Path("/usr/share/fonts/opentype")
 FLOWER = [
@@ -116,6 +116,7 @@ class Small(Case):
         self.assertEqual(len(self.font), 4)
         self.assertFalse(self.font.is_cid_keyed)
         self.assertEqual([self.font.fits(limit) for limit in (1, 1000)], [False, True])
+        self.assertEqual(self.font.limit, LIMIT)
         self.assertEqual([glyph.advance for glyph in self.font], [500, 250, 500, 450])
         self.assertIsNone(self.font[1].bounds)
 
@@ -269,6 +270,10 @@ class Accented(Case):
         self.assertFalse(font.fits(1_000_000))
         self.refused(Status.TOO_LONG, font[0].svg_path)
         self.refused(Status.TOO_LONG, getattr, font[0], "tight_bounds")
+        self.refused(Status.TOO_LONG, font[0].flat_code)
+        self.refused(Status.TOO_LONG, font[0].operations)
+        self.refused(Status.TOO_LONG, Font(nested(), limit=1000).flat)
+        self.refused(Status.TOO_LONG, Font(nested(), limit=1000).subset, [0])
 
     def test_texts(self):
         self.assertFalse([status for status in Status if str(Error(status)) == f"status {int(status)}"])

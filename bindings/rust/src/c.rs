@@ -22,6 +22,7 @@ pub struct Font {
     part: Part,
     pub glyphs: u64,
     pub is_cid: u32,
+    pub limit: u64,
 }
 
 /// `psf_segment`.

@@ -41,6 +41,12 @@ pub fn faces(file: &[u8]) -> Result<usize> {
     c::faces(file)
 }
 
+/// The limit of a font at first: how long a call may run a glyph ([`Font::limit`]).
+pub const LIMIT: u64 = 20_000_000;
+
+/// How many times its limit all glyphs of a font may take together that is written.
+const GLYPHS: u64 = 20;
+
 /// A font in place: the bytes are borrowed, and nothing is copied.
 #[derive(Clone, Copy, Debug)]
 pub struct Font<'a> {
@@ -98,10 +104,22 @@ impl<'a> Font<'a> {
         }
     }
 
-    /// Whether the runs of all glyphs come to their ends within a limit, which they share; what is left of it is told. An
-    /// operator takes a unit for each of its bytes, with the numbers before it, and a roll 4096 more. Ask it of a font that you
-    /// do not trust before the calls that know no limit ([`Font::flat_code`], [`Font::operations`], [`Font::flat`] and
-    /// [`Font::subset`]): a few bytes may name more calls of subroutines than can be run in years.
+    /// How long each call may run a glyph, an accented one with its base and its accent: at first [`LIMIT`]. An operator takes a
+    /// unit for each of its bytes, with the numbers before it, and a roll 4096 more.
+    pub fn limit(&self) -> u64 {
+        self.font.limit
+    }
+
+    /// The same font with another limit. A font of a few bytes may name more calls of subroutines than can be run in years: this
+    /// is what stops them.
+    #[must_use]
+    pub fn with_limit(mut self, limit: u64) -> Self {
+        self.font.limit = limit;
+        self
+    }
+
+    /// Whether the runs of all glyphs come to their ends within a limit, which they share; what is left of it is told. It is spent
+    /// as [`Font::limit`] says.
     ///
     /// # Errors
     ///
@@ -117,8 +135,8 @@ impl<'a> Font<'a> {
     /// The outline of a glyph, with its width and its bounds.
     ///
     /// An accented glyph, whose `endchar` names a base and an accent (Technical Note 5177, Appendix C), is drawn whole: its own
-    /// contours, those of the base, and those of the accent where the glyph says. The width is its own. The runs share a limit of
-    /// 20,000,000, which is spent as [`Font::fits`] says.
+    /// contours, those of the base, and those of the accent where the glyph says. The width is its own. The runs share the font's
+    /// limit.
     ///
     /// # Errors
     ///
@@ -154,18 +172,18 @@ impl<'a> Font<'a> {
     }
 
     /// The code of a glyph without calls of subroutines: over any subroutines it has the operations and the width of the
-    /// glyph. Knows no limit.
+    /// glyph.
     ///
     /// # Errors
     ///
-    /// [`Error::NoGlyph`] where the font has no such glyph, [`Error::NoPart`] where FDSelect gives it no font dictionary, and where its
-    /// program is refused: see [`Error`].
+    /// [`Error::NoGlyph`] where the font has no such glyph, [`Error::NoPart`] where FDSelect gives it no font dictionary,
+    /// [`Error::TooLong`] where its run uses up the font's limit, and where its program is refused: see [`Error`].
     pub fn flat_code(&self, glyph: usize) -> Result<Vec<u8>> {
         c::flat(self.cff, &self.font, glyph)
     }
 
     /// The operations of a glyph, in the order of its run: with subroutines called, widths taken off, and numbers worked out.
-    /// `endchar` is not one of them. An accented glyph has its own alone. Knows no limit.
+    /// `endchar` is not one of them. An accented glyph has its own alone.
     ///
     /// ```no_run
     /// # let bytes = Vec::new();
@@ -185,24 +203,27 @@ impl<'a> Font<'a> {
     }
 
     /// The table `CFF ` of the same glyphs without subroutines: each glyph draws what it drew, with the same advance, name or
-    /// CID, and codes. Knows no limit.
+    /// CID, and codes.
     ///
     /// # Errors
     ///
     /// [`Error::RefusedGlyph`] with the first glyph whose run is refused, and why; [`Error::SeveralFonts`] where the table has
-    /// not one font; [`Error::NoPart`]; and where the table is no font: see [`WriteError`].
+    /// not one font; [`Error::NoPart`]; [`Error::TooLong`] where the runs of all glyphs use up twenty times the font's limit; and
+    /// where the table is no font: see [`WriteError`].
     pub fn flat(&self) -> std::result::Result<Vec<u8>, WriteError> {
+        self.keeps_to_limit()?;
         c::font_flat(self.cff).map_err(WriteError::of)
     }
 
     /// The table `CFF ` of `.notdef`, these glyphs, and the base and the accent of each one that is kept and accented, numbered
-    /// anew in ascending order, without subroutines. An encoding of the font's own gives way to the standard one. Knows no limit.
+    /// anew in ascending order, without subroutines. An encoding of the font's own gives way to the standard one.
     ///
     /// # Errors
     ///
     /// [`Error::NoGlyphs`] where none is named, [`Error::NoGlyph`] with one that the font does not have, [`Error::NoName`], and
     /// as [`Font::flat`].
     pub fn subset(&self, glyphs: &[usize]) -> std::result::Result<Vec<u8>, WriteError> {
+        self.keeps_to_limit()?;
         c::font_subset(self.cff, glyphs, false).map_err(WriteError::of)
     }
 
@@ -212,7 +233,17 @@ impl<'a> Font<'a> {
     ///
     /// As [`Font::subset`].
     pub fn subset_keeping(&self, glyphs: &[usize]) -> std::result::Result<Vec<u8>, WriteError> {
+        self.keeps_to_limit()?;
         c::font_subset(self.cff, glyphs, true).map_err(WriteError::of)
+    }
+
+    /// Refused where the runs of all glyphs use up so many times the font's limit.
+    fn keeps_to_limit(&self) -> std::result::Result<(), WriteError> {
+        let mut limit = self.font.limit.saturating_mul(GLYPHS);
+        match c::fits(self.cff, &mut limit) {
+            Err(Error::TooLong) => Err(WriteError::TOO_LONG),
+            _ => Ok(()),
+        }
     }
 
     /// The name of a glyph. `None` where it has none, as in a CID-keyed font of which no string is named.

@@ -15,6 +15,10 @@ pub struct WriteError {
 }
 
 impl WriteError {
+    /// The runs of the glyphs take longer than the limit.
+    pub(crate) const TOO_LONG: WriteError =
+        WriteError { error: Error::TooLong, glyph: None, cause: None };
+
     /// The error of what is told of a refusal.
     pub(crate) fn of((error, told): (Error, c::Refusal)) -> WriteError {
         let means_glyph =

@@ -50,6 +50,8 @@ fn glyphs_one_after_another() {
     let font = Font::from_file(&bytes, 0).unwrap();
     assert_eq!(font.outlines().len(), 4);
     assert_eq!((font.fits(&mut 1), font.fits(&mut 1000)), (Ok(false), Ok(true)));
+    assert_eq!((font.limit(), font.with_limit(5).limit()), (postscript::LIMIT, 5));
+    assert_eq!(font.with_limit(5).outline(3), Err(Error::TooLong));
     let advances: Vec<f64> = font.outlines().map(|outline| outline.unwrap().advance).collect();
     assert_eq!(advances, [500.0, 250.0, 500.0, 450.0]);
     assert_eq!(font.outline(1).unwrap().bounds, None);
@@ -313,6 +315,10 @@ fn a_run_that_takes_too_long() {
     assert_eq!(font.fits(&mut 1_000_000), Ok(false));
     assert_eq!(font.outline(0), Err(Error::TooLong));
     assert_eq!(font.tight_bounds(0), Err(Error::TooLong));
+    assert_eq!(font.flat_code(0), Err(Error::TooLong));
+    assert_eq!(font.operations(0), Err(Error::TooLong));
+    let unwritten = (font.with_limit(1000).flat(), font.with_limit(1000).subset(&[0]));
+    assert!(matches!(unwritten, (Err(flat), Err(subset)) if flat.error == Error::TooLong && subset == flat));
     assert_eq!(Error::TooLong.to_string(), "the run takes longer than the limit");
 }
 

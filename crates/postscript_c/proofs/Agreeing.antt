@@ -101,6 +101,7 @@ agrees bytes v n p m e h =
       glyphs = sym count_p ∙ c.1 ∙ ap (λ (s : List (List ℕ)). length s) codes_v;
     }
 
-pub font_of : (answer : Result PsfFont Error) (bytes : List ℕ) → Answers placed answer 0 (places bytes 0) → IfOk answer (λ font. TellsWidths bytes font) → IsFontOf bytes answer
-font_of (Ok font) bytes e w = record { reads = e; widths = w; same = λ v next h. agrees bytes v next (placed font) 0 h e }
-font_of (Err refusal) bytes e w = record { reads = e; widths = tt; same = tt }
+pub font_of : (answer : Result PsfFont Error) (bytes : List ℕ) → Answers placed answer 0 (places bytes 0) → IfOk answer (λ font. TellsWidths bytes font) → IfOk answer (λ font. font.limit ≡ 20000000) →
+    IsFontOf bytes answer
+font_of (Ok font) bytes e w limit = record { reads = e; widths = w; limit = limit; same = λ v next h. agrees bytes v next (placed font) 0 h e }
+font_of (Err refusal) bytes e w limit = record { reads = e; widths = tt; limit = tt; same = tt }

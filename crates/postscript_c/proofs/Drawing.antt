@@ -4,7 +4,7 @@ use Rattle.std.specs.Prelude.{IfErr, IsErrAnd, MatchOption, OnOk, option_map}
 use denote.Ref.{Bor}
 use Rattle.postscript_base.specs.Tape.Outcome.{Got, after}
 use Rattle.postscript_c.specs.Glyphs.{index_at, program_of}
-use Rattle.postscript_c.specs.Drawn.{AreNamed, DrawsWhole, IsFirst, IsNamedBy, IsNamedRefused, IsSpentOnNamed, IsUsedUp, IsWantingIn, IsWholeRefused, by_components, by_itself, limit, unnamed, wanting, undrawn}
+use Rattle.postscript_c.specs.Drawn.{AreNamed, DrawsWhole, IsFirst, IsNamedBy, IsNamedRefused, IsSpentOnNamed, IsUsedUp, IsWantingIn, IsWholeRefused, by_components, by_itself, unnamed, wanting, undrawn}
 use Rattle.postscript_drawing.specs.Accents.{IsAccent}
 use Rattle.postscript_drawing.specs.DrawnProgram.{DrawsProgram, IsProgramRefused, IsWanting}
 use Rattle.postscript_drawing.specs.Drawn.{DrawsComponents, Takes, zero_point}
@@ -53,38 +53,38 @@ whole-drawn after old middle new bytes program width named own names more = (
   more.2 ∙ ap (λ t. fold after t more.0) own.taken ∙ sym (fold-append after old own.segments more.0),
 )
 
-own-wanting : (left : ℕ) (bytes : List ℕ) (program : Pending) (e : Error) (rest : List Said) → Spends limit program.trace left rest → IsWanting left e → IsWantingIn bytes program e
-own-wanting left bytes program (Font cause) rest spends want = want
-own-wanting left bytes program Full rest spends want = tt
-own-wanting left bytes program TooLong rest spends want = by_itself rest (subst (λ n. Spends limit program.trace n rest) want spends)
-own-wanting left bytes program (NoSuchGlyph glyph) rest spends want = want
-own-wanting left bytes program NoCode rest spends want = want
-own-wanting left bytes program NoAccents rest spends want = want
-own-wanting left bytes program (MissingComponent code) rest spends want = want
-own-wanting left bytes program (NestedAccent code) rest spends want = want
+own-wanting : (limit : ℕ) (left : ℕ) (bytes : List ℕ) (program : Pending) (e : Error) (rest : List Said) → Spends limit program.trace left rest → IsWanting left e → IsWantingIn limit bytes program e
+own-wanting limit left bytes program (Font cause) rest spends want = want
+own-wanting limit left bytes program Full rest spends want = tt
+own-wanting limit left bytes program TooLong rest spends want = by_itself rest (subst (λ n. Spends limit program.trace n rest) want spends)
+own-wanting limit left bytes program (NoSuchGlyph glyph) rest spends want = want
+own-wanting limit left bytes program NoCode rest spends want = want
+own-wanting limit left bytes program NoAccents rest spends want = want
+own-wanting limit left bytes program (MissingComponent code) rest spends want = want
+own-wanting limit left bytes program (NestedAccent code) rest spends want = want
 
-pub by-program : (left : ℕ) (bytes : List ℕ) (program : Pending) (e : Error) → (rest : List Said) × Spends limit program.trace left rest → IsProgramRefused zero_point program left e → IsWholeRefused bytes program e
-by-program left bytes program e spends (inl want) = wanting (own-wanting left bytes program e spends.0 spends.1 want)
-by-program left bytes program e spends (inr why) = undrawn why
+pub by-program : (limit : ℕ) (left : ℕ) (bytes : List ℕ) (program : Pending) (e : Error) → (rest : List Said) × Spends limit program.trace left rest → IsProgramRefused zero_point program left e → IsWholeRefused limit bytes program e
+by-program limit left bytes program e spends (inl want) = wanting (own-wanting limit left bytes program e spends.0 spends.1 want)
+by-program limit left bytes program e spends (inr why) = undrawn why
 
-named-used-up : (before left : ℕ) (bytes : List ℕ) (program : Pending) → Spends limit program.trace before [] → IsSpentOnNamed bytes before left → left ≡ 0 → IsUsedUp bytes program
-named-used-up before left bytes program own (inl same) none = by_itself [] (subst (λ n. Spends limit program.trace n []) (sym same ∙ none) own)
-named-used-up before left bytes program own (inr (font, first, spends)) none = by_components font before first own (subst (λ n. SpendsOnRuns font 2 before n) none spends)
+named-used-up : (limit : ℕ) (before left : ℕ) (bytes : List ℕ) (program : Pending) → Spends limit program.trace before [] → IsSpentOnNamed bytes before left → left ≡ 0 → IsUsedUp limit bytes program
+named-used-up limit before left bytes program own (inl same) none = by_itself [] (subst (λ n. Spends limit program.trace n []) (sym same ∙ none) own)
+named-used-up limit before left bytes program own (inr (font, first, spends)) none = by_components font before first own (subst (λ n. SpendsOnRuns font 2 before n) none spends)
 
-named-wanting : (before left : ℕ) (bytes : List ℕ) (program : Pending) (e : Error) → Spends limit program.trace before [] → IsSpentOnNamed bytes before left → IsWanting left e → IsWantingIn bytes program e
-named-wanting before left bytes program (Font cause) own spends want = want
-named-wanting before left bytes program Full own spends want = tt
-named-wanting before left bytes program TooLong own spends want = named-used-up before left bytes program own spends want
-named-wanting before left bytes program (NoSuchGlyph glyph) own spends want = want
-named-wanting before left bytes program NoCode own spends want = want
-named-wanting before left bytes program NoAccents own spends want = want
-named-wanting before left bytes program (MissingComponent code) own spends want = want
-named-wanting before left bytes program (NestedAccent code) own spends want = want
+named-wanting : (limit : ℕ) (before left : ℕ) (bytes : List ℕ) (program : Pending) (e : Error) → Spends limit program.trace before [] → IsSpentOnNamed bytes before left → IsWanting left e → IsWantingIn limit bytes program e
+named-wanting limit before left bytes program (Font cause) own spends want = want
+named-wanting limit before left bytes program Full own spends want = tt
+named-wanting limit before left bytes program TooLong own spends want = named-used-up limit before left bytes program own spends want
+named-wanting limit before left bytes program (NoSuchGlyph glyph) own spends want = want
+named-wanting limit before left bytes program NoCode own spends want = want
+named-wanting limit before left bytes program NoAccents own spends want = want
+named-wanting limit before left bytes program (MissingComponent code) own spends want = want
+named-wanting limit before left bytes program (NestedAccent code) own spends want = want
 
-pub by-named : (before left : ℕ) (bytes : List ℕ) (program : Pending) (named : Option Accent) (e : Error) → Spends limit program.trace before [] → IsNamedBy (taken_by program.end) named →
-    (IsWanting left e × IsSpentOnNamed bytes before left) ⊎ IsNamedRefused bytes named e → IsWholeRefused bytes program e
-by-named before left bytes program named e own names (inl want) = wanting (named-wanting before left bytes program e own want.1 want.0)
-by-named before left bytes program named e own names (inr why) = unnamed named names why
+pub by-named : (limit : ℕ) (before left : ℕ) (bytes : List ℕ) (program : Pending) (named : Option Accent) (e : Error) → Spends limit program.trace before [] → IsNamedBy (taken_by program.end) named →
+    (IsWanting left e × IsSpentOnNamed bytes before left) ⊎ IsNamedRefused bytes named e → IsWholeRefused limit bytes program e
+by-named limit before left bytes program named e own names (inl want) = wanting (named-wanting limit before left bytes program e own want.1 want.0)
+by-named limit before left bytes program named e own names (inr why) = unnamed named names why
 
 pub named-so : (named : Option Accent) (told taken : List ℤ) → told ≡ taken → MatchOption named (length told ≢ 4) (λ accent. IsAccent told accent) → IsNamedBy taken named
 named-so None told taken same other = subst (λ (xs : List ℤ). length xs ≢ 4) same other

@@ -1,5 +1,5 @@
 -- What C is told of a glyph.
-use Rattle.std.specs.Prelude.{◌≡◌, ◌⊎◌, ℕ, ◌<◌, ◌==◌, ℤ, pos, ◌+ℤ◌, if◌then◌else◌, List, length, take, map, Option, Some, None, Result, Ok, Err}
+use Rattle.std.specs.Prelude.{◌≡◌, ◌⊎◌, ℕ, ◌<◌, ◌==◌, ℤ, pos, ◌+ℤ◌, if◌then◌else◌, List, ◌++◌, length, drop, map, Option, Some, None, Result, Ok, Err}
 use Rattle.std.specs.Int.{saturate_signed, w64}
 use Rattle.std.specs.Option.{is_some}
 use Rattle.postscript_base.specs.Error.{code}
@@ -53,14 +53,6 @@ HasZeros told = told.has_bounds ≡ 0 → (told.left ≡ pos 0) × (told.bottom 
 abbrev pub TellsWidth : Drawn → PsfGlyph → Type 0
 TellsWidth drawn told = told.has_width ≡ (if is_some drawn.width then 1 else 0)
 
--- The number of segments is told. On 0 they stand at the front of the room, and on 32 they are more than the room.
-pub record Hands (found : Glyph) (status : ℤ) (segments : List PsfSegment) (count : ℕ) (told : PsfGlyph) : Type 0 where
-  pub counted : count ≡ length found.drawn.segments
-  pub tells : IsToldOf found.drawn found.part told
-  pub zeros : HasZeros told
-  pub width : TellsWidth found.drawn told
-  pub handed : ((status ≡ pos 0) × (take count segments ≡ map segment_shown found.drawn.segments)) ⊎ ((status ≡ pos 32) × (length segments < count))
-
 -- what C lends to a call, as it stands at one time
 pub record Room : Type 0 where
   pub segments : List PsfSegment
@@ -70,9 +62,18 @@ pub record Room : Type 0 where
 abbrev pub room : List PsfSegment → ℕ → PsfGlyph → Room
 room segments count told = record { segments = segments; count = count; told = told }
 
+-- The number of segments is told. On 0 they stand at the front of the room, and what is behind them stays; on 32 they are more than the
+-- room, which stays.
+pub record Hands (found : Glyph) (status : ℤ) (old new : Room) : Type 0 where
+  pub counted : new.count ≡ length found.drawn.segments
+  pub tells : IsToldOf found.drawn found.part new.told
+  pub zeros : HasZeros new.told
+  pub width : TellsWidth found.drawn new.told
+  pub handed : ((status ≡ pos 0) × (new.segments ≡ map segment_shown found.drawn.segments ++ drop new.count old.segments)) ⊎ ((status ≡ pos 32) × (length old.segments < new.count) × (new.segments ≡ old.segments))
+
 -- What C is told of an answer: a refusal by its number, and 31 where there is no such glyph. Then all is left as it was.
 abbrev pub Tells : Result (Option Glyph) Error → (status : ℤ) → (old new : Room) → Type 0
-Tells (Ok (Some found)) status old new = Hands found status new.segments new.count new.told
+Tells (Ok (Some found)) status old new = Hands found status old new
 Tells (Ok None) status old new = (status ≡ pos 31) × (new ≡ old)
 Tells (Err e) status old new = (status ≡ pos (undrawn_code e)) × (new ≡ old)
 

@@ -62,26 +62,22 @@ pub record DrawsWhole (bytes : List ℕ) (program : Pending) (segments : List Se
   pub all : segments ≡ own ++ more
   pub width_is : width ≡ width_by program.width program.answers program.end
 
--- the units that a drawing may take (`LIMIT` of postscript_drawing)
-abbrev pub limit : ℕ
-limit = 20000000
-
 -- The limit is used up: on phrases at the front of the program, or on all of them and on the runs of two glyphs of the font at most.
-pub data IsUsedUp (bytes : List ℕ) (program : Pending) : Type 0 where
-  by_itself : (rest : List Said) → Spends limit program.trace 0 rest → IsUsedUp bytes program
-  by_components : (font : FontView) (left : ℕ) → IsFirst bytes font → Spends limit program.trace left [] → SpendsOnRuns font 2 left 0 → IsUsedUp bytes program
+pub data IsUsedUp (limit : ℕ) (bytes : List ℕ) (program : Pending) : Type 0 where
+  by_itself : (rest : List Said) → Spends limit program.trace 0 rest → IsUsedUp limit bytes program
+  by_components : (font : FontView) (left : ℕ) → IsFirst bytes font → Spends limit program.trace left [] → SpendsOnRuns font 2 left 0 → IsUsedUp limit bytes program
 
 -- memory is wanting, also where it is for the segments, or the limit is used up
-abbrev pub IsWantingIn : (bytes : List ℕ) → Pending → Error → Type 0
-IsWantingIn bytes program TooLong = IsUsedUp bytes program
-IsWantingIn bytes program e = IsWanting 0 e
+abbrev pub IsWantingIn : (limit : ℕ) (bytes : List ℕ) → Pending → Error → Type 0
+IsWantingIn limit bytes program TooLong = IsUsedUp limit bytes program
+IsWantingIn limit bytes program e = IsWanting 0 e
 
 -- Why it does not: something is wanting, its own run or what it names is refused, or it names no codes.
-pub data IsWholeRefused (bytes : List ℕ) (program : Pending) (e : Error) : Type 0 where
-  wanting : IsWantingIn bytes program e → IsWholeRefused bytes program e
-  undrawn : IsUndrawn zero_point e program.answers program.end → IsWholeRefused bytes program e
-  unread : e ≡ NoCode → HasNoCodes (taken_by program.end) → IsWholeRefused bytes program e
-  unnamed : (accent : Option Accent) → IsNamedBy (taken_by program.end) accent → IsNamedRefused bytes accent e → IsWholeRefused bytes program e
+pub data IsWholeRefused (limit : ℕ) (bytes : List ℕ) (program : Pending) (e : Error) : Type 0 where
+  wanting : IsWantingIn limit bytes program e → IsWholeRefused limit bytes program e
+  undrawn : IsUndrawn zero_point e program.answers program.end → IsWholeRefused limit bytes program e
+  unread : e ≡ NoCode → HasNoCodes (taken_by program.end) → IsWholeRefused limit bytes program e
+  unnamed : (accent : Option Accent) → IsNamedBy (taken_by program.end) accent → IsNamedRefused bytes accent e → IsWholeRefused limit bytes program e
 
 -- a code over the subroutines at two places
 abbrev pub HasNoneIn : (bytes : List ℕ) → Option (List ℕ) → (global local : ℕ) → Type 0
@@ -91,10 +87,10 @@ abbrev pub IsDrawnIn : (bytes : List ℕ) → Option (List ℕ) → (global loca
 IsDrawnIn bytes code global local segments width =
     (program : Pending) × (program_of code global local bytes 0 ≡ Got (Some program) 0) × DrawsWhole bytes program segments width
 
-abbrev pub IsCodeRefused : (bytes : List ℕ) → Option (List ℕ) → (global local : ℕ) → Error → Type 0
-IsCodeRefused bytes code global local e =
+abbrev pub IsCodeRefused : (limit : ℕ) (bytes : List ℕ) → Option (List ℕ) → (global local : ℕ) → Error → Type 0
+IsCodeRefused limit bytes code global local e =
     ((cause : Cause) × (e ≡ Font cause) × (cause ≢ Memory → RefusedAs cause (program_of code global local bytes 0)))
-    ⊎ ((program : Pending) × (program_of code global local bytes 0 ≡ Got (Some program) 0) × IsWholeRefused bytes program e)
+    ⊎ ((program : Pending) × (program_of code global local bytes 0 ≡ Got (Some program) 0) × IsWholeRefused limit bytes program e)
 
 -- there is no such glyph
 abbrev pub HasNone : (bytes : List ℕ) (font : PsfFont) (part : PsfPart) (glyph : ℕ) → Type 0
@@ -105,8 +101,8 @@ abbrev pub IsDrawnOver : (bytes : List ℕ) (font : PsfFont) (part : PsfPart) (g
 IsDrawnOver bytes font part glyph segments width =
     (program : Pending) × (program_at font part glyph bytes 0 ≡ Got (Some program) 0) × DrawsWhole bytes program segments width
 
--- Why a glyph is not drawn: its code or its subroutines do not stand, or its program is not drawn.
+-- Why a glyph is not drawn: its code or its subroutines do not stand, or its program is not drawn within the limit of the font.
 abbrev pub IsUndrawnOver : (bytes : List ℕ) (font : PsfFont) (part : PsfPart) (glyph : ℕ) → Error → Type 0
 IsUndrawnOver bytes font part glyph e =
     ((cause : Cause) × (e ≡ Font cause) × (cause ≢ Memory → RefusedAs cause (program_at font part glyph bytes 0)))
-    ⊎ ((program : Pending) × (program_at font part glyph bytes 0 ≡ Got (Some program) 0) × IsWholeRefused bytes program e)
+    ⊎ ((program : Pending) × (program_at font part glyph bytes 0 ≡ Got (Some program) 0) × IsWholeRefused font.limit bytes program e)

@@ -13,8 +13,9 @@ pub record AreOf (bytes : List ℕ) (v : View) (p : Places) : Type 0 where
   pub globals : (next : ℕ) × (opened bytes p.global_subroutines ≡ Got v.tables.subroutines next)
   pub glyphs : p.glyphs ≡ length v.char_strings
 
--- The places and the widths that are read, or the refusal; and where the font is opened in place, they are of it.
+-- The places and the widths that are read, with the limit of 20,000,000 units, or the refusal; and where the font is opened in place, they are of it.
 pub record IsFontOf (bytes : List ℕ) (answer : Result PsfFont Error) : Type 0 where
   pub reads : Answers placed answer 0 (places bytes 0)
   pub widths : IfOk answer (λ font. TellsWidths bytes font)
+  pub limit : IfOk answer (λ font. font.limit ≡ 20000000)
   pub same : IfOk answer (λ font. (v : View) (next : ℕ) → view bytes 0 ≡ Got v next → AreOf bytes v (placed font))

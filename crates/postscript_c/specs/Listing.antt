@@ -1,13 +1,15 @@
 -- What C is told of the operations of a glyph.
-use Rattle.std.specs.Prelude.{◌≡◌, ◌⊎◌, ℕ, ◌<◌, ℤ, pos, List, length, take, Option, Some, None, option_map, Result, Ok, Err}
+use Rattle.std.specs.Prelude.{◌≡◌, ◌⊎◌, ℕ, ◌<◌, ℤ, pos, List, ◌++◌, length, drop, Option, Some, None, option_map, Result, Ok, Err}
 use Rattle.postscript_base.specs.Error.{code}
 use Rattle.postscript_base.specs.declared.error.Error.{Error}
 use Rattle.postscript_base.specs.Tape.Outcome.{Answers}
 use Rattle.postscript_c.specs.Operations.{listed_at, shown}
+use Rattle.postscript_c.specs.Fitting.{TellsTooLong}
 use Rattle.postscript_c.specs.Parts.{TellsByPart}
 use Rattle.postscript_c.specs.declared.font.PsfFont.{PsfFont}
 use Rattle.postscript_c.specs.declared.operations.Listed.{Listed}
 use Rattle.postscript_c.specs.declared.operations.PsfOperation.{PsfOperation}
+use Rattle.postscript_c.specs.declared.part.PsfPart.{PsfPart}
 
 -- what C lends to a call, as it stands at one time
 pub record Rooms : Type 0 where
@@ -19,11 +21,11 @@ pub record Rooms : Type 0 where
 abbrev pub rooms : List PsfOperation → ℕ → List ℤ → ℕ → Rooms
 rooms operations count operands operand_count = record { operations = operations; count = count; operands = operands; operand_count = operand_count }
 
--- both lists stand at the front of their rooms
-pub record Handed (listed : Listed) (status : ℤ) (new : Rooms) : Type 0 where
+-- both lists stand at the front of their rooms, and what is behind them stays
+pub record Handed (listed : Listed) (status : ℤ) (old new : Rooms) : Type 0 where
   pub done : status ≡ pos 0
-  pub rows : take new.count new.operations ≡ listed.rows.items
-  pub row_operands : take new.operand_count new.operands ≡ listed.operands.items
+  pub rows : new.operations ≡ listed.rows.items ++ drop (length listed.rows.items) old.operations
+  pub row_operands : new.operands ≡ listed.operands.items ++ drop (length listed.operands.items) old.operands
 
 -- one of them is more than its room, and nothing is written to either
 pub record Lacking (status : ℤ) (old new : Rooms) : Type 0 where
@@ -36,7 +38,7 @@ pub record Lacking (status : ℤ) (old new : Rooms) : Type 0 where
 pub record HandsOperations (listed : Listed) (status : ℤ) (old new : Rooms) : Type 0 where
   pub counted : new.count ≡ length listed.rows.items
   pub operands_counted : new.operand_count ≡ length listed.operands.items
-  pub handed : Handed listed status new ⊎ Lacking status old new
+  pub handed : Handed listed status old new ⊎ Lacking status old new
 
 -- the operations are handed over, or there is no such glyph, or a refusal is told by its number; then all is left as it was
 abbrev pub TellsOperations : Result (Option Listed) Error → (status : ℤ) → (old new : Rooms) → Type 0
@@ -44,9 +46,11 @@ TellsOperations (Ok (Some listed)) status old new = HandsOperations listed statu
 TellsOperations (Ok None) status old new = (status ≡ pos 31) × (new ≡ old)
 TellsOperations (Err e) status old new = (status ≡ pos (code e)) × (new ≡ old)
 
--- what C is told of the operations of a glyph
+-- what C is told of the operations of a glyph by its part: that its run is too long, or these operations
+abbrev pub TellsOperationsBy : (bytes : List ℕ) (font : PsfFont) (part : PsfPart) (glyph : ℕ) (status : ℤ) (old new : Rooms) → Type 0
+TellsOperationsBy bytes font part glyph status old new =
+    TellsTooLong bytes font part glyph status (new ≡ old)
+    ⊎ ((answer : Result (Option Listed) Error) × Answers (option_map shown) answer 0 (listed_at font part glyph bytes 0) × TellsOperations answer status old new)
+
 abbrev pub TellsOperationsOf : (bytes : List ℕ) (font : PsfFont) (glyph : ℕ) (status : ℤ) (old new : Rooms) → Type 0
-TellsOperationsOf bytes font glyph status old new =
-    TellsByPart bytes font glyph status
-    (λ part. (answer : Result (Option Listed) Error) × Answers (option_map shown) answer 0 (listed_at font part glyph bytes 0) × TellsOperations answer status old new)
-    (new ≡ old)
+TellsOperationsOf bytes font glyph status old new = TellsByPart bytes font glyph status (λ part. TellsOperationsBy bytes font part glyph status old new) (new ≡ old)

@@ -4,7 +4,7 @@ use Rattle.postscript_base.specs.Error.{code}
 use Rattle.postscript_base.specs.Tape.Outcome.{Got, RefusedAs}
 use Rattle.postscript_base.specs.declared.error.Error.{Error}
 use Rattle.postscript_base.specs.declared.error.Error.TheVariants.{Memory}
-use Rattle.postscript_c.specs.Texts.{HandsBytes}
+use Rattle.postscript_c.specs.Texts.{Bytes, HandsBytes}
 use Rattle.postscript_view.specs.CharSets.{IsCharSetOf}
 use Rattle.postscript_view.specs.Order.{View, view}
 use Rattle.postscript_view.specs.Strings.{HasName, IsFirstWithName}
@@ -22,26 +22,26 @@ LacksSet bytes view status = (e : Error) × (status ≡ pos (code e)) × ((set :
 abbrev pub LacksFont : List ℕ → (status : ℤ) → Type 0
 LacksFont bytes status = (e : Error) × (status ≡ pos (code e)) × (e ≢ Memory → RefusedAs e (view bytes 0))
 
--- what is told of a font is told of the one that the bytes begin with
-abbrev pub OfFirst : List ℕ → (View → Type 0) → (status : ℤ) → Type 0
-OfFirst bytes tells status = ((v : View) × (next : ℕ) × (view bytes 0 ≡ Got v next) × tells v) ⊎ LacksFont bytes status
+-- what is told of a font is told of the one that the bytes begin with; where there is none, what C lends is the same as before
+abbrev pub OfFirst : List ℕ → (View → Type 0) → (status : ℤ) → (same : Type 0) → Type 0
+OfFirst bytes tells status same = ((v : View) × (next : ℕ) × (view bytes 0 ≡ Got v next) × tells v) ⊎ (LacksFont bytes status × same)
 
 -- the name of a glyph of a font is handed over, or it has none, as each glyph of a CID-keyed font
-abbrev pub TellsNameIn : List ℕ → View → (glyph : ℕ) → (status : ℤ) → (room : List ℕ) → (count : ℕ) → Type 0
-TellsNameIn bytes view glyph status room count =
-    ((set : CharSetView) × (name : List ℕ) × IsSetOf bytes view set × HasName view set glyph name × HandsBytes name status room count)
-    ⊎ (((set : CharSetView) × IsSetOf bytes view set × (status ≡ pos 38) × ((name : List ℕ) → HasName view set glyph name → ⊥))
-    ⊎ LacksSet bytes view status)
+abbrev pub TellsNameIn : List ℕ → View → (glyph : ℕ) → (status : ℤ) → (old new : Bytes) → Type 0
+TellsNameIn bytes view glyph status old new =
+    ((set : CharSetView) × (name : List ℕ) × IsSetOf bytes view set × HasName view set glyph name × HandsBytes name status old new)
+    ⊎ (((set : CharSetView) × IsSetOf bytes view set × (status ≡ pos 38) × ((name : List ℕ) → HasName view set glyph name → ⊥) × (new ≡ old))
+    ⊎ (LacksSet bytes view status × (new ≡ old)))
 
-abbrev pub TellsName : List ℕ → (glyph : ℕ) → (status : ℤ) → (room : List ℕ) → (count : ℕ) → Type 0
-TellsName bytes glyph status room count = OfFirst bytes (λ view. TellsNameIn bytes view glyph status room count) status
+abbrev pub TellsName : List ℕ → (glyph : ℕ) → (status : ℤ) → (old new : Bytes) → Type 0
+TellsName bytes glyph status old new = OfFirst bytes (λ view. TellsNameIn bytes view glyph status old new) status (new ≡ old)
 
 -- the first glyph of a font that has a name, or none has it
-abbrev pub TellsNamedIn : List ℕ → View → (name : List ℕ) → (status : ℤ) → (glyph : ℕ) → Type 0
-TellsNamedIn bytes view name status glyph =
-    ((set : CharSetView) × IsSetOf bytes view set × (status ≡ pos 0) × IsFirstWithName view set name glyph)
-    ⊎ (((set : CharSetView) × IsSetOf bytes view set × (status ≡ pos 31) × ((other : ℕ) → HasName view set other name → ⊥))
-    ⊎ LacksSet bytes view status)
+abbrev pub TellsNamedIn : List ℕ → View → (name : List ℕ) → (status : ℤ) → (old new : ℕ) → Type 0
+TellsNamedIn bytes view name status old new =
+    ((set : CharSetView) × IsSetOf bytes view set × (status ≡ pos 0) × IsFirstWithName view set name new)
+    ⊎ (((set : CharSetView) × IsSetOf bytes view set × (status ≡ pos 31) × ((other : ℕ) → HasName view set other name → ⊥) × (new ≡ old))
+    ⊎ (LacksSet bytes view status × (new ≡ old)))
 
-abbrev pub TellsNamed : List ℕ → (name : List ℕ) → (status : ℤ) → (glyph : ℕ) → Type 0
-TellsNamed bytes name status glyph = OfFirst bytes (λ view. TellsNamedIn bytes view name status glyph) status
+abbrev pub TellsNamed : List ℕ → (name : List ℕ) → (status : ℤ) → (old new : ℕ) → Type 0
+TellsNamed bytes name status old new = OfFirst bytes (λ view. TellsNamedIn bytes view name status old new) status (new ≡ old)

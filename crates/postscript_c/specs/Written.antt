@@ -3,7 +3,7 @@ use Rattle.std.specs.Prelude.{◌≡◌, ℕ, ℤ, Bool, true, pos, List, [], le
 use Rattle.std.specs.declared.alloc.Global.{Global}
 use Rattle.postscript_base.specs.Error.{code}
 use Rattle.postscript_base.specs.Tape.Outcome.{Got}
-use Rattle.postscript_c.specs.Texts.{HandsBytes}
+use Rattle.postscript_c.specs.Texts.{Bytes, HandsBytes}
 use Rattle.postscript_c.specs.declared.written.PsfRefusal.{PsfRefusal}
 use Rattle.postscript_view.specs.Order.{View, view}
 use Rattle.postscript_write.specs.Components.{IsSubset as IsSubsetFont}
@@ -41,10 +41,10 @@ refusal_of NoGlyphs = refusal 0 (pos 0)
 refusal_of NotReadBack = refusal 0 (pos 0)
 refusal_of TooLarge = refusal 0 (pos 0)
 
--- the font is handed over, or a refusal is told by its number, its glyph and its cause
-abbrev pub TellsWritten : Result (Vec ℕ Global) Error → (status : ℤ) → (room : List ℕ) → (count : ℕ) → PsfRefusal → Type 0
-TellsWritten (Ok flat) status room count told = HandsBytes flat.items status room count
-TellsWritten (Err e) status room count told = (status ≡ pos (written_code e)) × (told ≡ refusal_of e)
+-- the font is handed over, or a refusal is told by its number, its glyph and its cause; what is not told is as it was
+abbrev pub TellsWritten : Result (Vec ℕ Global) Error → (status : ℤ) → (old new : Bytes) → (was told : PsfRefusal) → Type 0
+TellsWritten (Ok flat) status old new was told = HandsBytes flat.items status old new × (told ≡ was)
+TellsWritten (Err e) status old new was told = (status ≡ pos (written_code e)) × (told ≡ refusal_of e) × (new ≡ old)
 
 -- the font made of all glyphs, or why there is none
 pub record IsFlat (bytes : List ℕ) (answer : Result (Vec ℕ Global) Error) : Type 0 where

@@ -7,7 +7,7 @@ ghost use Rattle.postscript_drawing.specs.Drawn.{Takes};
 use crate::font::PsfFont;
 use crate::glyph::{index_at, program_over};
 use crate::part::PsfPart;
-use postscript_drawing::{Accent, LIMIT, Result, draw_components, draw_program};
+use postscript_drawing::{Accent, Result, draw_components, draw_program};
 use postscript_outline::{Point, Sink};
 use postscript_type2::{Operand, Program};
 use postscript_view::FontView;
@@ -31,20 +31,21 @@ fn draw_named<S: Sink>(
     draw_components(alloc, &font, &accent, limit, sink)
 }
 
-/// Draws a program, and then what its glyph names.
+/// Draws a program, and then what its glyph names, within a limit.
 fn draw_whole<S: Sink>(
     alloc: Global,
     bytes: &[u8],
     program: &mut Program<'_>,
+    limit: u64,
     sink: &mut S,
 ) -> Result<Option<Operand>>
     ensures drawn { IfOk result (λ width. Takes S.after (S.state sink.old) (S.state sink.new) (λ segments. DrawsWhole bytes.now program.old segments width)) }
-    ensures why { IfErr result (λ e. IsWholeRefused bytes.now program.old e) }
+    ensures why { IfErr result (λ e. IsWholeRefused limit bytes.now program.old e) }
 {
-    let mut limit = LIMIT;
-    let width = draw_program(program, Point::ORIGIN, &mut limit, sink)?;
+    let mut left = limit;
+    let width = draw_program(program, Point::ORIGIN, &mut left, sink)?;
     let accent = Accent::named_by(program.operands_at_end())?;
-    draw_named(alloc, bytes, accent, &mut limit, sink)?;
+    draw_named(alloc, bytes, accent, &mut left, sink)?;
     Ok(width)
 }
 
@@ -56,11 +57,12 @@ fn draw_code<S: Sink>(
     code: Option<&[u8]>,
     global: u64,
     local: u64,
+    limit: u64,
     sink: &mut S,
 ) -> Result<Option<Option<Operand>>>
     ensures drawn { IfOk result (λ found. MatchOption found (HasNoneIn bytes.now (option_map (λ code. code.now) code.entry) global local)
         (λ width. Takes S.after (S.state sink.old) (S.state sink.new) (λ segments. IsDrawnIn bytes.now (option_map (λ code. code.now) code.entry) global local segments width))) }
-    ensures why { IfErr result (λ e. IsCodeRefused bytes.now (option_map (λ code. code.now) code.entry) global local e) }
+    ensures why { IfErr result (λ e. IsCodeRefused limit bytes.now (option_map (λ code. code.now) code.entry) global local e) }
 {
     let Some(code) = code else {
         return Ok(None);
@@ -68,7 +70,7 @@ fn draw_code<S: Sink>(
     let globals = index_at(bytes, global)?;
     let locals = index_at(bytes, local)?;
     let mut program = program_over(alloc, code, globals, locals);
-    let width = draw_whole(alloc, bytes, &mut program, sink)?;
+    let width = draw_whole(alloc, bytes, &mut program, limit, sink)?;
     Ok(Some(width))
 }
 
@@ -93,6 +95,7 @@ pub(crate) fn draw_over<S: Sink>(
         codes.get(glyph),
         font.global_subroutines,
         part.local_subroutines,
+        font.limit,
         sink,
     )
 }

@@ -2,15 +2,17 @@
 ghost use Rattle.std.specs.Prelude.{ℕ, List, option_map};
 ghost use Rattle.postscript_base.specs.Tape.Outcome.{Answers};
 ghost use Rattle.postscript_c.specs.Flats.{flat_at, flat_of as the_flat_of, flattened};
-ghost use Rattle.postscript_c.specs.Flatness.{flat_shown, TellsFlat};
+ghost use Rattle.postscript_c.specs.Flatness.{flat_shown, TellsFlat, TellsFlatBy};
+ghost use Rattle.postscript_c.specs.Texts.{lent as lends};
 ghost use Rattle.postscript_items.specs.Lent.{items_of};
 ghost use Rattle.postscript_type2.specs.Program.Evaluation.{run_of};
 ghost use Rattle.postscript_type2.specs.Program.Routines.{lent};
 
 use crate::font::PsfFont;
 use crate::glyph::index_at;
+use crate::limit::glyph_fits;
 use crate::part::PsfPart;
-use crate::status::NO_GLYPH;
+use crate::status::{NO_GLYPH, TOO_LONG};
 use crate::texts::hand_bytes;
 use crate::told::status;
 use postscript_base::Result;
@@ -61,7 +63,7 @@ fn flat_of(
 
 /// The flat code of a glyph by its part. None where there is no such glyph.
 #[tactic(auto, unfolding(crate::specs::Flats::flat_at))]
-pub(crate) fn flat_glyph(
+fn flat_glyph(
     alloc: Global,
     bytes: &[u8],
     font: &PsfFont,
@@ -81,12 +83,31 @@ pub(crate) fn flat_glyph(
 }
 
 /// Hands an answer over.
-pub(crate) fn tell_flat(answer: &Result<Option<Flat>>, room: &mut [u8], count: &mut usize) -> i32
-    ensures { TellsFlat answer.now result room.new count.new }
+fn tell_flat(answer: &Result<Option<Flat>>, room: &mut [u8], count: &mut usize) -> i32
+    ensures { TellsFlat answer.now result (lends room.old count.old) (lends room.new count.new) }
 {
     match answer {
         Ok(Some(flat)) => hand_bytes(&flat.code, room, count),
         Ok(None) => NO_GLYPH,
         Err(e) => status(e),
+    }
+}
+
+/// Tells the flat code of a glyph by its part, where its run keeps to the limit of the font.
+pub(crate) fn tell_flat_by(
+    alloc: Global,
+    bytes: &[u8],
+    font: &PsfFont,
+    part: &PsfPart,
+    glyph: usize,
+    room: &mut [u8],
+    count: &mut usize,
+) -> i32
+    ensures { TellsFlatBy bytes.now font.now part.now glyph result (lends room.old count.old) (lends room.new count.new) }
+{
+    match glyph_fits(alloc, bytes, font, part, glyph) {
+        Ok(true) => tell_flat(&flat_glyph(alloc, bytes, font, part, glyph), room, count),
+        Ok(false) => TOO_LONG,
+        Err(e) => status(&e),
     }
 }

@@ -10,6 +10,7 @@ ghost use Rattle.postscript_view.specs.Order.{aside, map_from};
 use crate::part::{PsfPart, part_of};
 use postscript_base::compact1::{Operations, Operator};
 use postscript_base::{Error, Result};
+use postscript_drawing::LIMIT;
 use postscript_items::Items;
 use postscript_view::operands::{place_at, type_two};
 use postscript_view::tables::{header_size, operations_of};
@@ -34,6 +35,8 @@ pub struct PsfFont {
     pub glyphs: u64,
     /// 1 of a CID-keyed font, else 0.
     pub is_cid: u32,
+    /// How long the run of a glyph may take, in units of `psf_font_fits`.
+    pub limit: u64,
 }
 
 /// The dictionary of the first item.
@@ -115,6 +118,7 @@ fn font_of(
     ensures exact { (place : ℕ) → Answers placed result place (places_of dictionary.now global_subroutines bytes.now place) }
     ensures widths { IfOk result (λ font. HaveWidths bytes.now dictionary.now font.part) }
     ensures keyed { IfOk result (λ font. IsKeyedBy dictionary.now font) }
+    ensures limit { IfOk result (λ font. font.limit ≡ 20000000) }
 {
     let (char_strings, glyphs) = codes(bytes, dictionary)?;
     let part = local(alloc, bytes, dictionary)?;
@@ -127,6 +131,7 @@ fn font_of(
         part,
         glyphs,
         is_cid: u32::from(is_cid),
+        limit: LIMIT,
     })
 }
 
@@ -135,6 +140,7 @@ fn font_of(
 pub(crate) fn opened(alloc: Global, bytes: &[u8]) -> Result<PsfFont>
     ensures exact { (place : ℕ) → Answers placed result place (places bytes.now place) }
     ensures widths { IfOk result (λ font. TellsWidths bytes.now font) }
+    ensures limit { IfOk result (λ font. font.limit ≡ 20000000) }
 {
     let size = header_size(bytes)?;
     let (dictionary, global_subroutines) = tables(alloc, bytes, size)?;

@@ -1,6 +1,7 @@
 //! Names of glyphs.
 ghost use Rattle.std.specs.Prelude.{◌≡◌};
 ghost use Rattle.postscript_c.specs.Naming.{TellsName, TellsNameIn, TellsNamed, TellsNamedIn};
+ghost use Rattle.postscript_c.specs.Texts.{lent};
 ghost use Rattle.postscript_view.specs.Value.{view_shown};
 
 use crate::status::{NO_GLYPH, NO_NAME};
@@ -11,7 +12,7 @@ use std::alloc::Global;
 
 /// Tells the name of a glyph of an opened font.
 fn tell_name_in(view: &FontView<'_>, glyph: usize, room: &mut [u8], count: &mut usize) -> i32
-    ensures { TellsNameIn view.now.bytes.now (view_shown view.now) glyph result room.new count.new }
+    ensures { TellsNameIn view.now.bytes.now (view_shown view.now) glyph result (lent room.old count.old) (lent room.new count.new) }
 {
     match view.char_set() {
         Ok(set) => match view.name(&set, glyph) {
@@ -30,7 +31,7 @@ pub(crate) fn tell_name(
     room: &mut [u8],
     count: &mut usize,
 ) -> i32
-    ensures { TellsName bytes.now glyph result room.new count.new }
+    ensures { TellsName bytes.now glyph result (lent room.old count.old) (lent room.new count.new) }
 {
     match FontView::read_font(alloc, bytes, 0) {
         Ok(view) => tell_name_in(&view, glyph, room, count),
@@ -40,7 +41,7 @@ pub(crate) fn tell_name(
 
 /// Tells which glyph of an opened font has a name.
 fn tell_named_in(view: &FontView<'_>, name: &[u8], glyph: &mut usize) -> i32
-    ensures { TellsNamedIn view.now.bytes.now (view_shown view.now) name.now result glyph.new }
+    ensures { TellsNamedIn view.now.bytes.now (view_shown view.now) name.now result glyph.old glyph.new }
 {
     match view.char_set() {
         Ok(set) => match view.glyph_of_name(&set, name) {
@@ -56,7 +57,7 @@ fn tell_named_in(view: &FontView<'_>, name: &[u8], glyph: &mut usize) -> i32
 
 /// Tells which glyph has a name.
 pub(crate) fn tell_named(alloc: Global, bytes: &[u8], name: &[u8], glyph: &mut usize) -> i32
-    ensures { TellsNamed bytes.now name.now result glyph.new }
+    ensures { TellsNamed bytes.now name.now result glyph.old glyph.new }
 {
     match FontView::read_font(alloc, bytes, 0) {
         Ok(view) => tell_named_in(&view, name, glyph),

@@ -3,15 +3,16 @@ ghost use Rattle.std.specs.Prelude.{◌≡◌, ◌⊎◌, ◌++◌, ℕ, List, S
 ghost use Rattle.postscript_base.specs.Refusal.{refusal_of};
 ghost use Rattle.postscript_base.specs.Tape.Outcome.{Answers};
 ghost use Rattle.postscript_base.specs.declared.error.Error.TheVariants as errors;
-ghost use Rattle.postscript_c.specs.Listing.{HandsOperations, TellsOperations, rooms};
+ghost use Rattle.postscript_c.specs.Listing.{HandsOperations, TellsOperations, TellsOperationsBy, rooms};
 ghost use Rattle.postscript_c.specs.Operations.{answered, listed_at, listed_by, listed_if, shown};
 ghost use Rattle.postscript_type2.specs.Program.Runs.{fault_of};
 
 use crate::codes::code_of;
 use crate::font::PsfFont;
 use crate::glyph::program;
+use crate::limit::glyph_fits;
 use crate::part::PsfPart;
-use crate::status::{NO_GLYPH, NO_ROOM};
+use crate::status::{NO_GLYPH, NO_ROOM, TOO_LONG};
 use crate::texts::copy;
 use crate::told::status;
 use postscript_base::Result;
@@ -87,7 +88,7 @@ fn read_if(alloc: Global, program: Option<Program<'_>>) -> Result<Option<Listed>
 
 /// The operations of a glyph by its part. None where there is no such glyph.
 #[tactic(auto, unfolding(crate::specs::Operations::listed_at))]
-pub(crate) fn operations_of(
+fn operations_of(
     alloc: Global,
     bytes: &[u8],
     font: &PsfFont,
@@ -121,7 +122,7 @@ fn hand(
 }
 
 /// Hands an answer over.
-pub(crate) fn tell_operations(
+fn tell_operations(
     answer: &Result<Option<Listed>>,
     operations: &mut [PsfOperation],
     count: &mut usize,
@@ -134,5 +135,32 @@ pub(crate) fn tell_operations(
         Ok(Some(listed)) => hand(listed, operations, count, operands, operand_count),
         Ok(None) => NO_GLYPH,
         Err(e) => status(e),
+    }
+}
+
+/// Tells the operations of a glyph by its part, where its run keeps to the limit of the font.
+pub(crate) fn tell_operations_by(
+    alloc: Global,
+    bytes: &[u8],
+    font: &PsfFont,
+    part: &PsfPart,
+    glyph: usize,
+    operations: &mut [PsfOperation],
+    count: &mut usize,
+    operands: &mut [i32],
+    operand_count: &mut usize,
+) -> i32
+    ensures { TellsOperationsBy bytes.now font.now part.now glyph result (rooms operations.old count.old operands.old operand_count.old) (rooms operations.new count.new operands.new operand_count.new) }
+{
+    match glyph_fits(alloc, bytes, font, part, glyph) {
+        Ok(true) => tell_operations(
+            &operations_of(alloc, bytes, font, part, glyph),
+            operations,
+            count,
+            operands,
+            operand_count,
+        ),
+        Ok(false) => TOO_LONG,
+        Err(e) => status(&e),
     }
 }

@@ -1,22 +1,20 @@
 //! Texts as C reads them: copied into its room.
-ghost use Rattle.std.specs.Prelude.{◌≡◌, ◌≤◌, length, take};
-ghost use Rattle.postscript_c.specs.Texts.{HandsBytes, TellsText};
+ghost use Rattle.std.specs.Prelude.{◌≡◌, ◌≤◌, ◌++◌, drop, length};
+ghost use Rattle.postscript_c.specs.Texts.{HandsBytes, TellsText, lent};
 
 use crate::status::{NO_ROOM, NO_STATUS};
 
 /// Copies a list to the front of another.
 pub(crate) fn copy<T: Copy>(from: &[T], room: &mut [T])
     requires { length from.now ≤ length room.old }
-    ensures { take (length from.now) room.new ≡ from.now }
+    ensures { room.new ≡ from.now ++ drop (length from.now) room.old }
 {
-    for i in 0..from.len() {
-        room[i] = from[i];
-    }
+    room[..from.len()].copy_from_slice(from);
 }
 
 /// Hands bytes over: 0, or `NO_ROOM`. How many they are is told all the same.
 pub(crate) fn hand_bytes(bytes: &[u8], room: &mut [u8], count: &mut usize) -> i32
-    ensures { HandsBytes bytes.now result room.new count.new }
+    ensures { HandsBytes bytes.now result (lent room.old count.old) (lent room.new count.new) }
 {
     *count = bytes.len();
     if room.len() < bytes.len() {
@@ -93,7 +91,7 @@ fn text_of(status: i32) -> Option<&'static str> {
 
 /// Tells the text of a status.
 pub(crate) fn tell_text(of: i32, room: &mut [u8], count: &mut usize) -> i32
-    ensures { TellsText result room.new count.new }
+    ensures { TellsText result (lent room.old count.old) (lent room.new count.new) }
 {
     match text_of(of) {
         Some(text) => hand_bytes(text.as_bytes(), room, count),

@@ -1,5 +1,6 @@
 //! Whole fonts, written.
 ghost use Rattle.std.specs.Prelude.{◌≡◌, ◌≢◌, true, false, pos};
+ghost use Rattle.postscript_c.specs.Texts.{lent};
 ghost use Rattle.postscript_c.specs.Written.{IsFlat, IsSubset, TellsWritten, refusal_of as the_refusal, written_code};
 ghost use Rattle.postscript_write.specs.Sources.{chosen, keeping};
 
@@ -68,7 +69,7 @@ pub(crate) fn tell_written(
     count: &mut usize,
     refusal: &mut PsfRefusal,
 ) -> i32
-    ensures { TellsWritten answer.now result room.new count.new refusal.new }
+    ensures { TellsWritten answer.now result (lent room.old count.old) (lent room.new count.new) refusal.old refusal.new }
 {
     match answer {
         Ok(flat) => hand_bytes(flat, room, count),

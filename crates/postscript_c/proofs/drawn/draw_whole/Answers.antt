@@ -9,7 +9,7 @@ use Rattle.postscript_type2.specs.Program.Runs.{taken_by}
 pub returns-in_err-width-clause-why : goal.returns-in_err-width-clause-why
 returns-in_err-width-clause-why g c =
     let e = c.in_err-width.field-0.0 in
-    if-err c.from_residual.result e _ c.from_residual.ensures.1 (by-program c.draw_program.new.limit c.args.bytes.now c.args.program.now e c.in_err-width.ensures.spends c.in_err-width.ensures.why)
+    if-err c.from_residual.result e _ c.from_residual.ensures.1 (by-program c.args.limit c.draw_program.new.limit c.args.bytes.now c.args.program.now e c.in_err-width.ensures.spends c.in_err-width.ensures.why)
 
 pub returns-in_err-accent-clause-why : goal.returns-in_err-accent-clause-why
 returns-in_err-accent-clause-why g c =
@@ -23,7 +23,7 @@ returns-in_err-draw_named-clause-why g c =
     let names : IsNamedBy (taken_by c.args.program.now.end) c.in_ok-accent.accent = named-so c.in_ok-accent.accent c.operands_at_end.result.now (taken_by c.args.program.now.end) same c.in_ok-accent.ensures.told in
     let e = c.in_err-draw_named.field-0.0 in
     if-err c.from_residual-in_err-draw_named.result e _ c.from_residual-in_err-draw_named.ensures.1
-    (by-named c.draw_program.new.limit c.draw_named.new.limit c.args.bytes.now c.args.program.now c.in_ok-accent.accent e c.in_ok-width.ensures.spends names c.in_err-draw_named.ensures.why)
+    (by-named c.args.limit c.draw_program.new.limit c.draw_named.new.limit c.args.bytes.now c.args.program.now c.in_ok-accent.accent e c.in_ok-width.ensures.spends names c.in_err-draw_named.ensures.why)
 
 pub returns-clause-drawn : goal.returns-clause-drawn
 returns-clause-drawn g c =
