@@ -84,7 +84,7 @@ static void check_spoiled(const uint8_t *cff, size_t size, const psf_font *font)
             memcpy((uint8_t *)&spoiled + 8 * field, &value, 8);
             segments[1].kind = 0xa5a5a5a5u;
             int32_t status = psf_glyph_outline(cff, size, &spoiled, 3, segments, 1, &count, &info);
-            int is_answer = (status >= 0 && status <= PSF_NO_ROOM) || (status >= PSF_TOO_LONG && status <= PSF_NESTED_ACCENT);
+            int is_answer = (status >= 0 && status <= PSF_NO_ROOM) || status == PSF_NO_PART || (status >= PSF_TOO_LONG && status <= PSF_NESTED_ACCENT);
             holds(is_answer, "a status");
             holds(segments[1].kind == 0xa5a5a5a5u, "nothing behind the room of a spoiled font");
         }

@@ -1,17 +1,24 @@
 -- The places are those of the view.
-use Rattle.std.proofs.Common.{◌≡◌, refl, sym, ap, subst, ◌∙◌, ℕ, List, length}
+use Rattle.std.proofs.Common.{◌≡◌, ◌≢◌, refl, sym, ap, subst, ◌∙◌, inl, inr, ℕ, ◌+◌, ℤ, List, [], length, arith}
+use Rattle.std.specs.Option.{option_and_then}
 use Rattle.postscript_base.specs.Compact1.Dictionary.{Dictionary}
-use Rattle.std.specs.Prelude.{IfOk, Result, Ok, Err, slice_get}
+use Rattle.std.specs.Prelude.{IfOk, Option, Some, Result, Ok, Err, slice_get}
+use Rattle.postscript_base.specs.Compact1.Decimal.{Decimal, to_i32}
 use Rattle.postscript_base.specs.Tape.Outcome.{Outcome, Got, Fault, Past, after, Answers}
 use Rattle.postscript_base.specs.declared.error.Error.{Error}
 use Rattle.postscript_c.specs.FontWidths.{TellsWidths}
-use Rattle.postscript_c.specs.Law.{AreOf, IsFontOf}
+use Rattle.postscript_c.specs.Keyed.{IsKeyedBy}
+use Rattle.postscript_c.specs.Law.{AreOf, IsFontOf, NamesSelection}
 use Rattle.postscript_c.specs.declared.font.PsfFont.{PsfFont}
 use Rattle.postscript_c.specs.Places as told
 use Rattle.postscript_c.specs.Places.{Places, codes, placed, places, places_of}
+use Rattle.postscript_compact1.proofs.OperandLaws.{placed_has}
 use Rattle.postscript_compact1.proofs.Outcomes.{got}
 use Rattle.postscript_items.specs.Items.{opened}
+use Rattle.postscript_view.proofs.LayoutLaws.{whole_offset}
+use Rattle.postscript_view.specs.Select.{offset_from, offset_of}
 use Rattle.postscript_view.specs.Order.{View, Tables, aside, char_strings, map_from, header_size, parts, tables, view, view_of}
+use Rattle.postscript_base.specs.declared.compact1.operator.Operator.{Operator}
 use Rattle.postscript_base.specs.declared.compact1.operator.Operator.TheVariants as operators
 use Rattle.postscript_compact1.specs.FontSet.Operands.{place_at, type_two}
 
@@ -101,7 +108,50 @@ agrees bytes v n p m e h =
       glyphs = sym count_p ∙ c.1 ∙ ap (λ (s : List (List ℕ)). length s) codes_v;
     }
 
+-- the dictionary of which C is told is that of the view
+dictionary_same : (bytes : List ℕ) (v : View) (n size : ℕ) (map : Dictionary) (global : ℕ) → view bytes 0 ≡ Got v n → header_size bytes 0 ≡ Got size 0 → aside size told.tables bytes 0 ≡ Got (map, global) 0 → map ≡ v.tables.dictionary
+unfolding view_of
+dictionary_same bytes v n size map global e header stands =
+    let a = one (header_size bytes 0) _ v n e in
+    let S = got a.0 size a.1 0 (sym a.2 ∙ header) in
+    let b = one (aside a.0 (tables 0) bytes a.1) _ v n a.3 in
+    let c = one (tables 0 bytes a.0) _ b.0 b.1 b.2 in
+    let C = got c.0 b.0 a.1 b.1 c.3 in
+    let d = one (told.tables bytes size) _ (map, global) 0 stands in
+    let D = got d.0 (map, global) 0 0 d.3 in
+    let P : ℕ → Type 0 = λ p. tables 0 bytes p ≡ Got c.0 c.1 in
+    let t = tables_same bytes size c.0 c.1 d.0 d.1 (subst P S.0 c.2) d.2 in
+    let x = one (char_strings b.0.dictionary bytes b.1) _ v n b.3 in
+    let y = one (parts b.0.dictionary bytes x.1) _ v n x.3 in
+    let V = got (record { tables = b.0; char_strings = x.0; parts = y.0 }) v y.1 n y.3 in
+    ap (λ (u : Dictionary × ℕ). u.0) (sym D.0) ∙ t.0 ∙ ap (λ (t : Tables). t.dictionary) C.0 ∙ ap (λ (v : View). v.tables.dictionary) V.0
+
+-- an operator that names a place names it as an offset
+offset_named : (map : Dictionary) (operator : Operator) (place : ℕ) → place_at 0 0 map operator [] 0 ≡ Got place 0 → offset_of map operator ≡ Some place
+unfolding offset_of
+offset_named map operator place e =
+    let p = placed_has 0 0 map operator place [] 0 0 e in
+    let on : p.1 ≡ place = omega (arith, p.4) in
+    ap (λ (o : Option Decimal). offset_from (option_and_then to_i32 o)) p.2.1 ∙ ap offset_from p.2.2 ∙ ap (λ (z : ℤ). offset_from (Some z)) (whole_offset p.0 p.1 p.3) ∙ ap (λ (n : ℕ). Some n) on
+
+selection_named : (map : Dictionary) (font : PsfFont) → IsKeyedBy map font → font.is_cid ≢ 0 → font.selection ≢ 0 → offset_of map operators.FDSelect ≡ Some font.selection
+selection_named map font (inl plain) cid there = absurd (cid plain.1)
+selection_named map font (inr keyed) cid there = elim keyed.3 [
+  | inl named ↦ offset_named map operators.FDSelect font.selection named
+  | inr none ↦ absurd (there none.1)
+]
+
+selected : (bytes : List ℕ) (v : View) (n : ℕ) (font : PsfFont) → TellsWidths bytes font → view bytes 0 ≡ Got v n → NamesSelection font v
+selected bytes v n font w e cid there =
+    ap (λ (map : Dictionary). offset_of map operators.FDSelect) (sym (dictionary_same bytes v n w.size w.map w.global e w.header w.stands)) ∙ selection_named w.map font w.keyed cid there
+
 pub font_of : (answer : Result PsfFont Error) (bytes : List ℕ) → Answers placed answer 0 (places bytes 0) → IfOk answer (λ font. TellsWidths bytes font) → IfOk answer (λ font. font.limit ≡ 20000000) →
     IsFontOf bytes answer
-font_of (Ok font) bytes e w limit = record { reads = e; widths = w; limit = limit; same = λ v next h. agrees bytes v next (placed font) 0 h e }
-font_of (Err refusal) bytes e w limit = record { reads = e; widths = tt; limit = tt; same = tt }
+font_of (Ok font) bytes e w limit = record {
+  reads = e;
+  widths = w;
+  limit = limit;
+  same = λ v next h. agrees bytes v next (placed font) 0 h e;
+  selection = λ v next h. selected bytes v next font w h;
+}
+font_of (Err refusal) bytes e w limit = record { reads = e; widths = tt; limit = tt; same = tt; selection = tt }

@@ -1,5 +1,6 @@
 -- Where a font is opened in place, its INDEXes stand at the places that C is told.
-use Rattle.std.specs.Prelude.{◌≡◌, ℕ, List, length, Result, IfOk}
+use Rattle.std.specs.Prelude.{◌≡◌, ◌≢◌, ℕ, List, length, Some, Result, IfOk}
+use Rattle.postscript_base.specs.declared.compact1.operator.Operator.TheVariants as operators
 use Rattle.postscript_base.specs.Tape.Outcome.{Got, Answers}
 use Rattle.postscript_base.specs.declared.error.Error.{Error}
 use Rattle.postscript_c.specs.FontWidths.{TellsWidths}
@@ -7,11 +8,16 @@ use Rattle.postscript_c.specs.declared.font.PsfFont.{PsfFont}
 use Rattle.postscript_c.specs.Places.{Places, placed, places}
 use Rattle.postscript_items.specs.Items.{opened}
 use Rattle.postscript_view.specs.Order.{View, view}
+use Rattle.postscript_view.specs.Select.{offset_of}
 
 pub record AreOf (bytes : List ℕ) (v : View) (p : Places) : Type 0 where
   pub codes : (next : ℕ) × (opened bytes p.char_strings ≡ Got v.char_strings next)
   pub globals : (next : ℕ) × (opened bytes p.global_subroutines ≡ Got v.tables.subroutines next)
   pub glyphs : p.glyphs ≡ length v.char_strings
+
+-- FDSelect of a CID-keyed font stands where the font's dictionary names it, and FontView asks it, unless it is told at the place 0.
+abbrev pub NamesSelection : PsfFont → View → Type 0
+NamesSelection font v = font.is_cid ≢ 0 → font.selection ≢ 0 → offset_of v.tables.dictionary operators.FDSelect ≡ Some font.selection
 
 -- The places and the widths that are read, with the limit of 20,000,000 units, or the refusal; and where the font is opened in place, they are of it.
 pub record IsFontOf (bytes : List ℕ) (answer : Result PsfFont Error) : Type 0 where
@@ -19,3 +25,4 @@ pub record IsFontOf (bytes : List ℕ) (answer : Result PsfFont Error) : Type 0 
   pub widths : IfOk answer (λ font. TellsWidths bytes font)
   pub limit : IfOk answer (λ font. font.limit ≡ 20000000)
   pub same : IfOk answer (λ font. (v : View) (next : ℕ) → view bytes 0 ≡ Got v next → AreOf bytes v (placed font))
+  pub selection : IfOk answer (λ font. (v : View) (next : ℕ) → view bytes 0 ≡ Got v next → NamesSelection font v)

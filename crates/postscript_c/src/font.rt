@@ -25,9 +25,9 @@ pub struct PsfFont {
     pub char_strings: u64,
     /// The INDEX of global subroutines.
     pub global_subroutines: u64,
-    /// The INDEX of font dictionaries, of a CID-keyed font; else 0.
+    /// FDArray, the INDEX of font dictionaries, of a CID-keyed font; else 0.
     pub font_dictionaries: u64,
-    /// Which font dictionary a glyph has, of a CID-keyed font; else 0.
+    /// FDSelect, of a CID-keyed font: which font dictionary a glyph has; else 0.
     pub selection: u64,
     /// The part of a font that is not CID-keyed.
     pub part: PsfPart,
