@@ -1,0 +1,6 @@
+pub mod Numbers
+pub mod Checksum
+pub mod Tables
+pub mod Files
+pub mod Metrics
+pub mod Layout

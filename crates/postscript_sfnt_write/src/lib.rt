@@ -1,0 +1,13 @@
+//! OpenType files, written (ISO/IEC 14496-22).
+#![tactic(auto)]
+
+mod checksums;
+mod error;
+mod file;
+mod metrics;
+mod numbers;
+
+pub use checksums::checksum;
+pub use error::{Error, Result};
+pub use file::{Table, file_of};
+pub use metrics::{Metric, hmtx, with_number_of_glyphs, with_number_of_metrics, without_names};
