@@ -5,3 +5,7 @@ pub mod Placing
 pub mod Opening
 pub mod Adjusting
 pub mod Measuring
+pub mod Groups
+pub mod Mapped
+pub mod Mapped4
+pub mod Chosen

@@ -45,6 +45,9 @@ stands_second {bytes = bytes} {place = place} a b n e s =
     } in
     subst (λ m. Stands b bytes (place + m)) e there
 
+pub stands_dropped : {bytes : List ℕ} (text : List ℕ) (place : ℕ) → Stands text bytes place → Stands text (drop place bytes) 0
+stands_dropped text place s = record { within = omega arith; behind = s.behind; there = s.there }
+
 pub stands_slice : {bytes : List ℕ} {place : ℕ} (text : List ℕ) → Stands text bytes place → take (length text) (drop place bytes) ≡ text
 stands_slice text s = ap (take (length text)) s.there ∙ take-append_seam text s.behind
 

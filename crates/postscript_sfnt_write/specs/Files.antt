@@ -8,7 +8,7 @@ use Rattle.postscript_sfnt.specs.declared.file.FontFile.{FontFile}
 use Rattle.postscript_sfnt_write.specs.Checksum.{checksum}
 use Rattle.postscript_sfnt_write.specs.Tables.{IsGiven, TagsRise, adjusts, in_file, room_of, size_of}
 use Rattle.postscript_sfnt_write.specs.declared.error.Error.{Error}
-use Rattle.postscript_sfnt_write.specs.declared.error.Error.TheVariants.{Cut, Memory, TagsDoNotRise, TooManyTables, TooLarge}
+use Rattle.postscript_sfnt_write.specs.declared.error.Error.TheVariants.{CharactersDoNotRise, Cut, Memory, TagsDoNotRise, TooManyTables, TooLarge}
 use Rattle.postscript_sfnt_write.specs.declared.file.Table.{Table}
 
 -- The file has one face, whose directory of so many tables begins it.
@@ -73,6 +73,7 @@ pub record CanStand (tables : List Table) : Type 0 where
 abbrev pub Refuses : Error → List Table → Type 0
 Refuses Memory tables = Unit {0}
 Refuses Cut tables = ⊥
+Refuses CharactersDoNotRise tables = ⊥
 Refuses TagsDoNotRise tables = TagsRise tables → ⊥
 Refuses TooManyTables tables = 4096 ≤ length tables
 Refuses TooLarge tables = 2 ^ 32 ≤ size_of tables

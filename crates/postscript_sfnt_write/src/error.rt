@@ -17,14 +17,17 @@ pub enum Error {
     /// The table is cut.
     #[error("the table is cut")]
     Cut,
+    /// The characters do not rise.
+    #[error("the characters do not rise")]
+    CharactersDoNotRise,
     /// The tags of the tables do not rise.
     #[error("the tags of the tables do not rise")]
     TagsDoNotRise,
     /// There are 4,096 tables or more: `searchRange` has no room for them.
     #[error("there are too many tables")]
     TooManyTables,
-    /// The file would have 2^32 bytes or more.
-    #[error("the file is too large")]
+    /// The file, or the table, would have 2^32 bytes or more.
+    #[error("there are too many bytes")]
     TooLarge,
 }
 
