@@ -30,6 +30,7 @@ CRATES = (
     "postscript_outline",
     "postscript_drawing",
     "postscript_sfnt",
+    "postscript_sfnt_write",
     "postscript_write",
 )
 QUOTING = ("README.md", "docs/RECIPES.md")

@@ -2,15 +2,15 @@
 use crate::characters::{Mapped, by_glyph, of_glyph};
 use crate::face::Face;
 use crate::failure::Failure;
-use crate::map::Pair;
 use clap::ArgMatches;
+use postscript_sfnt_write::Mapping;
 use std::alloc::{AllocError, Global};
 
 /// Glyphs, and characters with their glyphs.
 #[derive(Drop)]
 pub struct Choice {
     pub glyphs: Vec<usize>,
-    pub pairs: Vec<Pair>,
+    pub pairs: Vec<Mapping>,
 }
 
 impl Choice {
@@ -24,10 +24,7 @@ impl Choice {
             return Err(Failure::NoChar(char));
         }
         self.glyphs.push(usize::from(glyph))?;
-        self.pairs.push(Pair {
-            char,
-            glyph: u32::from(glyph),
-        })?;
+        self.pairs.push(Mapping { char, glyph })?;
         Ok(())
     }
 
@@ -132,19 +129,19 @@ impl Choice {
         choice.glyphs.push(0)?;
         choice.glyphs.sort()?;
         choice.glyphs.dedup();
-        choice.pairs.sort_by_key(|pair: &Pair| pair.char)?;
-        choice.pairs.dedup_by_key(|pair: &mut Pair| pair.char);
+        choice.pairs.sort_by_key(|pair: &Mapping| pair.char)?;
+        choice.pairs.dedup_by_key(|pair: &mut Mapping| pair.char);
         Ok(choice)
     }
 }
 
 /// Adds the characters of a glyph, by a list of all.
-fn put_chars_of(pairs: &mut Vec<Pair>, all: &[Mapped], glyph: usize) -> Result<(), AllocError> {
+fn put_chars_of(pairs: &mut Vec<Mapping>, all: &[Mapped], glyph: usize) -> Result<(), AllocError> {
     let gid = u16::try_from(glyph).unwrap_or(u16::MAX);
     for mapped in of_glyph(all, gid) {
-        pairs.push(Pair {
+        pairs.push(Mapping {
             char: mapped.char,
-            glyph: u32::from(gid),
+            glyph: gid,
         })?;
     }
     Ok(())

@@ -1,10 +1,10 @@
 //! Fonts without subroutines.
 use crate::face::Face;
 use crate::failure::Failure;
-use crate::file::{Table, file_of};
 use crate::saving;
 use clap::ArgMatches;
 use postscript_sfnt::FontFile;
+use postscript_sfnt_write::{Table, file_of};
 use postscript_write::flat_font;
 use std::alloc::{AllocError, Global};
 use std::io::Write;

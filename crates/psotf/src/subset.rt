@@ -2,26 +2,28 @@
 use crate::choice::Choice;
 use crate::face::{Face, needed};
 use crate::failure::Failure;
-use crate::file::{Table, file_of, put_halves, put_words};
-use crate::map::{Pair, table_of};
 use crate::{along, saving};
 use clap::ArgMatches;
 use postscript_items::number::number_within;
+use postscript_sfnt_write::{
+    Mapping, Metric, Table, cmap, file_of, hmtx, with_number_of_glyphs, with_number_of_metrics,
+    without_names,
+};
 use postscript_write::{kept_glyphs, subset, subset_keeping};
 use std::alloc::{AllocError, Global};
 use std::io::Write;
 
 /// The new number of a glyph: how many of those that are kept stand before it.
-fn number_of(glyphs: &[usize], glyph: u32) -> u32 {
-    let before = glyphs.partition_point(|kept| *kept < glyph as usize);
-    u32::try_from(before).unwrap_or(0)
+fn number_of(glyphs: &[usize], glyph: u16) -> u16 {
+    let before = glyphs.partition_point(|kept| *kept < usize::from(glyph));
+    u16::try_from(before).unwrap_or(0)
 }
 
 /// Characters, with the new numbers of their glyphs.
-fn numbered(alloc: Global, chars: &[Pair], kept: &[usize]) -> Result<Vec<Pair>, AllocError> {
+fn numbered(alloc: Global, chars: &[Mapping], kept: &[usize]) -> Result<Vec<Mapping>, AllocError> {
     let mut pairs = Vec::new(alloc);
     for pair in chars {
-        pairs.push(Pair {
+        pairs.push(Mapping {
             char: pair.char,
             glyph: number_of(kept, pair.glyph),
         })?;
@@ -30,50 +32,31 @@ fn numbered(alloc: Global, chars: &[Pair], kept: &[usize]) -> Result<Vec<Pair>, 
 }
 
 /// The left side bearing of a glyph, of a table `hmtx` with so many advances.
-fn bearing(hmtx: &[u8], advances: usize, glyph: usize) -> u32 {
+fn bearing(hmtx: &[u8], advances: usize, glyph: usize) -> i16 {
     let place = if glyph < advances {
         glyph.saturating_mul(4).saturating_add(2)
     } else {
         glyph.saturating_add(advances).saturating_mul(2)
     };
-    u32::try_from(number_within(hmtx, place, 2).unwrap_or(0)).unwrap_or(0)
+    u16::try_from(number_within(hmtx, place, 2).unwrap_or(0))
+        .unwrap_or(0)
+        .cast_signed()
 }
 
 /// The table `hmtx` of some glyphs, with an advance for each.
 fn metrics(alloc: Global, face: &Face<'_>, glyphs: &[usize]) -> Result<Vec<u8>, Failure> {
     let hhea = needed(&face.file, *b"hhea", "hhea")?;
-    let hmtx = needed(&face.file, *b"hmtx", "hmtx")?;
+    let table = needed(&face.file, *b"hmtx", "hmtx")?;
     let advances = number_within(hhea, 34, 2).unwrap_or(0);
-    let mut table = Vec::new(alloc);
+    let mut metrics = Vec::new(alloc);
     for glyph in glyphs {
         let gid = u16::try_from(*glyph).unwrap_or(u16::MAX);
-        let advance = u32::from(face.advances.of(gid));
-        put_halves(&mut table, &[advance, bearing(hmtx, advances, *glyph)])?;
+        metrics.push(Metric {
+            advance: face.advances.of(gid),
+            bearing: bearing(table, advances, *glyph),
+        })?;
     }
-    Ok(table)
-}
-
-/// A table with another number of two bytes at a place.
-fn patched(
-    alloc: Global,
-    table: &[u8],
-    place: usize,
-    number: usize,
-) -> Result<Vec<u8>, AllocError> {
-    let mut patched = Vec::new(alloc);
-    patched.extend_from_slice(table.get(..place).unwrap_or(&[]))?;
-    put_halves(&mut patched, &[u32::try_from(number).unwrap_or(0)])?;
-    let behind = place.saturating_add(2);
-    patched.extend_from_slice(table.get(behind..).unwrap_or(&[]))?;
-    Ok(patched)
-}
-
-/// The table `post` of version 3, without names of glyphs.
-fn nameless(alloc: Global, post: &[u8]) -> Result<Vec<u8>, AllocError> {
-    let mut table = Vec::new(alloc);
-    put_words(&mut table, &[0x00030000])?;
-    table.extend_from_slice(post.get(4..32).unwrap_or(&[0; 28]))?;
-    Ok(table)
+    Ok(hmtx(alloc, metrics.as_slice())?)
 }
 
 /// The tables that are made of those of the face.
@@ -98,14 +81,18 @@ fn with_counts(
 ) -> Result<Written, Failure> {
     let hhea = needed(&face.file, *b"hhea", "hhea")?;
     let maxp = needed(&face.file, *b"maxp", "maxp")?;
-    let post = face.file.table(*b"post").unwrap_or(&[]);
+    let post = match face.file.table(*b"post") {
+        Some(post) if post.len() >= 32 => post,
+        _ => &[0; 32],
+    };
+    let count = u16::try_from(glyphs).unwrap_or(0);
     Ok(Written {
         font,
         map,
-        hhea: patched(alloc, hhea, 34, glyphs)?,
+        hhea: with_number_of_metrics(alloc, hhea, count)?,
         hmtx,
-        maxp: patched(alloc, maxp, 4, glyphs)?,
-        post: nameless(alloc, post)?,
+        maxp: with_number_of_glyphs(alloc, maxp, count)?,
+        post: without_names(alloc, post)?,
     })
 }
 
@@ -117,7 +104,7 @@ fn renumbered(
     kept: &[usize],
 ) -> Result<Written, Failure> {
     let font = subset(alloc, face.cff, &choice.glyphs)?;
-    let map = table_of(alloc, &numbered(alloc, &choice.pairs, kept)?)?;
+    let map = cmap(alloc, &numbered(alloc, &choice.pairs, kept)?)?;
     let hmtx = metrics(alloc, face, kept)?;
     with_counts(alloc, face, font, map, hmtx, kept.len())
 }
@@ -125,7 +112,7 @@ fn renumbered(
 /// The tables of all glyphs with their numbers, where those that are not kept are empty.
 fn keeping(alloc: Global, face: &Face<'_>, choice: &Choice) -> Result<Written, Failure> {
     let font = subset_keeping(alloc, face.cff, &choice.glyphs)?;
-    let map = table_of(alloc, &choice.pairs)?;
+    let map = cmap(alloc, &choice.pairs)?;
     let glyphs = face.font.char_strings.len();
     let mut all = Vec::new(alloc);
     for gid in 0..glyphs {
@@ -142,7 +129,7 @@ fn own<'t>(face: &Face<'t>, tag: u32) -> Option<Table<'t>> {
 }
 
 /// The file of tables that were made, and of those that stay as they are: `OS/2`, `head` and `name`.
-fn file_with(alloc: Global, face: &Face<'_>, made: &Written) -> Result<Vec<u8>, AllocError> {
+fn file_with(alloc: Global, face: &Face<'_>, made: &Written) -> Result<Vec<u8>, Failure> {
     let mut tables: Vec<Table<'_>> = Vec::new(alloc);
     for (tag, bytes) in [
         (0x43464620, &made.font),
@@ -163,7 +150,7 @@ fn file_with(alloc: Global, face: &Face<'_>, made: &Written) -> Result<Vec<u8>, 
         }
     }
     tables.sort_by_key(|table: &Table<'_>| table.tag)?;
-    file_of(alloc, tables.as_slice())
+    Ok(file_of(alloc, tables.as_slice())?)
 }
 
 /// Writes a file of the glyphs that words name and of those that these are drawn with, and tells of the latter.

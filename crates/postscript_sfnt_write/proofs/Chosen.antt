@@ -1,0 +1,298 @@
+-- Which map the reader takes of what was written.
+use Rattle.std.proofs.Common.{◌≡◌, refl, sym, ap, subst, ◌∙◌, inl, inr, ℕ, zero, suc, ◌+◌, ◌-◌, ◌*◌, ◌/◌, ◌%◌, ◌^◌, ◌≤◌, ◌<◌, Bool, true, false, List, [], ◌∷◌, ◌++◌, length, take, drop, length-append, length-drop, arith}
+use Rattle.std.specs.Prelude.{◌⊎◌}
+use Rattle.std.proofs.lemmas.List.{append-nil}
+use Rattle.postscript_items.specs.Items.{number_at}
+use Rattle.postscript_sfnt.specs.CharacterMap.{IsGlyphOf, first12, last12, gives12, first4, last4, gives4}
+use Rattle.postscript_sfnt.specs.Choice.{IsBest, IsChosen, encoding_at, place_at, platform_at, rank, rank_at, records_of}
+use Rattle.postscript_sfnt.specs.Maps.{IsFormat12, IsFormat4, IsFormat6, IsMapAt, IsWhole, Maps}
+use Rattle.postscript_sfnt.specs.declared.character_map.CharacterMap.{CharacterMap}
+use Rattle.postscript_sfnt.specs.declared.character_map.CharacterMap.TheVariants.{Segments, Groups, Trimmed}
+use Rattle.postscript_sfnt_write.specs.Grouping.{AllFit, AreBelow, GroupsFit, IsLarge, IsSmall, encoding_text, end, format12_text, groups, head4_text, large_text, rows_text, small_text}
+use Rattle.postscript_sfnt_write.specs.Mappings.{AreTold, CharsRise, IsGlyphIn, IsMapping, IsReadable, Tells}
+use Rattle.postscript_sfnt_write.specs.Numbers.{uint16, uint32}
+use Rattle.postscript_sfnt_write.specs.declared.mapping.Group.{Group}
+use Rattle.postscript_sfnt_write.specs.declared.mapping.Mapping.{Mapping}
+use Rattle.postscript_sfnt_write.proofs.Groups.{Say, say}
+use Rattle.postscript_sfnt_write.proofs.Mapped.{Are, are12, header12, told_glyph}
+use Rattle.postscript_sfnt_write.proofs.Mapped4.{are4, end_rises, length-rows_text, low_groups, low_with_end, map4, without_end}
+use Rattle.postscript_sfnt_write.proofs.Standing.{Stands, length-uint16, stands_dropped, stands_first, stands_second, stands_within, uint16_stands, uint32_stands}
+use Rattle.postscript_sfnt_write.proofs.Sums.{length-uint32}
+
+-- a record of a platform, an encoding and a place
+record Encoding (bytes : List ℕ) (at platform encoding place : ℕ) : Type 0 where
+  platform_is : number_at bytes at 2 ≡ platform
+  encoding_is : number_at bytes (at + 2) 2 ≡ encoding
+  place_is : number_at bytes (at + 4) 4 ≡ place
+
+encoding_stands : {bytes : List ℕ} (at platform encoding place : ℕ) → platform < 2 ^ 16 → encoding < 2 ^ 16 → place < 2 ^ 32 → Stands (encoding_text platform encoding place) bytes at → Encoding bytes at platform encoding place
+unfolding encoding_text
+encoding_stands {bytes = bytes} at platform encoding place p e o s =
+    let b : List ℕ = uint16 encoding ++ uint32 place in
+    let at2 = stands_second (uint16 platform) b 2 (length-uint16 platform) s in
+    let at4 = stands_second (uint16 encoding) (uint32 place) 2 (length-uint16 encoding) at2 in
+    let four : at + 2 + 2 ≡ at + 4 = omega arith in
+    record {
+      platform_is = uint16_stands platform p (stands_first (uint16 platform) b s);
+      encoding_is = uint16_stands encoding e (stands_first (uint16 encoding) (uint32 place) at2);
+      place_is = subst (λ k. number_at bytes k 4 ≡ place) four (uint32_stands place o at4);
+    }
+
+length-encoding : (platform encoding place : ℕ) → length (encoding_text platform encoding place) ≡ 8
+unfolding encoding_text uint16 uint32
+length-encoding platform encoding place = refl
+
+-- a table from its beginning
+whole : (bytes text : List ℕ) → bytes ≡ text → Stands text bytes 0
+whole bytes text e = record { within = omega arith; behind = []; there = e ∙ sym (append-nil text) }
+
+-- two records
+record Two (cmap : List ℕ) : Type 0 where
+  counted : number_at cmap 2 2 ≡ 2
+  first : Encoding cmap 4 0 3 20
+  second : Encoding cmap 12 3 1 20
+
+two : {cmap : List ℕ} → Stands small_text cmap 0 → Two cmap
+unfolding small_text
+two s =
+    let b : List ℕ = encoding_text 0 3 20 ++ encoding_text 3 1 20 in
+    let a : List ℕ = uint16 2 ++ b in
+    let at2 = stands_second (uint16 0) a 2 (length-uint16 0) s in
+    let at4 = stands_second (uint16 2) b 2 (length-uint16 2) at2 in
+    let at12 = stands_second (encoding_text 0 3 20) (encoding_text 3 1 20) 8 (length-encoding 0 3 20) at4 in
+    record {
+      counted = uint16_stands 2 (omega arith) (stands_first (uint16 2) b at2);
+      first = encoding_stands 4 0 3 20 (omega arith) (omega arith) (omega arith) (stands_first (encoding_text 0 3 20) (encoding_text 3 1 20) at4);
+      second = encoding_stands 12 3 1 20 (omega arith) (omega arith) (omega arith) at12;
+    }
+
+ranked : {cmap : List ℕ} (i at platform encoding place : ℕ) → 4 + i * 8 ≡ at → Encoding cmap at platform encoding place → rank_at cmap i ≡ rank platform encoding
+ranked {cmap = cmap} i at platform encoding place e it =
+    ap (λ k. rank (number_at cmap k 2) (number_at cmap (k + 2) 2)) e
+    ∙ ap (λ k. rank k (number_at cmap (at + 2) 2)) it.platform_is ∙ ap (rank platform) it.encoding_is
+
+placed : {cmap : List ℕ} (i at platform encoding place : ℕ) → 4 + i * 8 ≡ at → Encoding cmap at platform encoding place → place_at cmap i ≡ place
+placed {cmap = cmap} i at platform encoding place e it = ap (λ k. number_at cmap (k + 4) 4) e ∙ it.place_is
+
+-- the second of two is taken
+record IsTaken (cmap : List ℕ) (at : ℕ) : Type 0 where
+  i : ℕ
+  chosen : IsChosen cmap i
+  alone : (k : ℕ) → IsChosen cmap k → place_at cmap k ≡ at
+  place : place_at cmap i ≡ at
+
+small_taken : (cmap : List ℕ) → Two cmap → 22 ≤ length cmap → IsTaken cmap 20
+small_taken cmap it long =
+    let r0 : rank_at cmap 0 ≡ 1 = ranked 0 4 0 3 20 refl it.first in
+    let r1 : rank_at cmap 1 ≡ 2 = ranked 1 12 3 1 20 refl it.second in
+    let p1 : place_at cmap 1 ≡ 20 = placed 1 12 3 1 20 refl it.second in
+    let p0 : place_at cmap 0 ≡ 20 = placed 0 4 0 3 20 refl it.first in
+    let many : records_of cmap ≡ 2 = it.counted in
+    record {
+      i = 1;
+      chosen = record {
+        records = omega (arith, many, long);
+        best = record {
+          listed = omega (arith, many);
+          ranked = omega (arith, r1);
+          highest = λ k less. below k (omega (arith, less, many)) r0 r1;
+          first = λ k less. first k less r0 r1;
+        };
+        within = omega (arith, p1, long);
+      };
+      alone = λ k chosen. (let listed = chosen.best.listed in places k (omega (arith, listed, many)) p0 p1);
+      place = p1;
+    }
+  where
+    below : (k : ℕ) → k < 2 → rank_at cmap 0 ≡ 1 → rank_at cmap 1 ≡ 2 → rank_at cmap k ≤ rank_at cmap 1
+    below zero less a b = omega (arith, a, b)
+    below (suc zero) less a b = omega arith
+    below (suc (suc k)) less a b = absurd (omega (arith, less))
+
+    first : (k : ℕ) → k < 1 → rank_at cmap 0 ≡ 1 → rank_at cmap 1 ≡ 2 → rank_at cmap k < rank_at cmap 1
+    first zero less a b = omega (arith, a, b)
+    first (suc k) less a b = absurd (omega (arith, less))
+
+    places : (k : ℕ) → k < 2 → place_at cmap 0 ≡ 20 → place_at cmap 1 ≡ 20 → place_at cmap k ≡ 20
+    places zero less a b = a
+    places (suc zero) less a b = b
+    places (suc (suc k)) less a b = absurd (omega (arith, less))
+
+-- four records
+record Four (cmap : List ℕ) (behind : ℕ) : Type 0 where
+  counted : number_at cmap 2 2 ≡ 4
+  first : Encoding cmap 4 0 3 36
+  second : Encoding cmap 12 0 4 behind
+  third : Encoding cmap 20 3 1 36
+  fourth : Encoding cmap 28 3 10 behind
+
+four : {cmap : List ℕ} (behind : ℕ) → behind < 2 ^ 32 → Stands (large_text behind) cmap 0 → Four cmap behind
+unfolding large_text
+four behind small s =
+    let d : List ℕ = encoding_text 3 1 36 ++ encoding_text 3 10 behind in
+    let c : List ℕ = encoding_text 0 4 behind ++ d in
+    let b : List ℕ = encoding_text 0 3 36 ++ c in
+    let a : List ℕ = uint16 4 ++ b in
+    let at2 = stands_second (uint16 0) a 2 (length-uint16 0) s in
+    let at4 = stands_second (uint16 4) b 2 (length-uint16 4) at2 in
+    let at12 = stands_second (encoding_text 0 3 36) c 8 (length-encoding 0 3 36) at4 in
+    let at20 = stands_second (encoding_text 0 4 behind) d 8 (length-encoding 0 4 behind) at12 in
+    let at28 = stands_second (encoding_text 3 1 36) (encoding_text 3 10 behind) 8 (length-encoding 3 1 36) at20 in
+    record {
+      counted = uint16_stands 4 (omega arith) (stands_first (uint16 4) b at2);
+      first = encoding_stands 4 0 3 36 (omega arith) (omega arith) (omega arith) (stands_first (encoding_text 0 3 36) c at4);
+      second = encoding_stands 12 0 4 behind (omega arith) (omega arith) small (stands_first (encoding_text 0 4 behind) d at12);
+      third = encoding_stands 20 3 1 36 (omega arith) (omega arith) (omega arith) (stands_first (encoding_text 3 1 36) (encoding_text 3 10 behind) at20);
+      fourth = encoding_stands 28 3 10 behind (omega arith) (omega arith) small at28;
+    }
+
+record Ranks4 (cmap : List ℕ) : Type 0 where
+  r0 : rank_at cmap 0 ≡ 1
+  r1 : rank_at cmap 1 ≡ 3
+  r2 : rank_at cmap 2 ≡ 2
+  r3 : rank_at cmap 3 ≡ 4
+
+large_taken : (cmap : List ℕ) (behind : ℕ) → Four cmap behind → 36 ≤ length cmap → behind + 2 ≤ length cmap → IsTaken cmap behind
+large_taken cmap behind it long within =
+    let r : Ranks4 cmap = record { r0 = ranked 0 4 0 3 36 refl it.first; r1 = ranked 1 12 0 4 behind refl it.second; r2 = ranked 2 20 3 1 36 refl it.third; r3 = ranked 3 28 3 10 behind refl it.fourth } in
+    let p3 : place_at cmap 3 ≡ behind = placed 3 28 3 10 behind refl it.fourth in
+    let many : records_of cmap ≡ 4 = it.counted in
+    let top = r.r3 in
+    record {
+      i = 3;
+      chosen = record {
+        records = omega (arith, many, long);
+        best = record {
+          listed = omega (arith, many);
+          ranked = omega (arith, top);
+          highest = λ k less. below k (omega (arith, less, many)) r;
+          first = λ k less. first k less r;
+        };
+        within = omega (arith, p3, within);
+      };
+      alone = λ k chosen.
+          let listed = chosen.best.listed in
+          let high = chosen.best.highest 3 (omega (arith, many)) in
+          let less : k < 4 = omega (arith, listed, many) in
+          let last : k ≡ 3 = only k less r high in
+          ap (place_at cmap) last ∙ p3;
+      place = p3;
+    }
+  where
+    below : (k : ℕ) → k < 4 → Ranks4 cmap → rank_at cmap k ≤ rank_at cmap 3
+    below zero less r = let a = r.r0 in let b = r.r3 in omega (arith, a, b)
+    below (suc zero) less r = let a = r.r1 in let b = r.r3 in omega (arith, a, b)
+    below (suc (suc zero)) less r = let a = r.r2 in let b = r.r3 in omega (arith, a, b)
+    below (suc (suc (suc zero))) less r = omega arith
+    below (suc (suc (suc (suc k)))) less r = absurd (omega (arith, less))
+
+    first : (k : ℕ) → k < 3 → Ranks4 cmap → rank_at cmap k < rank_at cmap 3
+    first zero less r = let a = r.r0 in let b = r.r3 in omega (arith, a, b)
+    first (suc zero) less r = let a = r.r1 in let b = r.r3 in omega (arith, a, b)
+    first (suc (suc zero)) less r = let a = r.r2 in let b = r.r3 in omega (arith, a, b)
+    first (suc (suc (suc k))) less r = absurd (omega (arith, less))
+
+    only : (k : ℕ) → k < 4 → Ranks4 cmap → rank_at cmap 3 ≤ rank_at cmap k → k ≡ 3
+    only zero less r high = let a = r.r0 in let b = r.r3 in absurd (omega (arith, a, b, high))
+    only (suc zero) less r high = let a = r.r1 in let b = r.r3 in absurd (omega (arith, a, b, high))
+    only (suc (suc zero)) less r high = let a = r.r2 in let b = r.r3 in absurd (omega (arith, a, b, high))
+    only (suc (suc (suc zero))) less r high = refl
+    only (suc (suc (suc (suc k)))) less r high = absurd (omega (arith, less))
+
+readable : (cmap : List ℕ) (at : ℕ) → IsTaken cmap at → IsWhole (drop at cmap) → IsReadable cmap
+readable cmap at taken w = record { i = taken.i; chosen = taken.chosen; whole = subst (λ k. IsWhole (drop k cmap)) (sym taken.place) w }
+
+-- format 4
+pub record Answer (cmap : List ℕ) (ms : List Mapping) : Type 0 where
+  pub read : IsReadable cmap
+  pub told : AreTold cmap ms
+
+tells4 : (table : List ℕ) (ms : List Mapping) (n : ℕ) (map : CharacterMap) → number_at table 0 2 ≡ 4 → number_at table 6 2 / 2 ≡ n →
+    ((char glyph : ℕ) → IsGlyphOf (first4 table n) (last4 table) (gives4 table n) n char glyph → IsGlyphIn ms char glyph) →
+    (cmap : List ℕ) (at : ℕ) → drop at cmap ≡ table → IsMapAt cmap at map → Tells map ms
+tells4 table ms n (Segments it) format counted tell cmap at e is char glyph maps =
+    let same : it.table.now ≡ table = is.bytes ∙ e in
+    let many : it.count ≡ n = is.counted ∙ ap (λ (xs : List ℕ). number_at xs 6 2 / 2) e ∙ counted in
+    tell char glyph (subst (λ k. IsGlyphOf (first4 table k) (last4 table) (gives4 table k) k char glyph) many
+    (subst (λ (xs : List ℕ). IsGlyphOf (first4 xs it.count) (last4 xs) (gives4 xs it.count) it.count char glyph) same maps))
+tells4 table ms n (Groups it) format counted tell cmap at e is char glyph maps =
+    let f = is.format in
+    let g = ap (λ (xs : List ℕ). number_at xs 0 2) e in
+    absurd (omega (arith, f, g, format))
+tells4 table ms n (Trimmed it) format counted tell cmap at e is char glyph maps =
+    let f = is.format in
+    let g = ap (λ (xs : List ℕ). number_at xs 0 2) e in
+    absurd (omega (arith, f, g, format))
+
+tells12 : (table : List ℕ) (ms : List Mapping) (map : CharacterMap) → number_at table 0 2 ≡ 12 →
+    ((char glyph : ℕ) → IsGlyphOf (first12 table) (last12 table) (gives12 table) (number_at table 12 4) char glyph → IsGlyphIn ms char glyph) →
+    (cmap : List ℕ) (at : ℕ) → drop at cmap ≡ table → IsMapAt cmap at map → Tells map ms
+tells12 table ms (Groups it) format tell cmap at e is char glyph maps =
+    let same : it.table.now ≡ table = is.bytes ∙ e in
+    let many : it.count ≡ number_at table 12 4 = is.counted ∙ ap (λ (xs : List ℕ). number_at xs 12 4) e in
+    tell char glyph (subst (λ k. IsGlyphOf (first12 table) (last12 table) (gives12 table) k char glyph) many
+    (subst (λ (xs : List ℕ). IsGlyphOf (first12 xs) (last12 xs) (gives12 xs) it.count char glyph) same maps))
+tells12 table ms (Segments it) format tell cmap at e is char glyph maps =
+    let f = is.format in
+    let g = ap (λ (xs : List ℕ). number_at xs 0 2) e in
+    absurd (omega (arith, f, g, format))
+tells12 table ms (Trimmed it) format tell cmap at e is char glyph maps =
+    let f = is.format in
+    let g = ap (λ (xs : List ℕ). number_at xs 0 2) e in
+    absurd (omega (arith, f, g, format))
+
+length-small : length small_text ≡ 20
+unfolding small_text encoding_text uint16 uint32
+length-small = refl
+
+pub small_answer : (cmap : List ℕ) (gs : List Group) (ms : List Mapping) → CharsRise ms → AreBelow ms → gs ≡ groups (ms ++ end ∷ []) → length gs < 8002 → AllFit (ms ++ end ∷ []) → IsSmall cmap gs → Answer cmap ms
+small_answer cmap gs ms rise below is few fit text =
+    let body = head4_text (length gs) text.selector ++ rows_text gs in
+    let s = whole cmap (small_text ++ body) text.text in
+    let there : Stands body (drop 20 cmap) 0 = stands_dropped body 20 (stands_second small_text body 20 length-small s) in
+    let m = map4 (drop 20 cmap) gs text.selector few there in
+    let says : Say gs (ms ++ end ∷ []) = subst (λ xs. Say xs (ms ++ end ∷ [])) (sym is) (say (ms ++ end ∷ []) (end_rises ms rise below)) in
+    let are = are4 (drop 20 cmap) gs (low_groups gs (ms ++ end ∷ []) says (low_with_end ms below)) m in
+    let room = m.room in
+    let counted = m.counted in
+    let rest = length-drop 20 cmap in
+    let taken = small_taken cmap (two (stands_first small_text body s)) (omega (arith, room, rest)) in
+    record {
+      read = readable cmap 20 taken (inl (m.format, omega (arith, room, counted)));
+      told = λ i map chosen at. tells4 (drop 20 cmap) ms (length gs) map m.format m.counted
+          (λ char glyph of. without_end ms char glyph (told_glyph _ _ _ (length gs) gs (ms ++ end ∷ []) char glyph are says fit of))
+          cmap (place_at cmap i) (ap (λ k. drop k cmap) (taken.alone i chosen)) at;
+    }
+
+length-large : (behind : ℕ) → length (large_text behind) ≡ 36
+unfolding large_text encoding_text uint16 uint32
+length-large behind = refl
+
+length-head : (count selector : ℕ) → length (head4_text count selector) ≡ 14
+unfolding head4_text uint16
+length-head count selector = refl
+
+pub large_answer : (cmap : List ℕ) (low gs : List Group) (ms : List Mapping) → CharsRise ms → gs ≡ groups ms → length low < 8002 → 16 + length gs * 12 < 2 ^ 32 → AllFit ms → GroupsFit gs → IsLarge cmap low gs → Answer cmap ms
+large_answer cmap low gs ms rise is few small fit fits text =
+    let behind : ℕ = 52 + length low * 8 in
+    let head : List ℕ = head4_text (length low) text.selector ++ rows_text low in
+    let body : List ℕ = format12_text gs in
+    let s = whole cmap (large_text behind ++ (head ++ body)) text.text in
+    let at36 = stands_second (large_text behind) (head ++ body) 36 (length-large behind) s in
+    let long : length head ≡ 16 + length low * 8 = length-append (head4_text (length low) text.selector) (rows_text low) ∙ (let a = length-head (length low) text.selector in let b = length-rows_text low in omega (arith, a, b)) in
+    let there = stands_second head body (16 + length low * 8) long at36 in
+    let on : 0 + 36 + (16 + length low * 8) ≡ behind = omega arith in
+    let here : Stands body (drop behind cmap) 0 = stands_dropped body behind (subst (λ k. Stands body cmap k) on there) in
+    let h = header12 (drop behind cmap) gs small here in
+    let says : Say gs ms = subst (λ xs. Say xs ms) (sym is) (say ms rise) in
+    let are = are12 (drop behind cmap) gs fits h in
+    let room = h.room in
+    let counted = h.counted in
+    let rest = length-drop behind cmap in
+    let taken = large_taken cmap behind (four behind (omega (arith, few)) (stands_first (large_text behind) (head ++ body) s)) (omega (arith, room, rest)) (omega (arith, room, rest)) in
+    record {
+      read = readable cmap behind taken (inr (inl (h.format, omega (arith, room, counted))));
+      told = λ i map chosen at. tells12 (drop behind cmap) ms map h.format
+          (λ char glyph of. told_glyph _ _ _ (number_at (drop behind cmap) 12 4) gs ms char glyph are says fit of)
+          cmap (place_at cmap i) (ap (λ k. drop k cmap) (taken.alone i chosen)) at;
+    }

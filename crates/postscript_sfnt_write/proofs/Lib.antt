@@ -1,0 +1,11 @@
+pub mod Rests
+pub mod Sums
+pub mod Standing
+pub mod Placing
+pub mod Opening
+pub mod Adjusting
+pub mod Measuring
+pub mod Groups
+pub mod Mapped
+pub mod Mapped4
+pub mod Chosen

@@ -1,0 +1,15 @@
+-- The checksum of a table (ISO/IEC 14496-22, 4.5, "Calculating checksums"): the sum of its numbers of four bytes.
+use Rattle.std.specs.Prelude.{ℕ, ◌%◌, ◌^◌, List, [], ◌∷◌, sum}
+use Rattle.postscript_base.specs.Numbers.{big_endian}
+
+-- the numbers of four bytes; the last one is filled with zeros
+unfoldable pub words : List ℕ → List ℕ
+words [] = []
+words (a ∷ []) = big_endian (a ∷ 0 ∷ 0 ∷ 0 ∷ []) ∷ []
+words (a ∷ b ∷ []) = big_endian (a ∷ b ∷ 0 ∷ 0 ∷ []) ∷ []
+words (a ∷ b ∷ c ∷ []) = big_endian (a ∷ b ∷ c ∷ 0 ∷ []) ∷ []
+words (a ∷ b ∷ c ∷ d ∷ rest) = big_endian (a ∷ b ∷ c ∷ d ∷ []) ∷ words rest
+
+-- their sum, of 32 bits
+abbrev pub checksum : List ℕ → ℕ
+checksum bytes = sum (words bytes) % 2 ^ 32

@@ -1,0 +1,35 @@
+-- Metrics (ISO/IEC 14496-22, 5.2.3 `hhea`, 5.2.4 `hmtx`, 5.2.6 `maxp` and 5.2.8 `post`).
+use Rattle.std.specs.Prelude.{◌≡◌, ◌⊎◌, ℕ, ◌+◌, ◌*◌, ◌<◌, List, Some, length, take, drop, slice_get}
+use Rattle.postscript_sfnt.specs.Lent.{AreAdvancesOf, advance_in}
+use Rattle.postscript_sfnt.specs.Metrics.{HasAdvances, IsWord, signed}
+use Rattle.postscript_sfnt.specs.declared.metrics.Advances.{Advances}
+use Rattle.postscript_sfnt_write.specs.declared.error.Error.{Error}
+use Rattle.postscript_sfnt_write.specs.declared.error.Error.TheVariants.{Cut, Memory}
+use Rattle.postscript_sfnt_write.specs.declared.metrics.Metric.{Metric}
+
+-- the metric of that glyph
+abbrev pub IsMetric : List Metric → (glyph : ℕ) → Metric → Type 0
+IsMetric metrics glyph metric = slice_get metrics glyph ≡ Some metric
+
+-- With a table `hhea` of that number of metrics the table has advances, unless there are none.
+abbrev pub CanBeRead : (hmtx : List ℕ) → List Metric → Type 0
+CanBeRead hmtx metrics = (hhea : List ℕ) → IsWord hhea 34 (length metrics) → 0 < length metrics → HasAdvances hhea hmtx (length metrics)
+
+-- the advance that is read of each glyph is its own
+abbrev pub TellsAdvances : (hmtx : List ℕ) → List Metric → Type 0
+TellsAdvances hmtx metrics = (hhea : List ℕ) (advances : Advances) → IsWord hhea 34 (length metrics) → AreAdvancesOf hhea hmtx advances →
+    (glyph : ℕ) (metric : Metric) → IsMetric metrics glyph metric → advance_in advances glyph ≡ metric.advance
+
+-- the left side bearing of each glyph stands behind its advance
+abbrev pub TellsBearings : (hmtx : List ℕ) → List Metric → Type 0
+TellsBearings hmtx metrics = (glyph : ℕ) (metric : Metric) → IsMetric metrics glyph metric → signed hmtx (glyph * 4 + 2) ≡ metric.bearing
+
+-- a table as it was but for two bytes at a place
+pub record KeepsBut (place : ℕ) (old new : List ℕ) : Type 0 where
+  pub size : length new ≡ length old
+  pub before : take place new ≡ take place old
+  pub behind : drop (place + 2) new ≡ drop (place + 2) old
+
+-- A table of less than so many bytes is cut; the other refusal is that of memory.
+abbrev pub IsCutBelow : (size : ℕ) → (table : List ℕ) → Error → Type 0
+IsCutBelow size table e = (e ≡ Memory) ⊎ ((e ≡ Cut) × (length table < size))

@@ -1,0 +1,393 @@
+//! Character maps, written (ISO/IEC 14496-22, 5.2.1).
+ghost use Rattle.std.specs.Prelude.{◌≡◌, ℕ, ◌+◌, ◌*◌, ◌^◌, ◌<◌, ◌≤◌, [], ◌∷◌, ◌++◌, List, length, IsTrue, ◌↔◌, OnOk, IfOk, IfErr};
+ghost use Rattle.postscript_sfnt_write.specs.Mappings.{AreTold, CharsRise, IsReadable, RefusesMap};
+ghost use Rattle.postscript_sfnt_write.specs.Grouping.{AllFit, AreBelow, Fits, GroupFits, GroupsFit, IsLarge, IsSmall, encoding_text, end, format12_text, goes_on as the_goes_on, group_of as the_group_of, group_text, grouped, groups as the_groups, groups_text, head4_text, large_text, row_number, row_text, rows_text};
+ghost use Rattle.postscript_sfnt_write.specs.declared.mapping.Mapping.{Mapping};
+
+use crate::error::{Error, Result};
+use crate::numbers::{put_uint16, put_uint32};
+use std::alloc::{AllocError, Global};
+
+/// The most mappings that a table has room for.
+const MOST: usize = 357_913_939;
+
+/// The most segments that a map of format 4 is written with.
+const SEGMENTS: usize = 8001;
+
+/// A character and its glyph.
+#[derive(Clone, Copy, Debug, Drop, PartialEq, Eq)]
+pub struct Mapping {
+    pub char: u32,
+    pub glyph: u16,
+}
+
+/// Sequential characters that have sequential glyphs (SequentialMapGroup).
+#[derive(Clone, Copy, Debug, Drop, PartialEq, Eq)]
+struct Group {
+    start: u32,
+    end: u32,
+    glyph: u16,
+}
+
+/// The character that ends all segments, with no glyph.
+const END: Mapping = Mapping {
+    char: 0xffff,
+    glyph: 0,
+};
+
+/// The rows of numbers of format 4.
+#[derive(Clone, Copy, Debug, Drop, PartialEq, Eq)]
+enum Row {
+    End,
+    Start,
+    Delta,
+    Offset,
+}
+
+impl Row {
+    /// The number that a group has in the row.
+    fn number(self, group: &Group) -> u16
+        ensures { result ≡ row_number self group.now }
+    {
+        match self {
+            Row::End => (group.end % 65536) as u16,
+            Row::Start => (group.start % 65536) as u16,
+            Row::Delta => ((group.glyph as u32 + 65536 - group.start % 65536) % 65536) as u16,
+            Row::Offset => 0,
+        }
+    }
+}
+
+/// Whether characters rise strictly.
+fn chars_rise(mappings: &[Mapping]) -> bool
+    ensures { IsTrue result ↔ CharsRise mappings.now }
+{
+    for i in 1..mappings.len() {
+        if mappings[i].char <= mappings[i - 1].char {
+            return false;
+        }
+    }
+    true
+}
+
+/// Whether a character with a glyph goes on where the group ends.
+fn goes_on(group: &Group, mapping: &Mapping) -> bool
+    ensures exact { result ≡ the_goes_on group.now mapping.now }
+    ensures fits { Fits mapping.now }
+{
+    mapping.char as u64 == group.end as u64 + 1
+        && mapping.glyph as u64 + group.start as u64 == group.glyph as u64 + mapping.char as u64
+}
+
+/// The group of one character.
+fn group_of(mapping: Mapping) -> Group
+    ensures exact { result ≡ the_group_of mapping }
+    ensures fits { Fits mapping }
+{
+    Group {
+        start: mapping.char,
+        end: mapping.char,
+        glyph: mapping.glyph,
+    }
+}
+
+/// The group that is open behind a character: the one before it, longer, or a new one.
+#[tactic(auto, unfolding(crate::specs::Grouping::grouped))]
+fn next_group(
+    groups: &mut Vec<Group>,
+    group: Group,
+    mapping: &Mapping,
+) -> std::result::Result<Group, AllocError>
+    ensures exact { IfOk result (λ next. (rest : List Mapping) → groups.new.items ++ grouped next rest ≡ groups.old.items ++ grouped group (mapping.now ∷ rest)) }
+    ensures fits { Fits mapping.now }
+{
+    if goes_on(&group, mapping) {
+        return Ok(Group {
+            start: group.start,
+            end: mapping.char,
+            glyph: group.glyph,
+        });
+    }
+    groups.push(group)?;
+    Ok(group_of(*mapping))
+}
+
+/// The groups of characters behind an open one.
+fn groups_from(
+    alloc: Global,
+    first: Group,
+    mappings: &[Mapping],
+) -> std::result::Result<Vec<Group>, AllocError>
+    ensures exact { IfOk result (λ groups. groups.items ≡ grouped first mappings.now) }
+    ensures few { IfOk result (λ groups. length groups.items ≤ length mappings.now + 1) }
+    ensures fit { OnOk result (AllFit mappings.now) }
+{
+    let mut groups = Vec::new(alloc);
+    let mut group = first;
+    for mapping in mappings {
+        group = next_group(&mut groups, group, mapping)?;
+    }
+    groups.push(group)?;
+    Ok(groups)
+}
+
+/// The groups of characters.
+#[tactic(auto, unfolding(crate::specs::Grouping::groups))]
+fn groups(alloc: Global, mappings: &[Mapping]) -> std::result::Result<Vec<Group>, AllocError>
+    ensures exact { IfOk result (λ groups. groups.items ≡ the_groups mappings.now) }
+    ensures few { IfOk result (λ groups. length groups.items ≤ length mappings.now) }
+    ensures fit { OnOk result (AllFit mappings.now) }
+{
+    match mappings {
+        [] => Ok(Vec::new(alloc)),
+        [first, rest @ ..] => groups_from(alloc, group_of(*first), rest),
+    }
+}
+
+/// Appends a group.
+#[tactic(auto, unfolding(crate::specs::Grouping::group_text))]
+fn put_group(out: &mut Vec<u8>, group: Group) -> std::result::Result<(), AllocError>
+    ensures text { OnOk result (out.new.items ≡ out.old.items ++ group_text group) }
+    ensures fits { GroupFits group }
+{
+    put_uint32(out, group.start)?;
+    put_uint32(out, group.end)?;
+    put_uint32(out, group.glyph as u32)
+}
+
+/// Appends groups.
+fn put_groups(out: &mut Vec<u8>, groups: &[Group]) -> std::result::Result<(), AllocError>
+    ensures text { OnOk result (out.new.items ≡ out.old.items ++ groups_text groups.now) }
+    ensures fit { OnOk result (GroupsFit groups.now) }
+{
+    for group in groups {
+        put_group(out, *group)?;
+    }
+    Ok(())
+}
+
+/// A map of format 12.
+#[tactic(auto, unfolding(crate::specs::Grouping::format12_text))]
+fn put_format12(out: &mut Vec<u8>, groups: &[Group]) -> std::result::Result<(), AllocError>
+    requires { 16 + length groups.now * 12 < 2 ^ 32 }
+    ensures text { OnOk result (out.new.items ≡ out.old.items ++ format12_text groups.now) }
+    ensures fit { OnOk result (GroupsFit groups.now) }
+{
+    put_uint16(out, 12)?;
+    put_uint16(out, 0)?;
+    put_uint32(out, 16 + groups.len() as u32 * 12)?;
+    put_uint32(out, 0)?;
+    put_uint32(out, groups.len() as u32)?;
+    put_groups(out, groups)
+}
+
+/// Appends the numbers of groups in a row of format 4.
+fn put_row(out: &mut Vec<u8>, row: Row, groups: &[Group]) -> std::result::Result<(), AllocError>
+    ensures { OnOk result (out.new.items ≡ out.old.items ++ row_text row groups.now) }
+{
+    for group in groups {
+        put_uint16(out, row.number(group))?;
+    }
+    Ok(())
+}
+
+/// Appends the rows of format 4.
+#[tactic(auto, unfolding(crate::specs::Grouping::rows_text))]
+fn put_rows(out: &mut Vec<u8>, groups: &[Group]) -> std::result::Result<(), AllocError>
+    ensures { OnOk result (out.new.items ≡ out.old.items ++ rows_text groups.now) }
+{
+    put_row(out, Row::End, groups)?;
+    put_uint16(out, 0)?;
+    put_row(out, Row::Start, groups)?;
+    put_row(out, Row::Delta, groups)?;
+    put_row(out, Row::Offset, groups)
+}
+
+/// Appends the beginning of a map of format 4 of so many segments.
+#[tactic(auto, unfolding(crate::specs::Grouping::head4_text))]
+fn put_head4(out: &mut Vec<u8>, count: u16, selector: u32) -> std::result::Result<(), AllocError>
+    requires counted { count < 8002 }
+    requires selected { 2 ^ selector ≤ count }
+    requires small { selector < 16 }
+    ensures { OnOk result (out.new.items ≡ out.old.items ++ head4_text count selector) }
+{
+    let range = (1u16 << selector) * 2;
+    put_uint16(out, 4)?;
+    put_uint16(out, 16 + count * 8)?;
+    put_uint16(out, 0)?;
+    put_uint16(out, count * 2)?;
+    put_uint16(out, range)?;
+    put_uint16(out, selector as u16)?;
+    put_uint16(out, count * 2 - range)
+}
+
+/// Appends a map of format 4.
+fn put_format4(out: &mut Vec<u8>, groups: &[Group]) -> std::result::Result<(), AllocError>
+    requires some { 0 < length groups.now }
+    requires most { length groups.now < 8002 }
+    ensures { OnOk result ((selector : ℕ) × (out.new.items ≡ out.old.items ++ (head4_text (length groups.now) selector ++ rows_text groups.now))) }
+{
+    let count = groups.len() as u16;
+    let selector = count.ilog2();
+    put_head4(out, count, selector)?;
+    put_rows(out, groups)
+}
+
+/// Appends a record of a platform, an encoding and the place of its map.
+#[tactic(auto, unfolding(crate::specs::Grouping::encoding_text))]
+fn put_encoding(
+    out: &mut Vec<u8>,
+    platform: u16,
+    encoding: u16,
+    place: u32,
+) -> std::result::Result<(), AllocError>
+    ensures { OnOk result (out.new.items ≡ out.old.items ++ encoding_text platform encoding place) }
+{
+    put_uint16(out, platform)?;
+    put_uint16(out, encoding)?;
+    put_uint32(out, place)
+}
+
+/// Characters below U+FFFF, and behind them that one with no glyph, which ends all segments.
+fn with_end(alloc: Global, mappings: &[Mapping]) -> std::result::Result<Vec<Mapping>, AllocError>
+    ensures { IfOk result (λ all. all.items ≡ mappings.now ++ end ∷ []) }
+{
+    let mut all = Vec::from_slice(alloc, mappings)?;
+    all.push(END)?;
+    Ok(all)
+}
+
+/// The segments of characters below U+FFFF.
+#[tactic(auto, using(crate::proofs::Groups::some_groups, crate::proofs::Groups::few_segments))]
+fn segments(alloc: Global, mappings: &[Mapping]) -> std::result::Result<Vec<Group>, AllocError>
+    ensures exact { IfOk result (λ segments. segments.items ≡ the_groups (mappings.now ++ end ∷ [])) }
+    ensures some { IfOk result (λ segments. 0 < length segments.items) }
+    ensures few { IfOk result (λ segments. length segments.items ≤ length mappings.now + 1) }
+    ensures fit { OnOk result (AllFit (mappings.now ++ end ∷ [])) }
+{
+    let all = with_end(alloc, mappings)?;
+    groups(alloc, all.as_slice())
+}
+
+/// A table `cmap` of one map of format 4.
+#[tactic(auto, unfolding(crate::specs::Grouping::small_text))]
+fn small(alloc: Global, segments: &[Group]) -> std::result::Result<Vec<u8>, AllocError>
+    requires some { 0 < length segments.now }
+    requires most { length segments.now < 8002 }
+    ensures { IfOk result (λ table. IsSmall table.items segments.now) }
+{
+    let mut table = Vec::new(alloc);
+    put_uint16(&mut table, 0)?;
+    put_uint16(&mut table, 2)?;
+    put_encoding(&mut table, 0, 3, 20)?;
+    put_encoding(&mut table, 3, 1, 20)?;
+    put_format4(&mut table, segments)?;
+    Ok(table)
+}
+
+/// The segments of the characters below U+FFFF, or none of them where there are too many.
+fn low_segments(alloc: Global, mappings: &[Mapping]) -> std::result::Result<Vec<Group>, AllocError>
+    ensures some { IfOk result (λ segments. 0 < length segments.items) }
+    ensures most { IfOk result (λ segments. length segments.items < 8002) }
+{
+    let below = mappings.partition_point(|mapping| mapping.char < END.char);
+    let low = segments(alloc, &mappings[..below])?;
+    if low.len() <= SEGMENTS {
+        return Ok(low);
+    }
+    segments(alloc, &[])
+}
+
+/// The records of a map of format 4, and of one of format 12 behind it.
+#[tactic(auto, unfolding(crate::specs::Grouping::large_text))]
+fn large_head(alloc: Global, behind: u32) -> std::result::Result<Vec<u8>, AllocError>
+    ensures { IfOk result (λ table. table.items ≡ large_text behind) }
+{
+    let mut table = Vec::new(alloc);
+    put_uint16(&mut table, 0)?;
+    put_uint16(&mut table, 4)?;
+    put_encoding(&mut table, 0, 3, 36)?;
+    put_encoding(&mut table, 0, 4, behind)?;
+    put_encoding(&mut table, 3, 1, 36)?;
+    put_encoding(&mut table, 3, 10, behind)?;
+    Ok(table)
+}
+
+/// A table `cmap` of a map of format 4, of characters below U+FFFF, and one of format 12.
+fn large(alloc: Global, low: &[Group], all: &[Group]) -> std::result::Result<Vec<u8>, AllocError>
+    requires some { 0 < length low.now }
+    requires most { length low.now < 8002 }
+    requires room { 16 + length all.now * 12 < 2 ^ 32 }
+    ensures text { IfOk result (λ table. IsLarge table.items low.now all.now) }
+    ensures fit { OnOk result (GroupsFit all.now) }
+{
+    let mut table = large_head(alloc, 52 + low.len() as u32 * 8)?;
+    put_format4(&mut table, low)?;
+    put_format12(&mut table, all)?;
+    Ok(table)
+}
+
+/// Whether characters, which rise, are all below U+FFFF.
+fn are_below(mappings: &[Mapping]) -> bool
+    requires { CharsRise mappings.now }
+    ensures { IsTrue result → AreBelow mappings.now }
+{
+    mappings.is_empty() || mappings[mappings.len() - 1].char < 0xffff
+}
+
+/// The table of characters that rise, of both formats.
+fn of_both(alloc: Global, mappings: &[Mapping]) -> std::result::Result<Vec<u8>, AllocError>
+    requires rise { CharsRise mappings.now }
+    requires room { 16 + length mappings.now * 12 < 2 ^ 32 }
+    ensures read { IfOk result (λ cmap. IsReadable cmap.items) }
+    ensures told { IfOk result (λ cmap. AreTold cmap.items mappings.now) }
+{
+    let low = low_segments(alloc, mappings)?;
+    let all = groups(alloc, mappings)?;
+    let table = large(alloc, low.as_slice(), all.as_slice())?;
+    Ok(table)
+}
+
+/// The table of segments.
+#[tactic(auto, using(crate::proofs::Groups::some_groups))]
+fn of_segments(
+    alloc: Global,
+    segments: &[Group],
+    mappings: &[Mapping],
+) -> std::result::Result<Vec<u8>, AllocError>
+    requires rise { CharsRise mappings.now }
+    requires below { AreBelow mappings.now }
+    requires exact { segments.now ≡ the_groups (mappings.now ++ end ∷ []) }
+    requires most { length segments.now < 8002 }
+    requires fit { AllFit (mappings.now ++ end ∷ []) }
+    ensures read { IfOk result (λ cmap. IsReadable cmap.items) }
+    ensures told { IfOk result (λ cmap. AreTold cmap.items mappings.now) }
+{
+    let table = small(alloc, segments)?;
+    Ok(table)
+}
+
+/// The table `cmap` of characters that rise strictly, each with its glyph: of format 4 where all are below U+FFFF and make 8,000
+/// segments at most, and else of formats 4 and 12. A glyph 0 is none.
+///
+/// Refused: `CharactersDoNotRise`; `TooLarge` where 32 bits do not count the bytes of so many groups; `Memory`.
+pub fn cmap(alloc: Global, mappings: &[Mapping]) -> Result<Vec<u8>>
+    ensures read { IfOk result (λ cmap. IsReadable cmap.items) }
+    ensures told { IfOk result (λ cmap. AreTold cmap.items mappings.now) }
+    ensures rise { OnOk result (CharsRise mappings.now) }
+    ensures refused { IfErr result (λ e. RefusesMap e mappings.now) }
+{
+    if !chars_rise(mappings) {
+        return Err(Error::CharactersDoNotRise);
+    }
+    if mappings.len() > MOST {
+        return Err(Error::TooLarge);
+    }
+    if are_below(mappings) {
+        let segments = segments(alloc, mappings)?;
+        if segments.len() <= SEGMENTS {
+            return Ok(of_segments(alloc, segments.as_slice(), mappings)?);
+        }
+    }
+    Ok(of_both(alloc, mappings)?)
+}

@@ -1,0 +1,115 @@
+//! Metrics, written (ISO/IEC 14496-22, 5.2.3, 5.2.4, 5.2.6 and 5.2.8).
+ghost use Rattle.std.specs.Prelude.{◌≡◌, ℕ, ◌+◌, ◌*◌, ◌<◌, ◌≤◌, ◌++◌, length, take, drop, replicate, OnOk, IfOk, IfErr};
+ghost use Rattle.postscript_items.specs.Items.{number_at as the_number};
+ghost use Rattle.postscript_sfnt.specs.Metrics.{IsGlyphs, IsWord};
+ghost use Rattle.postscript_sfnt_write.specs.Layout.{AllFit, Fits, metric_text, metrics_text};
+ghost use Rattle.postscript_sfnt_write.specs.Metrics.{CanBeRead, IsCutBelow, KeepsBut, TellsAdvances, TellsBearings};
+ghost use Rattle.postscript_sfnt_write.specs.Numbers.{uint16 as the_uint16};
+
+use crate::error::{Error, Result};
+use crate::numbers::{put_uint16, put_uint32};
+use std::alloc::{AllocError, Global};
+
+/// The advance and the left side bearing of a glyph, in units of the em.
+#[derive(Clone, Copy, Debug, Drop, PartialEq, Eq)]
+pub struct Metric {
+    pub advance: u16,
+    pub bearing: i16,
+}
+
+/// Appends a metric.
+#[tactic(auto, unfolding(crate::specs::Layout::metric_text))]
+fn put_metric(out: &mut Vec<u8>, metric: Metric) -> std::result::Result<(), AllocError>
+    ensures text { OnOk result (out.new.items ≡ out.old.items ++ metric_text metric) }
+    ensures fits { Fits metric }
+{
+    put_uint16(out, metric.advance)?;
+    put_uint16(out, metric.bearing.cast_unsigned())
+}
+
+/// The table `hmtx` of the metrics of glyphs, each with an advance of its own. Refused where memory is.
+pub fn hmtx(alloc: Global, metrics: &[Metric]) -> std::result::Result<Vec<u8>, AllocError>
+    ensures size { IfOk result (λ table. length table.items ≡ length metrics.now * 4) }
+    ensures read { IfOk result (λ table. CanBeRead table.items metrics.now) }
+    ensures advances { IfOk result (λ table. TellsAdvances table.items metrics.now) }
+    ensures bearings { IfOk result (λ table. TellsBearings table.items metrics.now) }
+{
+    let table = put_metrics(alloc, metrics)?;
+    Ok(table)
+}
+
+/// Metrics one behind the other.
+fn put_metrics(alloc: Global, metrics: &[Metric]) -> std::result::Result<Vec<u8>, AllocError>
+    ensures text { IfOk result (λ table. table.items ≡ metrics_text metrics.now) }
+    ensures fit { OnOk result (AllFit metrics.now) }
+{
+    let mut table = Vec::new(alloc);
+    for metric in metrics {
+        put_metric(&mut table, *metric)?;
+    }
+    Ok(table)
+}
+
+/// A table with another number of two bytes at a place.
+fn with_number(
+    alloc: Global,
+    table: &[u8],
+    place: usize,
+    number: u16,
+) -> std::result::Result<Vec<u8>, AllocError>
+    requires { place + 2 ≤ length table.now }
+    ensures { IfOk result (λ new. new.items ≡ take place table.now ++ (the_uint16 number ++ drop (place + 2) table.now)) }
+{
+    let mut new = Vec::new(alloc);
+    new.extend_from_slice(&table[..place])?;
+    put_uint16(&mut new, number)?;
+    new.extend_from_slice(&table[place + 2..])?;
+    Ok(new)
+}
+
+/// The table `hhea` with another number of metrics in `hmtx`, and else as it was.
+///
+/// Refused: `Cut` where the table has less than 36 bytes; `Memory`.
+pub fn with_number_of_metrics(alloc: Global, hhea: &[u8], metrics: u16) -> Result<Vec<u8>>
+    ensures told { IfOk result (λ new. IsWord new.items 34 metrics) }
+    ensures kept { IfOk result (λ new. KeepsBut 34 hhea.now new.items) }
+    ensures refused { IfErr result (λ e. IsCutBelow 36 hhea.now e) }
+{
+    if hhea.len() < 36 {
+        return Err(Error::Cut);
+    }
+    let new = with_number(alloc, hhea, 34, metrics)?;
+    Ok(new)
+}
+
+/// The table `maxp` with another number of glyphs, and else as it was.
+///
+/// Refused: `Cut` where the table has less than 6 bytes; `Memory`.
+pub fn with_number_of_glyphs(alloc: Global, maxp: &[u8], glyphs: u16) -> Result<Vec<u8>>
+    ensures told { IfOk result (λ new. IsGlyphs new.items glyphs) }
+    ensures kept { IfOk result (λ new. KeepsBut 4 maxp.now new.items) }
+    ensures refused { IfErr result (λ e. IsCutBelow 6 maxp.now e) }
+{
+    if maxp.len() < 6 {
+        return Err(Error::Cut);
+    }
+    let new = with_number(alloc, maxp, 4, glyphs)?;
+    Ok(new)
+}
+
+/// The table `post` of version 3.0, which has no names of glyphs, and else as it was.
+///
+/// Refused: `Cut` where the table has less than 32 bytes; `Memory`.
+pub fn without_names(alloc: Global, post: &[u8]) -> Result<Vec<u8>>
+    ensures version { IfOk result (λ new. the_number new.items 0 4 ≡ 0x00030000) }
+    ensures kept { IfOk result (λ new. drop 4 new.items ≡ drop 4 (take 32 post.now)) }
+    ensures refused { IfErr result (λ e. IsCutBelow 32 post.now e) }
+{
+    if post.len() < 32 {
+        return Err(Error::Cut);
+    }
+    let mut new = Vec::new(alloc);
+    put_uint32(&mut new, 0x00030000)?;
+    new.extend_from_slice(&post[4..32])?;
+    Ok(new)
+}
