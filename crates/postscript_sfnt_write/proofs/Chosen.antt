@@ -1,23 +1,21 @@
 -- Which map the reader takes of what was written.
-use Rattle.std.proofs.Common.{◌≡◌, refl, sym, ap, subst, ◌∙◌, inl, inr, ℕ, zero, suc, ◌+◌, ◌-◌, ◌*◌, ◌/◌, ◌%◌, ◌^◌, ◌≤◌, ◌<◌, Bool, true, false, List, [], ◌∷◌, ◌++◌, length, take, drop, length-append, length-drop, arith}
-use Rattle.std.specs.Prelude.{◌⊎◌}
+use Rattle.std.proofs.Common.{◌≡◌, refl, sym, ap, subst, ◌∙◌, inl, inr, ℕ, zero, suc, ◌+◌, ◌*◌, ◌/◌, ◌^◌, ◌≤◌, ◌<◌, List, [], ◌∷◌, ◌++◌, length, drop, length-append, length-drop, arith}
 use Rattle.std.proofs.lemmas.List.{append-nil}
 use Rattle.postscript_items.specs.Items.{number_at}
 use Rattle.postscript_sfnt.specs.CharacterMap.{IsGlyphOf, first12, last12, gives12, first4, last4, gives4}
-use Rattle.postscript_sfnt.specs.Choice.{IsBest, IsChosen, encoding_at, place_at, platform_at, rank, rank_at, records_of}
-use Rattle.postscript_sfnt.specs.Maps.{IsFormat12, IsFormat4, IsFormat6, IsMapAt, IsWhole, Maps}
+use Rattle.postscript_sfnt.specs.Choice.{IsChosen, place_at, rank, rank_at, records_of}
+use Rattle.postscript_sfnt.specs.Maps.{IsMapAt, IsWhole}
 use Rattle.postscript_sfnt.specs.declared.character_map.CharacterMap.{CharacterMap}
 use Rattle.postscript_sfnt.specs.declared.character_map.CharacterMap.TheVariants.{Segments, Groups, Trimmed}
 use Rattle.postscript_sfnt_write.specs.Grouping.{AllFit, AreBelow, GroupsFit, IsLarge, IsSmall, encoding_text, end, format12_text, groups, head4_text, large_text, rows_text, small_text}
-use Rattle.postscript_sfnt_write.specs.Mappings.{AreTold, CharsRise, IsGlyphIn, IsMapping, IsReadable, Tells}
+use Rattle.postscript_sfnt_write.specs.Mappings.{AreTold, CharsRise, IsGlyphIn, IsReadable, Tells}
 use Rattle.postscript_sfnt_write.specs.Numbers.{uint16, uint32}
 use Rattle.postscript_sfnt_write.specs.declared.mapping.Group.{Group}
 use Rattle.postscript_sfnt_write.specs.declared.mapping.Mapping.{Mapping}
 use Rattle.postscript_sfnt_write.proofs.Groups.{Say, say}
-use Rattle.postscript_sfnt_write.proofs.Mapped.{Are, are12, header12, told_glyph}
+use Rattle.postscript_sfnt_write.proofs.Mapped.{are12, header12, told_glyph}
 use Rattle.postscript_sfnt_write.proofs.Mapped4.{are4, end_rises, length-rows_text, low_groups, low_with_end, map4, without_end}
-use Rattle.postscript_sfnt_write.proofs.Standing.{Stands, length-uint16, stands_dropped, stands_first, stands_second, stands_within, uint16_stands, uint32_stands}
-use Rattle.postscript_sfnt_write.proofs.Sums.{length-uint32}
+use Rattle.postscript_sfnt_write.proofs.Standing.{Stands, length-uint16, stands_dropped, stands_first, stands_second, uint16_stands, uint32_stands}
 
 -- a record of a platform, an encoding and a place
 record Encoding (bytes : List ℕ) (at platform encoding place : ℕ) : Type 0 where

@@ -1,10 +1,9 @@
 -- What groups of characters say.
-use Rattle.std.proofs.Common.{◌≡◌, refl, sym, ap, subst, ◌∙◌, inl, inr, ℕ, zero, suc, ◌+◌, ◌-◌, ◌*◌, ◌^◌, ◌≤◌, ◌<◌, ◌==◌, Bool, true, false, List, [], ◌∷◌, ◌++◌, length, take, drop, get_or, length-append, arith}
-use Rattle.std.specs.Prelude.{◌⊎◌, Option, Some, None, if◌then◌else◌}
-use Rattle.std.proofs.lemmas.Bool.{and_parts}
+use Rattle.std.proofs.Common.{◌≡◌, refl, sym, ap, subst, inl, inr, ℕ, zero, suc, ◌+◌, ◌≤◌, ◌<◌, ◌==◌, Bool, true, false, List, [], ◌∷◌, ◌++◌, length, drop, get_or, length-append, arith}
+use Rattle.std.specs.Prelude.{◌⊎◌, Some, if◌then◌else◌}
 use Rattle.std.proofs.lemmas.Bool.Decides.{nat_tests}
 use Rattle.std.proofs.lemmas.List.{at_drop_more, at_drop_all}
-use Rattle.postscript_sfnt_write.specs.Grouping.{AllFit, GroupFits, IsGroup, Fits, end, goes_on, group_of, group_text, grouped, groups, groups_text, longer, row_number, row_text}
+use Rattle.postscript_sfnt_write.specs.Grouping.{IsGroup, end, goes_on, group_of, group_text, grouped, groups, groups_text, longer, row_number, row_text}
 use Rattle.postscript_sfnt_write.specs.Numbers.{uint16}
 use Rattle.postscript_sfnt_write.specs.declared.mapping.Row.{Row}
 use Rattle.postscript_sfnt_write.specs.Mappings.{CharsRise, IsMapping}

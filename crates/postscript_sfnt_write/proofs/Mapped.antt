@@ -1,8 +1,7 @@
 -- What groups that were written say to the reader.
-use Rattle.std.proofs.Common.{◌≡◌, refl, sym, ap, subst, ◌∙◌, inl, inr, ℕ, zero, suc, ◌+◌, ◌-◌, ◌*◌, ◌/◌, ◌%◌, ◌^◌, ◌≤◌, ◌<◌, Bool, true, false, List, [], ◌∷◌, ◌++◌, length, take, drop, length-append, arith}
-use Rattle.std.specs.Prelude.{◌⊎◌, Option, Some, None, if◌then◌else◌, nat_lt}
+use Rattle.std.proofs.Common.{◌≡◌, refl, ap, subst, ◌∙◌, ℕ, zero, suc, ◌+◌, ◌-◌, ◌*◌, ◌^◌, ◌≤◌, ◌<◌, List, [], ◌∷◌, ◌++◌, length, length-append, arith}
+use Rattle.std.specs.Prelude.{if◌then◌else◌, nat_lt}
 use Rattle.std.proofs.lemmas.Bool.{lt-ltb}
-use Rattle.std.proofs.lemmas.Bool.Decides.{nat_tests}
 use Rattle.postscript_items.specs.Items.{number_at}
 use Rattle.postscript_sfnt.specs.CharacterMap.{Holds, IsFirst, IsGlyphOf, first12, last12, glyph12, gives12}
 use Rattle.postscript_sfnt_write.specs.Grouping.{AllFit, GroupFits, GroupsFit, IsGroup, format12_text, group_text, groups_text}
@@ -10,7 +9,7 @@ use Rattle.postscript_sfnt_write.specs.Mappings.{IsGlyphIn, IsMapping}
 use Rattle.postscript_sfnt_write.specs.Numbers.{uint16, uint32}
 use Rattle.postscript_sfnt_write.specs.declared.mapping.Group.{Group}
 use Rattle.postscript_sfnt_write.specs.declared.mapping.Mapping.{Mapping}
-use Rattle.postscript_sfnt_write.proofs.Groups.{Gives, HasMapping, OneGives, Say, group_at, group_below}
+use Rattle.postscript_sfnt_write.proofs.Groups.{Gives, Say, group_at, group_below}
 use Rattle.postscript_sfnt_write.proofs.Standing.{Stands, length-uint16, stands_first, stands_second, stands_within, uint16_stands, uint32_stands}
 use Rattle.postscript_sfnt_write.proofs.Sums.{length-uint32}
 

@@ -1,17 +1,17 @@
 -- What segments that were written say to the reader.
-use Rattle.std.proofs.Common.{◌≡◌, refl, sym, ap, subst, ◌∙◌, inl, inr, ℕ, zero, suc, ◌+◌, ◌-◌, ◌*◌, ◌/◌, ◌%◌, ◌^◌, ◌≤◌, ◌<◌, Bool, true, false, List, [], ◌∷◌, ◌++◌, length, take, drop, length-append, arith}
-use Rattle.std.specs.Prelude.{◌⊎◌, ◌==◌, Option, Some, None, if◌then◌else◌}
+use Rattle.std.proofs.Common.{◌≡◌, refl, sym, ap, subst, ◌∙◌, inl, inr, ℕ, zero, suc, ◌+◌, ◌-◌, ◌*◌, ◌/◌, ◌%◌, ◌^◌, ◌≤◌, ◌<◌, Bool, true, false, List, [], ◌∷◌, ◌++◌, length, length-append, arith}
+use Rattle.std.specs.Prelude.{◌⊎◌, ◌==◌, Some, if◌then◌else◌}
 use Rattle.std.proofs.lemmas.Bool.{eq-eqb, eqb-false, eqb-true}
 use Rattle.postscript_items.specs.Items.{number_at}
 use Rattle.postscript_sfnt.specs.CharacterMap.{first4, last4, delta4, offset4, gives4, listed4, place4}
 use Rattle.postscript_sfnt_write.specs.Grouping.{AreBelow, IsGroup, end, head4_text, row_number, row_text, rows_text}
 use Rattle.postscript_sfnt_write.specs.Mappings.{CharsRise, IsGlyphIn, IsMapping}
-use Rattle.postscript_sfnt_write.specs.Numbers.{uint16, uint32}
+use Rattle.postscript_sfnt_write.specs.Numbers.{uint16}
 use Rattle.postscript_sfnt_write.specs.declared.mapping.Group.{Group}
 use Rattle.postscript_sfnt_write.specs.declared.mapping.Mapping.{Mapping}
 use Rattle.postscript_sfnt_write.specs.declared.mapping.Row.{Row}
 use Rattle.postscript_sfnt_write.specs.declared.mapping.Row.TheVariants.{Delta, End, Offset, Start}
-use Rattle.postscript_sfnt_write.proofs.Groups.{Gives, Say, mapping_below}
+use Rattle.postscript_sfnt_write.proofs.Groups.{Say, mapping_below}
 use Rattle.postscript_sfnt_write.proofs.Mapped.{Are}
 use Rattle.postscript_sfnt_write.proofs.Standing.{Stands, length-uint16, stands_first, stands_second, stands_within, uint16_stands}
 

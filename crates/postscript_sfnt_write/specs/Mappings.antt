@@ -1,5 +1,5 @@
 -- Characters and their glyphs (ISO/IEC 14496-22, 5.2.1).
-use Rattle.std.specs.Prelude.{◌≡◌, ◌⊎◌, ℕ, ◌+◌, ◌*◌, ◌^◌, ◌<◌, ◌≤◌, List, Some, length, drop, slice_get}
+use Rattle.std.specs.Prelude.{◌≡◌, ℕ, ◌+◌, ◌*◌, ◌^◌, ◌<◌, ◌≤◌, List, Some, length, drop, slice_get}
 use Rattle.postscript_sfnt.specs.Choice.{IsChosen, place_at}
 use Rattle.postscript_sfnt.specs.Maps.{IsMapAt, IsWhole, Maps}
 use Rattle.postscript_sfnt.specs.declared.character_map.CharacterMap.{CharacterMap}
