@@ -132,6 +132,7 @@ opens ts bytes can w =
     let h = header_stands (length ts) w.selector can.counted w.selected p.header in
     let size = p.size in
     record {
+      version = h.version;
       face = inl (record { alone = record { within = omega (arith, size); version = inr (inl h.version) }; first = refl; begins = refl });
       directory = record { version = inr (inl h.version); counted = sym h.counted; room = omega (arith, size) };
     }

@@ -11,8 +11,9 @@ use Rattle.postscript_sfnt_write.specs.declared.error.Error.{Error}
 use Rattle.postscript_sfnt_write.specs.declared.error.Error.TheVariants.{CharactersDoNotRise, Cut, Memory, TagsDoNotRise, TooManyTables, TooLarge}
 use Rattle.postscript_sfnt_write.specs.declared.file.Table.{Table}
 
--- The file has one face, whose directory of so many tables begins it.
+-- The file has one face, whose directory of so many tables begins it, of the version of outlines in a table `CFF `: "OTTO".
 pub record Opens (bytes : List ℕ) (count : ℕ) : Type 0 where
+  pub version : number_at bytes 0 4 ≡ 0x4f54544f
   pub face : IsFace bytes 0 0
   pub directory : IsDirectory bytes 0 count
 
