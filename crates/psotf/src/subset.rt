@@ -3,6 +3,7 @@ use crate::choice::Choice;
 use crate::face::{Face, needed};
 use crate::failure::Failure;
 use crate::file::{Table, file_of, put_halves, put_words};
+use crate::limit::Budget;
 use crate::map::{Pair, table_of};
 use crate::{along, saving};
 use clap::ArgMatches;
@@ -10,6 +11,10 @@ use postscript_items::number::number_within;
 use postscript_write::{kept_glyphs, subset, subset_keeping};
 use std::alloc::{AllocError, Global};
 use std::io::Write;
+
+/// How often the run of a glyph is gone through: it is asked, looked at twice for what it is drawn with, measured and written, and
+/// its bytes are read back.
+pub const RUNS: u64 = 6;
 
 /// The new number of a glyph: how many of those that are kept stand before it.
 fn number_of(glyphs: &[usize], glyph: u32) -> u32 {
@@ -166,22 +171,25 @@ fn file_with(alloc: Global, face: &Face<'_>, made: &Written) -> Result<Vec<u8>, 
     file_of(alloc, tables.as_slice())
 }
 
-/// Writes a file of the glyphs that words name and of those that these are drawn with, and tells of the latter.
+/// Writes a file of the glyphs that words name and of those that these are drawn with, where the run of each keeps to the limit, and
+/// tells of the latter.
 pub fn write<W: Write>(
     rt: &HostRuntime,
     face: &Face<'_>,
     words: &ArgMatches<'_>,
+    budget: &mut Budget,
     out: &mut W,
 ) -> Result<(), Failure> {
     let alloc = rt.alloc();
     let choice = Choice::read(alloc, face, words)?;
+    let components = along::asked(alloc, &face.font, &choice.glyphs, budget)?;
     let kept = kept_glyphs(alloc, face.cff, &choice.glyphs)?;
     let made = if words.get_flag("retain-gids") {
         keeping(alloc, face, &choice)?
     } else {
         renumbered(alloc, face, &choice, &kept)?
     };
-    along::tell(rt, &face.font, &choice.glyphs, &kept)?;
+    along::tell(rt, &components)?;
     let file = file_with(alloc, face, &made)?;
     saving::put(rt, words, &file, out)
 }
