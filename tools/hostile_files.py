@@ -28,7 +28,7 @@ PSOTF = os.environ.get("PSOTF") or pathlib.Path(__file__).resolve().parent.paren
 MOST, LONGEST = 10, 20
 ROS, FD_ARRAY, FD_SELECT = b"\x0c\x1e", b"\x0c\x24", b"\x0c\x25"
 CALL, CALL_GLOBAL, RETURN, END = b"\x0a", b"\x1d", b"\x0b", b"\x0e"
-ONE, ROLL, LINES, MOVE, STEMS, MASK = b"\x8c", b"\x0c\x1e", b"\x06", b"\x16", b"\x01", b"\x13"
+ONE, BACK, ROLL, LINES, MOVE, STEMS, MASK = b"\x8c", b"\x8a", b"\x0c\x1e", b"\x06", b"\x16", b"\x01", b"\x13"
 MANY = 65_535
 COMMANDS = {
     "inspect": ["inspect"],
@@ -171,8 +171,8 @@ def squared(leaf, near):
 
 
 WORK = {
-    "lines": ONE * 3000 + LINES,
-    "moves": (ONE + MOVE) * 1500,
+    "lines": (ONE * 2 + BACK * 2) * 750 + LINES,
+    "moves": (ONE + MOVE + BACK + MOVE) * 750,
     "stems": ONE * 3000 + STEMS,
     "hints one by one": (ONE * 2 + STEMS) * 1000,
     "rolls of 48": ONE * 48 + (operand(48) + ONE + ROLL) * 1000 + LINES,
