@@ -1,57 +1,100 @@
 //! Glyphs that come along with those that are named: the bases and accents of accented ones.
+use crate::asking::ask;
 use crate::failure::Failure;
+use crate::limit::Budget;
 use postscript_drawing::{Accent, component_of};
-use postscript_type2::Program;
 use postscript_view::FontView;
+use std::alloc::Global;
 
-/// What a program names, where no fault ends it.
-fn named_by(mut program: Program<'_>) -> Option<Accent> {
-    for _answer in 0..u64::MAX {
-        match program.next() {
-            Ok(Some(_)) => {}
-            Ok(None) => break,
-            Err(_) => return None,
-        }
-    }
-    Accent::named_by(program.operands_at_end()).unwrap_or(None)
+/// A glyph that was not named, and the first one that is drawn with it.
+#[derive(Clone, Copy)]
+pub struct Component {
+    glyph: usize,
+    of: usize,
 }
 
-/// The base and the accent of a glyph, where it is accented: those that the font has.
-fn components_of(rt: &HostRuntime, font: &FontView<'_>, glyph: usize) -> [Option<usize>; 2] {
-    let Some(found) = font.glyph(glyph) else {
-        return [None; 2];
-    };
-    match named_by(found.program(rt.alloc())) {
-        Some(accent) => [
-            component_of(font, accent.base).ok(),
-            component_of(font, accent.accent).ok(),
-        ],
-        None => [None; 2],
+/// The glyphs that are kept, as far as they are found.
+#[derive(Drop)]
+struct Kept {
+    /// Those to be asked, in the order in which they are found.
+    glyphs: Vec<usize>,
+    /// Whether each glyph of the font is one of them.
+    marks: Vec<bool>,
+    components: Vec<Component>,
+}
+
+impl Kept {
+    /// Those that are named.
+    fn new(alloc: Global, named: &[usize], glyphs: usize) -> Result<Kept, Failure> {
+        let mut kept = Kept {
+            glyphs: Vec::new(alloc),
+            marks: Vec::new(alloc),
+            components: Vec::new(alloc),
+        };
+        kept.marks.resize(glyphs, false)?;
+        for glyph in named {
+            let _ = kept.put(*glyph)?;
+        }
+        Ok(kept)
     }
+
+    /// Adds a glyph of the font, and tells whether it was not there.
+    fn put(&mut self, glyph: usize) -> Result<bool, Failure> {
+        match self.marks.get_mut(glyph) {
+            Some(mark) if !*mark => {
+                *mark = true;
+                self.glyphs.push(glyph)?;
+                Ok(true)
+            }
+            _ => Ok(false),
+        }
+    }
+
+    /// Adds the glyph of a code, if the font has one, as a component of a glyph.
+    fn put_component(&mut self, font: &FontView<'_>, code: u8, of: usize) -> Result<(), Failure> {
+        let Ok(glyph) = component_of(font, code) else {
+            return Ok(());
+        };
+        if self.put(glyph)? {
+            self.components.push(Component { glyph, of })?;
+        }
+        Ok(())
+    }
+
+    /// Adds the base and the accent of a glyph.
+    fn put_both(&mut self, font: &FontView<'_>, accent: &Accent, of: usize) -> Result<(), Failure> {
+        self.put_component(font, accent.base, of)?;
+        self.put_component(font, accent.accent, of)
+    }
+}
+
+/// Asks each glyph that is kept, those that are named and those that come along, whether it keeps to its share; and which glyphs
+/// come along. No run goes on longer.
+pub fn asked(
+    alloc: Global,
+    font: &FontView<'_>,
+    named: &[usize],
+    budget: &mut Budget,
+) -> Result<Vec<Component>, Failure> {
+    let mut kept = Kept::new(alloc, named, font.char_strings.len())?;
+    for i in 0..font.char_strings.len() {
+        let Some(glyph) = kept.glyphs.get(i).copied() else {
+            break;
+        };
+        if let Some(accent) = ask(alloc, font, glyph, budget)? {
+            budget.search(font);
+            kept.put_both(font, &accent, glyph)?;
+        }
+    }
+    Ok(kept.components)
 }
 
 /// Tells on standard error, in a line each, which of the glyphs that are kept were not named, and with which other one each is
-/// drawn. Both lists rise.
-pub fn tell(
-    rt: &HostRuntime,
-    font: &FontView<'_>,
-    named: &[usize],
-    kept: &[usize],
-) -> Result<(), Failure> {
-    if named.len() == kept.len() {
-        return Ok(());
-    }
-    let mut told = Vec::new(rt.alloc());
-    told.extend_from_slice(named)?;
-    for glyph in kept {
-        for component in components_of(rt, font, *glyph).iter().flatten() {
-            if !told.contains(component) {
-                eprintln!(rt;
-                    "psotf: glyph {component} is kept, since glyph {glyph} is drawn with it"
-                )?;
-                told.push(*component)?;
-            }
-        }
+/// drawn.
+pub fn tell(rt: &HostRuntime, components: &[Component]) -> Result<(), Failure> {
+    for component in components {
+        let Component { glyph, of } = *component;
+        eprintln!(rt; "psotf: glyph {glyph} is kept, since glyph {of} is drawn with it")?;
     }
     Ok(())
 }

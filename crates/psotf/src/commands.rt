@@ -26,6 +26,8 @@ enum Word {
     Number(&'static str, &'static str),
     /// Of a name, with a number, the one that is taken where it is left out, and what it asks for.
     Given(&'static str, &'static str, &'static str),
+    /// Of a name, with a number of units, and what it asks for.
+    Units(&'static str, &'static str),
     /// The file to write, which may be left out, or has to be named, and what it is.
     Out(bool, &'static str),
 }
@@ -39,10 +41,14 @@ struct Subcommand {
     others: &'static [Word],
 }
 
-/// The face of a file, which each subcommand is about.
+/// The face of a file, which each subcommand is about, and how long the runs of its glyphs may take.
 const FACE: &[Word] = &[
     Word::File("FILE", "An OpenType file or collection"),
     Word::Given("face", "0", "The face of a collection, from 0 on"),
+    Word::Units(
+        "limit",
+        "How many bytes of operators and numbers the run of a glyph may go through, by default 20000000; all together 20 times as many",
+    ),
 ];
 
 const SUBCOMMANDS: &[Subcommand] = &[
@@ -143,6 +149,11 @@ fn arg<'a>(alloc: Global, word: Word) -> Arg<'a> {
             .help(help),
         Word::Number(name, help) => number(alloc, name, help),
         Word::Given(name, value, help) => number(alloc, name, help).default_value(value),
+        Word::Units(name, help) => Arg::new(alloc, name)
+            .long(name)
+            .value_name("N")
+            .value_parser(value_parser!(u64))
+            .help(help),
         Word::Out(is_required, help) => Arg::new(alloc, "out")
             .short('o')
             .value_name("OUT")

@@ -1,19 +1,54 @@
 //! Drawings of glyphs.
 use crate::face::Face;
 use crate::failure::Refusal;
-use postscript_drawing::{Error as Undrawn, LIMIT, outline_of};
-use postscript_outline::Outline;
+use crate::limit::Budget;
+use postscript_drawing::{Accent, Error as Undrawn, draw_components, draw_program};
+use postscript_outline::{Outline, Point, Segment};
+use postscript_type2::Operand;
 use postscript_view::{Advance, Glyph};
 use std::alloc::Global;
 
-/// Why a glyph is refused.
-fn refusal_of(error: Undrawn) -> Refusal {
+/// How many units it takes to write a segment.
+pub const SEGMENT: u64 = 8;
+
+/// How many units it takes to write an operator or an operand.
+pub const OPERAND: u64 = 4;
+
+/// What a unit of a run may come to where its segments are written: a unit draws one of them at most.
+pub const PATH: u64 = 1 + SEGMENT;
+
+/// The same where its operations are written too: a unit has one operator or operand at most.
+pub const OBJECT: u64 = PATH + OPERAND;
+
+/// Why a glyph is refused that was given a share.
+fn refusal_of(error: Undrawn, glyph: &Glyph<'_, '_>, share: u64, budget: &mut Budget) -> Refusal {
     match error {
-        Undrawn::Font(fault) => Refusal::Run(fault),
+        Undrawn::Font(fault) => {
+            budget.refuse(glyph);
+            Refusal::Run(fault)
+        }
         Undrawn::NoSuchGlyph(_) => Refusal::NoPart,
-        Undrawn::TooLong => Refusal::TooLong(LIMIT),
+        Undrawn::TooLong => budget.stop(share),
         error => Refusal::Accent(error),
     }
+}
+
+/// Draws a glyph into a list, an accented one with its components, while its share lasts; and its width.
+fn draw_into(
+    alloc: Global,
+    face: &Face<'_>,
+    glyph: &Glyph<'_, '_>,
+    share: &mut u64,
+    budget: &mut Budget,
+    segments: &mut Vec<Segment>,
+) -> Result<Option<Operand>, Undrawn> {
+    let mut program = glyph.program(alloc);
+    let width = draw_program(&mut program, Point::ORIGIN, share, segments)?;
+    if let Some(accent) = Accent::named_by(program.operands_at_end())? {
+        budget.search(&face.font);
+        draw_components(alloc, &face.font, &accent, share, segments)?;
+    }
+    Ok(width)
 }
 
 /// A glyph and its outline, with the components of an accented one.
@@ -21,13 +56,21 @@ pub fn draw<'f, 'l>(
     alloc: Global,
     face: &'f Face<'l>,
     gid: u16,
+    budget: &mut Budget,
 ) -> Result<(Glyph<'f, 'l>, Outline), Refusal> {
     let Some(glyph) = face.font.glyph(usize::from(gid)) else {
         return Err(Refusal::NoPart);
     };
-    let mut limit = LIMIT;
-    let outline = outline_of(alloc, &face.font, usize::from(gid), &mut limit).map_err(refusal_of)?;
-    Ok((glyph, outline))
+    let share = budget.share();
+    let mut left = share;
+    let mut segments = Vec::new(alloc);
+    let drawn = draw_into(alloc, face, &glyph, &mut left, budget, &mut segments);
+    budget.spend(share.saturating_sub(left));
+    budget.spend((segments.len() as u64).saturating_mul(SEGMENT));
+    match drawn {
+        Ok(width) => Ok((glyph, Outline { segments, width })),
+        Err(error) => Err(refusal_of(error, &glyph, share, budget)),
+    }
 }
 
 /// The width of a glyph by its program in 65536ths of a unit: told there, and added to the nominal one, or else the default one.

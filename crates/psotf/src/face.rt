@@ -9,6 +9,8 @@ use std::alloc::Global;
 #[derive(Drop)]
 pub struct Face<'l> {
     pub file: FontFile<'l>,
+    /// How many bytes the file has.
+    pub size: usize,
     pub faces: usize,
     pub units: u16,
     pub glyphs: u16,
@@ -82,6 +84,7 @@ impl<'l> Face<'l> {
         let set = font.char_set().ok();
         Ok(Face {
             file,
+            size: bytes.len(),
             faces,
             units,
             glyphs,

@@ -1,8 +1,9 @@
 //! What a glyph is.
 use crate::characters::{Mapped, by_glyph, of_glyph};
-use crate::drawing::{count, draw, width_of};
+use crate::drawing::{OPERAND, count, draw, width_of};
 use crate::face::Face;
 use crate::failure::{Failure, Refusal};
+use crate::limit::Budget;
 use crate::progress::Progress;
 use crate::sheet::Sheet;
 use clap::ArgMatches;
@@ -69,8 +70,13 @@ fn refused(sheet: &mut Sheet, refusal: &Refusal) -> Result<(), AllocError> {
     sheet.shown(refusal)
 }
 
-/// Writes the operations of a glyph, each as a text.
-fn operations(alloc: Global, sheet: &mut Sheet, glyph: &Glyph<'_, '_>) -> Result<(), Failure> {
+/// Writes the operations of a glyph that was drawn, each as a text.
+fn operations(
+    alloc: Global,
+    sheet: &mut Sheet,
+    glyph: &Glyph<'_, '_>,
+    budget: &mut Budget,
+) -> Result<(), Failure> {
     let mut program = glyph.program(alloc);
     sheet.json.key("operations")?;
     sheet.json.begin_array()?;
@@ -78,6 +84,11 @@ fn operations(alloc: Global, sheet: &mut Sheet, glyph: &Glyph<'_, '_>) -> Result
         let Some((operator, operands)) = program.next()? else {
             break;
         };
+        budget.spend(
+            (operands.len() as u64)
+                .saturating_add(1)
+                .saturating_mul(OPERAND),
+        );
         sheet.operation(operator.name(), operands.as_slice())?;
     }
     sheet.json.end_array()?;
@@ -91,16 +102,17 @@ fn object(
     face: &Face<'_>,
     mapped: &[Mapped],
     gid: u16,
+    budget: &mut Budget,
 ) -> Result<bool, Failure> {
     sheet.json.begin_object()?;
     sheet.number("gid", u64::from(gid))?;
     name(alloc, sheet, face, gid)?;
     chars(alloc, sheet, of_glyph(mapped, gid))?;
     sheet.number("advance", u64::from(face.advances.of(gid)))?;
-    let is_drawn = match draw(alloc, face, gid) {
+    let is_drawn = match draw(alloc, face, gid, budget) {
         Ok((glyph, outline)) => {
             drawn(sheet, &glyph, &outline)?;
-            operations(alloc, sheet, &glyph)?;
+            operations(alloc, sheet, &glyph, budget)?;
             true
         }
         Err(refusal) => {
@@ -113,7 +125,13 @@ fn object(
 }
 
 /// Writes a glyph as a line: its number, its name or CID, its advance and its path; and tells whether it is drawn.
-fn line<W: Write>(alloc: Global, face: &Face<'_>, gid: u16, out: &mut W) -> Result<bool, Failure> {
+fn line<W: Write>(
+    alloc: Global,
+    face: &Face<'_>,
+    gid: u16,
+    budget: &mut Budget,
+    out: &mut W,
+) -> Result<bool, Failure> {
     write!(out, "{gid} ")?;
     match face.cid(gid) {
         Some(cid) => write!(out, "cid{cid:05}")?,
@@ -123,7 +141,7 @@ fn line<W: Write>(alloc: Global, face: &Face<'_>, gid: u16, out: &mut W) -> Resu
         }
     }
     let advance = face.advances.of(gid);
-    match draw(alloc, face, gid) {
+    match draw(alloc, face, gid, budget) {
         Ok((_, outline)) => {
             writeln!(out, " {advance} {outline}")?;
             Ok(true)
@@ -140,13 +158,14 @@ fn lines<W: Write>(
     alloc: Global,
     face: &Face<'_>,
     gids: Range<u16>,
+    budget: &mut Budget,
     progress: &mut Progress<'_>,
     out: &mut W,
 ) -> Result<u64, Failure> {
     let mut refused = 0u64;
     for gid in gids {
         progress.at(gid);
-        if !line(alloc, face, gid, out)? {
+        if !line(alloc, face, gid, budget, out)? {
             refused = refused.saturating_add(1);
         }
     }
@@ -158,6 +177,7 @@ fn objects<W: Write>(
     alloc: Global,
     face: &Face<'_>,
     gids: Range<u16>,
+    budget: &mut Budget,
     progress: &mut Progress<'_>,
     out: &mut W,
 ) -> Result<u64, Failure> {
@@ -166,7 +186,7 @@ fn objects<W: Write>(
     let mut refused = 0u64;
     for gid in gids {
         progress.at(gid);
-        if !object(alloc, &mut sheet, face, &mapped, gid)? {
+        if !object(alloc, &mut sheet, face, &mapped, gid, budget)? {
             refused = refused.saturating_add(1);
         }
         sheet = sheet.end(out)?;
@@ -216,14 +236,15 @@ fn told<W: Write>(
     rt: &HostRuntime,
     face: &Face<'_>,
     words: &ArgMatches<'_>,
+    budget: &mut Budget,
     out: &mut W,
 ) -> Result<u64, Failure> {
     let gids = named(face, words)?;
     let mut progress = Progress::of_answers(rt, gids.end);
     let refused = if words.get_flag("json") {
-        objects(rt.alloc(), face, gids, &mut progress, out)
+        objects(rt.alloc(), face, gids, budget, &mut progress, out)
     } else {
-        lines(rt.alloc(), face, gids, &mut progress, out)
+        lines(rt.alloc(), face, gids, budget, &mut progress, out)
     };
     progress.end();
     refused
@@ -234,9 +255,10 @@ pub fn write<W: Write>(
     rt: &HostRuntime,
     face: &Face<'_>,
     words: &ArgMatches<'_>,
+    budget: &mut Budget,
     out: &mut W,
 ) -> Result<(), Failure> {
-    match told(rt, face, words, out)? {
+    match told(rt, face, words, budget, out)? {
         0 => Ok(()),
         refused => Err(Failure::Refused(refused)),
     }

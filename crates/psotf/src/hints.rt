@@ -1,9 +1,12 @@
 //! Glyphs with hints.
 use crate::drawing::count;
 use crate::face::Face;
+use crate::failure::{Failure, Refusal};
+use crate::limit::Budget;
 use crate::progress::Progress;
+use crate::stopped::Stopped;
 use postscript_base::{Error, Result};
-use postscript_type2::Operator;
+use postscript_type2::{Operator, Within};
 use postscript_view::Glyph;
 use std::alloc::Global;
 
@@ -16,33 +19,76 @@ fn is_hint(operator: Operator) -> bool {
     }
 }
 
-/// Whether a glyph has a hint. One that is refused is judged by the operations before its fault.
-fn has_hint(alloc: Global, glyph: &Glyph<'_, '_>) -> Result<bool> {
-    let mut program = glyph.program(alloc);
-    for _ in 0..u64::MAX {
-        match program.step() {
-            Ok(Some((operator, _))) => {
-                if is_hint(operator) {
-                    return Ok(true);
-                }
-            }
-            Ok(None) => break,
-            Err(Error::Memory) => return Err(Error::Memory),
-            Err(_) => break,
-        }
-    }
-    Ok(false)
+/// What a run comes to within its share.
+#[derive(Clone, Copy)]
+enum Answer {
+    /// A hint.
+    Hint,
+    /// Its end, with no hint.
+    End,
+    /// A refusal, with no hint before.
+    Refused,
+    /// Neither: the share is used up.
+    Stopped,
 }
 
-/// How many glyphs have a hint.
-pub fn hinted(rt: &HostRuntime, face: &Face<'_>) -> Result<u64> {
+/// Whether the run of a glyph has a hint, as far as its share lasts.
+fn answer_of(alloc: Global, glyph: &Glyph<'_, '_>, share: &mut u64) -> Result<Answer> {
+    let mut program = glyph.program(alloc);
+    for _ in 0..u64::MAX {
+        match program.step_within(share) {
+            Ok(Within::Operation(operator, _)) => {
+                if is_hint(operator) {
+                    return Ok(Answer::Hint);
+                }
+            }
+            Ok(Within::End) => return Ok(Answer::End),
+            Ok(Within::Paused) => return Ok(Answer::Stopped),
+            Err(Error::Memory) => return Err(Error::Memory),
+            Err(_) => return Ok(Answer::Refused),
+        }
+    }
+    Ok(Answer::Stopped)
+}
+
+/// Whether a glyph has a hint; or why it is not known. One that is refused is judged by the operations before its fault.
+fn has_hint(
+    alloc: Global,
+    glyph: &Glyph<'_, '_>,
+    budget: &mut Budget,
+) -> Result<std::result::Result<bool, Refusal>> {
+    let share = budget.share();
+    let mut left = share;
+    let answer = answer_of(alloc, glyph, &mut left)?;
+    budget.spend_whole(share.saturating_sub(left));
+    match answer {
+        Answer::Hint => Ok(Ok(true)),
+        Answer::End => Ok(Ok(false)),
+        Answer::Refused => {
+            budget.refuse(glyph);
+            Ok(Ok(false))
+        }
+        Answer::Stopped => Ok(Err(budget.stop(share))),
+    }
+}
+
+/// How many glyphs of a face have a hint. Those whose runs take longer than the limit are judged by the operations up to there, and
+/// told of.
+pub fn hinted(
+    rt: &HostRuntime,
+    face: &Face<'_>,
+    budget: &mut Budget,
+    stopped: &mut Stopped<'_>,
+) -> std::result::Result<u64, Failure> {
     let mut hinted = 0u64;
     let mut progress = Progress::new(rt, count(face));
     for gid in 0..count(face) {
         progress.at(gid);
         if let Some(glyph) = face.font.glyph(usize::from(gid)) {
-            if has_hint(rt.alloc(), &glyph)? {
-                hinted = hinted.saturating_add(1);
+            match has_hint(rt.alloc(), &glyph, budget)? {
+                Ok(true) => hinted = hinted.saturating_add(1),
+                Ok(false) => {}
+                Err(refusal) => stopped.add(gid, &refusal)?,
             }
         }
     }

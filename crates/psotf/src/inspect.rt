@@ -4,7 +4,9 @@ use crate::dictionaries::{self, CID_TOP, PRIVATE, TOP};
 use crate::face::Face;
 use crate::failure::Failure;
 use crate::hints::hinted;
+use crate::limit::Budget;
 use crate::sheet::Sheet;
+use crate::stopped::Stopped;
 use postscript_base::Error;
 use postscript_base::compact1::Operator;
 use postscript_compact1::font_set::FontSet;
@@ -179,16 +181,15 @@ fn readings(alloc: Global, sheet: &mut Sheet, cff: &[u8]) -> Result<(), AllocErr
 }
 
 /// Writes what the table `CFF ` holds.
-fn font(rt: &HostRuntime, sheet: &mut Sheet, face: &Face<'_>) -> Result<(), Failure> {
-    let hinted = hinted(rt, face)?;
+fn font(alloc: Global, sheet: &mut Sheet, face: &Face<'_>, hinted: u64) -> Result<(), Failure> {
     sheet.json.key("cff")?;
     sheet.json.begin_object()?;
-    keys(rt.alloc(), sheet, face)?;
+    keys(alloc, sheet, face)?;
     counts(sheet, face, hinted)?;
     sheet.json.key("top")?;
     dictionaries::write(sheet, &face.font.dictionary, top_codes(face))?;
     parts(sheet, face)?;
-    readings(rt.alloc(), sheet, face.cff)?;
+    readings(alloc, sheet, face.cff)?;
     sheet.json.end_object()?;
     Ok(())
 }
@@ -212,11 +213,16 @@ fn head(sheet: &mut Sheet, face: &Face<'_>) -> Result<(), AllocError> {
 }
 
 /// Writes an object of all that is told.
-fn object<W: Write>(rt: &HostRuntime, face: &Face<'_>, out: &mut W) -> Result<(), Failure> {
-    let mut sheet = Sheet::new(rt.alloc());
+fn object<W: Write>(
+    alloc: Global,
+    face: &Face<'_>,
+    hinted: u64,
+    out: &mut W,
+) -> Result<(), Failure> {
+    let mut sheet = Sheet::new(alloc);
     sheet.json.begin_object()?;
     head(&mut sheet, face)?;
-    font(rt, &mut sheet, face)?;
+    font(alloc, &mut sheet, face, hinted)?;
     sheet.json.end_object()?;
     let _ = sheet.end(out)?;
     Ok(())
@@ -271,12 +277,17 @@ fn count_lines<W: Write>(face: &Face<'_>, hinted: u64, out: &mut W) -> Result<()
 }
 
 /// Writes lines of all that is told.
-fn lines<W: Write>(rt: &HostRuntime, face: &Face<'_>, out: &mut W) -> Result<(), Failure> {
-    name_lines(rt.alloc(), face, out)?;
-    count_lines(face, hinted(rt, face)?, out)?;
-    font_lines(rt.alloc(), face, out)?;
-    part_lines(rt.alloc(), face, out)?;
-    refusal_lines(rt.alloc(), face, out)
+fn lines<W: Write>(
+    alloc: Global,
+    face: &Face<'_>,
+    hinted: u64,
+    out: &mut W,
+) -> Result<(), Failure> {
+    name_lines(alloc, face, out)?;
+    count_lines(face, hinted, out)?;
+    font_lines(alloc, face, out)?;
+    part_lines(alloc, face, out)?;
+    refusal_lines(alloc, face, out)
 }
 
 /// Writes lines of what the table `CFF ` holds once.
@@ -325,16 +336,20 @@ fn refusal_line<W: Write>(
     Ok(())
 }
 
-/// Writes what a face holds.
+/// Writes what a face holds. It is refused behind that where the runs of glyphs take longer than the limit, with how many do.
 pub fn write<W: Write>(
     rt: &HostRuntime,
     face: &Face<'_>,
     as_json: bool,
+    budget: &mut Budget,
     out: &mut W,
 ) -> Result<(), Failure> {
+    let mut stopped = Stopped::new(rt);
+    let hinted = hinted(rt, face, budget, &mut stopped)?;
     if as_json {
-        object(rt, face, out)
+        object(rt.alloc(), face, hinted, out)?;
     } else {
-        lines(rt, face, out)
+        lines(rt.alloc(), face, hinted, out)?;
     }
+    stopped.end()
 }

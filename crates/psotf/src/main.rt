@@ -2,7 +2,10 @@
 //! fonts of some glyphs.
 #![tactic(auto)]
 
+ghost use Rattle.std.specs.Prelude.{◌<◌};
+
 mod along;
+mod asking;
 mod characters;
 mod choice;
 mod commands;
@@ -15,11 +18,13 @@ mod flat;
 mod glyph;
 mod hints;
 mod inspect;
+mod limit;
 mod progress;
 mod refused;
 mod saving;
 mod sheet;
 mod specimen;
+mod stopped;
 mod subset;
 mod svg;
 
@@ -27,9 +32,24 @@ use clap::ArgMatches;
 use commands::psotf;
 use face::Face;
 use failure::Failure;
+use limit::Budget;
+use postscript_drawing::LIMIT;
 use std::io::{BufWriter, Write};
 use std::process::ExitCode;
 use std::{env, fs, io};
+
+/// How much a unit of a run may come to in a subcommand.
+fn weight_of(name: &str, words: &ArgMatches<'_>) -> u64
+    ensures { 0 < result }
+{
+    match name {
+        "inspect" => 1,
+        "flat" => flat::RUNS,
+        "subset" => subset::RUNS,
+        "glyph" if words.get_flag("json") => drawing::OBJECT,
+        _ => drawing::PATH,
+    }
+}
 
 /// The face that the words of a subcommand name, and what is asked of it.
 fn answer<W: Write>(
@@ -42,13 +62,15 @@ fn answer<W: Write>(
     let number = words.get_one::<u16>("face").unwrap_or(0);
     let bytes = fs::read(rt, path)?;
     let face = Face::open(rt.alloc(), bytes.as_slice(), number)?;
+    let limit = words.get_one::<u64>("limit").unwrap_or(LIMIT);
+    let mut budget = Budget::new(limit, weight_of(name, words));
     let told = match name {
-        "inspect" => inspect::write(rt, &face, words.get_flag("json"), out),
-        "glyph" => glyph::write(rt, &face, words, out),
-        "svg" => svg::write(rt, &face, words, out),
-        "flat" => flat::write(rt, &face, words, out),
-        "subset" => subset::write(rt, &face, words, out),
-        _ => specimen::write(rt, &face, words, out),
+        "inspect" => inspect::write(rt, &face, words.get_flag("json"), &mut budget, out),
+        "glyph" => glyph::write(rt, &face, words, &mut budget, out),
+        "svg" => svg::write(rt, &face, words, &mut budget, out),
+        "flat" => flat::write(rt, &face, words, &mut budget, out),
+        "subset" => subset::write(rt, &face, words, &mut budget, out),
+        _ => specimen::write(rt, &face, words, &mut budget, out),
     };
     out.flush()?;
     told

@@ -2,6 +2,7 @@
 use crate::choice::Choice;
 use crate::face::{Face, needed};
 use crate::failure::Failure;
+use crate::limit::Budget;
 use crate::{along, saving};
 use clap::ArgMatches;
 use postscript_items::number::number_within;
@@ -12,6 +13,10 @@ use postscript_sfnt_write::{
 use postscript_write::{kept_glyphs, subset, subset_keeping};
 use std::alloc::{AllocError, Global};
 use std::io::Write;
+
+/// How often the run of a glyph is gone through: it is asked, looked at twice for what it is drawn with, measured and written, and
+/// its bytes are read back.
+pub const RUNS: u64 = 6;
 
 /// The new number of a glyph: how many of those that are kept stand before it.
 fn number_of(glyphs: &[usize], glyph: u16) -> u16 {
@@ -153,22 +158,25 @@ fn file_with(alloc: Global, face: &Face<'_>, made: &Written) -> Result<Vec<u8>, 
     Ok(file_of(alloc, tables.as_slice())?)
 }
 
-/// Writes a file of the glyphs that words name and of those that these are drawn with, and tells of the latter.
+/// Writes a file of the glyphs that words name and of those that these are drawn with, where the run of each keeps to the limit, and
+/// tells of the latter.
 pub fn write<W: Write>(
     rt: &HostRuntime,
     face: &Face<'_>,
     words: &ArgMatches<'_>,
+    budget: &mut Budget,
     out: &mut W,
 ) -> Result<(), Failure> {
     let alloc = rt.alloc();
     let choice = Choice::read(alloc, face, words)?;
+    let components = along::asked(alloc, &face.font, &choice.glyphs, budget)?;
     let kept = kept_glyphs(alloc, face.cff, &choice.glyphs)?;
     let made = if words.get_flag("retain-gids") {
         keeping(alloc, face, &choice)?
     } else {
         renumbered(alloc, face, &choice, &kept)?
     };
-    along::tell(rt, &face.font, &choice.glyphs, &kept)?;
+    along::tell(rt, &components)?;
     let file = file_with(alloc, face, &made)?;
     saving::put(rt, words, &file, out)
 }

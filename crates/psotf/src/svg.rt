@@ -2,6 +2,7 @@
 use crate::drawing::{count, draw};
 use crate::face::Face;
 use crate::failure::Failure;
+use crate::limit::Budget;
 use crate::saving;
 use clap::ArgMatches;
 use std::alloc::Global;
@@ -13,12 +14,13 @@ fn put(
     face: &Face<'_>,
     gid: u16,
     x: u64,
+    budget: &mut Budget,
     picture: &mut String,
 ) -> Result<(), Failure> {
     if gid >= count(face) {
         return Err(Failure::NoGlyph(gid));
     }
-    let outline = match draw(alloc, face, gid) {
+    let outline = match draw(alloc, face, gid, budget) {
         Ok((_, outline)) => outline,
         Err(refusal) => return Err(Failure::Glyph { gid, refusal }),
     };
@@ -30,7 +32,12 @@ fn put(
 }
 
 /// The paths of a text, and its width.
-fn paths(alloc: Global, face: &Face<'_>, text: &str) -> Result<(String, u64), Failure> {
+fn paths(
+    alloc: Global,
+    face: &Face<'_>,
+    text: &str,
+    budget: &mut Budget,
+) -> Result<(String, u64), Failure> {
     let Some(map) = &face.map else {
         return Err(Failure::Lacks("character map"));
     };
@@ -38,16 +45,21 @@ fn paths(alloc: Global, face: &Face<'_>, text: &str) -> Result<(String, u64), Fa
     let mut x = 0u64;
     for char in text.chars() {
         let gid = map.glyph_of(u32::from(char));
-        put(alloc, face, gid, x, &mut picture)?;
+        put(alloc, face, gid, x, budget, &mut picture)?;
         x = x.saturating_add(u64::from(face.advances.of(gid)));
     }
     Ok((picture, x))
 }
 
 /// The path of one glyph, and its advance.
-fn path(alloc: Global, face: &Face<'_>, gid: u16) -> Result<(String, u64), Failure> {
+fn path(
+    alloc: Global,
+    face: &Face<'_>,
+    gid: u16,
+    budget: &mut Budget,
+) -> Result<(String, u64), Failure> {
     let mut picture = String::new(alloc);
-    put(alloc, face, gid, 0, &mut picture)?;
+    put(alloc, face, gid, 0, budget, &mut picture)?;
     Ok((picture, u64::from(face.advances.of(gid))))
 }
 
@@ -56,11 +68,17 @@ pub fn write<W: Write>(
     rt: &HostRuntime,
     face: &Face<'_>,
     words: &ArgMatches<'_>,
+    budget: &mut Budget,
     out: &mut W,
 ) -> Result<(), Failure> {
     let (paths, width) = match words.get_one::<u16>("gid") {
-        Some(gid) => path(rt.alloc(), face, gid)?,
-        None => paths(rt.alloc(), face, words.get_str("text").unwrap_or(""))?,
+        Some(gid) => path(rt.alloc(), face, gid, budget)?,
+        None => paths(
+            rt.alloc(),
+            face,
+            words.get_str("text").unwrap_or(""),
+            budget,
+        )?,
     };
     let units = u64::from(face.units);
     let height = units.saturating_mul(2);

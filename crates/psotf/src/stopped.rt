@@ -1,0 +1,43 @@
+//! Glyphs whose runs take longer than the limit.
+use crate::failure::{Failure, Refusal};
+
+/// The glyphs of a command whose runs take longer than the limit: they are told on standard error, and counted.
+#[derive(Drop)]
+pub struct Stopped<'r> {
+    rt: &'r HostRuntime,
+    count: u64,
+    /// Whether it is told that nothing is left for all others.
+    is_over: bool,
+}
+
+impl<'r> Stopped<'r> {
+    /// None so far.
+    pub fn new(rt: &'r HostRuntime) -> Stopped<'r> {
+        Stopped {
+            rt,
+            count: 0,
+            is_over: false,
+        }
+    }
+
+    /// One more. Each has a line, but those for which nothing is left share one.
+    pub fn add(&mut self, gid: u16, refusal: &Refusal) -> Result<(), Failure> {
+        self.count = self.count.saturating_add(1);
+        match refusal {
+            Refusal::UsedUp(_) => if !self.is_over {
+                self.is_over = true;
+                eprintln!(self.rt; "psotf: glyph {gid} and those behind it: {refusal}")?;
+            },
+            _ => eprintln!(self.rt; "psotf: glyph {gid}: {refusal}")?,
+        }
+        Ok(())
+    }
+
+    /// Refused where there are some, with how many.
+    pub fn end(self) -> Result<(), Failure> {
+        match self.count {
+            0 => Ok(()),
+            count => Err(Failure::Refused(count)),
+        }
+    }
+}
