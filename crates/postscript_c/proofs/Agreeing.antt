@@ -1,5 +1,5 @@
 -- The places are those of the view.
-use Rattle.std.proofs.Common.{◌≡◌, ◌≢◌, refl, sym, ap, subst, ◌∙◌, inl, inr, ℕ, ◌+◌, ℤ, List, [], length, arith}
+use Rattle.std.proofs.Common.{◌≡◌, ◌≢◌, refl, sym, ap, subst, ◌∙◌, inl, inr, ℕ, ℤ, List, [], length, arith}
 use Rattle.std.specs.Option.{option_and_then}
 use Rattle.postscript_base.specs.Compact1.Dictionary.{Dictionary}
 use Rattle.std.specs.Prelude.{IfOk, Option, Some, Result, Ok, Err, slice_get}
