@@ -17,8 +17,8 @@
  *
  * Time and memory: each call that takes a psf_font runs a glyph, an accented one with its base and its accent, within font->limit,
  * which the caller may change. Of the 20,000,000 units that psf_font_open tells it reads at most as many bytes of phrases (operators
- * with the numbers before them; a roll counts as 4096 more) and one phrase besides, which takes well under a second; psf_glyph_flat
- * and psf_glyph_operations read them twice. What they keep is in proportion. psf_font_flat and psf_font_subset know no limit: ask
+ * with the numbers before them; a roll counts as 4096 more) and one phrase besides, which takes well under a second, and two or three
+ * where they are square roots; psf_glyph_flat and psf_glyph_operations read them twice. What they keep is in proportion. psf_font_flat and psf_font_subset know no limit: ask
  * psf_font_fits first for fonts of strangers. docs/LINKED.md tells what of this is proved, and what is tested.
  *
  * The library is built for 64-bit machines only.
