@@ -36,7 +36,7 @@ extern "C" {
 #endif
 
 /* The version of this header: its major, minor and patch number, a byte each. psf_version tells that of the library. */
-#define PSF_VERSION 0x000100u
+#define PSF_VERSION 0x000200u
 
 /* What a call answers: PSF_OK, or why it is refused. psf_status_text tells each in words. */
 enum {

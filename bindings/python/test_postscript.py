@@ -202,7 +202,7 @@ class Small(Case):
     def test_refusals(self):
         file = small()
         self.assertEqual(postscript.faces(file), 1)
-        self.assertEqual(postscript.version(), (0, 1, 0))
+        self.assertEqual(postscript.version(), (0, 2, 0))
         self.refused(Status.CUT_FILE, postscript.faces, b"")
         self.refused(Status.UNKNOWN_FILE, Font.from_bytes, file[1:])
         self.refused(Status.NO_FACE, Font.from_bytes, file, 1)

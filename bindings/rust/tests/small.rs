@@ -178,7 +178,7 @@ fn refusals() {
     let error: Box<dyn std::error::Error> = Box::new(Error::NoGlyph);
     assert_eq!(error.to_string(), "no such glyph");
     assert_eq!(Error::NoFace.status(), 35);
-    assert_eq!(postscript::version(), (0, 1, 0));
+    assert_eq!(postscript::version(), (0, 2, 0));
 }
 
 /// A CID-keyed font of four glyphs and two font dictionaries, up to its FDSelect. Glyph 1 calls the local subroutine of the first

@@ -23,8 +23,8 @@ use Rattle.postscript_type2.specs.Program.Stacks.{IsRolled, distance, copy, roll
 use Rattle.postscript_type2.specs.Program.Storage.{stored_at, storing, fetching}
 use Rattle.postscript_type2.specs.Program.StackWork.{after, ◌>>=◌, given, whole_operand, operand, operand_below, push}
 use Rattle.postscript_type2.proofs.RollingLaws.{rolled-law}
+use Rattle.postscript_type2.proofs.StackLaws.{no-whole, whole-top, most-taken, none-taken, last-is, Taking, taking}
 use Rattle.postscript_type2.proofs.StackEnds.{get-seam, Ending, nothing, last, ending, one-last, two-lasts, popped, whole-popped, two-last, below-past, choice-last, removal-last, exchange-last, below-there}
-use Rattle.postscript_type2.proofs.Greatest.{greatest-is, greatest-none}
 use Rattle.postscript_type2.proofs.Taken.{exactly-taken}
 use Rattle.postscript_type2.proofs.Roots.{whole_root-is}
 use Rattle.postscript_type2.proofs.Wholes.{to_int-whole}
@@ -38,27 +38,6 @@ is-held x = grind arith
 
 fit-past : (x : ℤ) → (IsHeld x → ⊥) → fit x ≡ Err overflow
 fit-past x other = grind arith
-
--- whole numbers, and fractions
-is-whole : (x : ℤ) → ((n : ℤ) × (x ≡ whole n)) ⊎ (to_int x ≡ None)
-is-whole (pos b) = by_rest (cases_lt 0 (b % 65536))
-  where
-    by_rest : (0 < b % 65536) ⊎ (b % 65536 ≤ 0) → ((n : ℤ) × (pos b ≡ whole n)) ⊎ (to_int (pos b) ≡ None)
-    by_rest (inl some) = inr (grind (arith, nat_tests))
-    by_rest (inr none) = inl (pos (b / 65536), let same : b ≡ b / 65536 * 65536 = omega arith in ap pos same)
-is-whole (negsuc b) = by_rest (cases_lt 0 (suc b % 65536))
-  where
-    by_rest : (0 < suc b % 65536) ⊎ (suc b % 65536 ≤ 0) → ((n : ℤ) × (negsuc b ≡ whole n)) ⊎ (to_int (negsuc b) ≡ None)
-    by_rest (inl some) = inr (grind (arith, nat_tests))
-    by_rest (inr none) =
-        let same : suc b ≡ suc (suc b / 65536 - 1) * 65536 = omega arith in
-        inl (negsuc (suc b / 65536 - 1), ap (λ m. neg_ℤ (pos m)) same)
-
-no-fraction : (x : ℤ) → to_int x ≡ None → (n : ℤ) → x ≢ whole n
-no-fraction x none n e = let is : to_int x ≡ Some n = ap to_int e ∙ to_int-whole n in cc
-
-no-whole : (stack : List ℤ) → HasNoWholeTop stack → whole_operand stack ≡ Err expected_integer
-no-whole stack h0 = grind (arith, popped, is-whole)
 
 -- what is pushed, where it can be
 given-pushed : (r : Result ℤ Refusal) (x : ℤ) (beneath : List ℤ) → r ≡ Ok x → (given r >>= push) beneath ≡ Ok (tt, beneath ++ x ∷ [])
@@ -172,21 +151,6 @@ refused-on lists op behind st _ _ (span_too_long beneath n shift h) =
 refused-on lists op behind st _ _ (nothing_to_put i) = ap store_move (whole-popped [] i (λ i. operand >>= λ a. given (stored_at st.stored i) >>= λ _. given (Ok (slice_set st.stored (nat_abs i) a))))
 refused-on lists op behind st _ _ (put_nowhere beneath a i h) = grind (arith, put-last, stored-nowhere)
 refused-on lists op behind st _ _ (get_nowhere beneath i h) = grind (arith, get-last, stored-nowhere)
-
--- clearing: the longest end that an operator may take
-not-true : (b : Bool) → (IsTrue b → ⊥) → b ≡ false
-not-true b h = grind arith
-
-most-taken : (takes : ℕ → Bool) (stack beneath taken : List ℤ) → TakesMost takes stack beneath taken → greatest takes (length stack) ≡ Some (length taken)
-most-taken takes stack beneath taken h =
-    let all : length stack ≡ length beneath + length taken = ap length h.parts ∙ length-append beneath taken in
-    greatest-is takes (length stack) (length taken) (omega arith) h.allowed (λ j above within. not-true (takes j) (h.longest j above within))
-
-none-taken : (takes : ℕ → Bool) (stack : List ℤ) → TakesNone takes stack → greatest takes (length stack) ≡ None
-none-taken takes stack h = greatest-none takes (length stack) (λ j within. not-true (takes j) (h j within))
-
-last-is : (stack beneath taken : List ℤ) → stack ≡ beneath ++ taken → last_of stack (length taken) ≡ taken
-last-is stack beneath taken e = grind (arith, nat_tests, common_steps, length-append, drop-append_seam)
 
 -- the width is settled beneath the operands taken
 settled-is : (before : Option (Option ℤ)) (stack beneath taken : List ℤ) (width : Option ℤ) → stack ≡ beneath ++ taken → IsSettled before beneath width →
@@ -316,18 +280,9 @@ fours lists op behind st many go = found-one lists op behind st 3 many st.stack 
     (λ first q is. found-next lists op behind st 4 (q ∷ v ∷ w ∷ []) many (omega arith) first is (ending first)
     (λ beneath p is. go beneath p q v w is))))
 
--- a whole number on top, or none
-whole-top : (stack : List ℤ) → Ending stack → (HasNoWholeTop stack) ⊎ ((beneath : List ℤ) × (n : ℤ) × (stack ≡ beneath ++ whole n ∷ []))
-whole-top _ nothing = inl empty
-whole-top _ (last beneath x) = by_kind (is-whole x)
-  where
-    by_kind : ((n : ℤ) × (x ≡ whole n)) ⊎ (to_int x ≡ None) → (HasNoWholeTop (beneath ++ x ∷ [])) ⊎ ((under : List ℤ) × (n : ℤ) × (beneath ++ x ∷ [] ≡ under ++ whole n ∷ []))
-    by_kind (inl there) = inr (beneath, there.0, ap (λ x. beneath ++ x ∷ []) there.1)
-    by_kind (inr other) = inl (fraction beneath x (no-fraction x other))
-
 found-named : (lists : Lists) (op : Operator) (behind : List ℕ) (st : State) → NamesByTop op →
     ((beneath : List ℤ) (n : ℤ) → st.stack ≡ beneath ++ whole n ∷ [] → Found lists op behind st) → Found lists op behind st
-found-named lists op behind st names go = by_top (whole-top st.stack (ending st.stack))
+found-named lists op behind st names go = by_top (whole-top st.stack)
   where
     by_top : (HasNoWholeTop st.stack) ⊎ ((beneath : List ℤ) × (n : ℤ) × (st.stack ≡ beneath ++ whole n ∷ [])) → Found lists op behind st
     by_top (inl other) = found-refused lists op behind st st.stack expected_integer refl (no_whole_top op st.stack names other)
@@ -354,7 +309,7 @@ found-index lists behind st beneath i is = by_depth (cases_lt (distance i) (leng
         found-left lists Index behind st front (item.0 ∷ (item.1 ++ whole i ∷ [])) (item.0 ∷ (item.1 ++ item.0 ∷ [])) (is ∙ split) (index item.0 item.1 i (sym item.3))
 
 found-roll : (lists : Lists) (behind : List ℕ) (st : State) (under : List ℤ) (shift : ℤ) → st.stack ≡ under ++ whole shift ∷ [] → Found lists Roll behind st
-found-roll lists behind st under shift is = by_top (whole-top under (ending under))
+found-roll lists behind st under shift is = by_top (whole-top under)
   where
     rolled : (beneath : List ℤ) (n : ℕ) → st.stack ≡ beneath ++ (whole (pos n) ∷ whole shift ∷ []) → n ≤ length beneath → Found lists Roll behind st
     rolled beneath n is fits =
@@ -437,42 +392,6 @@ found-if : (lists : Lists) (behind : List ℕ) (st : State) (beneath : List ℤ)
 found-if lists behind st beneath p q v w is = by_lt_z w v (λ above. found-left lists IfElse behind st beneath (p ∷ q ∷ v ∷ w ∷ []) (q ∷ []) is (if_above p q v w above))
     (λ under. found-left lists IfElse behind st beneath (p ∷ q ∷ v ∷ w ∷ []) (p ∷ []) is (if_not_above p q v w under))
 
--- the longest end that an operator may take, or none
-abbrev Longest : (ℕ → Bool) → ℕ → Type 0
-Longest takes n = (k : ℕ) × (k ≤ n) × IsTrue (takes k) × ((j : ℕ) → k < j → j ≤ n → ¬ IsTrue (takes j))
-
-decided : (b : Bool) → (IsTrue b) ⊎ (IsTrue b → ⊥)
-decided b = grind arith
-
-longer : (takes : ℕ → Bool) (n : ℕ) → (IsTrue (takes (suc n))) ⊎ (IsTrue (takes (suc n)) → ⊥) → (Longest takes n) ⊎ ((j : ℕ) → j ≤ n → ¬ IsTrue (takes j)) →
-    (Longest takes (suc n)) ⊎ ((j : ℕ) → j ≤ suc n → ¬ IsTrue (takes j))
-longer takes n h0 before = grind arith
-
-longest : (takes : ℕ → Bool) (n : ℕ) → (Longest takes n) ⊎ ((j : ℕ) → j ≤ n → ¬ IsTrue (takes j))
-longest takes zero = by_test (decided (takes 0))
-  where
-    by_test : (IsTrue (takes 0)) ⊎ (IsTrue (takes 0) → ⊥) → (Longest takes 0) ⊎ ((j : ℕ) → j ≤ 0 → ¬ IsTrue (takes j))
-    by_test (inl here) = inl (0, omega arith, here, λ j above under. absurd (omega arith))
-    by_test (inr other) = inr (λ j under. let same : j ≡ 0 = omega arith in subst (λ i. ¬ IsTrue (takes i)) (sym same) other)
-longest takes (suc n) = longer takes n (decided (takes (suc n))) (longest takes n)
-
-abbrev Split : (ℕ → Bool) → (stack : List ℤ) → Type 0
-Split takes stack = (beneath : List ℤ) × (taken : List ℤ) × TakesMost takes stack beneath taken
-
-split-at : (takes : ℕ → Bool) (stack : List ℤ) → Longest takes (length stack) → Split takes stack
-split-at takes stack one =
-    let front = take (length stack - one.0) stack in
-    let back = drop_of (length stack - one.0) stack in
-    let many : length back ≡ one.0 = length-drop (length stack - one.0) stack ∙ (let low : one.0 ≤ length stack = one.1 in omega arith) in (
-      front,
-      back,
-      record {
-        parts = sym (take-append-drop (length stack - one.0) stack);
-        allowed = subst (λ k. IsTrue (takes k)) (sym many) one.2;
-        longest = λ j above under. one.3 j (subst (λ k. k < j) many above) under;
-      },
-    )
-
 -- the width beneath them
 settle : (before : Option (Option ℤ)) (beneath : List ℤ) → (width : Option ℤ) × IsSettled before beneath width
 settle (Some width) beneath = (width, settled_before width beneath)
@@ -486,28 +405,26 @@ count-stems : (st : State) → StemsAfter st (stems_after st)
 count-stems st = in_pairs (length st.stack / 2) (length st.stack % 2) (omega arith) (omega arith)
 
 found-draws : (lists : Lists) (op : Operator) (behind : List ℕ) (st : State) (takes : ℕ → Bool) → kind op ≡ Draws takes → Found lists op behind st
-found-draws lists op behind st takes k = by_length (longest takes (length st.stack))
+found-draws lists op behind st takes k = by_parts (taking takes st.stack)
   where
-    by_length : (Longest takes (length st.stack)) ⊎ ((j : ℕ) → j ≤ length st.stack → ¬ IsTrue (takes j)) → Found lists op behind st
-    by_length (inr nowhere) = (Refuses malformed_operands, draws_none takes k nowhere)
-    by_length (inl one) =
-        let split = split-at takes st.stack one in
+    by_parts : Taking takes st.stack → Found lists op behind st
+    by_parts (inr nowhere) = (Refuses malformed_operands, draws_none takes k nowhere)
+    by_parts (inl split) =
         let width = settle st.width split.0 in
         (Clears split.1 st.stems width.0 0, draws takes split.0 split.1 width.0 k split.2 width.1)
 
 found-stems : (lists : Lists) (op : Operator) (behind : List ℕ) (st : State) (takes : ℕ → Bool) → kind op ≡ DeclaresStems takes → Found lists op behind st
 found-stems lists op behind st takes k = by_count (cases_lt (stems_after st) (2 ^ 32))
   where
-    by_length : stems_after st < 2 ^ 32 → (Longest takes (length st.stack)) ⊎ ((j : ℕ) → j ≤ length st.stack → ¬ IsTrue (takes j)) → Found lists op behind st
-    by_length few (inr nowhere) = (Refuses malformed_operands, declares_none takes (stems_after st) k (count-stems st) few nowhere)
-    by_length few (inl one) =
-        let split = split-at takes st.stack one in
+    by_parts : stems_after st < 2 ^ 32 → Taking takes st.stack → Found lists op behind st
+    by_parts few (inr nowhere) = (Refuses malformed_operands, declares_none takes (stems_after st) k (count-stems st) few nowhere)
+    by_parts few (inl split) =
         let width = settle st.width split.0 in
         (Clears split.1 (stems_after st) width.0 0, declares takes split.0 split.1 width.0 (stems_after st) k (count-stems st) few split.2 width.1)
 
     by_count : (stems_after st < 2 ^ 32) ⊎ (2 ^ 32 ≤ stems_after st) → Found lists op behind st
     by_count (inr many) = (Refuses too_many_stems, declares_too_many takes (stems_after st) k (count-stems st) many)
-    by_count (inl few) = by_length few (longest takes (length st.stack))
+    by_count (inl few) = by_parts few (taking takes st.stack)
 
 found-mask : (lists : Lists) (op : Operator) (behind : List ℕ) (st : State) → kind op ≡ Masks (exactly 0) → Found lists op behind st
 found-mask lists op behind st k = by_count (cases_lt (stems_after st) (2 ^ 32))
@@ -530,7 +447,7 @@ found-mask lists op behind st k = by_count (cases_lt (stems_after st) (2 ^ 32))
     by_count (inl few) = by_bytes few (cases_lt (length behind) (mask_len (stems_after st)))
 
 found-call : (lists : Lists) (op : Operator) (behind : List ℕ) (st : State) (routines : Lists → List (List ℕ)) → kind op ≡ CallsFrom routines → Found lists op behind st
-found-call lists op behind st routines k = by_top (whole-top st.stack (ending st.stack))
+found-call lists op behind st routines k = by_top (whole-top st.stack)
   where
     by_name : (beneath : List ℤ) (n : ℤ) → st.stack ≡ beneath ++ whole n ∷ [] → (o : Option (List ℕ)) → named (routines lists) n ≡ o → Found lists op behind st
     by_name beneath n is (Some routine) there = (Calls routine beneath, calls routines beneath n routine k is there)

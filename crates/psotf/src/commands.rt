@@ -203,7 +203,7 @@ fn command_of<'a>(alloc: Global, one: &Subcommand) -> Result<Command<'a>, AllocE
 /// The program's command.
 pub fn psotf<'a>(alloc: Global) -> Result<Command<'a>, AllocError> {
     let mut command = Command::new(alloc, "psotf")
-        .version("0.1.0")
+        .version("0.2.0")
         .about("Fonts with a table CFF in OpenType files")
         .after_help(EXAMPLES)
         .subcommand_required(true);

@@ -1,14 +1,16 @@
 -- What runs cost, and how a limit is spent on them. No rule of the Note: it bounds how long a call may take.
 use Rattle.std.specs.Prelude.{◌≡◌, ◌⊎◌, ℕ, ◌+◌, ◌*◌, ◌-◌, ◌<◌, ◌≤◌, List, [], ◌∷◌, ◌++◌, length}
 use Rattle.postscript_type2.specs.declared.operation.Operator.{Operator}
-use Rattle.postscript_type2.specs.declared.operation.Operator.TheVariants.{Roll}
+use Rattle.postscript_type2.specs.declared.operation.Operator.TheVariants.{Roll, Sqrt}
 use Rattle.postscript_type2.specs.Program.Flat.{flat_text}
 use Rattle.postscript_type2.specs.Program.Runs.{Said}
 
 -- A phrase costs a unit for each of its bytes, those of its mask with them. A roll costs 4096 more, since it moves up to
--- 32,767 operands; every other operator does work that is bounded by a constant.
+-- 32,767 operands, and a square root 8 more, since it takes as long as several other operators; every other operator does work
+-- that is bounded by a small constant.
 abbrev pub cost_beside : Operator → ℕ
 cost_beside Roll = 4096
+cost_beside Sqrt = 8
 cost_beside op = 0
 
 abbrev pub cost_of : Said → ℕ

@@ -25,9 +25,9 @@ pub enum Within<'p> {
 
 impl<'l> Program<'l> {
     /// The next operation, as `step` lends it, where the limit lasts up to it. Each phrase that is run, an operator with
-    /// the numbers before it, takes a unit of the limit for each of its bytes, and a `roll` 4096 more; one is begun only
-    /// while some of the limit is left, and takes the rest of it where it costs more. So a call reads at most as many bytes
-    /// as the limit has units, and one phrase. Where it answers `Paused` the program still answers what it did before: any
+    /// the numbers before it, takes a unit of the limit for each of its bytes, a `roll` 4096 more, and a `sqrt` 8 more; one
+    /// is begun only while some of the limit is left, and takes the rest of it where it costs more. So a call reads at most as
+    /// many bytes as the limit has units, and one phrase. Where it answers `Paused` the program still answers what it did before: any
     /// call goes on from there. A run that costs less than the limit is never paused. Calls of `next` and `step` may be
     /// mixed with it; they keep to no limit.
     ///
