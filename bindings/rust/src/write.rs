@@ -1,9 +1,18 @@
 //! Fonts that are written.
 use crate::c;
 use crate::error::Error;
-use std::fmt;
+use core::fmt;
 
 /// Why no font is written.
+///
+/// ```
+/// # let bytes = std::fs::read("examples/small.otf")?;
+/// # let font = postscript::Font::from_file(&bytes, 0)?;
+/// let error = font.subset(&[1, 4]).unwrap_err();
+/// assert_eq!((error.error, error.glyph), (postscript::Error::NoGlyph, Some(4)));
+/// assert_eq!(error.to_string(), "glyph 4: no such glyph");
+/// # Ok::<(), Box<dyn std::error::Error>>(())
+/// ```
 #[derive(Clone, Copy, Debug, PartialEq, Eq, Hash)]
 pub struct WriteError {
     /// Why the call is refused.
@@ -41,4 +50,5 @@ impl fmt::Display for WriteError {
     }
 }
 
+#[cfg(feature = "std")]
 impl std::error::Error for WriteError {}

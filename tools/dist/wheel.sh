@@ -1,0 +1,40 @@
+#!/bin/sh
+# The wheel of the Python module, with the shared library in it.
+#
+#     tools/dist/wheel.sh TREE OUT
+#
+# Needs Debian's python3-build, python3-setuptools and python3-wheel. The wheel is for any Python 3, x86-64, and the C library whose
+# symbols the library wants, or a newer one.
+. "$(dirname "$0")/env.sh"
+tree=$1 out=$2
+work=$(mktemp -d)
+trap 'rm -r "$work"' EXIT
+cp -r "$top/bindings/python/postscript" "$top/bindings/python/pyproject.toml" "$top/bindings/python/README.md" "$work"
+find "$work" -name __pycache__ -prune -exec rm -r {} +
+cp "$tree/lib/libpostscript.so.0" "$work/postscript"
+cp "$tree/LICENSE-APACHE" "$tree/LICENSE-MIT" "$tree/PROOF.txt" "$work"
+cat > "$work/setup.py" << END
+from setuptools import setup
+from wheel.bdist_wheel import bdist_wheel
+
+
+class Wheel(bdist_wheel):
+    def finalize_options(self):
+        super().finalize_options()
+        self.root_is_pure = False
+
+    def get_tag(self):
+        return "py3", "none", "manylinux_$(wanted_libc "$tree/lib/libpostscript.so.0" | sed 's/^\([0-9]*\)\.\([0-9]*\).*/\1_\2/')_x86_64"
+
+
+setup(cmdclass={"bdist_wheel": Wheel}, license_files=["LICENSE-APACHE", "LICENSE-MIT", "PROOF.txt"])
+END
+chmod -R u=rwX,go=rX "$work"
+dated "$work"
+# Debian's own Python, whose packages these are
+(cd "$work" && env -i PATH=/usr/bin:/bin HOME="$work" LC_ALL=C.UTF-8 SOURCE_DATE_EPOCH="$SOURCE_DATE_EPOCH" PYTHONHASHSEED=0 \
+    /usr/bin/python3 -m build --wheel --no-isolation --outdir "$work/dist" > "$work/log" 2>&1) || {
+    cat "$work/log"
+    exit 1
+}
+cp "$work/dist"/*.whl "$out"
