@@ -8,9 +8,10 @@
 tree=$1 out=$2
 work=$(mktemp -d)
 trap 'rm -r "$work"' EXIT
-maintainer='The Hozhvir developers <hozhvir@hozhvir.org>'
+maintainer='The Hozhvir developers <postscript-proved@hozhvir.invalid>'
 libs=usr/lib/x86_64-linux-gnu
-libc=$(wanted_libc "$tree"/bin/* "$tree/lib/libpostscript.so.0")
+libc=$(wanted_libc "$tree/lib/libpostscript.so.0")
+libc_of_programs=$(wanted_libc "$tree"/bin/*)
 mkdir "$work/psotf" "$work/libpostscript-proved0" "$work/libpostscript-proved-dev" "$work/python3-postscript-proved"
 
 cd "$work/psotf"
@@ -51,6 +52,9 @@ set -e
 if command -v py3clean > /dev/null 2>&1; then py3clean -p python3-postscript-proved; fi
 END
 
+# how many KiB the files have
+sizes() { find usr -type f -printf '%s\n' | awk '{ size += int(($1 + 1023) / 1024) } END { print size }'; }
+
 # finished PACKAGE: what each has, and the package
 finished() {
     cd "$work/$1"
@@ -60,19 +64,17 @@ finished() {
     awk -v text="$(sed 's/^$/./; s/^/ /' "$tree/LICENSE-MIT")" '{ if ($0 == "@MIT@") print text; else print }' \
         "$top/tools/dist/debian/copyright.in" > "$doc/copyright"
     filled "$top/tools/dist/debian/changelog.in" "MAINTAINER=$maintainer" "DATE=$(date -R -d "@$SOURCE_DATE_EPOCH")" | gzip -9n > "$doc/changelog.gz"
-    filled "$top/tools/dist/debian/control.in" "LIBC=$libc" | awk -v RS= -v wanted="Package: $1" 'index($0, wanted "\n") == 1' > DEBIAN/control
+    filled "$top/tools/dist/debian/control.in" "LIBC=$libc" "LIBC_OF_PROGRAMS=$libc_of_programs" | awk -v RS= -v wanted="Package: $1" 'index($0, wanted "\n") == 1' > DEBIAN/control
     grep -q '^Architecture:' DEBIAN/control || sed -i '/^Section:/i Architecture: amd64' DEBIAN/control
-    sed -i "/^Section:/i Source: postscript-proved\nVersion: $version\nMaintainer: $maintainer\nInstalled-Size: $(du -sk --apparent-size usr | cut -f 1)" \
+    sed -i "/^Section:/i Source: postscript-proved\nVersion: $version\nMaintainer: $maintainer\nInstalled-Size: $(sizes)" \
         DEBIAN/control
     sed -i '/^Section:/a Priority: optional' DEBIAN/control
     find usr -type f | sort | xargs md5sum > DEBIAN/md5sums
     chmod -R u=rwX,go=rX .
     for script in postinst prerm; do if [ -f DEBIAN/$script ]; then chmod 755 DEBIAN/$script; fi; done
     dated .
-    dpkg-deb --root-owner-group -Zxz --threads-max=1 --build . "$out/${1}_${version}_$(dpkg-deb_architecture).deb" > /dev/null
+    dpkg-deb --root-owner-group -Zxz --threads-max=1 --build . "$out/${1}_${version}_$(sed -n 's/^Architecture: //p' DEBIAN/control).deb" > /dev/null
 }
-
-dpkg-deb_architecture() { sed -n 's/^Architecture: //p' DEBIAN/control; }
 
 for package in psotf libpostscript-proved0 libpostscript-proved-dev python3-postscript-proved; do
     finished $package

@@ -1,6 +1,6 @@
 #!/bin/sh
-# Whether a file of a folder holds a path of the machine that it was made on: of the checkout, of the toolchain, of the home folder,
-# of a temporary file, or the machine's name. Archives and packages are looked through, and what these hold.
+# Whether a file of a folder holds a path of the machine that it was made on: of the checkout, of the toolchain, of the home folder, or
+# of a temporary file. Archives and packages are unpacked, and what these hold is looked through.
 #
 #     tools/dist/leaks.sh FOLDER
 #
@@ -18,12 +18,13 @@ for file in "$folder"/*; do
     *.whl) /usr/bin/python3 -m zipfile -e "$file" "$inside" ;;
     *.deb) dpkg-deb -R "$file" "$inside" && find "$inside" -name '*.gz' -exec gunzip {} + ;;
     esac
+    case $file in *.tar.gz | *.crate | *.whl | *.deb) rm "$inside/$(basename "$file")" ;; esac
     find "$inside" -name '*.a' -exec sh -c 'mkdir "$1.d" && cd "$1.d" && ar x "$1"' _ {} \;
 done
 kit=$(dirname "$(rt doc)")
-for path in "$top" "$kit/" "${HOME:-/root}/" "${TMPDIR:-/tmp}/" "$(uname -n)"; do printf '%s\n' "$path"; done > "$work.paths"
+for path in "$top" "$kit/" "${HOME:-/root}/" "${TMPDIR:-/tmp}/tmp." "${TMPDIR:-/tmp}/rt"; do printf '%s\n' "$path"; done > "$work.paths"
 find "$work" -type f | sort | while read -r file; do
-    strings -a -n 4 "$file" | grep -F -f "$work.paths" | grep -v '/tmp/[A-Za-z.]*svg' | sed "s|^|${file#"$work"/}: |"
+    strings -a -n 4 "$file" | grep -F -f "$work.paths" | sed "s|^|${file#"$work"/}: |"
 done > "$work.found"
 rm "$work.paths"
 status=0

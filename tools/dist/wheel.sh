@@ -13,21 +13,24 @@ cp -r "$top/bindings/python/postscript" "$top/bindings/python/pyproject.toml" "$
 find "$work" -name __pycache__ -prune -exec rm -r {} +
 cp "$tree/lib/libpostscript.so.0" "$work/postscript"
 cp "$tree/LICENSE-APACHE" "$tree/LICENSE-MIT" "$tree/PROOF.txt" "$work"
+# pip knows the C library's versions from 2.5 on
+libc=$(printf '2.5\n%s\n' "$(wanted_libc "$tree/lib/libpostscript.so.0")" | sort -V | tail -n 1 | cut -d . -f 1,2 | tr . _)
 cat > "$work/setup.py" << END
-from setuptools import setup
+from setuptools import Distribution, setup
 from wheel.bdist_wheel import bdist_wheel
 
 
+class Built(Distribution):
+    def has_ext_modules(self):
+        return True
+
+
 class Wheel(bdist_wheel):
-    def finalize_options(self):
-        super().finalize_options()
-        self.root_is_pure = False
-
     def get_tag(self):
-        return "py3", "none", "manylinux_$(wanted_libc "$tree/lib/libpostscript.so.0" | sed 's/^\([0-9]*\)\.\([0-9]*\).*/\1_\2/')_x86_64"
+        return "py3", "none", "manylinux_${libc}_x86_64"
 
 
-setup(cmdclass={"bdist_wheel": Wheel}, license_files=["LICENSE-APACHE", "LICENSE-MIT", "PROOF.txt"])
+setup(distclass=Built, cmdclass={"bdist_wheel": Wheel}, license_files=["LICENSE-APACHE", "LICENSE-MIT", "PROOF.txt"])
 END
 chmod -R u=rwX,go=rX "$work"
 dated "$work"
