@@ -71,10 +71,10 @@ pub ignored_or_not : (start peak last : ℤ) → IsIgnored start peak last ⊎ C
 ignored_or_not start peak last =
     by_lt_z peak start (λ h. inl (start_behind h)) (λ a. by_lt_z last peak (λ h. inl (end_before h)) (λ b.
     elim (same_or_not peak (pos 0)) [
-      inl e ↦ inl (default_peak e)
-    | inr n ↦ by_lt_z start (pos 0)
-        (λ h. by_lt_z (pos 0) last (λ k. inl (both_sides h k)) (λ k. inr (record { rises = a; falls = b; one_side = inr k; some = n })))
-        (λ h. inr (record { rises = a; falls = b; one_side = inl h; some = n }))
+      | inl e ↦ inl (default_peak e)
+      | inr n ↦ by_lt_z start (pos 0)
+          (λ h. by_lt_z (pos 0) last (λ k. inl (both_sides h k)) (λ k. inr (record { rises = a; falls = b; one_side = inr k; some = n })))
+          (λ h. inr (record { rises = a; falls = b; one_side = inl h; some = n }))
     ]))
 
 counted : (start peak last : ℤ) → Counts start peak last → is_passed_over start peak last ≡ false
@@ -147,6 +147,6 @@ counted_one start peak last at c =
 pub has_one : (start peak last at : ℤ) → HasAxisScalar start peak last at
 has_one start peak last at =
     elim (ignored_or_not start peak last) [
-      inl i ↦ record { part = 1; whole = 1; is = ignored i refl refl }
-    | inr c ↦ counted_one start peak last at c
+      | inl i ↦ record { part = 1; whole = 1; is = ignored i refl refl }
+      | inr c ↦ counted_one start peak last at c
     ]

@@ -8,13 +8,14 @@ use Rattle.postscript_variation.specs.Store.{coordinate_at, scalar_by, span_at, 
 use Rattle.postscript_variation.proofs.AxisScalars.{HasAxisScalar, at_most_one, computed, has_one, nearest-is, nearest-only, some}
 
 pub multiplied : (scalar : ℕ) (start peak last at : ℤ) (result : ℕ) → (scaled scalar start peak last at ≡ result) ↔ IsScaled scalar start peak last at result
-multiplied scalar start peak last at result =
-    ((λ e. let one = has_one start peak last at in
-    let s = some start peak last at one.part one.whole one.is in
-    let c = sym (computed scalar start peak last at one.part one.whole one.is) ∙ e in
-    record { part = one.part; whole = one.whole; axis = one.is; near = subst (IsNearest (scalar * one.part) one.whole) c (nearest-is (scalar * one.part) one.whole s) }),
-    (λ is. computed scalar start peak last at is.part is.whole is.axis
-    ∙ nearest-only (scalar * is.part) is.whole result (some start peak last at is.part is.whole is.axis) is.near))
+multiplied scalar start peak last at result = (
+  (λ e. let one = has_one start peak last at in
+      let s = some start peak last at one.part one.whole one.is in
+      let c = sym (computed scalar start peak last at one.part one.whole one.is) ∙ e in
+      record { part = one.part; whole = one.whole; axis = one.is; near = subst (IsNearest (scalar * one.part) one.whole) c (nearest-is (scalar * one.part) one.whole s) }),
+  (λ is. computed scalar start peak last at is.part is.whole is.axis
+      ∙ nearest-only (scalar * is.part) is.whole result (some start peak last at is.part is.whole is.axis) is.near),
+)
 
 -- ---- one axis more
 
@@ -79,7 +80,7 @@ few rounded axis (suc (suc whole)) h = rw (many whole) (omega arith)
 
 one_more : (bytes : List ℕ) (place axes region : ℕ) (coordinates : List ℤ) (axis : ℕ) → HasProduct bytes place axes region coordinates axis
     → HasAxisScalar (coordinate_at bytes (span_at place axes region axis)) (coordinate_at bytes (span_at place axes region axis + 2))
-      (coordinate_at bytes (span_at place axes region axis + 4)) (told (slice_get coordinates axis))
+    (coordinate_at bytes (span_at place axes region axis + 4)) (told (slice_get coordinates axis))
     → HasProduct bytes place axes region coordinates (suc axis)
 one_more bytes place axes region coordinates axis before one = record {
   part = before.part * one.part;
