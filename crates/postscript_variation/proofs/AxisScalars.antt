@@ -1,10 +1,8 @@
 -- Axis scalars as they are computed.
-use Rattle.std.proofs.Common.{◌≡◌, ◌⊎◌, inl, inr, ℕ, ◌+◌, ◌*◌, ◌/◌, ◌<◌, ◌≤◌, ℤ, pos, ◌<ℤ◌, ◌≤ℤ◌, true, false, refl, ap, sym, ◌∙◌, arith}
+use Rattle.std.proofs.Common.{◌≡◌, ◌⊎◌, inl, inr, ℕ, ◌*◌, ◌<◌, ◌≤◌, ℤ, pos, ◌<ℤ◌, ◌≤ℤ◌, true, false, refl, arith}
 use Rattle.std.proofs.lemmas.Int.{ints, by_lt_z}
-use Rattle.std.proofs.lemmas.Nat.{le-div}
-use Rattle.std.proofs.Math.Nat.{div-mul-le_self, div-one, div-eq_of_lt-le}
+use Rattle.std.proofs.Math.Nat.{div-eq_of_lt-le}
 use Rattle.std.specs.Ordering.{int_eq}
-use Rattle.std.specs.Prelude.{int_lt, unsigned_abs}
 use Rattle.postscript_variation.specs.Scalars.{IsAxisScalar, IsIgnored, IsNearest, apart, is_outside, is_passed_over, nearest, scaled}
 use Rattle.postscript_variation.specs.Scalars.IsIgnored.{start_behind, end_before, both_sides, default_peak}
 use Rattle.postscript_variation.specs.Scalars.IsAxisScalar.{ignored, outside, at_peak, rising, falling}

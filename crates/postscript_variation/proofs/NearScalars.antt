@@ -1,8 +1,8 @@
 -- How far scalars are from the exact ones.
-use Rattle.std.proofs.Common.{◌≡◌, ◌↔◌, ℕ, zero, suc, ◌+◌, ◌*◌, ◌<◌, ◌≤◌, ℤ, List, slice_get, refl, sym, subst, ◌∙◌, arith}
+use Rattle.std.proofs.Common.{◌≡◌, ◌↔◌, ℕ, zero, suc, ◌+◌, ◌*◌, ◌<◌, ◌≤◌, ℤ, List, slice_get, sym, subst, ◌∙◌, arith}
 use Rattle.std.proofs.Math.Nat.{mul-le-mul_right}
 use Rattle.postscript_variation.specs.Scalars.{IsAxisScalar, IsNearest, nearest, scaled}
-use Rattle.postscript_variation.specs.ScalarLaws.{HasProduct, IsAxisScalarOf, IsProduct, IsScaled, IsWithinHalves, fractions}
+use Rattle.postscript_variation.specs.ScalarLaws.{HasProduct, IsProduct, IsScaled, IsWithinHalves, fractions}
 use Rattle.postscript_variation.specs.ScalarLaws.IsProduct.{of_none, by_axis}
 use Rattle.postscript_variation.specs.Store.{coordinate_at, scalar_by, span_at, told}
 use Rattle.postscript_variation.proofs.AxisScalars.{HasAxisScalar, at_most_one, computed, has_one, nearest-is, nearest-only, some}

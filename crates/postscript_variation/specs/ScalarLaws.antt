@@ -1,5 +1,5 @@
 -- Scalars as they are computed, and as they are exactly.
-use Rattle.std.specs.Prelude.{◌≡◌, ◌↔◌, ℕ, zero, suc, ◌+◌, ◌*◌, ◌≤◌, ◌<◌, ◌==◌, if◌then◌else◌, ℤ, List, slice_get}
+use Rattle.std.specs.Prelude.{◌≡◌, ◌↔◌, ℕ, suc, ◌+◌, ◌*◌, ◌≤◌, ◌<◌, ◌==◌, if◌then◌else◌, ℤ, List, slice_get}
 use Rattle.postscript_variation.specs.Scalars.{IsAxisScalar, IsNearest, full, scaled}
 use Rattle.postscript_variation.specs.Store.{coordinate_at, scalar_by, span_at, told}
 

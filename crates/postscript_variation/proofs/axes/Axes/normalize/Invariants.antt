@@ -1,4 +1,3 @@
-use Rattle.std.proofs.Common.{◌≡◌, length}
 use Rattle.postscript_variation.specs.Coordinates.{AreCoordinates}
 use Rattle.postscript_variation.proofs.axes.Axes.normalize.Given as goal
 
