@@ -19,7 +19,8 @@ pub record MetricVariesBy (metrics : MetricVariations) (tag : ℕ) (coordinates 
   pub store : Store
   pub first : IsFirstRecord metrics.bytes.now metrics.size metrics.count tag entry
   pub stored : metrics.store ≡ Some store
-  pub varies : VariesBy store (outer_at metrics.bytes.now metrics.size entry) (inner_at metrics.bytes.now metrics.size entry) coordinates total
+  pub varies :
+      VariesBy store (outer_at metrics.bytes.now metrics.size entry) (inner_at metrics.bytes.now metrics.size entry) coordinates total
 
 -- the table tells nothing of it: there is no record of the tag, no store, or no delta set of the indexes
 abbrev pub HasNoMetric : MetricVariations → (tag : ℕ) → Type 0
