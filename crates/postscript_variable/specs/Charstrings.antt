@@ -8,7 +8,7 @@ use Rattle.postscript_variable.specs.Evaluation.{Run, run_of}
 use Rattle.postscript_variable.specs.Meaning.{End, IsRunOf}
 use Rattle.postscript_variable.specs.Programs.{font}
 
--- the subroutines and the tables of data that a charstring is run over
+-- the subroutines and the scalars that a charstring is run over
 abbrev pub font_from : Charstring → Font
 font_from charstring = font (lists_of charstring.subroutines) charstring.blends.tables.now
 

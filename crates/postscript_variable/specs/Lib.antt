@@ -1,4 +1,4 @@
--- What contracts say of charstrings of CFF2 (OpenType, "CFF2 CharString Format"). People begin at Meaning.
+-- What contracts say of charstrings of CFF2 (OpenType 1.9, "CFF2 CharString Format"). People begin at Meaning.
 pub mod Commands
 pub mod Blending
 pub mod Effects

@@ -10,14 +10,14 @@ use crate::program::{Phase, Program};
 use postscript_type2::Subroutines;
 use std::alloc::Global;
 
-/// What a charstring blends with: for each table of data of the variation store ("Item Variation Store"), in their order,
-/// the scalars of its regions at the coordinates that are drawn, in units of 1 / 65536; and the number of the table that
-/// the Private DICT names by `vsindex`, 0 where it names none. A font without a variation store has no tables.
+/// What a charstring blends with: for each item variation data of the variation store (ItemVariationData), in their order,
+/// the scalars of its regions at the coordinates that are drawn, in units of 1 / 65536; and the number of the one that the
+/// Private DICT names by `vsindex`, 0 where it names none. A font without a variation store has none.
 #[derive(Clone, Copy)]
 pub struct Blends<'l> {
-    /// The scalars of each table of data.
+    /// The scalars of each item variation data.
     pub tables: &'l [Vec<u32>],
-    /// The number of the table that is in use at first.
+    /// The number of the item variation data that is in use at first.
     pub index: usize,
 }
 

@@ -40,7 +40,7 @@ pub fn limit_is_cost()
 {}
 
 /// A law: what an operator does is what the table of the operators says (`specs/OperatorRules.antt`): the stack, the stems and the
-/// table of data before and after it, and each cause of a refusal. It does nothing and is never refused.
+/// scalars in use before and after it, and each cause of a refusal. It does nothing and is never refused.
 pub fn operators_do_so()
     ensures { OperatorsDoSo }
 {}

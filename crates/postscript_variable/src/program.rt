@@ -40,18 +40,19 @@ impl<'l> Model for Program<'l> {
     ghost use Rattle.postscript_variable.specs.Private.Machines.{IsNested};
     ghost use Rattle.postscript_variable.specs.declared.program.Phase.TheVariants as phases;
 
-    ghost invariant = { λ program. (program.phase ≡ phases.Running → IsNested program.machine) × (program.phase ≡ phases.Paused → IsNested program.machine) };
+    ghost invariant = { λ program. (program.phase ≡ phases.Running → IsNested program.machine) ×
+        (program.phase ≡ phases.Paused → IsNested program.machine) };
 }
 
 impl<'l> Program<'l> {
     /// The next operation, with its operands in 16.16 bits lent, the lowest first, until the program is used again; None at the
     /// end. Once it has answered None it answers None from then on. It asks for memory only where the stack of operands or of
-    /// callers grows.
+    /// callers grows. It keeps to no limit: `step_within` does.
     ///
     /// Refused: with what the run is refused with by the rules (`specs/Meaning.antt`): `UnexpectedEof` where bytes are wanting,
     /// `UnknownOperator`, `ExpectedInteger` where no whole number is on top that an operator asks for, `ExpectedMoreOperands` where a
     /// `blend` names more than there are, `MalformedOperands`, `InvalidOperand` where a `vsindex` stands behind a `blend` or names no
-    /// table of data, or a `blend` has none, `MissingSubroutine`, `TooDeep`, `Overflow` of the stack or of a blended value,
+    /// item variation data, or a `blend` has none, `MissingSubroutine`, `TooDeep`, `Overflow` of the stack or of a blended value,
     /// `TooManyStems`; or `Memory`. Once it has been refused it is refused with `AlreadyFailed` from then on.
     #[inline(always)]
     pub fn step(&mut self) -> Result<Option<(Operator, &[Operand])>>

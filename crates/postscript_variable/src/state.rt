@@ -13,7 +13,7 @@ use crate::command::Command;
 use crate::refused::{Refused, Result};
 use postscript_type2::{Operand, Operator, Subroutines};
 
-/// What a charstring is run over: the subroutines, and the scalars of the regions of each table of data.
+/// What a charstring is run over: the subroutines, and the scalars of the regions of each item variation data.
 #[derive(Clone, Copy)]
 pub(crate) struct Font<'l> {
     pub(crate) subroutines: Subroutines<'l>,
@@ -112,7 +112,8 @@ impl<'l> State<'l> {
 
     /// An operator that is answered.
     fn answer(&mut self, operator: Operator, behind: usize) -> Result<Effect<'l>>
-        ensures value { (bytes : List ℕ) → length bytes ≡ behind → Does (answer_move (kind operator) operator bytes (state_of self.old)) result self.new }
+        ensures value { (bytes : List ℕ) → length bytes ≡ behind →
+            Does (answer_move (kind operator) operator bytes (state_of self.old)) result self.new }
         ensures room { IfOk result (λ effect. mask_of effect ≤ behind) }
     {
         match operator {

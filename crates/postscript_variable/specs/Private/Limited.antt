@@ -15,6 +15,7 @@ ReachesWithin before limit (Ok (reaches.At operator count)) new left =
     Reaches before (Ok (Some (operator, count))) new × Spends limit before.costs left (still_emptied new).costs × (left < limit)
 ReachesWithin before limit (Ok reaches.End) new left = Reaches before (Ok None) new × Spends limit before.costs left []
 ReachesWithin before limit (Ok reaches.Paused) new left =
-    (before.answers ≡ (still_of new).answers) × (before.end ≡ (still_of new).end) × (left ≡ 0) × Spends limit before.costs left (still_of new).costs
+    (before.answers ≡ (still_of new).answers) × (before.end ≡ (still_of new).end) × (left ≡ 0) ×
+    Spends limit before.costs left (still_of new).costs
 ReachesWithin before limit (Err e) new left =
     Reaches before (Err e) new × ((rest : List ℕ) × Spends limit before.costs left rest × ((e ≡ Memory) ⊎ (rest ≡ [])))

@@ -35,8 +35,10 @@ still_with machine size x =
     still_number (font_of machine.font) machine.left machine.routine (rests machine.callers) (state_of machine.state) size x
 
 abbrev pub still_by : Machine → (size : ℕ) → Command → Run
-still_by machine size command = still_moved (font_of machine.font) machine.left machine.routine (rests machine.callers)
-    (size + cost_beside command (state_of machine.state).stack) (effect (font_of machine.font) command machine.routine (state_of machine.state))
+still_by machine size command =
+    let st = state_of machine.state in
+    still_moved (font_of machine.font) machine.left machine.routine (rests machine.callers)
+    (size + cost_beside command st.stack) (effect (font_of machine.font) command machine.routine st)
 
 -- what falls with each event: a call costs something, and adds a caller
 abbrev pub work_of : Run → Machine → ℕ
@@ -53,7 +55,8 @@ Advances before work (Ok events.Back) new = (before ≡ still_of new) × (work_o
 Advances before work (Ok (events.Went cost)) new =
     (before ≡ with_step (cost_of cost) (still_of new)) × (0 < cost_of cost) × (work_of (still_of new) new < work)
 Advances before work (Ok (events.Answered operator count cost)) new =
-    (before ≡ with_step (cost_of cost) (with_answer (answer operator (last_of new.state.stack.items count)) (still_emptied new))) × (0 < cost_of cost)
+    (before ≡ with_step (cost_of cost) (with_answer (answer operator (last_of new.state.stack.items count)) (still_emptied new))) ×
+    (0 < cost_of cost)
 Advances before work (Err e) new = (e ≡ Memory) ⊎ (before ≡ at_end (Stopped (reason e)))
 
 -- Of what was still answered the first operation is reached.

@@ -23,7 +23,12 @@ abbrev pub font_of : code_font.Font → Font
 font_of font = record { lists = lists_of font.subroutines; tables = tables_of font.tables.now }
 
 abbrev pub state_of : code.State → State
-state_of st = record { stack = st.stack.items; stems = st.stems; scalars = option_map (λ scalars. scalars.now) st.scalars; is_blended = st.is_blended }
+state_of st = record {
+  stack = st.stack.items;
+  stems = st.stems;
+  scalars = option_map (λ scalars. scalars.now) st.scalars;
+  is_blended = st.is_blended;
+}
 
 -- the rests of the callers, the innermost first: they are kept the outermost first
 abbrev pub rests : Callers → List (List ℕ)
@@ -73,14 +78,16 @@ BlendsAll old n scalars (Err e) new = values (take n old) (drop n old) scalars �
 -- the same behind a place
 abbrev pub BlendsBehind : List ℤ → (base n : ℕ) → (scalars : List ℕ) → Result (Unit {0}) Refused → List ℤ → Type 0
 BlendsBehind old base n scalars (Ok done) new =
-    (values (take n (drop base old)) (drop n (drop base old)) scalars ≡ Ok (take n (drop base new))) × (take base new ≡ take base old) × (length new ≡ length old)
+    (values (take n (drop base old)) (drop n (drop base old)) scalars ≡ Ok (take n (drop base new))) × (take base new ≡ take base old) ×
+    (length new ≡ length old)
 BlendsBehind old base n scalars (Err e) new = values (take n (drop base old)) (drop n (drop base old)) scalars ≡ Err (reason e)
 
 -- the values stand in place of the last n operands and their deltas
 abbrev pub Blends : List ℤ → (n : ℕ) → (scalars : List ℕ) → Result (Unit {0}) Refused → List ℤ → Type 0
 Blends old n scalars (Ok done) new =
     let top = last_of old (n * suc (length scalars)) in
-    (vals : List ℤ) × (values (take n top) (drop n top) scalars ≡ Ok vals) × (new ≡ take (length old - n * suc (length scalars)) old ++ vals)
+    (vals : List ℤ) × (values (take n top) (drop n top) scalars ≡ Ok vals) ×
+    (new ≡ take (length old - n * suc (length scalars)) old ++ vals)
 Blends old n scalars (Err e) new =
     let top = last_of old (n * suc (length scalars)) in values (take n top) (drop n top) scalars ≡ Err (reason e)
 
