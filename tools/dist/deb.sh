@@ -5,7 +5,7 @@
 #
 # Needs dpkg-deb. Where lintian is there, it is asked of each package, and an error of it ends the script.
 . "$(dirname "$0")/env.sh"
-tree=$1 out=$2
+tree=$(cd "$1" && pwd) out=$(cd "$2" && pwd)
 work=$(mktemp -d)
 trap 'rm -r "$work"' EXIT
 maintainer='The Hozhvir developers <postscript-proved@hozhvir.invalid>'
