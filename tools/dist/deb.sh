@@ -18,7 +18,9 @@ cd "$work/psotf"
 mkdir -p usr/share/man/man1
 cp -r "$tree/bin" usr/bin
 for page in psotf psfont; do gzip -9n < "$tree/share/man/man1/$page.1" > usr/share/man/man1/$page.1.gz; done
-cp -r "$tree/share/bash-completion" "$tree/share/zsh" "$tree/share/fish" usr/share
+mkdir usr/share/zsh
+cp -r "$tree/share/bash-completion" "$tree/share/fish" usr/share
+cp -r "$tree/share/zsh/site-functions" usr/share/zsh/vendor-completions
 
 cd "$work/libpostscript-proved0"
 mkdir -p $libs DEBIAN
