@@ -1,9 +1,9 @@
 -- What does not vary at the default.
-use Rattle.std.proofs.Common.{◌≡◌, inl, inr, ℕ, zero, suc, ◌*◌, ◌<◌, ℤ, pos, ◌*ℤ◌, List, [], Option, Some, None, Bool, true, false, refl, sym, ◌∙◌, arith}
+use Rattle.std.proofs.Common.{◌≡◌, inl, inr, ℕ, zero, suc, ◌*◌, ◌<◌, ℤ, pos, ◌*ℤ◌, List, [], Option, Some, None, refl, sym, ◌∙◌, arith}
 use Rattle.std.proofs.Math.Nat.{div-eq_of_lt}
 use Rattle.std.proofs.lemmas.Bool.{cases_eq}
 use Rattle.std.proofs.lemmas.Int.{ints}
-use Rattle.std.specs.Prelude.{nat_lt, if◌then◌else◌}
+use Rattle.std.specs.Prelude.{nat_lt}
 use Rattle.postscript_variation.specs.Coordinates.{coordinate_along, coordinate_by, mapped_with}
 use Rattle.postscript_variation.specs.Deltas.{delta_at}
 use Rattle.postscript_variation.specs.DefaultLaws.{AreDefault, CountsAlong, DependsOnAxis}
@@ -22,18 +22,15 @@ use Rattle.postscript_variation.specs.declared.maps.Maps.{Maps}
 use Rattle.postscript_variation.specs.declared.regions.Regions.{Regions}
 use Rattle.postscript_variation.specs.declared.store.Data.{Data}
 use Rattle.postscript_variation.proofs.AxisScalars.{computed, counts_of, has_one, some}
-use Rattle.postscript_variation.proofs.Keeping.{defaults as maps_keep}
+use Rattle.postscript_variation.proofs.Deciding.{chosen}
+use Rattle.postscript_variation.proofs.Segments.{defaults as maps_keep}
 use Rattle.postscript_variation.proofs.Normalizing.{defaults}
 
 -- ---- where nothing is asked for
 
-chosen : (b : Bool) (x y : ℤ) → x ≡ y → (if b then x else y) ≡ y
-chosen true x y e = e
-chosen false x y e = refl
-
 kept : (maps : Option Maps) (axis : ℕ) → mapped_with maps axis (pos 0) ≡ pos 0
 kept None axis = refl
-kept (Some maps) axis = chosen (nat_lt axis (map_count maps)) (mapped maps.bytes.now (map_place maps.bytes.now axis) _ (pos 0)) (pos 0) (maps_keep _ _ _)
+kept (Some maps) axis = chosen (nat_lt axis (map_count maps)) (mapped maps.bytes.now (map_place maps.bytes.now axis) _ (pos 0)) (pos 0) (λ t. maps_keep _ _ _)
 
 by_record : (found : Axis) (axis : ℕ) (maps : Option Maps) → coordinate_by found axis maps [] ≡ pos 0
 by_record found axis maps = rw (defaults found.minimum found.default found.maximum) (rw (kept maps axis) refl)
@@ -41,7 +38,7 @@ by_record found axis maps = rw (defaults found.minimum found.default found.maxim
 pub asked_for_none : (axes : Axes) (maps : Option Maps) (axis : ℕ) → coordinate_along axes maps [] axis ≡ pos 0
 asked_for_none axes maps axis =
     chosen (nat_lt axis (axis_count axes)) (coordinate_by (axis_at (bytes_of axes) (axis_place axes axis)) axis maps []) (pos 0)
-    (by_record (axis_at (bytes_of axes) (axis_place axes axis)) axis maps)
+    (λ t. by_record (axis_at (bytes_of axes) (axis_place axes axis)) axis maps)
 
 -- ---- scalars
 
@@ -82,15 +79,11 @@ by_axes bytes place axes region coordinates (suc count) axis d h n =
       | inr o ↦ rw (by_axes bytes place axes region coordinates count axis d (omega (arith, h, o)) n) (of_zero _ _ _ _)
     ]
 
-chosen_zero : (b : Bool) (x : ℕ) → x ≡ 0 → (if b then x else 0) ≡ 0
-chosen_zero true x e = e
-chosen_zero false x e = refl
-
 pub scalars : (regions : Regions) (coordinates : List ℤ) (region : ℕ) → AreDefault coordinates → DependsOnAxis regions region
     → scalar_in regions coordinates region ≡ 0
 scalars regions coordinates region d on =
-    chosen_zero (nat_lt region regions.count) (scalar_by regions.bytes.now regions.place regions.axes region coordinates regions.axes)
-    (by_axes regions.bytes.now regions.place regions.axes region coordinates regions.axes on.axis d on.listed on.counts)
+    chosen (nat_lt region regions.count) (scalar_by regions.bytes.now regions.place regions.axes region coordinates regions.axes) 0
+    (λ t. by_axes regions.bytes.now regions.place regions.axes region coordinates regions.axes on.axis d on.listed on.counts)
 
 -- ---- sums
 
