@@ -7,7 +7,8 @@ Where no FONT is named, Cantarell-VF.otf is taken out of Debian's package pango1
 folder, and not installed. At the named instances of each font and at 40 random places from SEED these are compared: axes and instances
 with fontTools; the normalized coordinates behind `avar`, in 16.16, with FreeType's; those in 2.14 with the rule of the specification in
 whole numbers, and with fontTools' floats; what each glyph and each metric varies by with fontTools' floats; the advance of each character
-with hb-shape, and of each glyph with FreeType. Then COUNT fonts of three axes are made from SEED, with the tables `fvar`, `avar`, `HVAR`
+with hb-shape, and of each glyph with FreeType, also as FreeType has it by fontTools' floats at coordinates in 16.16, and as HarfBuzz 6 has
+it at coordinates that come into 2.14 before `avar`. Then COUNT fonts of three axes are made from SEED, with the tables `fvar`, `avar`, `HVAR`
 and `MVAR` alone: axes that are out of order, maps without entries that they must have, each format of delta-set index maps, delta sets of
 bytes, words and long words, indexes past the lists. What the program tells at 60 places of each must be, line by line, what a reader of
 these tables tells here, in whole numbers; and each sum is within the bound of the law from the exact one. The program is
@@ -18,6 +19,7 @@ advance or a metric by more than one unit.
 
 import collections
 import ctypes
+import math
 import os
 import pathlib
 import random
@@ -210,25 +212,46 @@ def compare_place(path, font, freetype, place, answer, counts, worst):
     counts["coordinates"] += len(longs)
     counts["coordinates unlike FreeType's"] += sum(a != b for a, b in zip(longs, freetype.go_to(place)))
     location = {axis.axisTag: short / 16384 for axis, short in zip(fvar.axes, shorts)}
-    hvar = font["HVAR"].table
-    by_store = VarStoreInstancer(hvar.VarStore, fvar.axes, location)
+    by_store, by_longs, by_first = (deltas_at(font, coordinates) for coordinates in (
+        [short / 16384 for short in shorts], [long / 65536 for long in longs], first_shortened(font, place)))
     advances = []
     for glyph, name in enumerate(order):
         total, whole = (int(word) for word in told["glyph", glyph])
-        float_total = by_store[hvar.AdvWidthMap.mapping[name] if hvar.AdvWidthMap else glyph]
         counts["sums"] += 1
-        counts["sums unlike fontTools'"] += float_total * 65536 != total
-        worst["sum"] = max(worst["sum"], abs(float_total - total / 65536))
+        counts["sums unlike fontTools'"] += by_store(glyph) * 65536 != total
+        worst["sum"] = max(worst["sum"], abs(by_store(glyph) - total / 65536))
         advances.append(font["hmtx"][name][0] + whole)
+        wanted = freetype.advance(glyph)
         counts["advances beside FreeType"] += 1
-        difference = abs(advances[glyph] - freetype.advance(glyph))
-        counts["unlike FreeType's"] += difference != 0
-        wrong += difference > 1
+        counts["unlike FreeType's"] += advances[glyph] != wanted
+        counts["unlike FreeType's at coordinates in 16.16"] += font["hmtx"][name][0] + math.floor(by_longs(glyph) + 0.5) != wanted
+        wrong += abs(advances[glyph] - wanted) > 1
     for glyph, advance in shaped(path, characters_of(font), fvar.axes, place):
         counts["advances beside hb-shape"] += 1
         counts["unlike hb-shape's"] += advances[glyph] != advance
+        counts["unlike hb-shape's at coordinates shortened first"] += font["hmtx"][order[glyph]][0] + away(by_first(glyph)) != advance
         wrong += abs(advances[glyph] - advance) > 1
     return wrong + compare_metrics(font, location, told, counts)
+
+
+def away(number):
+    """The nearest whole number, halves away from 0."""
+    return int(math.copysign(math.floor(abs(number) + 0.5), number))
+
+
+def first_shortened(font, place):
+    """The coordinates where these come into 2.14 before `avar`."""
+    for axis, value in zip(font["fvar"].axes, place):
+        plain = normalizeValue(value / 65536, (axis.minValue, axis.defaultValue, axis.maxValue))
+        segments = font["avar"].segments.get(axis.axisTag, {}) if "avar" in font else {}
+        yield away(piecewiseLinearMap(away(plain * 16384) / 16384, segments) * 16384) / 16384
+
+
+def deltas_at(font, coordinates):
+    """What each glyph's advance varies by at the coordinates, by fontTools' floats."""
+    hvar, order, axes = font["HVAR"].table, font.getGlyphOrder(), font["fvar"].axes
+    by_store = VarStoreInstancer(hvar.VarStore, axes, {axis.axisTag: at for axis, at in zip(axes, coordinates)})
+    return lambda glyph: by_store[hvar.AdvWidthMap.mapping[order[glyph]] if hvar.AdvWidthMap else glyph]
 
 
 def compare_metrics(font, location, told, counts):
