@@ -10,11 +10,13 @@ have stems and masks.
 
 At the default, at each end of each axis and at PLACES random places of each font every outline is compared. fontTools draws by floats: no
 coordinate may be further from ours than 1/16 unit. FreeType draws at 2 pixels a unit, the most at which it keeps fractions: each of
-its points must be ours cut to 1/128 unit, or, in glyphs that it moves by their hints, ours cut to a unit where it is told not to. Then CHANGES tables are made with bytes that are changed at random from SEED in their first 64 bytes, which
-tell where the rest stands, and as many with bytes changed behind; the program must end with status 0, and how FreeType draws what it
-draws and what it refuses is told. Needs `rt` on the path and
-Debian's python3-fonttools and libfreetype6. The program is tools/variable_main.txt, proved in a copy with what the crates keep in
-out/; with PROGRAM in the environment that one is taken. The status is 1 where something differs.
+its points must be ours cut to 1/128 unit; or, in glyphs that it moves by their hints, where it is told not to, ours cut to a unit, or the
+next unit where ours is less than 1/1024 below it.
+
+Then CHANGES tables are made with bytes that are changed at random from SEED in their first 64 bytes, which tell where the rest stands, and
+as many with bytes changed behind. The program must end with status 0; how FreeType draws what is drawn, and what is refused, is told. Needs
+`rt` on the path and Debian's python3-fonttools and libfreetype6. The program is tools/variable_main.txt, proved in a copy with what the
+crates keep in out/; with PROGRAM in the environment that one is taken. The status is 1 where something differs.
 """
 
 import collections
@@ -51,7 +53,7 @@ MASTERS = [
     ({"Slant": -20}, (1, 0.2), (0, 1)), ({"Slant": -20, "Weight": 900, "Width": 200}, (1.9, 0.3), (0, 1.04)),
 ]
 
-NEAR = 4096
+NEAR, LEAST = 4096, 64
 NO_HINTING, NO_AUTOHINT = 2, 0x8000
 
 
@@ -277,13 +279,18 @@ class FreeType:
 
     def draws(self, face, glyph, contours):
         """How this glyph is drawn beside these contours, or none where it is refused."""
-        ours = shapes_of(map(points_of, contours))
-        cut = lambda to: [[(x // to * to // 512, y // to * to // 512) for x, y in points] for points in ours]
+        ours = list(map(points_of, contours))
+        cut = lambda to, more=0: shapes_of([((x + more) // to * to // 512, (y + more) // to * to // 512) for x, y in points] for points in ours)
         if (shape := self.shapes(face, glyph, NO_AUTOHINT)) is None:
             return None
         if shape == cut(512):
             return "alike"
-        return "alike in whole units" if self.shapes(face, glyph, NO_HINTING) == cut(65536) else "otherwise"
+        theirs, low, high = self.shapes(face, glyph, NO_HINTING), cut(65536), cut(65536, LEAST)
+        if list(map(len, theirs)) == list(map(len, low)) == list(map(len, high)):
+            each = (trio for shapes in zip(theirs, low, high) for points in zip(*shapes) for trio in zip(*points))
+            if all(t in (a, b) for t, a, b in each):
+                return "alike in whole units"
+        return "otherwise"
 
 
 def compare_font(program, freetype, path, chance, count):
@@ -364,7 +371,8 @@ def compare_changed(program, freetype, fonts, chance, count, folder, behind):
                 else:
                     counts[f"glyphs drawn {how}"] += 1
             freetype.calls.FT_Done_Face(face)
-    print(f"changed {'behind the first 200 bytes' if behind else 'in the first 64 bytes'}:", "; ".join(f"{number} {word}" for word, number in sorted(counts.items(), key=lambda pair: -pair[1])))
+    told_so = "; ".join(f"{number} {word}" for word, number in counts.most_common())
+    print(f"changed {'behind the first 200 bytes' if behind else 'in the first 64 bytes'}: {told_so}")
 
 
 def main():
