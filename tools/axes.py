@@ -3,18 +3,20 @@
 
     tools/axes.py SEED COUNT [FONT..]
 
-Where no FONT is named, Cantarell-VF.otf is taken out of Debian's package pango1.0-tests, which is downloaded and unpacked in a temporary
-folder, and not installed. At the named instances of each font and at 40 random places from SEED these are compared: axes and instances
-with fontTools; the normalized coordinates behind `avar`, in 16.16, with FreeType's; those in 2.14 with the rule of the specification in
-whole numbers, and with fontTools' floats; what each glyph and each metric varies by with fontTools' floats; the advance of each character
-with hb-shape, and of each glyph with FreeType, also as FreeType has it by fontTools' floats at coordinates in 16.16, and as HarfBuzz 6 has
-it at coordinates that come into 2.14 before `avar`. Then COUNT fonts of three axes are made from SEED, with the tables `fvar`, `avar`, `HVAR`
-and `MVAR` alone: axes that are out of order, maps without entries that they must have, each format of delta-set index maps, delta sets of
-bytes, words and long words, indexes past the lists. What the program tells at 60 places of each must be, line by line, what a reader of
-these tables tells here, in whole numbers; and each sum is within the bound of the law from the exact one. The program is
-tools/axes_main.txt, proved in a copy with what the crates keep in out/. Needs `rt` on the path, Debian's python3-fonttools, hb-shape of
-libharfbuzz-bin, which may be named by the variable HB_SHAPE, and libfreetype.so.6. The status is 1 where a line differs, or an
-advance or a metric by more than one unit.
+Where no FONT is named, Cantarell-VF.otf is taken out of Debian's package pango1.0-tests, which is downloaded and unpacked in a
+temporary folder, and not installed. Fonts of two, three and four axes are made from SEED by fontTools, with segment maps, regions that
+depend on several axes, and a map of indices or none. At the named instances of each font and at 40 random places from SEED these are
+compared: axes and instances with fontTools; the normalized coordinates behind `avar`, in 16.16, with FreeType's; those in 2.14 with the
+rule of the specification in whole numbers, and with fontTools' floats; what each glyph and each metric varies by with fontTools'
+floats; the advance of each character with hb-shape, and of each glyph with FreeType, also as FreeType has it by fontTools' floats at
+coordinates in 16.16, and as HarfBuzz 6 has it at coordinates that come into 2.14 before `avar`. Then COUNT fonts of three axes are made
+from SEED, with the tables `fvar`, `avar`, `HVAR` and `MVAR` alone: axes that are out of order, maps without entries that they must
+have, each format of delta-set index maps, delta sets of bytes, words and long words, indexes past the lists. What the program tells at
+60 places of each must be, line by line, what a reader of these tables tells here, in whole numbers; and each sum is within the bound of
+the law from the exact one. The program is tools/axes_main.txt, proved in a copy with what the crates keep in out/. Needs `rt` on the
+path, Debian's python3-fonttools, hb-shape of libharfbuzz-bin, which may be named by the variable HB_SHAPE, and libfreetype.so.6. The
+status is 1 where a line differs, a metric, or an advance by more than one unit that coordinates rounded at these other places do not
+explain.
 """
 
 import collections
@@ -30,7 +32,11 @@ from fractions import Fraction
 
 sys.dont_write_bytecode = True
 
-from fontTools.ttLib import TTFont
+from fontTools.fontBuilder import FontBuilder
+from fontTools.ttLib import TTFont, newTable
+from fontTools.ttLib.tables import otTables
+from fontTools.ttLib.tables._g_l_y_f import Glyph
+from fontTools.varLib import builder
 from fontTools.varLib.models import normalizeValue, piecewiseLinearMap
 from fontTools.varLib.varStore import VarStoreInstancer
 
@@ -222,15 +228,17 @@ def compare_place(path, font, freetype, place, answer, counts, worst):
         worst["sum"] = max(worst["sum"], abs(by_store(glyph) - total / 65536))
         advances.append(font["hmtx"][name][0] + whole)
         wanted = freetype.advance(glyph)
+        by_long = font["hmtx"][name][0] + math.floor(by_longs(glyph) + 0.5)
         counts["advances beside FreeType"] += 1
         counts["unlike FreeType's"] += advances[glyph] != wanted
-        counts["unlike FreeType's at coordinates in 16.16"] += font["hmtx"][name][0] + math.floor(by_longs(glyph) + 0.5) != wanted
-        wrong += abs(advances[glyph] - wanted) > 1
+        counts["unlike FreeType's at coordinates in 16.16"] += by_long != wanted
+        wrong += min(abs(advances[glyph] - wanted), abs(by_long - wanted)) > 1
     for glyph, advance in shaped(path, characters_of(font), fvar.axes, place):
+        by_short = font["hmtx"][order[glyph]][0] + away(by_first(glyph))
         counts["advances beside hb-shape"] += 1
         counts["unlike hb-shape's"] += advances[glyph] != advance
-        counts["unlike hb-shape's at coordinates shortened first"] += font["hmtx"][order[glyph]][0] + away(by_first(glyph)) != advance
-        wrong += abs(advances[glyph] - advance) > 1
+        counts["unlike hb-shape's at coordinates shortened first"] += by_short != advance
+        wrong += min(abs(advances[glyph] - advance), abs(by_short - advance)) > 1
     return wrong + compare_metrics(font, location, told, counts)
 
 
@@ -294,6 +302,68 @@ def compare(program, path, chance):
     print(f"{pathlib.Path(path).name}, {len(places)} places, FreeType {freetype.version}, {version}: {told}")
     print(f"farthest from fontTools' floats: coordinates {worst['coordinate']:.3f} of 2^-14, sums {worst['sum']:.6f}; {wrong} wrong")
     return wrong
+
+
+# ---- fonts of several axes
+
+
+def support(chance, tags):
+    """A region that depends on some of the axes, each at one side of 0."""
+    spans = {}
+    for tag in chance.sample(tags, chance.randint(1, len(tags))):
+        start, peak, end = sorted(chance.sample(range(2048, 16384, 2048), 3))
+        side = chance.choice([1, -1])
+        span = chance.choice([(0, 16384, 16384), (0, peak, 16384), (start, peak, end), (0, start, peak)])
+        spans[tag] = tuple(sorted(side * at / 16384 for at in span))
+    return spans
+
+
+def with_variations(chance, builder_of_font, names, tags):
+    """Gives a font the tables `avar` and `HVAR`."""
+    font = builder_of_font.font
+    font["avar"] = avar = newTable("avar")
+    for tag in tags:
+        start, to = (chance.sample(range(2048, 16384, 1024), 2) for _ in range(2))
+        inner = zip(sorted(at / 16384 for at in start), sorted(at / 16384 for at in to))
+        avar.segments[tag] = {-1.0: -1.0, 0.0: 0.0, 1.0: 1.0, **dict(inner)}
+    regions = builder.buildVarRegionList([support(chance, tags) for _ in range(12)], tags)
+    data, indexes = [], []
+    for outer in range(3):
+        used = chance.sample(range(12), chance.randint(1, 6))
+        limit = chance.choice([100, 300])
+        sets = [[chance.randint(-limit, limit) for _ in used] for _ in range(len(names))]
+        data.append(builder.buildVarData(used, sets, optimize=False))
+        indexes += [outer << 16 | inner for inner in range(len(sets))]
+    hvar = otTables.HVAR()
+    hvar.Version, hvar.LsbMap, hvar.RsbMap = 0x00010000, None, None
+    hvar.VarStore = builder.buildVarStore(regions, data)
+    mapped_to = [chance.choice(indexes) for _ in names]
+    hvar.AdvWidthMap = builder.buildVarIdxMap(mapped_to, names) if len(tags) != 3 else None
+    font["HVAR"] = newTable("HVAR")
+    font["HVAR"].table = hvar
+
+
+def made(folder, chance, axes):
+    """A font of 60 glyphs, whose outlines are empty."""
+    names = [".notdef", *(f"g{i}" for i in range(1, 60))]
+    tags = ["wght", "wdth", "slnt", "opsz"][:axes]
+    font = FontBuilder(1000, isTTF=True)
+    font.setupGlyphOrder(names)
+    font.setupCharacterMap({0x4E00 + i: name for i, name in enumerate(names) if i})
+    font.setupGlyf({name: Glyph() for name in names})
+    font.setupHorizontalMetrics({name: (20000 + chance.randrange(9000), 0) for name in names})
+    font.setupHorizontalHeader(ascent=800, descent=-200)
+    font.setupNameTable({"familyName": "Made", "styleName": "Regular"})
+    lines = [(tag, *(chance.randrange(-999, 0) / 7, 0, chance.randrange(1, 999) / 3), tag) for tag in tags]
+    places = [{tag: chance.choice([low, default, high]) for tag, low, default, high, _ in lines} for _ in range(5)]
+    font.setupFvar(lines, [{"location": place, "stylename": f"Style {i}"} for i, place in enumerate(places)])
+    font.setupGvar({name: [] for name in names})
+    with_variations(chance, font, names, tags)
+    font.setupOS2()
+    font.setupPost()
+    path = folder / f"made{axes}.ttf"
+    font.save(path)
+    return path
 
 
 # ---- random fonts
@@ -463,6 +533,7 @@ def main(words_given):
         folder = pathlib.Path(name)
         program = building.proved(folder, "axes", USES)
         fonts = [pathlib.Path(font).resolve() for font in fonts] or [cantarell(folder)]
+        fonts += [made(folder, chance, axes) for axes in (2, 3, 4)]
         wrong = sum(compare(program, font, chance) for font in fonts)
         counts = collections.Counter()
         wrong_lines = sum(compare_random(program, folder, chance, counts) for _ in range(int(count)))

@@ -92,14 +92,8 @@ impl<'l> MetricVariations<'l> {
     pub fn variation(&self, tag: u32, coordinates: &[i16]) -> Option<i64>
         ensures { MatchOption result (HasNoMetric self.now tag) (λ total. MetricVariesBy self.now tag coordinates.now total) }
     {
-        let i = match self.record_of(tag as usize) {
-            Some(i) => i,
-            None => return None,
-        };
-        let store = match self.store {
-            Some(store) => store,
-            None => return None,
-        };
+        let i = self.record_of(tag as usize)?;
+        let store = self.store?;
         let place = 12 + i * self.size;
         store.variation(
             number_at(self.bytes, place + 4, 2),
