@@ -209,8 +209,8 @@ psotf tells what OpenType files with a table CFF hold, draws their glyphs in exa
 some glyphs. Numbers of glyphs and faces count from 0. Coordinates are in units of the font.
 """
 PSOTF_FILES = """\
-FILE is an OpenType file (.otf) or a collection (.otc, .ttc), and it is only read. OUT is written whole, or not at all where the command
-is refused.
+FILE is an OpenType file (.otf) or a collection (.otc, .ttc), and it is only read. OUT is written beside its place, as OUT.part, and then
+moved there.
 """
 PSFONT = """\
 Without words psfont reads lines and answers each of them, until the input ends. Bytes are spelled as hexadecimal digits. With words it
