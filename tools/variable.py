@@ -14,8 +14,8 @@ its points must be ours cut to 1/128 unit; or, in glyphs that it moves by their 
 next unit where ours is less than 1/1024 below it.
 
 Then CHANGES tables are made with bytes that are changed at random from SEED in their first 64 bytes, which tell where the rest stands, and
-as many with bytes changed behind. The program must end with status 0; how FreeType draws what is drawn, and what is refused, is told. Needs
-`rt` on the path and Debian's python3-fonttools and libfreetype6. The program is tools/variable_main.txt, proved in a copy with what the
+as many with bytes changed behind. The program must end with status 0; how FreeType draws what is drawn, and what is refused, is told. The
+times of both are told too, each the least of 50. Needs `rt` and `gcc` on the path and Debian's python3-fonttools and libfreetype-dev. The program is tools/variable_main.txt, proved in a copy with what the
 crates keep in out/; with PROGRAM in the environment that one is taken. The status is 1 where something differs.
 """
 
@@ -375,6 +375,19 @@ def compare_changed(program, freetype, fonts, chance, count, folder, behind):
     print(f"changed {'behind the first 200 bytes' if behind else 'in the first 64 bytes'}: {told_so}")
 
 
+def times(program, folder, path):
+    """Tells how long we take, and FreeType, at a place of a font."""
+    place = [8000] * len(TTFont(path, lazy=True)["fvar"].axes)
+    given = folder / "times"
+    given.write_text(f"1 {' '.join(map(str, place))} {path}\n")
+    ours = list(map(int, building.printed(program, "times", given=given).split("times ")[1].split()))
+    flags = building.printed("pkg-config", "--cflags", "--libs", "freetype2").split()
+    building.printed("gcc", "-O2", building.TOOLS / "variable_ft.c", "-o", folder / "freetype", *flags)
+    theirs = list(map(int, building.printed(folder / "freetype", path, *map(str, place)).split()))
+    micros = lambda row: f"read {row[1] / 1000:.2f} µs, place {row[2] / 1000:.2f} µs, {row[0]} glyphs {row[3] / row[0] / 1000:.2f} µs each"
+    print(f"{path.name}: here {micros(ours)}; FreeType {micros(theirs)}; it takes {theirs[3] / ours[3]:.1f} times as long a glyph")
+
+
 def main():
     seed, places, changes, *words = sys.argv[1:]
     print(f"seed {seed}")
@@ -389,6 +402,8 @@ def main():
         program = os.environ.get("PROGRAM") or building.proved(folder / "program", "variable", USES)
         for path in fonts:
             differ += compare_font(program, freetype, path, random.Random(f"{seed} {path.name}"), int(places))
+        for path in fonts:
+            times(program, folder, path)
         for behind in (0, 200):
             compare_changed(program, freetype, fonts, random.Random(f"{seed} {behind}"), int(changes), folder, behind)
     print(f"{differ} differ")

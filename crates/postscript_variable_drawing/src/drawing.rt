@@ -14,6 +14,9 @@ use postscript_type2::Within;
 use postscript_variable::{Charstring, Program};
 use std::alloc::Global;
 
+/// For how many segments there is room at first: most glyphs have fewer.
+const ROOM: usize = 64;
+
 /// The segments of the outline that a program still draws, from the origin.
 fn drawn(alloc: Global, program: &mut Program<'_>, limit: &mut u64) -> Result<Vec<Segment>>
     ensures drawn { AllFit program.old.answers → IfOk result (λ segments. IsOutlineOf program.old segments.items) }
@@ -22,7 +25,7 @@ fn drawn(alloc: Global, program: &mut Program<'_>, limit: &mut u64) -> Result<Ve
     ensures suffices { cost program.old.costs < limit.old → result ≢ Err errors.TooLong }
 {
     let mut pen = Pen::new();
-    let mut segments = Vec::new(alloc);
+    let mut segments = Vec::with_capacity(alloc, ROOM)?;
     loop {
         match program.step_within(limit)? {
             Within::Operation(operator, operands) => pen.apply(operator, operands, &mut segments)?,

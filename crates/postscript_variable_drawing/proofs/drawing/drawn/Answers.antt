@@ -28,9 +28,14 @@ loop-segments-preserved c =
       spends = on-operation old rest (c.in_ok-operator.was ∙ ap Ok c.in-Operation.is) c.step_within.follows.holds-at-none before.spends;
     }
 
+pub returns-in_err-segments-clause-spends : goal.returns-in_err-segments-clause-spends
+returns-in_err-segments-clause-spends c =
+    let error = err_from_is_err_and c.from_residual.result c.from_residual.ensures.1 in
+    rw error.1 (c.args.program.now.costs, nothing)
+
 pub returns-in_err-operator-clause-spends : goal.returns-in_err-operator-clause-spends
 returns-in_err-operator-clause-spends c =
-    let error = err_from_is_err_and c.from_residual.result c.from_residual.ensures.1 in
+    let error = err_from_is_err_and c.from_residual-in_err-operator.result c.from_residual-in_err-operator.ensures.1 in
     rw error.1 (on-refusal c.loop-segments.program c.step_within.follows.lender-at-none c.in_err-operator.was c.step_within.follows.holds-at-none c.loop-segments.invariant.spends)
 
 pub returns-in_err-apply-in-Operation-clause-spends : goal.returns-in_err-apply-in-Operation-clause-spends
