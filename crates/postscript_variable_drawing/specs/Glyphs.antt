@@ -1,5 +1,5 @@
 -- What drawing a glyph of a variable font comes to.
-use Rattle.std.specs.Prelude.{◌≡◌, ◌⊎◌, ℕ, List}
+use Rattle.std.specs.Prelude.{◌≡◌, ◌⊎◌, ℕ, List, Result}
 use Rattle.postscript_cff2.specs.Parts as parts
 use Rattle.postscript_cff2.specs.Parts.{HasPart}
 use Rattle.postscript_cff2.specs.Shown.{view_shown}
@@ -12,7 +12,7 @@ use Rattle.postscript_variable.specs.Programs.{begun}
 use Rattle.postscript_variable.specs.declared.charstring.Charstring.{Charstring}
 use Rattle.postscript_variable_font.specs.Glyphs.{IsCharstringOf}
 use Rattle.postscript_variable_font.specs.declared.place.Place.{Place}
-use Rattle.postscript_variable_drawing.specs.Drawn.{IsOutlineOf, IsUndrawn}
+use Rattle.postscript_variable_drawing.specs.Drawn.{IsOutlineOf, IsSpent, IsUndrawn}
 
 -- these are the segments that the charstring of a glyph draws at a place
 abbrev pub DrawsGlyph : fonts.Font → (glyph : ℕ) → Place → List Segment → Type 0
@@ -24,3 +24,9 @@ abbrev pub IsGlyphUndrawn : fonts.Font → (glyph : ℕ) → Place → (left : �
 IsGlyphUndrawn font glyph place left e =
     ((e ≡ NoSuchGlyph glyph) × ((part : parts.Part) → HasPart font.bytes.now (view_shown font) glyph part → ⊥)) ⊎
     ((charstring : Charstring) × IsCharstringOf font glyph place charstring × IsUndrawn (begun (run_from charstring)) left e)
+
+-- What is taken of a limit: nothing where the glyph has no part, and else what is paid of the run of its charstring, all of it where it is drawn.
+abbrev pub IsGlyphSpent : {A : Type 0} → fonts.Font → (glyph : ℕ) → Place → (limit left : ℕ) → Result A Error → Type 0
+IsGlyphSpent font glyph place limit left result =
+    (((part : parts.Part) → HasPart font.bytes.now (view_shown font) glyph part → ⊥) × (left ≡ limit)) ⊎
+    ((charstring : Charstring) × IsCharstringOf font glyph place charstring × IsSpent limit (run_from charstring).costs left result)

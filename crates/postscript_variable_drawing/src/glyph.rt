@@ -2,7 +2,7 @@
 ghost use Rattle.std.specs.Prelude.{◌≡◌, ◌≢◌, Err, OnOk, OnErr, IfErr};
 ghost use Rattle.postscript_drawing.specs.declared.error.Error.TheVariants as errors;
 ghost use Rattle.postscript_variable_drawing.specs.Drawn.{Gives};
-ghost use Rattle.postscript_variable_drawing.specs.Glyphs.{DrawsGlyph, IsGlyphUndrawn};
+ghost use Rattle.postscript_variable_drawing.specs.Glyphs.{DrawsGlyph, IsGlyphSpent, IsGlyphUndrawn};
 
 use crate::drawing::draw;
 use postscript_cff2::Font;
@@ -26,6 +26,7 @@ pub fn draw_glyph<S: Sink>(
     ensures why { IfErr result (λ e. IsGlyphUndrawn font.now glyph place.now limit.new e) }
     ensures nothing { OnErr result (result ≢ Err errors.Full → S.state sink.new ≡ S.state sink.old) }
     ensures full { result ≡ Err errors.Full → S.refuses (S.state sink.new) }
+    ensures spends { IsGlyphSpent font.now glyph place.now limit.old limit.new result }
 {
     match charstring(font, glyph, place) {
         Some(charstring) => draw(alloc, charstring, limit, sink),
