@@ -45,11 +45,11 @@ named-refused before left (Err e) bytes named accent font is first spends (inr w
     inr (subst (λ (a : Option Accent). IsNamedRefused bytes a e) (sym is) (inr (font, first, why)))
 
 -- a program and what its glyph names
-pub whole-drawn : {T : Type 0} (after : T → Segment → T) (old middle new : T) (bytes : List ℕ) (program : Pending) (width : Option ℤ) (named : Option Accent) → DrawsProgram after zero_point old middle width program →
-    IsNamedBy (taken_by program.end) named → Takes after middle new (AreNamed bytes named) → Takes after old new (λ segments. DrawsWhole bytes program segments width)
-whole-drawn after old middle new bytes program width named own names more = (
+pub whole-drawn : {T : Type 0} (after : T → Segment → T) (old middle new : T) (bytes : List ℕ) (program : Pending) (width : Option ℤ) (named : Option Accent) (limit left behind : ℕ) → DrawsProgram after zero_point old middle width program →
+    IsNamedBy (taken_by program.end) named → Takes after middle new (AreNamed bytes named) → Spends limit program.trace left [] → IsSpentOnNamed bytes left behind → Takes after old new (λ segments. DrawsWhole limit bytes program segments width)
+whole-drawn after old middle new bytes program width named limit left behind own names more spends rest = (
   own.segments ++ more.0,
-  record { accent = named; own = own.segments; more = more.0; names = names; draws_own = own.drawn; draws_more = more.1; all = refl; width_is = own.width_is },
+  record { accent = named; own = own.segments; more = more.0; names = names; draws_own = own.drawn; draws_more = more.1; all = refl; width_is = own.width_is; paid = record { left = left; behind = behind; own = spends; named = rest } },
   more.2 ∙ ap (λ t. fold after t more.0) own.taken ∙ sym (fold-append after old own.segments more.0),
 )
 

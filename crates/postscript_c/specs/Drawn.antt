@@ -51,8 +51,15 @@ abbrev pub IsNamedRefused : (bytes : List ℕ) → Option Accent → Error → T
 IsNamedRefused bytes None e = ⊥
 IsNamedRefused bytes (Some accent) e = IsNoFont bytes e ⊎ ((font : FontView) × IsFirst bytes font × AreRefused font accent e)
 
--- A program draws its segments, and behind them what its glyph names, and has this width.
-pub record DrawsWhole (bytes : List ℕ) (program : Pending) (segments : List Segment) (width : Option ℤ) : Type 0 where
+-- Within a limit all phrases of a program are run, and what is left of it is spent on what its glyph names.
+pub record IsPaid (limit : ℕ) (bytes : List ℕ) (program : Pending) : Type 0 where
+  pub left : ℕ
+  pub behind : ℕ
+  pub own : Spends limit program.trace left []
+  pub named : IsSpentOnNamed bytes left behind
+
+-- Within a limit a program draws its segments, and behind them what its glyph names, and has this width.
+pub record DrawsWhole (limit : ℕ) (bytes : List ℕ) (program : Pending) (segments : List Segment) (width : Option ℤ) : Type 0 where
   pub accent : Option Accent
   pub own : List Segment
   pub more : List Segment
@@ -61,6 +68,7 @@ pub record DrawsWhole (bytes : List ℕ) (program : Pending) (segments : List Se
   pub draws_more : AreNamed bytes accent more
   pub all : segments ≡ own ++ more
   pub width_is : width ≡ width_by program.width program.answers program.end
+  pub paid : IsPaid limit bytes program
 
 -- The limit is used up: on phrases at the front of the program, or on all of them and on the runs of two glyphs of the font at most.
 pub data IsUsedUp (limit : ℕ) (bytes : List ℕ) (program : Pending) : Type 0 where
@@ -83,9 +91,9 @@ pub data IsWholeRefused (limit : ℕ) (bytes : List ℕ) (program : Pending) (e 
 abbrev pub HasNoneIn : (bytes : List ℕ) → Option (List ℕ) → (global local : ℕ) → Type 0
 HasNoneIn bytes code global local = program_of code global local bytes 0 ≡ Got None 0
 
-abbrev pub IsDrawnIn : (bytes : List ℕ) → Option (List ℕ) → (global local : ℕ) → List Segment → Option ℤ → Type 0
-IsDrawnIn bytes code global local segments width =
-    (program : Pending) × (program_of code global local bytes 0 ≡ Got (Some program) 0) × DrawsWhole bytes program segments width
+abbrev pub IsDrawnIn : (limit : ℕ) (bytes : List ℕ) → Option (List ℕ) → (global local : ℕ) → List Segment → Option ℤ → Type 0
+IsDrawnIn limit bytes code global local segments width =
+    (program : Pending) × (program_of code global local bytes 0 ≡ Got (Some program) 0) × DrawsWhole limit bytes program segments width
 
 abbrev pub IsCodeRefused : (limit : ℕ) (bytes : List ℕ) → Option (List ℕ) → (global local : ℕ) → Error → Type 0
 IsCodeRefused limit bytes code global local e =
@@ -96,10 +104,10 @@ IsCodeRefused limit bytes code global local e =
 abbrev pub HasNone : (bytes : List ℕ) (font : PsfFont) (part : PsfPart) (glyph : ℕ) → Type 0
 HasNone bytes font part glyph = program_at font part glyph bytes 0 ≡ Got None 0
 
--- A glyph draws these segments, and has this width.
+-- Within the limit of the font a glyph draws these segments, and has this width.
 abbrev pub IsDrawnOver : (bytes : List ℕ) (font : PsfFont) (part : PsfPart) (glyph : ℕ) → List Segment → Option ℤ → Type 0
 IsDrawnOver bytes font part glyph segments width =
-    (program : Pending) × (program_at font part glyph bytes 0 ≡ Got (Some program) 0) × DrawsWhole bytes program segments width
+    (program : Pending) × (program_at font part glyph bytes 0 ≡ Got (Some program) 0) × DrawsWhole font.limit bytes program segments width
 
 -- Why a glyph is not drawn: its code or its subroutines do not stand, or its program is not drawn within the limit of the font.
 abbrev pub IsUndrawnOver : (bytes : List ℕ) (font : PsfFont) (part : PsfPart) (glyph : ℕ) → Error → Type 0
