@@ -1,12 +1,13 @@
 -- A greater limit.
-use Rattle.std.proofs.Common.{◌≡◌, inl, inr, subst, ℕ, ◌+◌, ◌-◌, ◌≤◌, Bool, true, false, List, ◌∷◌, Result, Ok, Err, IfOk, OnOk, arith}
+use Rattle.std.proofs.Common.{◌≡◌, inl, inr, subst, ℕ, ◌+◌, ◌-◌, ◌≤◌, Bool, true, false, List, ◌∷◌, length, Result, Ok, Err, IfOk, OnOk, arith}
 use Rattle.std.specs.Bool.{OnTrue}
 use Rattle.postscript_base.specs.declared.error.Error.{Error}
-use Rattle.postscript_type2.specs.Program.Limit.{cost_of, Spends, nothing, one_more}
+use Rattle.postscript_items.specs.Lent.{items_of}
+use Rattle.postscript_type2.specs.Program.Limit.{cost_of, cost, Spends, nothing, one_more}
 use Rattle.postscript_type2.specs.Program.Runs.{Said, Run}
 use Rattle.postscript_type2.specs.Program.Within.{Fits}
 use Rattle.postscript_view.specs.Advances.{HasRun}
-use Rattle.postscript_view.specs.Fitting.{FitsIn, GlyphFits}
+use Rattle.postscript_view.specs.Fitting.{CostTheLimit, FitsIn, GlyphFits, RunsCost, none as no_runs, no_glyph, one_more as one_run, SpendsOnGlyph}
 use Rattle.postscript_view.specs.declared.font.FontView.{FontView}
 use Rattle.postscript_view.specs.declared.part.Part.{Part}
 
@@ -49,3 +50,35 @@ left-less phrases limit left (Err e) fits = tt
 pub on-true : {P : Type 0} (b : Bool) → OnTrue b P → b ≡ true → P
 on-true true h is = h
 on-true false h is = cc
+
+-- what was spent is no more than the phrases cost
+spent : (limit : ℕ) (phrases : List Said) (left : ℕ) (rest : List Said) → Spends limit phrases left rest → limit + cost rest ≤ left + cost phrases
+spent limit phrases left rest nothing = omega arith
+spent limit phrases left rest (one_more before said behind spends is_left costs) =
+    let all = spent limit phrases before (said ∷ rest) spends in omega (arith, all)
+
+pub spends-on : (font : FontView) (glyph : ℕ) (part : Part) (run : Run) (limit left : ℕ) (r : Result Bool Error) → HasRun font glyph part run →
+    IfOk r (λ fits. Fits run.trace limit fits left) → OnOk r (SpendsOnGlyph font glyph limit left)
+spends-on font glyph part run limit left (Ok true) has fits =
+    let all = spent limit run.trace left fits.0 fits.1 in inr (part, run, has, omega (arith, all))
+spends-on font glyph part run limit left (Ok false) has fits =
+    let all = spent limit run.trace left fits.1.0 fits.1.1 in inr (part, run, has, omega (arith, all))
+spends-on font glyph part run limit left (Err e) has fits = tt
+
+-- the runs of one more glyph
+abbrev pub HaveCost : FontView → (count limit left : ℕ) → Type 0
+HaveCost font count limit left = (total : ℕ) × RunsCost font count total × (limit ≤ left + total)
+
+pub one-glyph-more : (font : FontView) (glyph limit before left : ℕ) → HaveCost font glyph limit before → SpendsOnGlyph font glyph before left →
+    HaveCost font (glyph + 1) limit left
+one-glyph-more font glyph limit before left (total, runs, is) (inl (none, same)) = (total, no_glyph glyph total runs none, omega (arith, is, same))
+one-glyph-more font glyph limit before left (total, runs, is) (inr (part, run, has, paid)) =
+    (total + cost run.trace, one_run glyph total part run runs has, omega (arith, is, paid))
+
+pub no-runs-yet : (font : FontView) (limit : ℕ) → HaveCost font 0 limit limit
+no-runs-yet font limit = (0, no_runs, omega arith)
+
+-- where nothing is left they cost the limit
+pub cost-the-limit : (font : FontView) (count limit left : ℕ) → HaveCost font count limit left → left ≡ 0 → count ≤ length (items_of font.char_strings) →
+    CostTheLimit font limit
+cost-the-limit font count limit left (total, runs, is) none within = (count, total, within, runs, omega (arith, is, none))
