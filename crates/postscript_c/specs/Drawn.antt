@@ -15,7 +15,7 @@ use Rattle.postscript_drawing.specs.declared.accent.Accent.{Accent}
 use Rattle.postscript_drawing.specs.declared.error.Error.{Error}
 use Rattle.postscript_drawing.specs.declared.error.Error.TheVariants.{Font, NoCode, TooLong}
 use Rattle.postscript_outline.specs.declared.segment.Segment.{Segment}
-use Rattle.postscript_drawing.specs.Spending.{SpendsOnRuns}
+use Rattle.postscript_drawing.specs.Spending.{PaysComponents, SpendsOnRuns}
 use Rattle.postscript_type2.specs.Program.Limit.{Spends}
 use Rattle.postscript_type2.specs.Program.Programs.{Pending}
 use Rattle.postscript_type2.specs.Program.Runs.{Said, taken_by, width_by}
@@ -51,14 +51,12 @@ abbrev pub IsNamedRefused : (bytes : List ℕ) → Option Accent → Error → T
 IsNamedRefused bytes None e = ⊥
 IsNamedRefused bytes (Some accent) e = IsNoFont bytes e ⊎ ((font : FontView) × IsFirst bytes font × AreRefused font accent e)
 
--- Within a limit all phrases of a program are run, and what is left of it is spent on what its glyph names.
-pub record IsPaid (limit : ℕ) (bytes : List ℕ) (program : Pending) : Type 0 where
-  pub left : ℕ
-  pub behind : ℕ
-  pub own : Spends limit program.trace left []
-  pub named : IsSpentOnNamed bytes left behind
+-- All phrases of the runs of what is named are paid from a limit: none, or those of the base and the accent.
+abbrev pub ArePaid : (bytes : List ℕ) → Option Accent → (before left : ℕ) → Type 0
+ArePaid bytes None before left = left ≡ before
+ArePaid bytes (Some accent) before left = (font : FontView) × IsFirst bytes font × PaysComponents font accent before left
 
--- Within a limit a program draws its segments, and behind them what its glyph names, and has this width.
+-- Within a limit, from which all phrases are paid, a program draws its segments, and behind them what its glyph names, and has this width.
 pub record DrawsWhole (limit : ℕ) (bytes : List ℕ) (program : Pending) (segments : List Segment) (width : Option ℤ) : Type 0 where
   pub accent : Option Accent
   pub own : List Segment
@@ -68,7 +66,10 @@ pub record DrawsWhole (limit : ℕ) (bytes : List ℕ) (program : Pending) (segm
   pub draws_more : AreNamed bytes accent more
   pub all : segments ≡ own ++ more
   pub width_is : width ≡ width_by program.width program.answers program.end
-  pub paid : IsPaid limit bytes program
+  pub left : ℕ
+  pub behind : ℕ
+  pub pays_own : Spends limit program.trace left []
+  pub pays_more : ArePaid bytes accent left behind
 
 -- The limit is used up: on phrases at the front of the program, or on all of them and on the runs of two glyphs of the font at most.
 pub data IsUsedUp (limit : ℕ) (bytes : List ℕ) (program : Pending) : Type 0 where

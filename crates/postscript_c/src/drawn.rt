@@ -1,6 +1,6 @@
 //! Glyphs that are drawn into sinks, accented ones with their components.
 ghost use Rattle.std.specs.Prelude.{◌⊎◌, option_map, IfOk, IfErr, MatchOption, OnOk};
-ghost use Rattle.postscript_c.specs.Drawn.{DrawsWhole, HasNone, HasNoneIn, IsCodeRefused, IsDrawnIn, IsDrawnOver, IsNamedRefused, IsSpentOnNamed, IsUndrawnOver, IsWholeRefused, AreNamed};
+ghost use Rattle.postscript_c.specs.Drawn.{ArePaid, DrawsWhole, HasNone, HasNoneIn, IsCodeRefused, IsDrawnIn, IsDrawnOver, IsNamedRefused, IsSpentOnNamed, IsUndrawnOver, IsWholeRefused, AreNamed};
 ghost use Rattle.postscript_drawing.specs.DrawnProgram.{IsWanting};
 ghost use Rattle.postscript_drawing.specs.Drawn.{Takes};
 
@@ -22,7 +22,7 @@ fn draw_named<S: Sink>(
     sink: &mut S,
 ) -> Result<()>
     ensures drawn { OnOk result (Takes S.after (S.state sink.old) (S.state sink.new) (AreNamed bytes.now accent)) }
-    ensures spends { OnOk result (IsSpentOnNamed bytes.now limit.old limit.new) }
+    ensures paid { OnOk result (ArePaid bytes.now accent limit.old limit.new) }
     ensures why { IfErr result (λ e. (IsWanting limit.new e × IsSpentOnNamed bytes.now limit.old limit.new) ⊎ IsNamedRefused bytes.now accent e) }
 {
     let Some(accent) = accent else {
