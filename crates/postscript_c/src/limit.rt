@@ -1,8 +1,9 @@
 //! Whether the runs of a font's glyphs come to their ends within a limit.
 ghost use Rattle.std.specs.Bool.{OnFalse, OnTrue};
-ghost use Rattle.std.specs.Prelude.{◌≡◌, ℕ, IfErr, IfOk};
+ghost use Rattle.std.specs.Prelude.{◌≡◌, ℕ, IfErr, IfOk, pos};
 ghost use Rattle.postscript_base.specs.declared.error.Error.TheVariants as errors;
-ghost use Rattle.postscript_c.specs.Fitting.{IsTooLong, IsWithinLimit, TellsFits, TellsFitsIn};
+ghost use Rattle.postscript_view.specs.Fitting.{AllFit};
+ghost use Rattle.postscript_c.specs.Fitting.{FirstFits, IsTooLong, IsWithinLimit, TellsFits, TellsFitsIn};
 
 use crate::font::PsfFont;
 use crate::glyph::program;
@@ -15,7 +16,8 @@ use std::alloc::Global;
 
 /// Tells whether the glyphs of an opened font fit a limit.
 fn tell_fits_in(alloc: Global, font: &FontView<'_>, limit: &mut u64) -> i32
-    ensures { TellsFitsIn font.now limit.old result limit.new }
+    ensures fits { result ≡ pos 0 → AllFit font.now limit.old }
+    ensures told { TellsFitsIn font.now limit.old result limit.new }
 {
     match font.fits(alloc, limit) {
         Ok(true) => 0,
@@ -26,7 +28,8 @@ fn tell_fits_in(alloc: Global, font: &FontView<'_>, limit: &mut u64) -> i32
 
 /// Tells whether the glyphs of the font that bytes begin with fit a limit.
 pub(crate) fn tell_fits(alloc: Global, bytes: &[u8], limit: &mut u64) -> i32
-    ensures { TellsFits bytes.now limit.old result limit.new }
+    ensures fits { result ≡ pos 0 → FirstFits bytes.now limit.old }
+    ensures told { TellsFits bytes.now limit.old result limit.new }
 {
     match FontView::read_font(alloc, bytes, 0) {
         Ok(font) => tell_fits_in(alloc, &font, limit),
@@ -36,7 +39,8 @@ pub(crate) fn tell_fits(alloc: Global, bytes: &[u8], limit: &mut u64) -> i32
 
 /// Tells whether the glyphs of the font that bytes begin with fit a limit, and not what is left of it.
 pub(crate) fn tell_fits_at_once(alloc: Global, bytes: &[u8], limit: u64) -> i32
-    ensures { (left : ℕ) × TellsFits bytes.now limit result left }
+    ensures fits { result ≡ pos 0 → FirstFits bytes.now limit }
+    ensures told { (left : ℕ) × TellsFits bytes.now limit result left }
 {
     let mut left = limit;
     tell_fits(alloc, bytes, &mut left)
@@ -44,6 +48,7 @@ pub(crate) fn tell_fits_at_once(alloc: Global, bytes: &[u8], limit: u64) -> i32
 
 /// Whether the run of a glyph, by its part, comes to its end, or is refused, within the limit of the font; true where there is no such
 /// glyph, and where its code or its subroutines do not stand.
+#[tactic(auto, using(crate::proofs::Within::within_some, crate::proofs::Within::within_none, crate::proofs::Within::within_refused))]
 pub(crate) fn glyph_fits(
     alloc: Global,
     bytes: &[u8],
