@@ -4,13 +4,13 @@ use Rattle.std.specs.Prelude.{IfErr, IsErrAnd, MatchOption, OnOk, option_map}
 use denote.Ref.{Bor}
 use Rattle.postscript_base.specs.Tape.Outcome.{Got, after}
 use Rattle.postscript_c.specs.Glyphs.{index_at, program_of}
-use Rattle.postscript_c.specs.Drawn.{AreNamed, DrawsWhole, IsFirst, IsNamedBy, IsNamedRefused, IsSpentOnNamed, IsUsedUp, IsWantingIn, IsWholeRefused, by_components, by_itself, unnamed, wanting, undrawn}
+use Rattle.postscript_c.specs.Drawn.{AreNamed, ArePaid, DrawsWhole, IsFirst, IsNamedBy, IsNamedRefused, IsSpentOnNamed, IsUsedUp, IsWantingIn, IsWholeRefused, by_components, by_itself, unnamed, wanting, undrawn}
 use Rattle.postscript_drawing.specs.Accents.{IsAccent}
 use Rattle.postscript_drawing.specs.DrawnProgram.{DrawsProgram, IsProgramRefused, IsWanting}
 use Rattle.postscript_drawing.specs.Drawn.{DrawsComponents, Takes, zero_point}
 use Rattle.postscript_drawing.specs.Refused.{AreRefused}
 use Rattle.postscript_drawing.specs.declared.accent.Accent.{Accent}
-use Rattle.postscript_drawing.specs.Spending.{SpendsOnRuns}
+use Rattle.postscript_drawing.specs.Spending.{PaysComponents, SpendsOnRuns}
 use Rattle.postscript_drawing.specs.declared.error.Error.{Error}
 use Rattle.postscript_drawing.specs.declared.error.Error.TheVariants.{Font, Full, TooLong, NoSuchGlyph, NoCode, NoAccents, MissingComponent, NestedAccent}
 use Rattle.postscript_outline.specs.declared.segment.Segment.{Segment}
@@ -37,6 +37,11 @@ named-drawn after old new (Ok done) bytes named accent font is first takes =
     (takes.0, subst (λ (a : Option Accent). AreNamed bytes a takes.0) (sym is) (font, first, takes.1), takes.2)
 named-drawn after old new (Err e) bytes named accent font is first takes = tt
 
+pub named-paid : (before left : ℕ) (r : Result (Unit {0}) Error) (bytes : List ℕ) (named : Option Accent) (accent : Accent) (font : FontView) → named ≡ Some accent → IsFirst bytes font →
+    OnOk r (PaysComponents font accent before left) → OnOk r (ArePaid bytes named before left)
+named-paid before left (Ok done) bytes named accent font is first pays = subst (λ (a : Option Accent). ArePaid bytes a before left) (sym is) (font, first, pays)
+named-paid before left (Err e) bytes named accent font is first pays = tt
+
 pub named-refused : (before left : ℕ) (r : Result (Unit {0}) Error) (bytes : List ℕ) (named : Option Accent) (accent : Accent) (font : FontView) → named ≡ Some accent → IsFirst bytes font → SpendsOnRuns font 2 before left →
     IfErr r (λ e. IsWanting left e ⊎ AreRefused font accent e) → IfErr r (λ e. (IsWanting left e × IsSpentOnNamed bytes before left) ⊎ IsNamedRefused bytes named e)
 named-refused before left (Ok done) bytes named accent font is first spends why = tt
@@ -45,11 +50,11 @@ named-refused before left (Err e) bytes named accent font is first spends (inr w
     inr (subst (λ (a : Option Accent). IsNamedRefused bytes a e) (sym is) (inr (font, first, why)))
 
 -- a program and what its glyph names
-pub whole-drawn : {T : Type 0} (after : T → Segment → T) (old middle new : T) (bytes : List ℕ) (program : Pending) (width : Option ℤ) (named : Option Accent) → DrawsProgram after zero_point old middle width program →
-    IsNamedBy (taken_by program.end) named → Takes after middle new (AreNamed bytes named) → Takes after old new (λ segments. DrawsWhole bytes program segments width)
-whole-drawn after old middle new bytes program width named own names more = (
+pub whole-drawn : {T : Type 0} (after : T → Segment → T) (old middle new : T) (bytes : List ℕ) (program : Pending) (width : Option ℤ) (named : Option Accent) (limit left behind : ℕ) → DrawsProgram after zero_point old middle width program →
+    IsNamedBy (taken_by program.end) named → Takes after middle new (AreNamed bytes named) → Spends limit program.trace left [] → ArePaid bytes named left behind → Takes after old new (λ segments. DrawsWhole limit bytes program segments width)
+whole-drawn after old middle new bytes program width named limit left behind own names more spends rest = (
   own.segments ++ more.0,
-  record { accent = named; own = own.segments; more = more.0; names = names; draws_own = own.drawn; draws_more = more.1; all = refl; width_is = own.width_is },
+  record { accent = named; own = own.segments; more = more.0; names = names; draws_own = own.drawn; draws_more = more.1; all = refl; width_is = own.width_is; left = left; behind = behind; pays_own = spends; pays_more = rest },
   more.2 ∙ ap (λ t. fold after t more.0) own.taken ∙ sym (fold-append after old own.segments more.0),
 )
 

@@ -15,7 +15,7 @@ use Rattle.postscript_drawing.specs.declared.accent.Accent.{Accent}
 use Rattle.postscript_drawing.specs.declared.error.Error.{Error}
 use Rattle.postscript_drawing.specs.declared.error.Error.TheVariants.{Font, NoCode, TooLong}
 use Rattle.postscript_outline.specs.declared.segment.Segment.{Segment}
-use Rattle.postscript_drawing.specs.Spending.{SpendsOnRuns}
+use Rattle.postscript_drawing.specs.Spending.{PaysComponents, SpendsOnRuns}
 use Rattle.postscript_type2.specs.Program.Limit.{Spends}
 use Rattle.postscript_type2.specs.Program.Programs.{Pending}
 use Rattle.postscript_type2.specs.Program.Runs.{Said, taken_by, width_by}
@@ -51,8 +51,13 @@ abbrev pub IsNamedRefused : (bytes : List ℕ) → Option Accent → Error → T
 IsNamedRefused bytes None e = ⊥
 IsNamedRefused bytes (Some accent) e = IsNoFont bytes e ⊎ ((font : FontView) × IsFirst bytes font × AreRefused font accent e)
 
--- A program draws its segments, and behind them what its glyph names, and has this width.
-pub record DrawsWhole (bytes : List ℕ) (program : Pending) (segments : List Segment) (width : Option ℤ) : Type 0 where
+-- All phrases of the runs of what is named are paid from a limit: none, or those of the base and the accent.
+abbrev pub ArePaid : (bytes : List ℕ) → Option Accent → (before left : ℕ) → Type 0
+ArePaid bytes None before left = left ≡ before
+ArePaid bytes (Some accent) before left = (font : FontView) × IsFirst bytes font × PaysComponents font accent before left
+
+-- Within a limit, from which all phrases are paid, a program draws its segments, and behind them what its glyph names, and has this width.
+pub record DrawsWhole (limit : ℕ) (bytes : List ℕ) (program : Pending) (segments : List Segment) (width : Option ℤ) : Type 0 where
   pub accent : Option Accent
   pub own : List Segment
   pub more : List Segment
@@ -61,6 +66,10 @@ pub record DrawsWhole (bytes : List ℕ) (program : Pending) (segments : List Se
   pub draws_more : AreNamed bytes accent more
   pub all : segments ≡ own ++ more
   pub width_is : width ≡ width_by program.width program.answers program.end
+  pub left : ℕ
+  pub behind : ℕ
+  pub pays_own : Spends limit program.trace left []
+  pub pays_more : ArePaid bytes accent left behind
 
 -- The limit is used up: on phrases at the front of the program, or on all of them and on the runs of two glyphs of the font at most.
 pub data IsUsedUp (limit : ℕ) (bytes : List ℕ) (program : Pending) : Type 0 where
@@ -83,9 +92,9 @@ pub data IsWholeRefused (limit : ℕ) (bytes : List ℕ) (program : Pending) (e 
 abbrev pub HasNoneIn : (bytes : List ℕ) → Option (List ℕ) → (global local : ℕ) → Type 0
 HasNoneIn bytes code global local = program_of code global local bytes 0 ≡ Got None 0
 
-abbrev pub IsDrawnIn : (bytes : List ℕ) → Option (List ℕ) → (global local : ℕ) → List Segment → Option ℤ → Type 0
-IsDrawnIn bytes code global local segments width =
-    (program : Pending) × (program_of code global local bytes 0 ≡ Got (Some program) 0) × DrawsWhole bytes program segments width
+abbrev pub IsDrawnIn : (limit : ℕ) (bytes : List ℕ) → Option (List ℕ) → (global local : ℕ) → List Segment → Option ℤ → Type 0
+IsDrawnIn limit bytes code global local segments width =
+    (program : Pending) × (program_of code global local bytes 0 ≡ Got (Some program) 0) × DrawsWhole limit bytes program segments width
 
 abbrev pub IsCodeRefused : (limit : ℕ) (bytes : List ℕ) → Option (List ℕ) → (global local : ℕ) → Error → Type 0
 IsCodeRefused limit bytes code global local e =
@@ -96,10 +105,10 @@ IsCodeRefused limit bytes code global local e =
 abbrev pub HasNone : (bytes : List ℕ) (font : PsfFont) (part : PsfPart) (glyph : ℕ) → Type 0
 HasNone bytes font part glyph = program_at font part glyph bytes 0 ≡ Got None 0
 
--- A glyph draws these segments, and has this width.
+-- Within the limit of the font a glyph draws these segments, and has this width.
 abbrev pub IsDrawnOver : (bytes : List ℕ) (font : PsfFont) (part : PsfPart) (glyph : ℕ) → List Segment → Option ℤ → Type 0
 IsDrawnOver bytes font part glyph segments width =
-    (program : Pending) × (program_at font part glyph bytes 0 ≡ Got (Some program) 0) × DrawsWhole bytes program segments width
+    (program : Pending) × (program_at font part glyph bytes 0 ≡ Got (Some program) 0) × DrawsWhole font.limit bytes program segments width
 
 -- Why a glyph is not drawn: its code or its subroutines do not stand, or its program is not drawn within the limit of the font.
 abbrev pub IsUndrawnOver : (bytes : List ℕ) (font : PsfFont) (part : PsfPart) (glyph : ℕ) → Error → Type 0

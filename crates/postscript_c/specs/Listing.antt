@@ -4,7 +4,7 @@ use Rattle.postscript_base.specs.Error.{code}
 use Rattle.postscript_base.specs.declared.error.Error.{Error}
 use Rattle.postscript_base.specs.Tape.Outcome.{Answers}
 use Rattle.postscript_c.specs.Operations.{listed_at, shown}
-use Rattle.postscript_c.specs.Fitting.{TellsTooLong}
+use Rattle.postscript_c.specs.Fitting.{KeepsToLimit, TellsTooLong}
 use Rattle.postscript_c.specs.Parts.{TellsByPart}
 use Rattle.postscript_c.specs.declared.font.PsfFont.{PsfFont}
 use Rattle.postscript_c.specs.declared.operations.Listed.{Listed}
@@ -46,11 +46,13 @@ TellsOperations (Ok (Some listed)) status old new = HandsOperations listed statu
 TellsOperations (Ok None) status old new = (status ≡ pos 31) × (new ≡ old)
 TellsOperations (Err e) status old new = (status ≡ pos (code e)) × (new ≡ old)
 
--- what C is told of the operations of a glyph by its part: that its run is too long, or these operations
+-- what C is told of the operations of a glyph by its part: that its run is too long, or these operations of a run that keeps
+-- to the limit
 abbrev pub TellsOperationsBy : (bytes : List ℕ) (font : PsfFont) (part : PsfPart) (glyph : ℕ) (status : ℤ) (old new : Rooms) → Type 0
 TellsOperationsBy bytes font part glyph status old new =
     TellsTooLong bytes font part glyph status (new ≡ old)
-    ⊎ ((answer : Result (Option Listed) Error) × Answers (option_map shown) answer 0 (listed_at font part glyph bytes 0) × TellsOperations answer status old new)
+    ⊎ ((answer : Result (Option Listed) Error) × KeepsToLimit bytes font part glyph answer
+        × Answers (option_map shown) answer 0 (listed_at font part glyph bytes 0) × TellsOperations answer status old new)
 
 abbrev pub TellsOperationsOf : (bytes : List ℕ) (font : PsfFont) (glyph : ℕ) (status : ℤ) (old new : Rooms) → Type 0
 TellsOperationsOf bytes font glyph status old new = TellsByPart bytes font glyph status (λ part. TellsOperationsBy bytes font part glyph status old new) (new ≡ old)

@@ -1,6 +1,6 @@
 //! Glyphs that are drawn into sinks, accented ones with their components.
 ghost use Rattle.std.specs.Prelude.{◌⊎◌, option_map, IfOk, IfErr, MatchOption, OnOk};
-ghost use Rattle.postscript_c.specs.Drawn.{DrawsWhole, HasNone, HasNoneIn, IsCodeRefused, IsDrawnIn, IsDrawnOver, IsNamedRefused, IsSpentOnNamed, IsUndrawnOver, IsWholeRefused, AreNamed};
+ghost use Rattle.postscript_c.specs.Drawn.{ArePaid, DrawsWhole, HasNone, HasNoneIn, IsCodeRefused, IsDrawnIn, IsDrawnOver, IsNamedRefused, IsSpentOnNamed, IsUndrawnOver, IsWholeRefused, AreNamed};
 ghost use Rattle.postscript_drawing.specs.DrawnProgram.{IsWanting};
 ghost use Rattle.postscript_drawing.specs.Drawn.{Takes};
 
@@ -22,6 +22,7 @@ fn draw_named<S: Sink>(
     sink: &mut S,
 ) -> Result<()>
     ensures drawn { OnOk result (Takes S.after (S.state sink.old) (S.state sink.new) (AreNamed bytes.now accent)) }
+    ensures paid { OnOk result (ArePaid bytes.now accent limit.old limit.new) }
     ensures why { IfErr result (λ e. (IsWanting limit.new e × IsSpentOnNamed bytes.now limit.old limit.new) ⊎ IsNamedRefused bytes.now accent e) }
 {
     let Some(accent) = accent else {
@@ -39,7 +40,7 @@ fn draw_whole<S: Sink>(
     limit: u64,
     sink: &mut S,
 ) -> Result<Option<Operand>>
-    ensures drawn { IfOk result (λ width. Takes S.after (S.state sink.old) (S.state sink.new) (λ segments. DrawsWhole bytes.now program.old segments width)) }
+    ensures drawn { IfOk result (λ width. Takes S.after (S.state sink.old) (S.state sink.new) (λ segments. DrawsWhole limit bytes.now program.old segments width)) }
     ensures why { IfErr result (λ e. IsWholeRefused limit bytes.now program.old e) }
 {
     let mut left = limit;
@@ -61,7 +62,7 @@ fn draw_code<S: Sink>(
     sink: &mut S,
 ) -> Result<Option<Option<Operand>>>
     ensures drawn { IfOk result (λ found. MatchOption found (HasNoneIn bytes.now (option_map (λ code. code.now) code.entry) global local)
-        (λ width. Takes S.after (S.state sink.old) (S.state sink.new) (λ segments. IsDrawnIn bytes.now (option_map (λ code. code.now) code.entry) global local segments width))) }
+        (λ width. Takes S.after (S.state sink.old) (S.state sink.new) (λ segments. IsDrawnIn limit bytes.now (option_map (λ code. code.now) code.entry) global local segments width))) }
     ensures why { IfErr result (λ e. IsCodeRefused limit bytes.now (option_map (λ code. code.now) code.entry) global local e) }
 {
     let Some(code) = code else {

@@ -1,7 +1,7 @@
 //! Whole fonts, written.
 ghost use Rattle.std.specs.Prelude.{◌≡◌, ◌≢◌, true, false, pos};
 ghost use Rattle.postscript_c.specs.Texts.{lent};
-ghost use Rattle.postscript_c.specs.Written.{IsFlat, IsSubset, TellsWritten, refusal_of as the_refusal, written_code};
+ghost use Rattle.postscript_c.specs.Written.{IsFlat, IsSubset, TellsWritten, refusal as no_refusal, refusal_of as the_refusal, written_code};
 ghost use Rattle.postscript_write.specs.Sources.{chosen, keeping};
 
 use crate::status::{
@@ -60,6 +60,13 @@ fn refusal_of(e: &Error) -> PsfRefusal
         ),
         _ => of(0, 0),
     }
+}
+
+/// Tells that no glyph is meant, where nothing is asked for.
+pub(crate) fn tell_unasked(refusal: &mut PsfRefusal)
+    ensures { refusal.new ≡ no_refusal 0 (pos 0) }
+{
+    *refusal = of(0, 0);
 }
 
 /// Hands a font over: 0, or `NO_ROOM`, or the number of the refusal.

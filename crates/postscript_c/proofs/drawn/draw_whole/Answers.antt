@@ -29,4 +29,4 @@ pub returns-clause-drawn : goal.returns-clause-drawn
 returns-clause-drawn g c =
     let same : c.operands_at_end.result.now ≡ taken_by c.args.program.now.end = c.operands_at_end.ensures ∙ ap told_at_end c.in_ok-width.ensures.ended in
     let names = named-so c.in_ok-accent.accent c.operands_at_end.result.now (taken_by c.args.program.now.end) same c.in_ok-accent.ensures.told in
-    whole-drawn g.S.Sink.after (g.S.Sink.state c.args.sink.now) (g.S.Sink.state c.draw_program.new.sink) (g.S.Sink.state c.draw_named.new.sink) c.args.bytes.now c.args.program.now c.in_ok-width.width c.in_ok-accent.accent c.in_ok-width.ensures.drawn names c.in_ok-draw_named.ensures.drawn
+    whole-drawn g.S.Sink.after (g.S.Sink.state c.args.sink.now) (g.S.Sink.state c.draw_program.new.sink) (g.S.Sink.state c.draw_named.new.sink) c.args.bytes.now c.args.program.now c.in_ok-width.width c.in_ok-accent.accent c.args.limit c.draw_program.new.limit c.draw_named.new.limit c.in_ok-width.ensures.drawn names c.in_ok-draw_named.ensures.drawn c.in_ok-width.ensures.spends c.in_ok-draw_named.ensures.paid
