@@ -32,6 +32,10 @@ CRATES = (
     "postscript_sfnt",
     "postscript_sfnt_write",
     "postscript_variation",
+    "postscript_cff2",
+    "postscript_variable",
+    "postscript_variable_font",
+    "postscript_variable_drawing",
     "postscript_write",
 )
 QUOTING = ("README.md", "docs/RECIPES.md")
