@@ -4,7 +4,7 @@
     tools/variable.py SEED PLACES CHANGES WORD..
 
 Each WORD is an OpenType file with a table `CFF2`, or a Debian package, which is downloaded (not installed) and of which each such file
-is taken; pango1.0-tests has Cantarell-VF.otf. Besides, four fonts are made of EB Garamond (Debian's fonts-ebgaramond-extra): of two
+is taken; pango1.0-tests has Cantarell-VF.otf. Besides, four fonts are made of EB Garamond (Debian's fonts-ebgaramond): of two
 and of three axes, their masters moved; of each one whose glyphs call subroutines, name a second item variation data by vsindex, and
 have stems and masks.
 

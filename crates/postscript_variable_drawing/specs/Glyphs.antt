@@ -1,5 +1,5 @@
 -- What drawing a glyph of a variable font comes to.
-use Rattle.std.specs.Prelude.{◌≡◌, ◌⊎◌, ℕ, List, Result}
+use Rattle.std.specs.Prelude.{◌≡◌, ◌⊎◌, ◌<◌, ℕ, List, Result}
 use Rattle.postscript_cff2.specs.Parts as parts
 use Rattle.postscript_cff2.specs.Parts.{HasPart}
 use Rattle.postscript_cff2.specs.Shown.{view_shown}
@@ -8,6 +8,7 @@ use Rattle.postscript_drawing.specs.declared.error.Error.{Error}
 use Rattle.postscript_drawing.specs.declared.error.Error.TheVariants.{NoSuchGlyph}
 use Rattle.postscript_outline.specs.declared.segment.Segment.{Segment}
 use Rattle.postscript_variable.specs.Charstrings.{run_from}
+use Rattle.postscript_variable.specs.Limit.{cost}
 use Rattle.postscript_variable.specs.Programs.{begun}
 use Rattle.postscript_variable.specs.declared.charstring.Charstring.{Charstring}
 use Rattle.postscript_variable_font.specs.Glyphs.{IsCharstringOf}
@@ -25,8 +26,13 @@ IsGlyphUndrawn font glyph place left e =
     ((e ≡ NoSuchGlyph glyph) × ((part : parts.Part) → HasPart font.bytes.now (view_shown font) glyph part → ⊥)) ⊎
     ((charstring : Charstring) × IsCharstringOf font glyph place charstring × IsUndrawn (begun (run_from charstring)) left e)
 
--- What is taken of a limit: nothing where the glyph has no part, and else what is paid of the run of its charstring, all of it where it is drawn.
-abbrev pub IsGlyphSpent : {A : Type 0} → fonts.Font → (glyph : ℕ) → Place → (limit left : ℕ) → Result A Error → Type 0
-IsGlyphSpent font glyph place limit left result =
+-- What was read of the glyph's charstring is paid, all of it where it is drawn; nothing is taken where it has none.
+abbrev pub SpendsOnGlyph : {A : Type 0} → fonts.Font → (glyph : ℕ) → Place → (limit left : ℕ) → Result A Error → Type 0
+SpendsOnGlyph font glyph place limit left result =
     (((part : parts.Part) → HasPart font.bytes.now (view_shown font) glyph part → ⊥) × (left ≡ limit)) ⊎
     ((charstring : Charstring) × IsCharstringOf font glyph place charstring × IsSpent limit (run_from charstring).costs left result)
+
+-- the run of the glyph's charstring costs less than the limit
+abbrev pub SufficesFor : fonts.Font → (glyph : ℕ) → Place → (limit : ℕ) → Type 0
+SufficesFor font glyph place limit =
+    (charstring : Charstring) × IsCharstringOf font glyph place charstring × (cost (run_from charstring).costs < limit)

@@ -1,3 +1,4 @@
 -- What contracts say of glyphs of variable fonts.
 pub mod Places
 pub mod Glyphs
+pub mod OneRun

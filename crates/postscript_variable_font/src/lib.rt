@@ -4,6 +4,7 @@
 
 mod error;
 mod glyph;
+pub mod laws;
 mod place;
 #[cfg(test)]
 mod tests;
