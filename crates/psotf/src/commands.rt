@@ -9,6 +9,7 @@ const EXAMPLES: &str = "Examples:
   psotf glyph Fonts.ttc --face 2 --all --json
   psotf svg Font.otf --text Hello -o hello.svg
   psotf sheet Font.otf --count 256 -o sheet.svg
+  psotf report Font.otf -o report.html
   psotf flat Font.otf -o Flat.otf
   psotf subset Font.otf --text Hello -o Hello.otf
   psotf subset Font.otf --unicodes 20-7e,U+20AC --retain-gids -o Small.otf";
@@ -79,7 +80,14 @@ const SUBCOMMANDS: &[Subcommand] = &[
             Word::Text("text", "TEXT", "A line of text"),
             Word::Number("gid", "The glyph of this number"),
         ],
-        others: &[Word::Out(false, "Where to write it, by default standard output")],
+        others: &[
+            Word::Text(
+                "missing",
+                "draw",
+                "With the word draw: characters that the face has no glyph for are drawn as .notdef",
+            ),
+            Word::Out(false, "Where to write it, by default standard output"),
+        ],
     },
     Subcommand {
         name: "sheet",
@@ -90,6 +98,17 @@ const SUBCOMMANDS: &[Subcommand] = &[
             Word::Given("from", "0", "The first glyph"),
             Word::Given("count", "65535", "How many glyphs at most"),
             Word::Out(false, "Where to write it, by default standard output"),
+        ],
+    },
+    Subcommand {
+        name: "report",
+        about: "A page to look at: what the face holds, and its glyphs, each operation of them",
+        group: "",
+        one_of: &[],
+        others: &[
+            Word::Given("from", "0", "The first glyph"),
+            Word::Given("count", "10000", "How many glyphs at most"),
+            Word::Out(true, "Where to write it"),
         ],
     },
     Subcommand {
@@ -206,7 +225,8 @@ pub fn psotf<'a>(alloc: Global) -> Result<Command<'a>, AllocError> {
         .version("0.2.0")
         .about("Fonts with a table CFF in OpenType files")
         .after_help(EXAMPLES)
-        .subcommand_required(true);
+        .subcommand_required(true)
+        .arg_required_else_help(true);
     for one in SUBCOMMANDS {
         command = command.subcommand(command_of(alloc, one)?)?;
     }

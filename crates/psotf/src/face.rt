@@ -57,12 +57,47 @@ fn opened<'l>(alloc: Global, cff: &'l [u8]) -> Result<FontView<'l>, Failure> {
     }
 }
 
+/// What a file is that holds no face for this program, if it is one of these.
+fn other_kind(bytes: &[u8]) -> Option<&'static str> {
+    match bytes.get(..4) {
+        Some(b"wOFF") => Some("a WOFF file, which is packed"),
+        Some(b"wOF2") => Some("a WOFF2 file, which is packed"),
+        Some(b"%!PS") | Some([0x80, 0x01, _, _]) => Some("a Type 1 font"),
+        _ => None,
+    }
+}
+
+/// What a face is that has no table `CFF `, if it is one of these.
+fn other_outlines(file: &FontFile<'_>) -> Option<&'static str> {
+    if file.table(*b"CFF2").is_some() {
+        return Some("a variable font, whose outlines stand in the table CFF2");
+    }
+    if file.table(*b"glyf").is_some() {
+        return Some("a TrueType font, whose outlines stand in the table glyf");
+    }
+    None
+}
+
+/// The bytes of the table `CFF ` of a face.
+fn cff_of<'l>(file: &FontFile<'l>) -> Result<&'l [u8], Failure> {
+    match needed(file, *b"CFF ", "CFF") {
+        Ok(table) => Ok(table),
+        Err(failure) => match other_outlines(file) {
+            Some(kind) => Err(Failure::OtherKind(kind)),
+            None => Err(failure),
+        },
+    }
+}
+
 impl<'l> Face<'l> {
     /// The face of this number.
     pub fn open(alloc: Global, bytes: &'l [u8], number: u16) -> Result<Face<'l>, Failure> {
+        if let Some(kind) = other_kind(bytes) {
+            return Err(Failure::OtherKind(kind));
+        }
         let faces = faces(bytes)?;
         let file = FontFile::read(bytes, usize::from(number))?;
-        let cff = needed(&file, [b'C', b'F', b'F', b' '], "CFF")?;
+        let cff = cff_of(&file)?;
         let head = needed(&file, [b'h', b'e', b'a', b'd'], "head")?;
         let maxp = needed(&file, [b'm', b'a', b'x', b'p'], "maxp")?;
         let Some(units) = units_per_em(head) else {

@@ -21,6 +21,7 @@ mod inspect;
 mod limit;
 mod progress;
 mod refused;
+mod report;
 mod saving;
 mod sheet;
 mod specimen;
@@ -46,6 +47,7 @@ fn weight_of(name: &str, words: &ArgMatches<'_>) -> u64
         "inspect" => 1,
         "flat" => flat::RUNS,
         "subset" => subset::RUNS,
+        "report" => report::RUNS,
         "glyph" if words.get_flag("json") => drawing::OBJECT,
         _ => drawing::PATH,
     }
@@ -70,6 +72,7 @@ fn answer<W: Write>(
         "svg" => svg::write(rt, &face, words, &mut budget, out),
         "flat" => flat::write(rt, &face, words, &mut budget, out),
         "subset" => subset::write(rt, &face, words, &mut budget, out),
+        "report" => report::write(rt, &face, words, &mut budget, out),
         _ => specimen::write(rt, &face, words, &mut budget, out),
     };
     out.flush()?;
@@ -92,8 +95,22 @@ fn start(rt: &HostRuntime, name: &str, words: &ArgMatches<'_>) -> io::Result<Exi
     }
 }
 
+/// Whether a word names a file rather than a subcommand.
+fn names_file(word: &str) -> bool {
+    !word.starts_with('-') && (word.contains('.') || word.contains('/'))
+}
+
+/// The words of the program. A file alone is one to inspect.
+fn words_of(rt: &HostRuntime) -> anyhow::Result<Vec<String>> {
+    let mut words: Vec<String> = env::args(rt)?.collect(rt.alloc())?;
+    if words.len() == 2 && names_file(words[1].as_str()) {
+        words.insert(1, String::from_str(rt.alloc(), "inspect")?)?;
+    }
+    Ok(words)
+}
+
 fn main(rt: HostRuntime) -> anyhow::Result<ExitCode> {
-    let words: Vec<String> = env::args(&rt)?.collect(rt.alloc())?;
+    let words = words_of(&rt)?;
     let command = psotf(rt.alloc())?;
     let matches = match command.try_get_matches_from(words.as_slice()) {
         Ok(matches) => matches,
