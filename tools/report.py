@@ -3,17 +3,21 @@
 
     (cd crates/psotf && rt run -- --help)
     tools/report.py [--shots FOLDER] [FONT..]
+    tools/report.py --sums
 
 FONTs are OpenType files; without any they are some of Debian's fonts-ebgaramond and fonts-freefont-otf, where these are installed. Hostile ones are
 made besides: texts that would leave their place in the page, and 65,535 glyphs that are refused. Of each page it is seen that it opens
 with no message on the console, that it asks the network for nothing, that as many glyphs are found as the page holds, that the
 glyph of `A` is found, opened and stepped through to its end, and that it shows as many points then as `psotf glyph --json` tells of. A
-screenshot of each at 1280 and 400 pixels goes into FOLDER. Needs Debian's chromium, chromium-driver and python3-selenium. A line is
+screenshot of each at 1280 and 400 pixels goes into FOLDER. With --sums it prints the sums of the script and the style instead, which stand in
+the policy of the page (crates/psotf/src/report/page.rt): where one differs, the browser runs no script, and says so. Needs Debian's chromium, chromium-driver and python3-selenium. A line is
 printed for each page: bytes of the font and of the page, seconds of psotf, and seconds until the page is ready. The status is 1 where
 something is otherwise.
 """
 
 import argparse
+import base64
+import hashlib
 import json
 import pathlib
 import subprocess
@@ -166,11 +170,22 @@ def try_page(driver, name, path, folder, shot_folder):
     return bool(faults)
 
 
+def print_sums():
+    """The sums of the script and the style, as the policy spells them."""
+    for name in ("script", "style"):
+        text = (pathlib.Path(__file__).resolve().parent.parent / "crates/psotf/src/report" / f"{name}.rt").read_text(encoding="utf-8")
+        inner = text.split('r##"', 1)[1].rsplit('"##', 1)[0]
+        print(f"{name}-src 'sha256-{base64.b64encode(hashlib.sha256(inner.encode()).digest()).decode()}'")
+
+
 def main():
     parser = argparse.ArgumentParser()
     parser.add_argument("--shots")
+    parser.add_argument("--sums", action="store_true")
     parser.add_argument("fonts", nargs="*")
     words = parser.parse_args()
+    if words.sums:
+        return print_sums()
     root = pathlib.Path("/usr/share/fonts/opentype")
     fonts = words.fonts or [str(root / name) for name in FONTS if (root / name).is_file()]
     shot_folder = pathlib.Path(words.shots) if words.shots else None

@@ -59,11 +59,14 @@ fn opened<'l>(alloc: Global, cff: &'l [u8]) -> Result<FontView<'l>, Failure> {
 
 /// What a file is that holds no face for this program, if it is one of these.
 fn other_kind(bytes: &[u8]) -> Option<&'static str> {
-    match bytes.get(..4) {
-        Some(b"wOFF") => Some("a WOFF file, which is packed"),
-        Some(b"wOF2") => Some("a WOFF2 file, which is packed"),
-        Some(b"%!PS") | Some([0x80, 0x01, _, _]) => Some("a Type 1 font"),
-        _ => None,
+    if bytes.starts_with(b"wOFF") {
+        Some("a WOFF file, which is packed")
+    } else if bytes.starts_with(b"wOF2") {
+        Some("a WOFF2 file, which is packed")
+    } else if bytes.starts_with(b"%!PS") || bytes.starts_with(&[0x80, 0x01]) {
+        Some("a Type 1 font")
+    } else {
+        None
     }
 }
 

@@ -24,8 +24,8 @@ const count = (n) => Number(n).toLocaleString("en");
 
 function table(titles, rows, numbers = []) {
   const cell = (tag) => (text, i) => make(tag, numbers.includes(i) ? { class: "number" } : {}, text);
-  return make("table", {},
-    make("thead", {}, make("tr", {}, ...titles.map(cell("th")))),
+  const titled = titles.length === 0 ? [] : [make("thead", {}, make("tr", {}, ...titles.map(cell("th"))))];
+  return make("table", {}, ...titled,
     make("tbody", {}, ...rows.map((row) => make("tr", {}, ...row.map(cell("td"))))));
 }
 
@@ -49,7 +49,7 @@ function facts() {
     ["in place", "reads it"],
     reading("the strict reading", font.cff.strict), reading("the lenient reading", font.cff.lenient),
   ];
-  return section("Font", table(["what", ""], rows));
+  return section("Font", table([], rows));
 }
 
 // The tables of the file, as a bar, and as a list.
@@ -281,7 +281,7 @@ function redraw() {
   steps.addEventListener("click", (event) => { const i = [...steps.children].indexOf(event.target); if (i >= 0) step(i + 1); });
   stage.replaceChildren(
     make("div", {}, big(glyph, segments, totals), make("div", { class: "row" }, make("label", {}, "zoom ", zoom), box("points", "points and handles"), box("stems", "stems"))),
-    make("div", { id: "glyph" }, table(["", ""], lines(glyph)),
+    make("div", { id: "glyph" }, table([], lines(glyph)),
       make("div", { class: "row" }, make("label", {}, "operations ", range), make("span", { class: "soft" }, `${shown.step} of ${glyph.operations.length}; the arrow keys go on and back`)), steps,
       make("details", {}, make("summary", {}, "bytes of its code"), make("p", { class: "code" }, glyph.code.replace(/../g, "$& ")))));
 }
