@@ -7,7 +7,11 @@ use Rattle.postscript_type2.specs.Program.Runs.{Said, Run}
 use Rattle.postscript_view.specs.Advances.{HasRun}
 use Rattle.postscript_view.specs.declared.font.FontView.{FontView}
 use Rattle.postscript_view.specs.declared.part.Part.{Part}
-use Rattle.postscript_drawing.specs.Spending.{AreOfRuns, SpendsOnRuns}
+use Rattle.std.specs.Prelude.{IfOk, OnOk}
+use Rattle.postscript_drawing.specs.Accents.{IsTold}
+use Rattle.postscript_drawing.specs.declared.accent.Accent.{Accent}
+use Rattle.postscript_drawing.specs.declared.glyph.Own.{Own}
+use Rattle.postscript_drawing.specs.Spending.{AreOfRuns, PaysCode, PaysComponents, PaysOwn, SpendsOnRuns}
 
 -- a drawing has spent the limit on its phrases, whatever it comes to
 pub spent : (limit left : ℕ) (phrases : List Said) (r : Result (Option ℤ) Error) → IsSpent limit phrases left r → (rest : List Said) × Spends limit phrases left rest
@@ -69,3 +73,15 @@ pub spends-one : (font : FontView) (glyph : ℕ) (part : Part) (run : Run) (limi
 spends-one font glyph part run limit left has (rest, spends) =
     let front = at-front limit run.trace left rest spends in
     (front.0, inr (glyph, part, run, front.0, rest, [], has, front.1, sym (append-nil front.0), refl), front.2)
+
+-- a run that is drawn is paid
+pub pays-own : (font : FontView) (glyph : ℕ) (part : Part) (run : Run) (limit left : ℕ) (r : Result Own Error) → HasRun font glyph part run →
+    IfOk r (λ own. IsTold own.accent run) → OnOk r (Spends limit run.trace left []) → IfOk r (λ own. PaysOwn font glyph own.accent limit left)
+pays-own font glyph part run limit left (Ok own) has told paid = record { part = part; run = run; has = has; told = told; paid = paid }
+pays-own font glyph part run limit left (Err e) has told paid = tt
+
+-- the base is paid, and then the accent
+pub pays-both : (font : FontView) (accent : Accent) (limit between left : ℕ) (r : Result (Unit {0}) Error) → PaysCode font accent.base limit between →
+    OnOk r (PaysCode font accent.accent between left) → OnOk r (PaysComponents font accent limit left)
+pays-both font accent limit between left (Ok done) first second = (between, first, second)
+pays-both font accent limit between left (Err e) first second = tt

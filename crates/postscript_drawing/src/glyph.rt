@@ -1,12 +1,12 @@
 //! Glyphs that are drawn, accented ones with their components.
-ghost use Rattle.std.specs.Prelude.{◌≡◌, ◌≢◌, ◌⊎◌, Err, List, IfOk, IfErr, OnErr, OnOk};
+ghost use Rattle.std.specs.Prelude.{◌≡◌, ◌≢◌, ◌⊎◌, Err, List, [], IfOk, IfErr, OnErr, OnOk};
 ghost use Rattle.postscript_base.specs.declared.error.Error.TheVariants as causes;
 ghost use Rattle.postscript_drawing.specs.Accents.{IsTold, run_by};
 ghost use Rattle.postscript_drawing.specs.DrawnProgram.{DrawsFront, IsUndrawn, IsWanting};
 ghost use Rattle.postscript_drawing.specs.Drawn.{DrawsAt, DrawsComponent, DrawsComponents, DrawsGlyph, HasOwn, IsDrawnAs, Takes};
 ghost use Rattle.postscript_drawing.specs.Given.{GivesComponent, GivesComponents, GivesGlyph, GivesOwn};
 ghost use Rattle.postscript_drawing.specs.Refused.{AreRefused, IsComponentRefused, IsGlyphRefused, IsRefused, IsUnread};
-ghost use Rattle.postscript_drawing.specs.Spending.{SpendsOnRuns};
+ghost use Rattle.postscript_drawing.specs.Spending.{PaysCode, PaysComponents, PaysDrawing, PaysOwn, SpendsOnRuns};
 ghost use Rattle.postscript_drawing.specs.declared.error.Error.TheVariants as errors;
 ghost use Rattle.postscript_outline.specs.Points.{point};
 ghost use Rattle.postscript_type2.specs.Program.Limit.{Spends};
@@ -39,6 +39,7 @@ pub fn outline_of(
     ensures found { IfOk result (λ outline. IsDrawnAs font.now glyph outline.segments.items outline.width) }
     ensures why { IfErr result (λ e. IsRefused font.now glyph limit.new e) }
     ensures memory { result ≢ Err errors.Full }
+    ensures paid { OnOk result (PaysDrawing font.now glyph limit.old limit.new) }
     ensures spends { SpendsOnRuns font.now 3 limit.old limit.new }
 {
     match outlined(alloc, font, glyph, limit) {
@@ -51,6 +52,7 @@ pub fn outline_of(
 fn outlined(alloc: Global, font: &FontView<'_>, glyph: usize, limit: &mut u64) -> Result<Outline>
     ensures found { IfOk result (λ outline. IsDrawnAs font.now glyph outline.segments.items outline.width) }
     ensures why { IfErr result (λ e. IsRefused font.now glyph limit.new e) }
+    ensures paid { OnOk result (PaysDrawing font.now glyph limit.old limit.new) }
     ensures spends { SpendsOnRuns font.now 3 limit.old limit.new }
 {
     let mut segments = Vec::with_capacity(alloc, ROOM)?;
@@ -63,7 +65,7 @@ fn outlined(alloc: Global, font: &FontView<'_>, glyph: usize, limit: &mut u64) -
 /// the accent, from the point that the glyph says. The width is that of the glyph's own run.
 ///
 /// The runs of the glyph, of its base and of its accent share the limit: `Program::step_within` says what they take of it, and what
-/// is left is told.
+/// is left is told. Where it answers, all of them are paid from it.
 ///
 /// Refused: `NoSuchGlyph`; `NoCode`, as `Accent::named_by` is; `NoAccents` and `MissingComponent`, as `component_of` is, for the
 /// base or the accent; `NestedAccent` where one of these is accented itself; `TooLong` where the limit is used up before the end;
@@ -81,6 +83,7 @@ pub fn draw_glyph<S: Sink>(
     ensures why { IfErr result (λ e. IsRefused font.now glyph limit.new e) }
     ensures front { OnErr result (GivesGlyph S.after (S.state sink.old) (S.state sink.new) font.now glyph) }
     ensures full { result ≡ Err errors.Full → S.refuses (S.state sink.new) }
+    ensures paid { OnOk result (PaysDrawing font.now glyph limit.old limit.new) }
     ensures spends { SpendsOnRuns font.now 3 limit.old limit.new }
 {
     let Own { width, accent } = draw_own(alloc, font, glyph, Point::ORIGIN, limit, sink)?;
@@ -120,6 +123,7 @@ fn draw_own<S: Sink>(
     sink: &mut S,
 ) -> Result<Own>
     ensures own { IfOk result (λ own. Takes S.after (S.state sink.old) (S.state sink.new) (λ segments. HasOwn font.now glyph origin segments own.width own.accent)) }
+    ensures paid { IfOk result (λ own. PaysOwn font.now glyph own.accent limit.old limit.new) }
     ensures spends { SpendsOnRuns font.now 1 limit.old limit.new }
     ensures why { IfErr result (λ e. IsWanting limit.new e ⊎ IsGlyphRefused font.now glyph origin e) }
     ensures front { OnErr result (GivesOwn S.after origin (S.state sink.old) (S.state sink.new) font.now glyph) }
@@ -142,6 +146,7 @@ fn draw_run<S: Sink>(
     ensures drawn { IfOk result (λ own. Takes S.after (S.state sink.old) (S.state sink.new) (DrawsAt origin (run_by glyph.now))) }
     ensures width { IfOk result (λ own. own.width ≡ width_of (run_by glyph.now)) }
     ensures told { IfOk result (λ own. IsTold own.accent (run_by glyph.now)) }
+    ensures paid { OnOk result (Spends limit.old (run_by glyph.now).trace limit.new []) }
     ensures spends { (rest : List ASaid) × Spends limit.old (run_by glyph.now).trace limit.new rest }
     ensures why { IfErr result (λ e. IsWanting limit.new e ⊎ IsUndrawn origin e (run_by glyph.now).answers (run_by glyph.now).end ⊎ IsUnread e (run_by glyph.now)) }
     ensures front { OnErr result (DrawsFront S.after origin (S.state sink.old) (S.state sink.new) (run_by glyph.now).answers) }
@@ -166,6 +171,7 @@ pub fn draw_components<S: Sink>(
     sink: &mut S,
 ) -> Result<()>
     ensures drawn { OnOk result (Takes S.after (S.state sink.old) (S.state sink.new) (DrawsComponents font.now accent.now)) }
+    ensures paid { OnOk result (PaysComponents font.now accent.now limit.old limit.new) }
     ensures spends { SpendsOnRuns font.now 2 limit.old limit.new }
     ensures why { IfErr result (λ e. IsWanting limit.new e ⊎ AreRefused font.now accent.now e) }
     ensures front { OnErr result (GivesComponents S.after (S.state sink.old) (S.state sink.new) font.now accent.now) }
@@ -185,6 +191,7 @@ fn draw_component<S: Sink>(
     sink: &mut S,
 ) -> Result<()>
     ensures drawn { OnOk result (Takes S.after (S.state sink.old) (S.state sink.new) (DrawsComponent font.now code origin)) }
+    ensures paid { OnOk result (PaysCode font.now code limit.old limit.new) }
     ensures spends { SpendsOnRuns font.now 1 limit.old limit.new }
     ensures why { IfErr result (λ e. IsWanting limit.new e ⊎ IsComponentRefused font.now code origin e) }
     ensures front { OnErr result (GivesComponent S.after origin (S.state sink.old) (S.state sink.new) font.now code) }

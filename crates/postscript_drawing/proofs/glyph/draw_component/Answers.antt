@@ -1,5 +1,6 @@
 use Rattle.std.proofs.Common.{Option, inr, refl, subst}
 use Rattle.postscript_drawing.specs.Drawn.{HasOwn}
+use Rattle.postscript_drawing.specs.Spending.{PaysOwn}
 use Rattle.postscript_drawing.specs.declared.accent.Accent.{Accent}
 use Rattle.postscript_drawing.proofs.GlyphSpending.{nothing-spent}
 use Rattle.postscript_drawing.proofs.Owns.{component-front, component-undrawn, draws-component, is-nested, on-err, own-whole, passed-on}
@@ -36,3 +37,8 @@ pub returns-in-Some-clause-front : goal.returns-in-Some-clause-front
 returns-in-Some-clause-front g c =
     let own = c.in_ok-own.ensures.own in
     inr (c.in_ok-glyph.glyph, c.in_ok-glyph.ensures.found, own-whole c.args.font.now c.in_ok-glyph.glyph c.args.origin own.0 c.in_ok-own.own.width c.in_ok-own.own.accent own.1 own.2)
+
+pub returns-in-None-clause-paid : goal.returns-in-None-clause-paid
+returns-in-None-clause-paid g c =
+    let P : Option Accent → Type 0 = λ accent. PaysOwn c.args.font.now c.in_ok-glyph.glyph accent c.args.limit.now c.draw_own.new.limit in
+    (c.in_ok-glyph.glyph, c.in_ok-glyph.ensures.found, subst P c.in-None.is c.in_ok-own.ensures.paid)

@@ -5,7 +5,7 @@ use Rattle.postscript_drawing.specs.DrawnProgram.{IsWanting}
 use Rattle.postscript_drawing.specs.Drawn.{DrawsComponent, Takes}
 use Rattle.postscript_drawing.specs.Given.{GivesComponent}
 use Rattle.postscript_drawing.specs.Refused.{IsComponentRefused}
-use Rattle.postscript_drawing.proofs.GlyphSpending.{spends-both, spends-more}
+use Rattle.postscript_drawing.proofs.GlyphSpending.{pays-both, spends-both, spends-more}
 use Rattle.postscript_drawing.proofs.Owns.{accent-front, accent-refused, draws-both, on-err}
 use Rattle.postscript_drawing.proofs.glyph.draw_components.Goals as goal
 
@@ -41,3 +41,7 @@ returns-clause-front g c =
     let new = g.S.Sink.state c.draw_component-2.new.sink in
     let P : Point → Type 0 = λ origin. OnErr c.draw_component-2.result (GivesComponent g.S.Sink.after origin between new font accent.accent) in
     accent-front g.S.Sink.after (g.S.Sink.state c.args.sink.now) between new c.draw_component-2.result font accent c.in_ok-draw_component.ensures.drawn (subst P c.place_of.ensures c.draw_component-2.ensures.front)
+
+pub returns-clause-paid : goal.returns-clause-paid
+returns-clause-paid g c =
+    pays-both c.args.font.now c.args.accent.now c.args.limit.now c.draw_component.new.limit c.draw_component-2.new.limit c.draw_component-2.result c.in_ok-draw_component.ensures.paid c.draw_component-2.ensures.paid

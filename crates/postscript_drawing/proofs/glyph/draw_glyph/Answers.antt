@@ -1,5 +1,6 @@
-use Rattle.std.proofs.Common.{◌++◌, Option, subst}
+use Rattle.std.proofs.Common.{◌++◌, Option, inl, inr, subst}
 use Rattle.postscript_drawing.specs.Drawn.{HasOwn, zero_point}
+use Rattle.postscript_drawing.specs.Spending.{PaysOwn}
 use Rattle.postscript_drawing.specs.declared.accent.Accent.{Accent}
 use Rattle.postscript_drawing.proofs.GlyphSpending.{spends-both, spends-more}
 use Rattle.postscript_drawing.proofs.Owns.{accented-front, components-refused, draws-accented, draws-plain, on-err, passed-on, taken-both}
@@ -54,3 +55,13 @@ returns-in_err-draw_components-in-Some-clause-front g c =
     let P : Option Accent → Type 0 = λ accent. HasOwn c.args.font.now c.args.glyph zero_point own.0 width accent in
     on-err c.from_residual-in_err-draw_components-in-Some.result
     (accented-front c.args.font.now c.args.glyph own.0 width c.in-Some.accent (subst P c.in-Some.is own.1) own.2 c.in_err-draw_components-in-Some.ensures.front)
+
+pub returns-in-None-clause-paid : goal.returns-in-None-clause-paid
+returns-in-None-clause-paid g c =
+    let P : Option Accent → Type 0 = λ accent. PaysOwn c.args.font.now c.args.glyph accent c.args.limit.now c.draw_own.new.limit in
+    inl (subst P c.in-None.is c.in_ok-width.ensures.paid)
+
+pub returns-in_ok-draw_components-in-Some-clause-paid : goal.returns-in_ok-draw_components-in-Some-clause-paid
+returns-in_ok-draw_components-in-Some-clause-paid g c =
+    let P : Option Accent → Type 0 = λ accent. PaysOwn c.args.font.now c.args.glyph accent c.args.limit.now c.draw_own.new.limit in
+    inr (c.in-Some.accent, c.draw_own.new.limit, subst P c.in-Some.is c.in_ok-width.ensures.paid, c.in_ok-draw_components-in-Some.ensures.paid)

@@ -1,5 +1,5 @@
 use Rattle.postscript_drawing.specs.Accents.{run_by}
-use Rattle.postscript_drawing.proofs.GlyphSpending.{nothing-spent, spends-one}
+use Rattle.postscript_drawing.proofs.GlyphSpending.{nothing-spent, pays-own, spends-one}
 use Rattle.postscript_drawing.proofs.Owns.{has-run, own-front, own-so, refused-so}
 use Rattle.postscript_drawing.proofs.glyph.draw_own.Goals as goal
 
@@ -25,3 +25,8 @@ pub returns-in-Some-clause-front : goal.returns-in-Some-clause-front
 returns-in-Some-clause-front g c =
     let has = has-run c.args.font.now c.args.glyph c.in-Some.found c.in-Some.ensures.found c.in-Some.ensures.subroutines in
     own-front g.S.Sink.after (g.S.Sink.state c.args.sink.now) (g.S.Sink.state c.draw_run.new.sink) c.draw_run.result c.args.font.now c.args.glyph c.in-Some.found c.args.origin has c.draw_run.ensures.front
+
+pub returns-in-Some-clause-paid : goal.returns-in-Some-clause-paid
+returns-in-Some-clause-paid g c =
+    let has = has-run c.args.font.now c.args.glyph c.in-Some.found c.in-Some.ensures.found c.in-Some.ensures.subroutines in
+    pays-own c.args.font.now c.args.glyph c.in-Some.found.part.now (run_by c.in-Some.found) c.args.limit.now c.draw_run.new.limit c.draw_run.result has c.draw_run.ensures.told c.draw_run.ensures.paid
