@@ -5,6 +5,16 @@ use postscript_sfnt::{Advances, CharacterMap, FontFile, Names, faces, glyphs, un
 use postscript_view::{CharSetView, FontView};
 use std::alloc::Global;
 
+/// What each face has beside its outlines.
+#[derive(Clone, Copy)]
+pub struct Common<'l> {
+    pub units: u16,
+    pub glyphs: u16,
+    pub advances: Advances<'l>,
+    pub map: Option<CharacterMap<'l>>,
+    pub names: Option<Names<'l>>,
+}
+
 /// A face of a file with a table `CFF `.
 #[derive(Drop)]
 pub struct Face<'l> {
@@ -72,9 +82,6 @@ fn other_kind(bytes: &[u8]) -> Option<&'static str> {
 
 /// What a face is that has no table `CFF `, if it is one of these.
 fn other_outlines(file: &FontFile<'_>) -> Option<&'static str> {
-    if file.table(*b"CFF2").is_some() {
-        return Some("a variable font, whose outlines stand in the table CFF2");
-    }
     if file.table(*b"glyf").is_some() {
         return Some("a TrueType font, whose outlines stand in the table glyf");
     }
@@ -92,25 +99,19 @@ fn cff_of<'l>(file: &FontFile<'l>) -> Result<&'l [u8], Failure> {
     }
 }
 
-impl<'l> Face<'l> {
-    /// The face of this number.
-    pub fn open(alloc: Global, bytes: &'l [u8], number: u16) -> Result<Face<'l>, Failure> {
-        if let Some(kind) = other_kind(bytes) {
-            return Err(Failure::OtherKind(kind));
-        }
-        let faces = faces(bytes)?;
-        let file = FontFile::read(bytes, usize::from(number))?;
-        let cff = cff_of(&file)?;
-        let head = needed(&file, [b'h', b'e', b'a', b'd'], "head")?;
-        let maxp = needed(&file, [b'm', b'a', b'x', b'p'], "maxp")?;
+impl<'l> Common<'l> {
+    /// What a face of a file has.
+    pub fn open(file: &FontFile<'l>) -> Result<Common<'l>, Failure> {
+        let head = needed(file, *b"head", "head")?;
+        let maxp = needed(file, *b"maxp", "maxp")?;
         let Some(units) = units_per_em(head) else {
             return Err(Failure::Cut("head"));
         };
         let Some(glyphs) = glyphs(maxp) else {
             return Err(Failure::Cut("maxp"));
         };
-        let advances = advances_of(&file)?;
-        let map = match file.table([b'c', b'm', b'a', b'p']) {
+        let advances = advances_of(file)?;
+        let map = match file.table(*b"cmap") {
             Some(cmap) => CharacterMap::read(cmap),
             None => None,
         };
@@ -118,12 +119,41 @@ impl<'l> Face<'l> {
             Some(names) => Names::read(names),
             None => None,
         };
+        Ok(Common {
+            units,
+            glyphs,
+            advances,
+            map,
+            names,
+        })
+    }
+}
+
+/// The face of this number of a file, whatever outlines it has.
+pub fn file_of(bytes: &[u8], number: u16) -> Result<FontFile<'_>, Failure> {
+    if let Some(kind) = other_kind(bytes) {
+        return Err(Failure::OtherKind(kind));
+    }
+    Ok(FontFile::read(bytes, usize::from(number))?)
+}
+
+impl<'l> Face<'l> {
+    /// The face of a file.
+    pub fn open(alloc: Global, bytes: &'l [u8], file: FontFile<'l>) -> Result<Face<'l>, Failure> {
+        let cff = cff_of(&file)?;
+        let Common {
+            units,
+            glyphs,
+            advances,
+            map,
+            names,
+        } = Common::open(&file)?;
         let font = opened(alloc, cff)?;
         let set = font.char_set().ok();
         Ok(Face {
             file,
             size: bytes.len(),
-            faces,
+            faces: faces(bytes)?,
             units,
             glyphs,
             advances,
