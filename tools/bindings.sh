@@ -9,11 +9,15 @@
 # second time in a virtual environment with nothing in it. The status is 1 where a test fails.
 set -e
 top=$(cd "$(dirname "$0")/.." && pwd)
+"$top/tools/version.sh"
 (cd "$top/crates/postscript_c" && rt lib > /dev/null)
 make --no-print-directory -s -C "$top/bindings/c" check
 cargo test --quiet --offline --all-targets --manifest-path "$top/bindings/rust/Cargo.toml"
 cargo test --quiet --offline --doc --manifest-path "$top/bindings/rust/Cargo.toml"
+cargo build --quiet --offline --no-default-features --lib --manifest-path "$top/bindings/rust/Cargo.toml"
+RUSTDOCFLAGS='-D warnings' cargo doc --quiet --offline --manifest-path "$top/bindings/rust/Cargo.toml"
 cd "$top/bindings/python"
+if command -v mypy > /dev/null; then mypy --strict postscript > /dev/null; fi
 python3 -m unittest --quiet
 bare=$(mktemp -d)
 trap 'rm -r "$bare"' EXIT

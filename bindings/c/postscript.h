@@ -17,9 +17,10 @@
  *
  * Time and memory: each call that takes a psf_font runs a glyph, an accented one with its base and its accent, within font->limit,
  * which the caller may change. Of the 20,000,000 units that psf_font_open tells it reads at most as many bytes of phrases (operators
- * with the numbers before them; a roll counts as 4096 more) and one phrase besides, which takes well under a second, and two or three
- * where they are square roots; psf_glyph_flat and psf_glyph_operations read them twice. What they keep is in proportion. psf_font_flat and psf_font_subset know no limit: ask
- * psf_font_fits first for fonts of strangers. docs/LINKED.md tells what of this is proved, and what is tested.
+ * with the numbers before them; a roll counts as 4096 more, and a square root as 8) and one phrase besides, which takes well under a
+ * second; psf_glyph_flat and psf_glyph_operations read them twice. What they keep is in proportion. psf_font_flat and psf_font_subset
+ * are handed a limit for the runs of all glyphs together, and go through these six times at most. docs/LINKED.md tells what of this is
+ * proved, and what is tested.
  *
  * The library is built for 64-bit machines only.
  *
@@ -189,11 +190,10 @@ int32_t psf_map_glyph(const uint8_t *cmap, size_t length, uint32_t character, si
 int32_t psf_font_open(const uint8_t *cff, size_t length, psf_font *font);
 
 /* Whether the runs of all glyphs of a font come to their ends within a limit, which they share. A font of a few bytes may
- * name more calls of subroutines than can be run in years: a caller that does not trust one asks this once, before psf_font_flat and
- * psf_font_subset. An operator takes a unit of the limit for each of its bytes, with the numbers before it, and a roll 4096
- * more.
- * On PSF_OK each glyph's run ends, or is refused, with the *limit that was given. On PSF_TOO_LONG *limit is 0. Also answered:
- * errors from 1 to 15. Else *limit is what is left. */
+ * name more calls of subroutines than can be run in years. An operator takes a unit of the limit for each of its bytes, with the
+ * numbers before it, a roll 4096 more, and a square root 8 more.
+ * On PSF_OK each glyph's run ends, or is refused, with the *limit that was given, and *limit is what is left. On PSF_TOO_LONG runs of
+ * glyphs cost the limit, at least, and *limit is 0. Else the font is refused, and *limit is as it was, or memory is. */
 int32_t psf_font_fits(const uint8_t *cff, size_t length, uint64_t *limit);
 
 /* The outline of a glyph, to the front of segments[0..room]; its number of segments, its width and its bounds.
@@ -234,10 +234,12 @@ int32_t psf_glyph_operations(const uint8_t *cff, size_t length, const psf_font *
                              int32_t *operands, size_t operand_room, size_t *operand_count);
 
 /* The font without subroutines, to the front of flat[0..room]: a table CFF of the same glyphs, each of which draws what it drew,
- * with the same advance, name or CID, and codes.
+ * with the same advance, name or CID, and codes. The runs of all glyphs share the limit; a good one is twenty times that of psf_font_open.
+ * On PSF_TOO_LONG they take more, as psf_font_fits tells.
  * On PSF_OK and PSF_NO_ROOM *count is how many bytes it has, and *refusal is as it was. Else *refusal is told.
  * Also answered: PSF_REFUSED_GLYPH, PSF_SEVERAL_FONTS, PSF_NO_PART, PSF_TOO_LARGE, PSF_NOT_READ_BACK, and errors from 1 to 16. */
-int32_t psf_font_flat(const uint8_t *cff, size_t length, uint8_t *flat, size_t room, size_t *count, psf_refusal *refusal);
+int32_t psf_font_flat(const uint8_t *cff, size_t length, uint64_t limit, uint8_t *flat, size_t room, size_t *count,
+                      psf_refusal *refusal);
 
 /* The font of .notdef, the glyphs that glyphs[0..named] names, and the base and the accent of each one that is kept and accented,
  * without subroutines, to the front of subset[0..room].
@@ -245,7 +247,7 @@ int32_t psf_font_flat(const uint8_t *cff, size_t length, uint8_t *flat, size_t r
  * one. Else each keeps its number, and those between them are empty.
  * What is told is told as by psf_font_flat. Also answered: as there, and PSF_NO_GLYPHS, PSF_NO_GLYPH, PSF_NO_NAME. */
 int32_t psf_font_subset(const uint8_t *cff, size_t length, const size_t *glyphs, size_t named, uint32_t keeps,
-                        uint8_t *subset, size_t room, size_t *count, psf_refusal *refusal);
+                        uint64_t limit, uint8_t *subset, size_t room, size_t *count, psf_refusal *refusal);
 
 /* The name of a glyph of the font that the bytes of a table CFF begin with, without a byte 0 at its end, to the front of
  * name[0..room]. A CID-keyed font has CIDs in place of names.

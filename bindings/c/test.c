@@ -5,6 +5,9 @@
 
 #include "postscript.h"
 
+/* for the runs of all glyphs of a font */
+#define LIMIT 400000000u
+
 static int failures;
 
 static void holds(int fact, const char *what) {
@@ -158,21 +161,23 @@ static void check_written(const uint8_t *cff, size_t size) {
     size_t count = 0, named = 0;
     psf_refusal refusal = {77, 77};
     psf_font font;
-    holds(psf_font_flat(cff, size, written, 0, &count, &refusal) == PSF_NO_ROOM && count > 0 && count < 512, "no room for a font");
-    holds(psf_font_flat(cff, size, written, 512, &count, &refusal) == PSF_OK && refusal.glyph == 77, "a flat font");
+    holds(psf_font_flat(cff, size, LIMIT, written, 0, &count, &refusal) == PSF_NO_ROOM && count > 0 && count < 512, "no room for a font");
+    holds(psf_font_flat(cff, size, LIMIT, written, 512, &count, &refusal) == PSF_OK && refusal.glyph == 77, "a flat font");
     for (size_t glyph = 0; glyph < 4; glyph++) check_alike(cff, size, glyph, written, count, glyph);
-    holds(psf_font_subset(cff, size, flower, 1, 0, written, 512, &count, &refusal) == PSF_OK, "a font of one glyph");
+    holds(psf_font_subset(cff, size, flower, 1, 0, LIMIT, written, 512, &count, &refusal) == PSF_OK, "a font of one glyph");
     holds(psf_font_open(written, count, &font) == PSF_OK && font.glyphs == 2, "and of .notdef");
     check_alike(cff, size, 0, written, count, 0);
     check_alike(cff, size, 3, written, count, 1);
     holds(psf_glyph_name(written, count, 1, name, 16, &named) == PSF_OK && named == 6 && memcmp(name, "flower", 6) == 0, "its name");
-    holds(psf_font_subset(cff, size, flower, 1, 1, written, 512, &count, &refusal) == PSF_OK, "a font of one glyph with its number");
+    holds(psf_font_subset(cff, size, flower, 1, 1, LIMIT, written, 512, &count, &refusal) == PSF_OK, "a font of one glyph with its number");
     holds(psf_font_open(written, count, &font) == PSF_OK && font.glyphs == 4, "of four glyphs");
     check_alike(cff, size, 3, written, count, 3);
-    holds(psf_font_subset(cff, size, flower, 0, 0, written, 512, &count, &refusal) == PSF_NO_GLYPHS, "no glyphs");
+    holds(psf_font_subset(cff, size, flower, 0, 0, LIMIT, written, 512, &count, &refusal) == PSF_NO_GLYPHS, "no glyphs");
     holds(refusal.glyph == 0 && refusal.cause == 0, "which mean none");
-    holds(psf_font_subset(cff, size, past, 2, 1, written, 512, &count, &refusal) == PSF_NO_GLYPH && refusal.glyph == 4, "no glyph 4");
-    holds(psf_font_flat(cff, 2, written, 512, &count, &refusal) == PSF_UNEXPECTED_EOF && refusal.glyph == 0, "a cut font");
+    holds(psf_font_subset(cff, size, past, 2, 1, LIMIT, written, 512, &count, &refusal) == PSF_NO_GLYPH && refusal.glyph == 4, "no glyph 4");
+    holds(psf_font_flat(cff, 2, LIMIT, written, 512, &count, &refusal) == PSF_UNEXPECTED_EOF && refusal.glyph == 0, "a cut font");
+    holds(psf_font_flat(cff, size, 1, written, 512, &count, &refusal) == PSF_TOO_LONG && refusal.glyph == 0, "a flat font past the limit");
+    holds(psf_font_subset(cff, size, flower, 1, 0, 1, written, 512, &count, &refusal) == PSF_TOO_LONG, "a font of one glyph past it");
 }
 
 /* A font is not written of which a glyph returns from its own code. */
@@ -184,7 +189,7 @@ static void check_refused(const uint8_t *cff, size_t size) {
     /* the code of the glyph A: 8b 16 f7 .. */
     while (place + 3 < size && memcmp(spoiled + place, "\x8b\x16\xf7", 3) != 0) place++;
     spoiled[place] = 0x0b;
-    holds(psf_font_flat(spoiled, size, written, 512, &count, &refusal) == PSF_REFUSED_GLYPH, "a refused glyph");
+    holds(psf_font_flat(spoiled, size, LIMIT, written, 512, &count, &refusal) == PSF_REFUSED_GLYPH, "a refused glyph");
     holds(refusal.glyph == 2 && refusal.cause == PSF_RETURN_WITHOUT_CALLER, "which, and why");
 }
 
@@ -243,7 +248,7 @@ static void check_accents(const uint8_t *cff, size_t size) {
     holds(psf_glyph_outline(cff, size, &font, 4, segments, 16, &count, &info) == PSF_OK && count == 10, "its own contour too");
     holds(segments[0].x == 5 * 65536 && segments[3].x == 10 * 65536 && segments[7].x == 201 * 65536, "which comes first");
     holds(info.advance == 9 * 65536 && info.has_width == 1, "and its own width");
-    holds(psf_font_subset(cff, size, named, 1, 0, written, 512, &count, &refusal) == PSF_OK, "the font of an accented glyph");
+    holds(psf_font_subset(cff, size, named, 1, 0, LIMIT, written, 512, &count, &refusal) == PSF_OK, "the font of an accented glyph");
     check_alike(cff, size, 3, written, count, 3);
 }
 

@@ -5,7 +5,16 @@ The first font has four glyphs, `.notdef`, `space`, `A` and `flower`. The expect
 its dictionary, added up by hand.
 """
 
+import concurrent.futures
+import mmap
+import os
 import pathlib
+import pickle
+import subprocess
+import sys
+import tempfile
+import threading
+import time
 import unittest
 
 import postscript
@@ -140,7 +149,7 @@ class Small(Case):
         return [(font[glyph].segments, font[glyph].advance) for glyph in glyphs]
 
     def test_written_fonts(self):
-        table = self.font._cff
+        table = self.font.cff
         self.assertEqual(self.drawn(self.font.flat(), range(4)), self.drawn(table, range(4)))
         subset = self.font.subset([3, 3])
         self.assertEqual([glyph.name for glyph in Font(subset)], [".notdef", "flower"])
@@ -160,7 +169,7 @@ class Small(Case):
         self.assertEqual(refusal(lambda: self.font.subset([])), (Status.NO_GLYPHS, None, None, "no glyphs are named"))
         self.assertEqual(refusal(lambda: self.font.subset([1, 4], True)), (Status.NO_GLYPH, 4, None, "glyph 4: no such glyph"))
         # the code of the glyph A is spoiled: it returns
-        spoiled = Font(self.font._cff.replace(b"\x8b\x16\xf7", b"\x0b\x16\xf7"))
+        spoiled = Font(self.font.cff.replace(b"\x8b\x16\xf7", b"\x0b\x16\xf7"))
         text = "glyph 2: found a return operator without a caller"
         self.assertEqual(refusal(spoiled.flat), (Status.REFUSED_GLYPH, 2, Status.RETURN_WITHOUT_CALLER, text))
 
@@ -202,7 +211,8 @@ class Small(Case):
     def test_refusals(self):
         file = small()
         self.assertEqual(postscript.faces(file), 1)
-        self.assertEqual(postscript.version(), (0, 2, 0))
+        self.assertEqual(postscript.version(), postscript.VERSION)
+        self.assertEqual(postscript.__version__, ".".join(map(str, postscript.VERSION)))
         self.refused(Status.CUT_FILE, postscript.faces, b"")
         self.refused(Status.UNKNOWN_FILE, Font.from_bytes, file[1:])
         self.refused(Status.NO_FACE, Font.from_bytes, file, 1)
@@ -215,7 +225,7 @@ class Small(Case):
         self.assertEqual(Error(1000).status, 1000)
 
     def test_changed_bytes(self):
-        table = self.font._cff
+        table = self.font.cff
         for place in range(len(table)):
             for byte in (0, 1, 255, table[place] ^ 1, table[place] ^ 128):
                 try:
@@ -223,6 +233,163 @@ class Small(Case):
                     self.assertTrue(all(glyph.segments is not None for glyph in (font[0], font[len(font) - 1])))
                 except (Error, IndexError):
                     pass
+
+
+    def test_errors_name_their_glyph(self):
+        past = postscript.Glyph(self.font, 4)
+        for call in (past.flat_code, past.operations, lambda: past.advance, lambda: past.tight_bounds):
+            with self.assertRaises(Error) as caught:
+                call()
+            self.assertEqual((caught.exception.status, caught.exception.glyph), (Status.NO_GLYPH, 4))
+        with self.assertRaises(Error) as caught:
+            self.font.glyph_named("flowers")
+        self.assertIsNone(caught.exception.glyph)
+
+    def test_errors_are_sent_to_other_processes(self):
+        for e in (Error(Status.NO_GLYPH, glyph=4), WriteError(Status.REFUSED_GLYPH, 2, Status.TOO_DEEP)):
+            sent = pickle.loads(pickle.dumps(e))
+            self.assertEqual((type(sent), str(sent), vars(sent)), (type(e), str(e), vars(e)))
+
+    def test_characters(self):
+        self.assertEqual(dict(self.font.cmap), {0x20: 1, 0x41: 2, 0x2698: 3})
+        self.assertEqual((len(self.font.cmap), self.font.cmap[0x41], self.font.cmap.get(0x42)), (3, 2, None))
+        self.assertTrue(0x20 in self.font.cmap and -1 not in self.font.cmap and 0x110000 not in self.font.cmap)
+        self.assertRaises(KeyError, lambda: self.font.cmap[0x42])
+        # a table alone has no map
+        alone = Font(self.font.cff)
+        self.assertEqual((dict(alone.cmap), 0x41 in alone.cmap), ({}, False))
+        self.refused(Status.NO_MAP, alone.glyph_of, "A")
+
+    def test_names_of_all(self):
+        self.assertEqual(self.font.names, [".notdef", "space", "A", "flower"])
+        self.assertEqual(repr(self.font), "<Font of 4 glyphs>")
+
+    def test_segments_to_a_pen_and_back(self):
+        pen, again = postscript.SegmentPen(), postscript.SegmentPen()
+        self.font[3].draw(pen)
+        self.assertEqual(pen.segments, FLOWER)
+        postscript.draw(pen.segments, again)
+        self.assertEqual(again.segments, FLOWER)
+
+
+class Bytes(Case):
+    """What a font is read from is held, and not copied."""
+
+    def test_kinds(self):
+        file = small()
+        behind = b"xyz" + file
+        for source in (file, bytearray(file), memoryview(file), memoryview(behind)[3:], memoryview(bytearray(file))):
+            font = Font.from_bytes(source)
+            self.assertEqual((font[3].segments, postscript.faces(source)), (FLOWER, 1))
+            self.assertEqual(Font(memoryview(font.cff))[3].segments, FLOWER)
+        for empty in (b"", bytearray(), memoryview(b"")):
+            self.refused(Status.CUT_FILE, Font.from_bytes, empty)
+            self.refused(Status.UNEXPECTED_EOF, Font, empty)
+        self.assertRaises(TypeError, Font.from_bytes, "text")
+        self.assertRaises(BufferError, Font.from_bytes, memoryview(file)[::2])
+
+    def test_they_are_held(self):
+        source = bytearray(small())
+        font = Font.from_bytes(source)
+        glyph = font[2]
+        # it may not grow while the font is there
+        self.assertRaises(BufferError, source.append, 0)
+        # 0 hmoveto 250 700 250 -700 rlineto: the first 250 becomes 251, in the bytes that are read
+        place = source.index(bytes.fromhex("8b16f78ef950f78e"))
+        source[place + 3] += 1
+        self.assertEqual(glyph.svg_path(), "M0 0L251 700L501 0Z")
+        del font, glyph
+        source.append(0)
+
+    def test_a_mapped_file(self):
+        with tempfile.TemporaryFile() as file:
+            file.write(small())
+            file.flush()
+            mapped = mmap.mmap(file.fileno(), 0, access=mmap.ACCESS_READ)
+            font = Font.from_bytes(mapped)
+            self.assertRaises(BufferError, mapped.close)
+            self.assertEqual(font[3].segments, FLOWER)
+            del font
+            mapped.close()
+
+    def test_a_glyph_holds_them(self):
+        glyph = Font.from_bytes(bytearray(small()))[3]
+        self.assertEqual(glyph.segments, FLOWER)
+
+    def test_a_path(self):
+        with tempfile.TemporaryDirectory() as folder:
+            path = pathlib.Path(folder) / "small.otf"
+            path.write_bytes(small())
+            self.assertEqual([len(Font.open(path)), len(Font.open(str(path), face=0))], [4, 4])
+            self.refused(Status.NO_FACE, Font.open, path, 1)
+        self.assertRaises(FileNotFoundError, Font.open, path)
+
+
+class Threads(Case):
+    def test_a_font_is_shared(self):
+        font = Font(spelled("accents.hex"))
+
+        def drawn(glyph):
+            try:
+                return postscript.Glyph(font, glyph).svg_path()
+            except Error as e:
+                return e.status
+
+        with concurrent.futures.ThreadPoolExecutor(4) as threads:
+            self.assertEqual(list(threads.map(drawn, list(range(len(font))) * 50)), ACCENTED * 50)
+
+    def test_the_lock_is_let_go(self):
+        # the call runs into its limit; meanwhile this thread counts
+        font, ended = Font(nested(), limit=20_000_000), []
+
+        def call():
+            begun.set()
+            at = time.perf_counter()
+            try:
+                font[0].flat_code()
+            except Error as e:
+                ended.append((e.status, time.perf_counter() - at))
+
+        begun, thread, count = threading.Event(), threading.Thread(target=call), 0
+        thread.start()
+        begun.wait()
+        while not ended:
+            count += 1
+        thread.join()
+        self.assertEqual(ended[0][0], Status.TOO_LONG)
+        # a thousand turns take much less than the call
+        self.assertGreater(count, 1000, ended)
+
+
+class Loading(unittest.TestCase):
+    """What a library is refused for, in an interpreter of its own."""
+
+    def imported(self, library):
+        folder = str(pathlib.Path(postscript.__file__).resolve().parents[1])
+        environment = {**os.environ, "PYTHONPATH": folder, "POSTSCRIPT_LIBRARY": str(library)}
+        done = subprocess.run([sys.executable, "-c", "import postscript"], env=environment, capture_output=True, text=True, check=False)
+        return done.stderr.splitlines()[-1:]
+
+    def test_of_another_version(self):
+        major, minor, patch = postscript.VERSION
+        place = postscript._library._name
+        if not os.path.exists(place):
+            self.skipTest("the system names the library")
+        # psf_version is mov eax, VERSION and ret: its number is changed in a copy
+        number = major << 16 | minor << 8 | patch
+        old = b"\xb8" + number.to_bytes(4, "little") + b"\xc3"
+        code = pathlib.Path(place).read_bytes()
+        if code.count(old) != 1:
+            self.skipTest("psf_version is not found")
+        with tempfile.TemporaryDirectory() as folder:
+            other = pathlib.Path(folder) / "libpostscript.so.0"
+            other.write_bytes(code.replace(old, b"\xb8" + (number + 256).to_bytes(4, "little") + b"\xc3"))
+            line = f"ImportError: postscript {postscript.__version__} wants a library of its own version: {other} is {major}.{minor + 1}.{patch}"
+            self.assertEqual(self.imported(other), [line])
+
+    def test_that_is_none(self):
+        (line,) = self.imported("/nonexistent/libpostscript.so")
+        self.assertTrue(line.startswith(f"ImportError: postscript {postscript.__version__} finds no library: "), line)
 
 
 class Accented(Case):

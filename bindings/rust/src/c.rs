@@ -1,6 +1,9 @@
 //! The functions of postscript.h, and safe calls of them. A slice is passed as its pointer, which is never null, and its
 //! length; what is written to is a `&mut`, which overlaps nothing else. So each caller meets what the header asks.
 use crate::error::{Error, Result};
+use alloc::string::String;
+use alloc::vec::Vec;
+use alloc::{format, vec};
 
 /// `psf_part`.
 #[repr(C)]
@@ -145,6 +148,7 @@ extern "C" {
     fn psf_font_flat(
         cff: *const u8,
         length: usize,
+        limit: u64,
         flat: *mut u8,
         room: usize,
         count: *mut usize,
@@ -156,6 +160,7 @@ extern "C" {
         glyphs: *const usize,
         named: usize,
         keeps: u32,
+        limit: u64,
         subset: *mut u8,
         room: usize,
         count: *mut usize,
@@ -180,6 +185,29 @@ extern "C" {
 
 pub fn version() -> u32 {
     unsafe { psf_version() }
+}
+
+/// The version of this crate, as `psf_version` tells that of a library.
+pub const VERSION: u32 = number(env!("CARGO_PKG_VERSION_MAJOR")) << 16
+    | number(env!("CARGO_PKG_VERSION_MINOR")) << 8
+    | number(env!("CARGO_PKG_VERSION_PATCH"));
+
+const fn number(digits: &str) -> u32 {
+    let (digits, mut number, mut place) = (digits.as_bytes(), 0, 0);
+    while place < digits.len() {
+        number = 10 * number + (digits[place] - b'0') as u32;
+        place += 1;
+    }
+    number
+}
+
+/// Refused where a library is of another version than this crate, whose declarations are then not its own.
+pub fn is_own(version: u32) -> Result<()> {
+    if version == VERSION {
+        Ok(())
+    } else {
+        Err(Error::OtherVersion)
+    }
 }
 
 /// The value, where the status is that of no refusal.
@@ -221,12 +249,14 @@ pub fn status_text(status: i32) -> String {
 }
 
 pub fn faces(file: &[u8]) -> Result<usize> {
+    is_own(version())?;
     let mut faces = 0;
     let status = unsafe { psf_file_faces(file.as_ptr(), file.len(), &mut faces) };
     answered(status, faces)
 }
 
 pub fn table(file: &[u8], face: usize, tag: [u8; 4]) -> Result<&[u8]> {
+    is_own(version())?;
     let (mut place, mut size) = (0, 0);
     let tag = u32::from_be_bytes(tag);
     let status = unsafe { psf_file_table(file.as_ptr(), file.len(), face, tag, &mut place, &mut size) };
@@ -241,6 +271,7 @@ pub fn map_glyph(cmap: &[u8], character: u32) -> Result<usize> {
 }
 
 pub fn open(cff: &[u8]) -> Result<Font> {
+    is_own(version())?;
     let mut font = Font::default();
     let status = unsafe { psf_font_open(cff.as_ptr(), cff.len(), &mut font) };
     answered(status, font)
@@ -322,7 +353,7 @@ pub fn operations(cff: &[u8], font: &Font, glyph: usize) -> Result<(Vec<Operatio
 fn written(
     least: usize,
     mut call: impl FnMut(&mut [u8], &mut usize, &mut Refusal) -> i32,
-) -> std::result::Result<Vec<u8>, (Error, Refusal)> {
+) -> core::result::Result<Vec<u8>, (Error, Refusal)> {
     let (mut font, mut refusal) = (Vec::new(), Refusal::default());
     match with_room(&mut font, least, 0, |room, count| call(room, count, &mut refusal)) {
         Ok(()) => Ok(font),
@@ -330,9 +361,9 @@ fn written(
     }
 }
 
-pub fn font_flat(cff: &[u8]) -> std::result::Result<Vec<u8>, (Error, Refusal)> {
+pub fn font_flat(cff: &[u8], limit: u64) -> core::result::Result<Vec<u8>, (Error, Refusal)> {
     written(2 * cff.len() + 1024, |room, count, refusal| unsafe {
-        psf_font_flat(cff.as_ptr(), cff.len(), room.as_mut_ptr(), room.len(), count, refusal)
+        psf_font_flat(cff.as_ptr(), cff.len(), limit, room.as_mut_ptr(), room.len(), count, refusal)
     })
 }
 
@@ -340,7 +371,8 @@ pub fn font_subset(
     cff: &[u8],
     glyphs: &[usize],
     keeps: bool,
-) -> std::result::Result<Vec<u8>, (Error, Refusal)> {
+    limit: u64,
+) -> core::result::Result<Vec<u8>, (Error, Refusal)> {
     written(cff.len() + 1024, |room, count, refusal| unsafe {
         psf_font_subset(
             cff.as_ptr(),
@@ -348,6 +380,7 @@ pub fn font_subset(
             glyphs.as_ptr(),
             glyphs.len(),
             keeps.into(),
+            limit,
             room.as_mut_ptr(),
             room.len(),
             count,

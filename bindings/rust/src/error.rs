@@ -1,11 +1,28 @@
 //! What a call is refused with.
 use crate::c;
-use std::fmt;
+use core::fmt;
 
 /// What a call answers, or the error that it is refused with.
-pub type Result<T> = std::result::Result<T, Error>;
+///
+/// ```
+/// fn advance(file: &[u8], character: char) -> postscript::Result<Option<f64>> {
+///     let font = postscript::Font::from_file(file, 0)?;
+///     font.glyph_index(character).map(|glyph| Ok(font.outline(glyph)?.advance)).transpose()
+/// }
+/// # let bytes = std::fs::read("examples/small.otf")?;
+/// assert_eq!(advance(&bytes, 'A')?, Some(500.0));
+/// # Ok::<(), Box<dyn std::error::Error>>(())
+/// ```
+pub type Result<T> = core::result::Result<T, Error>;
 
 /// Why a call is refused: the statuses of postscript.h, with their numbers.
+///
+/// ```
+/// # use postscript::{Error, Font};
+/// let error = Font::from_file(b"no font", 0).unwrap_err();
+/// assert_eq!(error, Error::UnknownFile);
+/// assert_eq!(error.to_string(), "no OpenType file");
+/// ```
 #[derive(Clone, Copy, Debug, PartialEq, Eq, Hash)]
 #[non_exhaustive]
 #[repr(i32)]
@@ -102,6 +119,8 @@ pub enum Error {
     NestedAccent = 50,
     /// A status that this crate does not know.
     Other = -1,
+    /// The library that is linked is of another version than this crate: no font is opened.
+    OtherVersion = -2,
 }
 
 /// All that have a number.
@@ -160,6 +179,10 @@ impl Error {
     }
 
     /// The number of the error, as in postscript.h.
+    ///
+    /// ```
+    /// assert_eq!(postscript::Error::NoGlyph.status(), 31);
+    /// ```
     pub fn status(self) -> i32 {
         self as i32
     }
@@ -167,8 +190,29 @@ impl Error {
 
 impl fmt::Display for Error {
     fn fmt(&self, f: &mut fmt::Formatter<'_>) -> fmt::Result {
-        f.write_str(&c::status_text(self.status()))
+        if *self != Error::OtherVersion {
+            return f.write_str(&c::status_text(self.status()));
+        }
+        let (own, (major, minor, patch)) = (env!("CARGO_PKG_VERSION"), crate::version());
+        write!(f, "postscript {own} wants a library of its own version, and {major}.{minor}.{patch} is linked")
     }
 }
 
+#[cfg(feature = "std")]
 impl std::error::Error for Error {}
+
+#[cfg(test)]
+mod tests {
+    use super::*;
+    use std::string::ToString;
+
+    #[test]
+    fn libraries_of_other_versions() {
+        assert_eq!(c::is_own(c::version()), Ok(()));
+        assert_eq!(c::is_own(c::VERSION + 1), Err(Error::OtherVersion));
+        assert_eq!(c::is_own(c::VERSION + 256), Err(Error::OtherVersion));
+        let text = Error::OtherVersion.to_string();
+        let version = env!("CARGO_PKG_VERSION");
+        assert_eq!(text, format!("postscript {version} wants a library of its own version, and {version} is linked"));
+    }
+}

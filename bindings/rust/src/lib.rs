@@ -4,14 +4,21 @@
 //! answers what the specification says. This crate declares its functions and gives them the habits of Rust. What is left to
 //! trust here are the declarations in the module `c`.
 //!
-//! ```no_run
-//! let bytes = std::fs::read("font.otf")?;
+//! ```
+//! let bytes = std::fs::read("examples/small.otf")?;
 //! let font = postscript::Font::from_file(&bytes, 0)?;
 //! let glyph = font.glyph_index('A').expect("the font has an A");
 //! println!("{}", font.outline(glyph)?.svg_path());
 //! # Ok::<(), Box<dyn std::error::Error>>(())
 //! ```
+//!
+//! A font borrows its bytes and copies none, and the library keeps nothing between calls: fonts are `Send`, `Sync` and `Copy`, so
+//! threads share them. Without the feature `std` the crate needs `alloc` alone, and its errors are no `std::error::Error`; the library
+//! calls `malloc`, `realloc` and `free` of the C library in any case.
+#![cfg_attr(not(any(feature = "std", test)), no_std)]
 #![warn(missing_docs)]
+
+extern crate alloc;
 
 mod c;
 mod error;
@@ -19,7 +26,8 @@ mod operation;
 mod outline;
 mod write;
 
-use std::ops::Range;
+use alloc::vec::Vec;
+use core::ops::Range;
 
 pub use error::{Error, Result};
 pub use operation::Operation;
@@ -27,6 +35,11 @@ pub use outline::{Bounds, Glyph, Outline, OutlineSink, Point, Segment};
 pub use write::WriteError;
 
 /// The version of the linked library: its major, minor and patch number.
+///
+/// ```
+/// let (major, minor, patch) = postscript::version();
+/// assert_eq!(format!("{major}.{minor}.{patch}"), env!("CARGO_PKG_VERSION"));
+/// ```
 pub fn version() -> (u8, u8, u8) {
     let version = c::version();
     ((version >> 16) as u8, (version >> 8) as u8, version as u8)
@@ -34,20 +47,41 @@ pub fn version() -> (u8, u8, u8) {
 
 /// How many faces an OpenType file has: one, or those of a collection.
 ///
+/// ```
+/// # let bytes = std::fs::read("examples/small.otf")?;
+/// assert_eq!(postscript::faces(&bytes)?, 1);
+/// # Ok::<(), Box<dyn std::error::Error>>(())
+/// ```
+///
 /// # Errors
 ///
-/// [`Error::CutFile`] and [`Error::UnknownFile`].
+/// [`Error::CutFile`], [`Error::UnknownFile`] and [`Error::OtherVersion`].
 pub fn faces(file: &[u8]) -> Result<usize> {
     c::faces(file)
 }
 
 /// The limit of a font at first: how long a call may run a glyph ([`Font::limit`]).
+///
+/// ```
+/// # let bytes = std::fs::read("examples/small.otf")?;
+/// # let font = postscript::Font::from_file(&bytes, 0)?;
+/// assert_eq!(font.limit(), postscript::LIMIT);
+/// # Ok::<(), Box<dyn std::error::Error>>(())
+/// ```
 pub const LIMIT: u64 = 20_000_000;
 
 /// How many times its limit all glyphs of a font may take together that is written.
 const GLYPHS: u64 = 20;
 
 /// A font in place: the bytes are borrowed, and nothing is copied.
+///
+/// ```
+/// let bytes = std::fs::read("examples/small.otf")?;
+/// let font = postscript::Font::from_file(&bytes, 0)?;
+/// let advances: Result<Vec<f64>, _> = font.outlines().map(|outline| Ok::<_, postscript::Error>(outline?.advance)).collect();
+/// assert_eq!(advances?, [500.0, 250.0, 500.0, 450.0]);
+/// # Ok::<(), Box<dyn std::error::Error>>(())
+/// ```
 #[derive(Clone, Copy, Debug)]
 pub struct Font<'a> {
     cff: &'a [u8],
@@ -57,6 +91,13 @@ pub struct Font<'a> {
 
 impl<'a> Font<'a> {
     /// A face of an OpenType file, counted from 0.
+    ///
+    /// ```
+    /// # let bytes = std::fs::read("examples/small.otf")?;
+    /// let font = postscript::Font::from_file(&bytes, 0)?;
+    /// assert_eq!(postscript::Font::from_file(&bytes, 1).unwrap_err(), postscript::Error::NoFace);
+    /// # Ok::<(), Box<dyn std::error::Error>>(())
+    /// ```
     ///
     /// # Errors
     ///
@@ -74,29 +115,67 @@ impl<'a> Font<'a> {
 
     /// The font that the bytes of a table `CFF ` begin with. It has no character map.
     ///
+    /// ```
+    /// # let bytes = std::fs::read("examples/small.otf")?;
+    /// # let font = postscript::Font::from_file(&bytes, 0)?;
+    /// let same = postscript::Font::from_table(font.table())?;
+    /// assert_eq!(same.outline(2), font.outline(2));
+    /// assert_eq!(same.glyph_index('A'), None);
+    /// # Ok::<(), Box<dyn std::error::Error>>(())
+    /// ```
+    ///
     /// # Errors
     ///
-    /// Where the table is no font: see [`Error`].
+    /// Where the table is no font: see [`Error`]. [`Error::OtherVersion`] where the library that is linked is not of this crate's version.
     pub fn from_table(cff: &'a [u8]) -> Result<Self> {
         Ok(Font { cff, cmap: None, font: c::open(cff)? })
     }
 
     /// The bytes of the table `CFF `.
+    ///
+    /// ```
+    /// # let bytes = std::fs::read("examples/small.otf")?;
+    /// # let font = postscript::Font::from_file(&bytes, 0)?;
+    /// // its version is 1.0
+    /// assert_eq!(font.table()[..2], [1, 0]);
+    /// # Ok::<(), Box<dyn std::error::Error>>(())
+    /// ```
     pub fn table(&self) -> &'a [u8] {
         self.cff
     }
 
     /// How many glyphs the font has.
+    ///
+    /// ```
+    /// # let bytes = std::fs::read("examples/small.otf")?;
+    /// # let font = postscript::Font::from_file(&bytes, 0)?;
+    /// assert_eq!(font.glyph_count(), 4);
+    /// # Ok::<(), Box<dyn std::error::Error>>(())
+    /// ```
     pub fn glyph_count(&self) -> usize {
         self.font.glyphs as usize
     }
 
     /// Whether the font is CID-keyed: its glyphs have numbers in place of names.
+    ///
+    /// ```
+    /// # let bytes = std::fs::read("examples/small.otf")?;
+    /// # let font = postscript::Font::from_file(&bytes, 0)?;
+    /// assert!(!font.is_cid_keyed());
+    /// # Ok::<(), Box<dyn std::error::Error>>(())
+    /// ```
     pub fn is_cid_keyed(&self) -> bool {
         self.font.is_cid != 0
     }
 
     /// The glyph of a character. `None` where the character map has none, or where there is no map.
+    ///
+    /// ```
+    /// # let bytes = std::fs::read("examples/small.otf")?;
+    /// # let font = postscript::Font::from_file(&bytes, 0)?;
+    /// assert_eq!((font.glyph_index('A'), font.glyph_index('B')), (Some(2), None));
+    /// # Ok::<(), Box<dyn std::error::Error>>(())
+    /// ```
     pub fn glyph_index(&self, character: char) -> Option<usize> {
         match c::map_glyph(self.cmap?, character.into()) {
             Ok(0) | Err(_) => None,
@@ -105,13 +184,27 @@ impl<'a> Font<'a> {
     }
 
     /// How long each call may run a glyph, an accented one with its base and its accent: at first [`LIMIT`]. An operator takes a
-    /// unit for each of its bytes, with the numbers before it, and a roll 4096 more.
+    /// unit for each of its bytes, with the numbers before it, a roll 4096 more, and a square root 8 more.
+    ///
+    /// ```
+    /// # let bytes = std::fs::read("examples/small.otf")?;
+    /// # let font = postscript::Font::from_file(&bytes, 0)?;
+    /// assert_eq!(font.limit(), 20_000_000);
+    /// # Ok::<(), Box<dyn std::error::Error>>(())
+    /// ```
     pub fn limit(&self) -> u64 {
         self.font.limit
     }
 
     /// The same font with another limit. A font of a few bytes may name more calls of subroutines than can be run in years: this
     /// is what stops them.
+    ///
+    /// ```
+    /// # let bytes = std::fs::read("examples/small.otf")?;
+    /// # let font = postscript::Font::from_file(&bytes, 0)?;
+    /// assert_eq!(font.with_limit(5).outline(3), Err(postscript::Error::TooLong));
+    /// # Ok::<(), Box<dyn std::error::Error>>(())
+    /// ```
     #[must_use]
     pub fn with_limit(mut self, limit: u64) -> Self {
         self.font.limit = limit;
@@ -120,6 +213,15 @@ impl<'a> Font<'a> {
 
     /// Whether the runs of all glyphs come to their ends within a limit, which they share; what is left of it is told. It is spent
     /// as [`Font::limit`] says.
+    ///
+    /// ```
+    /// # let bytes = std::fs::read("examples/small.otf")?;
+    /// # let font = postscript::Font::from_file(&bytes, 0)?;
+    /// let mut limit = 1000;
+    /// assert!(font.fits(&mut limit)? && limit < 1000);
+    /// assert!(!font.fits(&mut 1)?);
+    /// # Ok::<(), Box<dyn std::error::Error>>(())
+    /// ```
     ///
     /// # Errors
     ///
@@ -138,6 +240,14 @@ impl<'a> Font<'a> {
     /// contours, those of the base, and those of the accent where the glyph says. The width is its own. The runs share the font's
     /// limit.
     ///
+    /// ```
+    /// # let bytes = std::fs::read("examples/small.otf")?;
+    /// # let font = postscript::Font::from_file(&bytes, 0)?;
+    /// let outline = font.outline(font.glyph_index('A').ok_or("no such glyph")?)?;
+    /// assert_eq!((outline.advance, outline.svg_path().as_str()), (500.0, "M0 0L250 700L500 0Z"));
+    /// # Ok::<(), Box<dyn std::error::Error>>(())
+    /// ```
+    ///
     /// # Errors
     ///
     /// [`Error::NoGlyph`] where the font has no such glyph; [`Error::NoPart`] where FDSelect gives it no font dictionary;
@@ -152,6 +262,22 @@ impl<'a> Font<'a> {
 
     /// Draws a glyph into a sink, and answers its width and its bounds.
     ///
+    /// ```
+    /// # let bytes = std::fs::read("examples/small.otf")?;
+    /// # let font = postscript::Font::from_file(&bytes, 0)?;
+    /// # struct Pen;
+    /// # impl postscript::OutlineSink for Pen {
+    /// #     fn move_to(&mut self, _: postscript::Point) {}
+    /// #     fn line_to(&mut self, _: postscript::Point) {}
+    /// #     fn curve_to(&mut self, _: postscript::Point, _: postscript::Point, _: postscript::Point) {}
+    /// #     fn close(&mut self) {}
+    /// # }
+    /// # let mut pen = Pen;
+    /// // the pen is an `OutlineSink`
+    /// assert_eq!(font.draw(2, &mut pen)?.advance, 500.0);
+    /// # Ok::<(), Box<dyn std::error::Error>>(())
+    /// ```
+    ///
     /// # Errors
     ///
     /// As [`Font::outline`]. Then the sink has been given nothing.
@@ -164,6 +290,14 @@ impl<'a> Font<'a> {
     /// The bounds of the lines and curves of a glyph, to a 65536th of a unit more: those of [`Font::outline`], of an accented glyph
     /// whole. `None` where it has no point.
     ///
+    /// ```
+    /// # let bytes = std::fs::read("examples/small.otf")?;
+    /// # let font = postscript::Font::from_file(&bytes, 0)?;
+    /// assert_eq!(font.tight_bounds(1)?, None);
+    /// assert_eq!(font.tight_bounds(2)?.map(|bounds| bounds.high.y), Some(700.0));
+    /// # Ok::<(), Box<dyn std::error::Error>>(())
+    /// ```
+    ///
     /// # Errors
     ///
     /// As [`Font::outline`].
@@ -173,6 +307,14 @@ impl<'a> Font<'a> {
 
     /// The code of a glyph without calls of subroutines: over any subroutines it has the operations and the width of the
     /// glyph.
+    ///
+    /// ```
+    /// # let bytes = std::fs::read("examples/small.otf")?;
+    /// # let font = postscript::Font::from_file(&bytes, 0)?;
+    /// // 0 hmoveto 250 700 250 -700 rlineto endchar
+    /// assert_eq!(font.flat_code(2)?, b"\x8b\x16\xf7\x8e\xf9\x50\xf7\x8e\xfd\x50\x05\x0e");
+    /// # Ok::<(), Box<dyn std::error::Error>>(())
+    /// ```
     ///
     /// # Errors
     ///
@@ -185,13 +327,13 @@ impl<'a> Font<'a> {
     /// The operations of a glyph, in the order of its run: with subroutines called, widths taken off, and numbers worked out.
     /// `endchar` is not one of them. An accented glyph has its own alone.
     ///
-    /// ```no_run
-    /// # let bytes = Vec::new();
+    /// ```
+    /// # let bytes = std::fs::read("examples/small.otf")?;
     /// # let font = postscript::Font::from_file(&bytes, 0)?;
-    /// for operation in font.operations(36)? {
+    /// for operation in font.operations(2)? {
     ///     println!("{:?} {}", operation.operands, operation.name().unwrap_or("?"));
     /// }
-    /// # Ok::<(), postscript::Error>(())
+    /// # Ok::<(), Box<dyn std::error::Error>>(())
     /// ```
     ///
     /// # Errors
@@ -205,48 +347,74 @@ impl<'a> Font<'a> {
     /// The table `CFF ` of the same glyphs without subroutines: each glyph draws what it drew, with the same advance, name or
     /// CID, and codes.
     ///
+    /// ```
+    /// # let bytes = std::fs::read("examples/small.otf")?;
+    /// # let font = postscript::Font::from_file(&bytes, 0)?;
+    /// let flat = font.flat()?;
+    /// assert_eq!(postscript::Font::from_table(&flat)?.outline(2), font.outline(2));
+    /// # Ok::<(), Box<dyn std::error::Error>>(())
+    /// ```
+    ///
     /// # Errors
     ///
     /// [`Error::RefusedGlyph`] with the first glyph whose run is refused, and why; [`Error::SeveralFonts`] where the table has
     /// not one font; [`Error::NoPart`]; [`Error::TooLong`] where the runs of all glyphs use up twenty times the font's limit; and
     /// where the table is no font: see [`WriteError`].
-    pub fn flat(&self) -> std::result::Result<Vec<u8>, WriteError> {
-        self.keeps_to_limit()?;
-        c::font_flat(self.cff).map_err(WriteError::of)
+    pub fn flat(&self) -> core::result::Result<Vec<u8>, WriteError> {
+        c::font_flat(self.cff, self.limit_of_all()).map_err(WriteError::of)
     }
 
     /// The table `CFF ` of `.notdef`, these glyphs, and the base and the accent of each one that is kept and accented, numbered
     /// anew in ascending order, without subroutines. An encoding of the font's own gives way to the standard one.
     ///
+    /// ```
+    /// # let bytes = std::fs::read("examples/small.otf")?;
+    /// # let font = postscript::Font::from_file(&bytes, 0)?;
+    /// let subset = font.subset(&[3])?;
+    /// let subset = postscript::Font::from_table(&subset)?;
+    /// assert_eq!((subset.glyph_count(), subset.outline(1)), (2, font.outline(3)));
+    /// # Ok::<(), Box<dyn std::error::Error>>(())
+    /// ```
+    ///
     /// # Errors
     ///
     /// [`Error::NoGlyphs`] where none is named, [`Error::NoGlyph`] with one that the font does not have, [`Error::NoName`], and
     /// as [`Font::flat`].
-    pub fn subset(&self, glyphs: &[usize]) -> std::result::Result<Vec<u8>, WriteError> {
-        self.keeps_to_limit()?;
-        c::font_subset(self.cff, glyphs, false).map_err(WriteError::of)
+    pub fn subset(&self, glyphs: &[usize]) -> core::result::Result<Vec<u8>, WriteError> {
+        c::font_subset(self.cff, glyphs, false, self.limit_of_all()).map_err(WriteError::of)
     }
 
     /// As [`Font::subset`], but each glyph keeps its number, and those between them are empty. The encoding stays as it is.
     ///
+    /// ```
+    /// # let bytes = std::fs::read("examples/small.otf")?;
+    /// # let font = postscript::Font::from_file(&bytes, 0)?;
+    /// let subset = font.subset_keeping(&[3])?;
+    /// let subset = postscript::Font::from_table(&subset)?;
+    /// assert_eq!((subset.glyph_count(), subset.outline(3)), (4, font.outline(3)));
+    /// # Ok::<(), Box<dyn std::error::Error>>(())
+    /// ```
+    ///
     /// # Errors
     ///
     /// As [`Font::subset`].
-    pub fn subset_keeping(&self, glyphs: &[usize]) -> std::result::Result<Vec<u8>, WriteError> {
-        self.keeps_to_limit()?;
-        c::font_subset(self.cff, glyphs, true).map_err(WriteError::of)
+    pub fn subset_keeping(&self, glyphs: &[usize]) -> core::result::Result<Vec<u8>, WriteError> {
+        c::font_subset(self.cff, glyphs, true, self.limit_of_all()).map_err(WriteError::of)
     }
 
-    /// Refused where the runs of all glyphs use up so many times the font's limit.
-    fn keeps_to_limit(&self) -> std::result::Result<(), WriteError> {
-        let mut limit = self.font.limit.saturating_mul(GLYPHS);
-        match c::fits(self.cff, &mut limit) {
-            Err(Error::TooLong) => Err(WriteError::TOO_LONG),
-            _ => Ok(()),
-        }
+    /// How long the runs of all glyphs may take together.
+    fn limit_of_all(&self) -> u64 {
+        self.font.limit.saturating_mul(GLYPHS)
     }
 
     /// The name of a glyph. `None` where it has none, as in a CID-keyed font of which no string is named.
+    ///
+    /// ```
+    /// # let bytes = std::fs::read("examples/small.otf")?;
+    /// # let font = postscript::Font::from_file(&bytes, 0)?;
+    /// assert_eq!(font.glyph_name(3)?.as_deref(), Some(b"flower".as_slice()));
+    /// # Ok::<(), Box<dyn std::error::Error>>(())
+    /// ```
     ///
     /// # Errors
     ///
@@ -260,6 +428,13 @@ impl<'a> Font<'a> {
 
     /// The first glyph that has a name.
     ///
+    /// ```
+    /// # let bytes = std::fs::read("examples/small.otf")?;
+    /// # let font = postscript::Font::from_file(&bytes, 0)?;
+    /// assert_eq!((font.glyph_named(b"flower")?, font.glyph_named(b"tree")?), (Some(3), None));
+    /// # Ok::<(), Box<dyn std::error::Error>>(())
+    /// ```
+    ///
     /// # Errors
     ///
     /// As [`Font::glyph_name`].
@@ -270,13 +445,58 @@ impl<'a> Font<'a> {
         }
     }
 
+    /// The names of all glyphs, in their order, as [`Font::glyph_name`] tells each.
+    ///
+    /// ```
+    /// # let bytes = std::fs::read("examples/small.otf")?;
+    /// # let font = postscript::Font::from_file(&bytes, 0)?;
+    /// let names: Result<Vec<_>, _> = font.names().collect();
+    /// assert_eq!(names?[3].as_deref(), Some(b"flower".as_slice()));
+    /// # Ok::<(), Box<dyn std::error::Error>>(())
+    /// ```
+    pub fn names(&self) -> impl ExactSizeIterator<Item = Result<Option<Vec<u8>>>> + 'a {
+        let font = *self;
+        (0..self.glyph_count()).map(move |glyph| font.glyph_name(glyph))
+    }
+
+    /// The characters that the character map has glyphs for, ascending, with their glyphs. Each character of Unicode is looked up, which
+    /// takes some tenths of a second.
+    ///
+    /// ```
+    /// # let bytes = std::fs::read("examples/small.otf")?;
+    /// # let font = postscript::Font::from_file(&bytes, 0)?;
+    /// assert_eq!(font.characters().collect::<Vec<_>>(), [(' ', 1), ('A', 2), ('\u{2698}', 3)]);
+    /// # Ok::<(), Box<dyn std::error::Error>>(())
+    /// ```
+    pub fn characters(&self) -> impl Iterator<Item = (char, usize)> + 'a {
+        let font = *self;
+        let all = if font.cmap.is_some() { '\0'..=char::MAX } else { '\u{1}'..='\0' };
+        all.filter_map(move |character| Some((character, font.glyph_index(character)?)))
+    }
+
     /// The outlines of all glyphs, in their order.
+    ///
+    /// ```
+    /// # let bytes = std::fs::read("examples/small.otf")?;
+    /// # let font = postscript::Font::from_file(&bytes, 0)?;
+    /// let drawn = font.outlines().filter(|outline| matches!(outline, Ok(outline) if !outline.segments.is_empty()));
+    /// assert_eq!(drawn.count(), 2);
+    /// # Ok::<(), Box<dyn std::error::Error>>(())
+    /// ```
     pub fn outlines(&self) -> Outlines<'a> {
         Outlines { font: *self, glyphs: 0..self.glyph_count() }
     }
 }
 
 /// The outlines of the glyphs that are left of a font. From [`Font::outlines`].
+///
+/// ```
+/// # let bytes = std::fs::read("examples/small.otf")?;
+/// # let font = postscript::Font::from_file(&bytes, 0)?;
+/// let mut outlines = font.outlines();
+/// assert_eq!((outlines.len(), outlines.next().is_some(), outlines.len()), (4, true, 3));
+/// # Ok::<(), Box<dyn std::error::Error>>(())
+/// ```
 #[derive(Clone, Debug)]
 pub struct Outlines<'a> {
     font: Font<'a>,
@@ -297,4 +517,4 @@ impl Iterator for Outlines<'_> {
 
 impl ExactSizeIterator for Outlines<'_> {}
 
-impl std::iter::FusedIterator for Outlines<'_> {}
+impl core::iter::FusedIterator for Outlines<'_> {}

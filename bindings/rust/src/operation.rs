@@ -1,7 +1,17 @@
 //! Operations of glyphs.
 use crate::c;
+use alloc::vec::Vec;
 
 /// An operation of a glyph: an operator, and the operands that it takes.
+///
+/// ```
+/// # let bytes = std::fs::read("examples/small.otf")?;
+/// # let font = postscript::Font::from_file(&bytes, 0)?;
+/// let glyph = font.glyph_index('A').ok_or("no such glyph")?;
+/// let move_to = &font.operations(glyph)?[0];
+/// assert_eq!((move_to.operator, move_to.operands.as_slice()), (0x16, [0.0].as_slice()));
+/// # Ok::<(), Box<dyn std::error::Error>>(())
+/// ```
 #[derive(Clone, Debug, PartialEq)]
 pub struct Operation {
     /// The code of the operator (Adobe Technical Note 5177, Appendix A); that of two bytes is 0x0c00 and the second.
@@ -20,6 +30,15 @@ impl Operation {
     }
 
     /// What the Technical Note calls the operator; `None` where it has no operator of this code.
+    ///
+    /// ```
+    /// # let bytes = std::fs::read("examples/small.otf")?;
+    /// # let font = postscript::Font::from_file(&bytes, 0)?;
+    /// let glyph = font.glyph_index('A').ok_or("no such glyph")?;
+    /// let names: Vec<_> = font.operations(glyph)?.iter().map(|operation| operation.name()).collect();
+    /// assert_eq!(names, [Some("hmoveto"), Some("rlineto")]);
+    /// # Ok::<(), Box<dyn std::error::Error>>(())
+    /// ```
     pub fn name(&self) -> Option<&'static str> {
         NAMES.iter().find(|(code, _)| *code == self.operator).map(|(_, name)| *name)
     }

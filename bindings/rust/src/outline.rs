@@ -1,8 +1,18 @@
 //! Outlines.
 use crate::c;
-use std::fmt::Write;
+use alloc::string::String;
+use alloc::vec::Vec;
+use core::fmt::Write;
 
 /// A point, in units of the font. Both coordinates are whole numbers of 65536ths, so they are exact.
+///
+/// ```
+/// # let bytes = std::fs::read("examples/small.otf")?;
+/// # let font = postscript::Font::from_file(&bytes, 0)?;
+/// let outline = font.outline(font.glyph_index('A').ok_or("no such glyph")?)?;
+/// assert_eq!(outline.bounds.map(|bounds| bounds.high), Some(postscript::Point { x: 500.0, y: 700.0 }));
+/// # Ok::<(), Box<dyn std::error::Error>>(())
+/// ```
 #[derive(Clone, Copy, Debug, Default, PartialEq)]
 pub struct Point {
     /// To the right.
@@ -12,6 +22,15 @@ pub struct Point {
 }
 
 /// A piece of an outline.
+///
+/// ```
+/// # let bytes = std::fs::read("examples/small.otf")?;
+/// # let font = postscript::Font::from_file(&bytes, 0)?;
+/// # use postscript::{Point, Segment};
+/// let outline = font.outline(font.glyph_index('A').ok_or("no such glyph")?)?;
+/// assert_eq!(outline.segments[1], Segment::LineTo(Point { x: 250.0, y: 700.0 }));
+/// # Ok::<(), Box<dyn std::error::Error>>(())
+/// ```
 #[derive(Clone, Copy, Debug, PartialEq)]
 pub enum Segment {
     /// A contour begins here.
@@ -25,6 +44,30 @@ pub enum Segment {
 }
 
 /// What is given the segments of an outline, one call each, in their order.
+///
+/// ```
+/// # let bytes = std::fs::read("examples/small.otf")?;
+/// # let font = postscript::Font::from_file(&bytes, 0)?;
+/// # use postscript::Point;
+/// /// How many lines and curves an outline has.
+/// struct Count(usize);
+///
+/// impl postscript::OutlineSink for Count {
+///     fn move_to(&mut self, _: Point) {}
+///     fn line_to(&mut self, _: Point) {
+///         self.0 += 1;
+///     }
+///     fn curve_to(&mut self, _: Point, _: Point, _: Point) {
+///         self.0 += 1;
+///     }
+///     fn close(&mut self) {}
+/// }
+///
+/// let mut count = Count(0);
+/// font.draw(font.glyph_index('A').ok_or("no such glyph")?, &mut count)?;
+/// assert_eq!(count.0, 2);
+/// # Ok::<(), Box<dyn std::error::Error>>(())
+/// ```
 pub trait OutlineSink {
     /// A contour begins here.
     fn move_to(&mut self, to: Point);
@@ -37,6 +80,15 @@ pub trait OutlineSink {
 }
 
 /// A rectangle, in units of the font.
+///
+/// ```
+/// # let bytes = std::fs::read("examples/small.otf")?;
+/// # let font = postscript::Font::from_file(&bytes, 0)?;
+/// let outline = font.outline(font.glyph_index('A').ok_or("no such glyph")?)?;
+/// let bounds = outline.bounds.ok_or("no point")?;
+/// assert_eq!((bounds.high.x - bounds.low.x, bounds.high.y - bounds.low.y), (500.0, 700.0));
+/// # Ok::<(), Box<dyn std::error::Error>>(())
+/// ```
 #[derive(Clone, Copy, Debug, PartialEq)]
 pub struct Bounds {
     /// The lower left corner.
@@ -46,6 +98,14 @@ pub struct Bounds {
 }
 
 /// What is told of a glyph besides its outline.
+///
+/// ```
+/// # let bytes = std::fs::read("examples/small.otf")?;
+/// # let font = postscript::Font::from_file(&bytes, 0)?;
+/// let outline = font.outline(font.glyph_index('A').ok_or("no such glyph")?)?;
+/// assert_eq!(outline.glyph().advance, 500.0);
+/// # Ok::<(), Box<dyn std::error::Error>>(())
+/// ```
 #[derive(Clone, Copy, Debug, PartialEq)]
 pub struct Glyph {
     /// The width, in units of the font.
@@ -55,6 +115,14 @@ pub struct Glyph {
 }
 
 /// The outline of a glyph.
+///
+/// ```
+/// # let bytes = std::fs::read("examples/small.otf")?;
+/// # let font = postscript::Font::from_file(&bytes, 0)?;
+/// let outline = font.outline(font.glyph_index('A').ok_or("no such glyph")?)?;
+/// assert_eq!((outline.advance, outline.segments.len()), (500.0, 4));
+/// # Ok::<(), Box<dyn std::error::Error>>(())
+/// ```
 #[derive(Clone, Debug, PartialEq)]
 pub struct Outline {
     /// Contours, each from a [`Segment::MoveTo`] to a [`Segment::Close`].
@@ -97,11 +165,38 @@ impl Outline {
     }
 
     /// What is told of the glyph besides its outline.
+    ///
+    /// ```
+    /// # let bytes = std::fs::read("examples/small.otf")?;
+    /// # let font = postscript::Font::from_file(&bytes, 0)?;
+    /// let outline = font.outline(font.glyph_index('A').ok_or("no such glyph")?)?;
+    /// assert_eq!(outline.glyph().bounds, outline.bounds);
+    /// # Ok::<(), Box<dyn std::error::Error>>(())
+    /// ```
     pub fn glyph(&self) -> Glyph {
         Glyph { advance: self.advance, bounds: self.bounds }
     }
 
     /// Gives the segments to a sink, in their order.
+    ///
+    /// ```
+    /// # let bytes = std::fs::read("examples/small.otf")?;
+    /// # let font = postscript::Font::from_file(&bytes, 0)?;
+    /// let outline = font.outline(font.glyph_index('A').ok_or("no such glyph")?)?;
+    /// #[derive(Default)]
+    /// struct Points(Vec<postscript::Point>);
+    /// # impl postscript::OutlineSink for Points {
+    /// #     fn move_to(&mut self, to: postscript::Point) { self.0.push(to); }
+    /// #     fn line_to(&mut self, to: postscript::Point) { self.0.push(to); }
+    /// #     fn curve_to(&mut self, _: postscript::Point, _: postscript::Point, to: postscript::Point) { self.0.push(to); }
+    /// #     fn close(&mut self) {}
+    /// # }
+    ///
+    /// let mut points = Points::default();
+    /// outline.draw(&mut points);
+    /// assert_eq!(points.0.len(), 3);
+    /// # Ok::<(), Box<dyn std::error::Error>>(())
+    /// ```
     pub fn draw<S: OutlineSink + ?Sized>(&self, sink: &mut S) {
         for segment in &self.segments {
             match *segment {
@@ -114,6 +209,14 @@ impl Outline {
     }
 
     /// The path data of an SVG picture. Its y axis goes up, as that of the font, so show it under `scale(1 -1)`.
+    ///
+    /// ```
+    /// # let bytes = std::fs::read("examples/small.otf")?;
+    /// # let font = postscript::Font::from_file(&bytes, 0)?;
+    /// let outline = font.outline(font.glyph_index('A').ok_or("no such glyph")?)?;
+    /// assert_eq!(outline.svg_path(), "M0 0L250 700L500 0Z");
+    /// # Ok::<(), Box<dyn std::error::Error>>(())
+    /// ```
     pub fn svg_path(&self) -> String {
         let mut path = String::new();
         for segment in &self.segments {
@@ -133,7 +236,7 @@ impl Outline {
 
 impl<'a> IntoIterator for &'a Outline {
     type Item = &'a Segment;
-    type IntoIter = std::slice::Iter<'a, Segment>;
+    type IntoIter = core::slice::Iter<'a, Segment>;
 
     fn into_iter(self) -> Self::IntoIter {
         self.segments.iter()

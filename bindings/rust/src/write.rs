@@ -1,9 +1,18 @@
 //! Fonts that are written.
 use crate::c;
 use crate::error::Error;
-use std::fmt;
+use core::fmt;
 
 /// Why no font is written.
+///
+/// ```
+/// # let bytes = std::fs::read("examples/small.otf")?;
+/// # let font = postscript::Font::from_file(&bytes, 0)?;
+/// let error = font.subset(&[1, 4]).unwrap_err();
+/// assert_eq!((error.error, error.glyph), (postscript::Error::NoGlyph, Some(4)));
+/// assert_eq!(error.to_string(), "glyph 4: no such glyph");
+/// # Ok::<(), Box<dyn std::error::Error>>(())
+/// ```
 #[derive(Clone, Copy, Debug, PartialEq, Eq, Hash)]
 pub struct WriteError {
     /// Why the call is refused.
@@ -15,10 +24,6 @@ pub struct WriteError {
 }
 
 impl WriteError {
-    /// The runs of the glyphs take longer than the limit.
-    pub(crate) const TOO_LONG: WriteError =
-        WriteError { error: Error::TooLong, glyph: None, cause: None };
-
     /// The error of what is told of a refusal.
     pub(crate) fn of((error, told): (Error, c::Refusal)) -> WriteError {
         let means_glyph =
@@ -41,4 +46,5 @@ impl fmt::Display for WriteError {
     }
 }
 
+#[cfg(feature = "std")]
 impl std::error::Error for WriteError {}

@@ -28,6 +28,44 @@ fn flower() -> Vec<Segment> {
     ]
 }
 
+/// Fonts and what is told of them may be sent to other threads, and shared.
+const _: () = {
+    const fn are_shared<T: Send + Sync + 'static>() {}
+    are_shared::<Font<'static>>();
+    are_shared::<postscript::Outlines<'static>>();
+    are_shared::<(Outline, Segment, Point, Bounds, postscript::Glyph, Operation, Error, WriteError)>();
+};
+
+#[test]
+fn threads_share_a_font() {
+    let bytes = bytes();
+    let font = Font::from_file(&bytes, 0).unwrap();
+    let alone: Vec<_> = font.outlines().collect();
+    std::thread::scope(|threads| {
+        let all: Vec<_> = (0..4).map(|_| threads.spawn(|| font.outlines().collect::<Vec<_>>())).collect();
+        for drawn in all {
+            assert_eq!(drawn.join().unwrap(), alone);
+        }
+    });
+}
+
+/// The font of the examples is that of the tests.
+#[test]
+fn the_font_of_the_examples() {
+    assert_eq!(bytes(), include_bytes!("../examples/small.otf"));
+}
+
+#[test]
+fn names_and_characters_of_all_glyphs() {
+    let bytes = bytes();
+    let font = Font::from_file(&bytes, 0).unwrap();
+    let names: Vec<_> = font.names().map(|name| name.unwrap().unwrap()).collect();
+    assert_eq!(names, [b".notdef".as_slice(), b"space", b"A", b"flower"]);
+    assert_eq!(font.names().len(), 4);
+    assert_eq!(font.characters().collect::<Vec<_>>(), [(' ', 1), ('A', 2), ('\u{2698}', 3)]);
+    assert_eq!(Font::from_table(font.table()).unwrap().characters().count(), 0);
+}
+
 #[test]
 fn a_glyph_of_a_character() {
     let bytes = bytes();
@@ -178,7 +216,8 @@ fn refusals() {
     let error: Box<dyn std::error::Error> = Box::new(Error::NoGlyph);
     assert_eq!(error.to_string(), "no such glyph");
     assert_eq!(Error::NoFace.status(), 35);
-    assert_eq!(postscript::version(), (0, 2, 0));
+    let (major, minor, patch) = postscript::version();
+    assert_eq!(format!("{major}.{minor}.{patch}"), env!("CARGO_PKG_VERSION"));
 }
 
 /// A CID-keyed font of four glyphs and two font dictionaries, up to its FDSelect. Glyph 1 calls the local subroutine of the first

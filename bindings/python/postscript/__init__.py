@@ -9,21 +9,47 @@ what the specification says. This module calls it by ctypes, and needs nothing b
     glyph = font.glyph_of("A")
     print(glyph.advance, glyph.bounds, glyph.svg_path())
     glyph.draw(pen)  # a pen of fontTools, or anything with its four methods
+    print(len(font), font.names[:3], font.cmap[0x41], [glyph.advance for glyph in font])
 
-The library is the file that the environment's POSTSCRIPT_LIBRARY names, or libpostscript.so beside this module, or in the
-folder that the Makefile of the C bindings fills, or where the system keeps libraries.
+Units. Coordinates, bounds and advances are in units of the font, of which most fonts with a table `CFF ` have 1000 to the em. They
+are whole numbers of 65536ths, so a float holds them exactly. Glyphs and faces are counted from 0, and characters are Unicode's.
+
+Errors. A call that is refused raises `Error`: `status` says why, and `glyph` of which glyph, where it is about one.
+
+Bytes. A font is read from `bytes`, a `bytearray`, a `memoryview` or an `mmap`, or any other object with contiguous bytes. They are
+not copied: the font and its glyphs hold the object, so an mmap is closed after they are gone (`del font`). Nobody may change the
+bytes while the font is used, nor cut a file that is mapped.
+
+Threads. The library keeps nothing between calls, and Python's lock is let go while it works. So threads may share a font and its
+glyphs, and draw at the same time.
+
+The library is the file that the environment's POSTSCRIPT_LIBRARY names, or libpostscript.so.0 beside this module, or in the
+folder that the Makefile of the C bindings fills, or where the system keeps libraries. One of another version than this module's
+is refused with an `ImportError`.
 """
 
 from __future__ import annotations
 
 import ctypes
 import enum
+import mmap
 import os
-from ctypes import POINTER, Structure, byref, c_char_p, c_int32, c_int64, c_size_t, c_uint8, c_uint32, c_uint64
+from ctypes import POINTER, Structure, byref, c_char_p, c_int, c_int32, c_int64, c_size_t, c_ssize_t, c_uint8, c_uint32, c_uint64, c_void_p
 from pathlib import Path
-from typing import Callable, Iterable, Iterator, List, NamedTuple, Optional, Protocol, Tuple, Type, Union
+from typing import Any, Callable, Iterable, Iterator, List, Mapping, NamedTuple, Optional, Protocol, Tuple, Type, Union
 
-__all__ = ["LIMIT", "Bounds", "Error", "Font", "Glyph", "Operation", "Pen", "Segment", "Status", "WriteError", "faces", "version"]
+__all__ = [
+    "LIMIT", "VERSION", "Bounds", "Buffer", "CharacterMap", "Error", "Font", "Glyph", "Operation", "Pen", "Point", "Segment", "SegmentPen",
+    "Status", "WriteError", "draw", "faces", "version",
+]  # fmt: skip
+
+__version__ = "0.2.0"
+
+#: The version of this module, and of the library that it calls: major, minor and patch number.
+VERSION = (0, 2, 0)
+
+#: What bytes are read from, without a copy. Any other object that has contiguous bytes does too.
+Buffer = Union[bytes, bytearray, memoryview, mmap.mmap]
 
 #: A point in units of the font; both coordinates are whole numbers of 65536ths, so they are exact.
 Point = Tuple[float, float]
@@ -58,6 +84,31 @@ class Pen(Protocol):
     def curveTo(self, *points: Point) -> None: ...
 
     def closePath(self) -> None: ...
+
+
+class SegmentPen:
+    """A pen that lists what it is given: `segments` is then as `Glyph.segments`, of which `draw` is the way back."""
+
+    def __init__(self) -> None:
+        self.segments: List[Segment] = []
+
+    def moveTo(self, pt: Point) -> None:
+        self.segments.append(("moveTo", (pt,)))
+
+    def lineTo(self, pt: Point) -> None:
+        self.segments.append(("lineTo", (pt,)))
+
+    def curveTo(self, *points: Point) -> None:
+        self.segments.append(("curveTo", points))
+
+    def closePath(self) -> None:
+        self.segments.append(("closePath", ()))
+
+
+def draw(segments: Iterable[Segment], pen: Pen) -> None:
+    """Draws an outline with a pen: it is called once for each segment, in their order."""
+    for method, points in segments:
+        getattr(pen, method)(*points)
 
 
 class Status(enum.IntEnum):
@@ -121,12 +172,17 @@ def _status(number: int) -> Union[Status, int]:
 
 
 class Error(Exception):
-    """A call was refused. Its text says why, and so does `status`."""
+    """A call was refused. Its text says why, and so does `status`. `glyph` is the number of the glyph that the call was about, or None."""
 
-    def __init__(self, status: int, text: Optional[str] = None) -> None:
+    def __init__(self, status: int, text: Optional[str] = None, glyph: Optional[int] = None) -> None:
         super().__init__(_text_of(status) if text is None else text)
         #: a `Status`, or a number where this module knows none
         self.status: Union[Status, int] = _status(status)
+        #: the number of a glyph, from 0 on
+        self.glyph: Optional[int] = glyph
+
+    def __reduce__(self) -> Tuple[Any, ...]:
+        return type(self), (int(self.status), str(self), self.glyph)
 
 
 class WriteError(Error):
@@ -136,9 +192,12 @@ class WriteError(Error):
     def __init__(self, status: int, glyph: int, cause: int) -> None:
         means_glyph = status in (Status.REFUSED_GLYPH, Status.NO_GLYPH, Status.NO_PART, Status.NO_NAME)
         text = _text_of(cause if status == Status.REFUSED_GLYPH else status)
-        super().__init__(status, f"glyph {glyph}: {text}" if means_glyph else text)
-        self.glyph: Optional[int] = glyph if means_glyph else None
+        super().__init__(status, f"glyph {glyph}: {text}" if means_glyph else text, glyph if means_glyph else None)
+        self._told = int(status), glyph, int(cause)
         self.cause: Optional[Union[Status, int]] = _status(cause) if status == Status.REFUSED_GLYPH else None
+
+    def __reduce__(self) -> Tuple[Any, ...]:
+        return type(self), self._told
 
 
 #: the operators that runs tell, by their codes
@@ -203,18 +262,93 @@ class _Refusal(Structure):
 
 
 def _load() -> ctypes.CDLL:
+    """The library, where it is of this module's version."""
     own = Path(__file__).resolve().parent
+    places = (own / "libpostscript.so.0", own.parents[1] / "c" / "build" / "libpostscript.so")
     named = os.environ.get("POSTSCRIPT_LIBRARY")
-    if named:
-        return ctypes.CDLL(named)
-    for place in (own / "libpostscript.so", own.parent / "c" / "build" / "libpostscript.so"):
-        if place.exists():
-            return ctypes.CDLL(str(place))
-    return ctypes.CDLL("libpostscript.so.0")
+    place = named or next((str(place) for place in places if place.exists()), "libpostscript.so.0")
+    try:
+        library = ctypes.CDLL(place)
+        library.psf_version.argtypes, library.psf_version.restype = [], c_uint32
+    except (OSError, AttributeError) as e:
+        raise ImportError(f"postscript {__version__} finds no library: {e}") from e
+    number = library.psf_version()
+    if _three(number) != VERSION:
+        raise ImportError(f"postscript {__version__} wants a library of its own version: {place} is {'.'.join(map(str, _three(number)))}")
+    return library
+
+
+def _three(number: int) -> Tuple[int, int, int]:
+    return number >> 16, number >> 8 & 255, number & 255
+
+
+class _PyBuffer(Structure):
+    """Where an object has its bytes: Py_buffer, of the buffer protocol of Python."""
+
+    _fields_ = [
+        ("buf", c_void_p),
+        ("obj", c_void_p),
+        ("len", c_ssize_t),
+        ("itemsize", c_ssize_t),
+        ("readonly", c_int),
+        ("ndim", c_int),
+        ("format", c_char_p),
+        ("shape", c_void_p),
+        ("strides", c_void_p),
+        ("suboffsets", c_void_p),
+        ("internal", c_void_p),
+    ]
+
+
+_get_buffer = ctypes.pythonapi.PyObject_GetBuffer
+_get_buffer.argtypes, _get_buffer.restype = [ctypes.py_object, POINTER(_PyBuffer), c_int], c_int
+_release_buffer = ctypes.pythonapi.PyBuffer_Release
+_release_buffer.argtypes, _release_buffer.restype = [POINTER(_PyBuffer)], None
+
+#: a place for no bytes, since no pointer may be null
+_NOTHING = ctypes.create_string_buffer(1)
+
+
+class _Held:
+    """The bytes of an object, which is held as long as this is."""
+
+    def __init__(self, source: Buffer) -> None:
+        self._is_held, self._buffer = False, _PyBuffer()
+        _get_buffer(source, byref(self._buffer), 0)
+        self._is_held = True
+        self.size = int(self._buffer.len)
+        self.place = int(self._buffer.buf) if self.size else ctypes.addressof(_NOTHING)
+
+    def __del__(self, release: Callable[[Any], None] = _release_buffer, reference: Callable[[Any], Any] = byref) -> None:
+        if self._is_held:
+            release(reference(self._buffer))
+
+
+class _View:
+    """Some of the bytes of an object, where they stand."""
+
+    def __init__(self, held: _Held, place: int, size: int) -> None:
+        self._held = held
+        #: what a call is handed: where they begin, and how many they are
+        self.told = held.place + place, size
+
+    @classmethod
+    def of(cls: Type[_View], source: Buffer) -> _View:
+        held = _Held(source)
+        return cls(held, 0, held.size)
+
+    def part(self, place: int, size: int) -> _View:
+        return _View(self._held, self.told[0] - self._held.place + place, size)
+
+    def __len__(self) -> int:
+        return self.told[1]
+
+    def copied(self) -> bytes:
+        return ctypes.string_at(*self.told)
 
 
 _library = _load()
-_bytes, _size, _sizes, _room = c_char_p, c_size_t, POINTER(c_size_t), POINTER(c_uint8)
+_bytes, _size, _sizes, _room = c_void_p, c_size_t, POINTER(c_size_t), POINTER(c_uint8)
 for _name, _arguments in {
     "psf_status_text": [c_int32, _room, _size, _sizes],
     "psf_file_faces": [_bytes, _size, _sizes],
@@ -226,19 +360,17 @@ for _name, _arguments in {
     "psf_glyph_bounds": [_bytes, _size, POINTER(_Font), _size, POINTER(_Bounds)],
     "psf_glyph_flat": [_bytes, _size, POINTER(_Font), _size, _room, _size, _sizes],
     "psf_glyph_operations": [_bytes, _size, POINTER(_Font), _size, POINTER(_Operation), _size, _sizes, POINTER(c_int32), _size, _sizes],
-    "psf_font_flat": [_bytes, _size, _room, _size, _sizes, POINTER(_Refusal)],
-    "psf_font_subset": [_bytes, _size, _sizes, _size, c_uint32, _room, _size, _sizes, POINTER(_Refusal)],
+    "psf_font_flat": [_bytes, _size, c_uint64, _room, _size, _sizes, POINTER(_Refusal)],
+    "psf_font_subset": [_bytes, _size, _sizes, _size, c_uint32, c_uint64, _room, _size, _sizes, POINTER(_Refusal)],
     "psf_glyph_name": [_bytes, _size, _size, _room, _size, _sizes],
     "psf_named_glyph": [_bytes, _size, _bytes, _size, _sizes],
 }.items():
     getattr(_library, _name).argtypes = _arguments
     getattr(_library, _name).restype = c_int32
-_library.psf_version.argtypes = []
-_library.psf_version.restype = c_uint32
 
 
-def _bytes_of(call: Callable[..., int]) -> bytes:
-    """The bytes that a call writes into the room that it is lent: more is lent where it is too small."""
+def _bytes_of(call: Callable[..., int], glyph: int) -> bytes:
+    """The bytes that a call about a glyph writes into the room that it is lent: more is lent where it is too small."""
     room, count = 64, c_size_t()
     while True:
         text = (c_uint8 * room)()
@@ -246,7 +378,7 @@ def _bytes_of(call: Callable[..., int]) -> bytes:
         if status == Status.OK:
             return bytes(text[: count.value])
         if status != Status.NO_ROOM:
-            raise Error(status)
+            raise Error(status, glyph=glyph)
         room = count.value
 
 
@@ -270,49 +402,106 @@ def _text_of(status: int) -> str:
     return bytes(text[: count.value]).decode("ascii")
 
 
-def _checked(status: int) -> None:
+def _checked(status: int, glyph: Optional[int] = None) -> None:
     if status != Status.OK:
-        raise Error(status)
+        raise Error(status, glyph=glyph)
 
 
 def version() -> Tuple[int, int, int]:
     """The version of the library: its major, minor and patch number."""
-    number: int = _library.psf_version()
-    return number >> 16, number >> 8 & 255, number & 255
+    return _three(_library.psf_version())
 
 
-def faces(file: bytes) -> int:
-    """How many faces an OpenType file has: one, or those of a collection."""
-    count = c_size_t()
-    _checked(_library.psf_file_faces(file, len(file), byref(count)))
+def faces(file: Buffer) -> int:
+    """How many faces an OpenType file has: one, or those of a collection. Refused with `Status.CUT_FILE` and `UNKNOWN_FILE`."""
+    count, view = c_size_t(), _View.of(file)
+    _checked(_library.psf_file_faces(*view.told, byref(count)))
     return count.value
 
 
-def _table(file: bytes, face: int, tag: bytes) -> bytes:
+def _table(file: _View, face: int, tag: bytes) -> _View:
     place, size = c_size_t(), c_size_t()
-    _checked(_library.psf_file_table(file, len(file), face, int.from_bytes(tag, "big"), byref(place), byref(size)))
-    return file[place.value : place.value + size.value]
+    _checked(_library.psf_file_table(*file.told, face, int.from_bytes(tag, "big"), byref(place), byref(size)))
+    return file.part(place.value, size.value)
+
+
+class CharacterMap(Mapping[int, int]):
+    """The characters of a font and their glyphs, by the best map of its table `cmap`: numbers of Unicode, and numbers of glyphs from 1 on.
+
+    Looking a character up is one call of the library. To list them, all 1,114,112 are looked up once, which takes a second or two."""
+
+    def __init__(self, cmap: Optional[_View]) -> None:
+        self._cmap = cmap
+        self._listed: Optional[List[int]] = None
+
+    def _glyph(self, character: int) -> int:
+        """The glyph of a character, or 0. Refused with `Status.NO_MAP` where the font has no map that is read."""
+        if self._cmap is None:
+            raise Error(Status.NO_MAP)
+        glyph = c_size_t()
+        _checked(_library.psf_map_glyph(*self._cmap.told, character, byref(glyph)))
+        return glyph.value
+
+    def __getitem__(self, character: int) -> int:
+        try:
+            glyph = self._glyph(character) if 0 <= character < 0x110000 else 0
+        except Error as e:
+            if e.status != Status.NO_MAP:
+                raise
+            glyph = 0
+        if glyph == 0:
+            raise KeyError(character)
+        return glyph
+
+    def _characters(self) -> List[int]:
+        if self._listed is None:
+            try:
+                self._glyph(0)
+                self._listed = [character for character in range(0x110000) if self._glyph(character) != 0]
+            except Error:
+                # there is no map
+                self._listed = []
+        return self._listed
+
+    def __iter__(self) -> Iterator[int]:
+        return iter(self._characters())
+
+    def __len__(self) -> int:
+        return len(self._characters())
 
 
 class Font:
-    """A font: the bytes of its table `CFF `, and of its table `cmap` where there is one."""
+    """A font: the bytes of its table `CFF `, and of its table `cmap` where there is one. The bytes are not copied, and their objects are
+    held.
 
-    def __init__(self, cff: bytes, cmap: Optional[bytes] = None, limit: int = LIMIT) -> None:
-        self._cff, self._cmap, self._font = bytes(cff), cmap, _Font()
-        _checked(_library.psf_font_open(self._cff, len(self._cff), byref(self._font)))
+    `len` is how many glyphs there are, `font[7]` is one by its number, and a `for` goes over all of them."""
+
+    def __init__(self, cff: Union[Buffer, _View], cmap: Union[Buffer, _View, None] = None, limit: int = LIMIT) -> None:
+        self._view = cff if isinstance(cff, _View) else _View.of(cff)
+        self._map = cmap if isinstance(cmap, _View) or cmap is None else _View.of(cmap)
+        self._font = _Font()
+        _checked(_library.psf_font_open(*self._view.told, byref(self._font)))
         self._font.limit = limit
+        #: the characters and their glyphs
+        self.cmap = CharacterMap(self._map)
+
+    def __repr__(self) -> str:
+        return f"<Font of {len(self)} glyphs>"
 
     @classmethod
     def open(cls: Type[Font], path: Union[str, os.PathLike[str]], face: int = 0, limit: int = LIMIT) -> Font:
-        """A face of an OpenType file by its path, counted from 0."""
+        """A face of an OpenType file by its path, counted from 0. The file is read whole. Refused as `from_bytes` is, and with an
+        `OSError` where the file is not read."""
         return cls.from_bytes(Path(path).read_bytes(), face, limit)
 
     @classmethod
-    def from_bytes(cls: Type[Font], file: bytes, face: int = 0, limit: int = LIMIT) -> Font:
-        """A face of an OpenType file by its bytes, counted from 0."""
-        cff, cmap = _table(file, face, b"CFF "), None
+    def from_bytes(cls: Type[Font], file: Buffer, face: int = 0, limit: int = LIMIT) -> Font:
+        """A face of an OpenType file by its bytes, counted from 0. Refused with `Status.CUT_FILE`, `UNKNOWN_FILE`, `NO_FACE`, with
+        `NO_TABLE` where it has no table `CFF `, and with an error from 1 to 15 where that table is no font."""
+        view = _View.of(file)
+        cff, cmap = _table(view, face, b"CFF "), None
         try:
-            cmap = _table(file, face, b"cmap")
+            cmap = _table(view, face, b"cmap")
         except Error as e:
             if e.status != Status.NO_TABLE:
                 raise
@@ -320,6 +509,16 @@ class Font:
 
     def __len__(self) -> int:
         return int(self._font.glyphs)
+
+    @property
+    def cff(self) -> bytes:
+        """The bytes of the table `CFF `, copied."""
+        return self._view.copied()
+
+    @property
+    def names(self) -> List[Optional[str]]:
+        """The name of each glyph, as `Glyph.name`."""
+        return [glyph.name for glyph in self]
 
     def __getitem__(self, glyph: int) -> Glyph:
         if not 0 <= glyph < len(self):
@@ -337,60 +536,48 @@ class Font:
     @property
     def limit(self) -> int:
         """How long each call may run a glyph, an accented one with its base and its accent: at first `LIMIT`. An operator takes a unit
-        for each of its bytes, with the numbers before it, and a roll 4096 more. A font of a few bytes may name more calls of
+        for each of its bytes, with the numbers before it, a roll 4096 more, and a square root 8 more. A font of a few bytes may name more calls of
         subroutines than can be run in years: this is what stops them, with `Status.TOO_LONG`."""
         return int(self._font.limit)
 
     def fits(self, limit: int) -> bool:
         """Whether the runs of all glyphs come to their ends within a limit, which they share, and which is spent as `limit` says."""
-        status = _library.psf_font_fits(self._cff, len(self._cff), byref(c_uint64(limit)))
+        status = _library.psf_font_fits(*self._view.told, byref(c_uint64(limit)))
         if status == Status.TOO_LONG:
             return False
         _checked(status)
         return True
 
-    def _keep_to_limit(self) -> None:
-        """Refused with `Status.TOO_LONG` where the runs of all glyphs use up so many times the limit."""
-        left = c_uint64(min(self.limit * _GLYPHS, 2**64 - 1))
-        if _library.psf_font_fits(self._cff, len(self._cff), byref(left)) == Status.TOO_LONG:
-            raise WriteError(Status.TOO_LONG, 0, 0)
+    @property
+    def _limit_of_all(self) -> int:
+        """How long the runs of all glyphs may take together."""
+        return min(self.limit * _GLYPHS, 2**64 - 1)
 
     def flat(self) -> bytes:
         """The table `CFF ` of the same glyphs without subroutines: each draws what it drew, with the same advance, name or CID, and
         codes. Refused with a `WriteError`, also where the runs of all glyphs use up twenty times the limit."""
-        self._keep_to_limit()
-        cff = self._cff
-        return _font_of(
-            2 * len(cff) + 1024, lambda room, size, count, refusal: _library.psf_font_flat(cff, len(cff), room, size, count, refusal)
-        )
+        cff, limit = self._view, self._limit_of_all
+        return _font_of(2 * len(cff) + 1024, lambda *lent: _library.psf_font_flat(*cff.told, limit, *lent))
 
     def subset(self, glyphs: Iterable[int], keep_numbers: bool = False) -> bytes:
         """The table `CFF ` of `.notdef`, these glyphs, and the base and the accent of each one that is kept and accented, without
         subroutines: numbered anew in ascending order, or with their numbers and empty glyphs between them. Refused with a `WriteError`,
         as `flat` is."""
-        self._keep_to_limit()
-        cff, numbers = self._cff, list(glyphs)
+        cff, limit, numbers = self._view, self._limit_of_all, list(glyphs)
         named = (c_size_t * len(numbers))(*numbers)
         return _font_of(
-            len(cff) + 1024,
-            lambda room, size, count, refusal: _library.psf_font_subset(
-                cff, len(cff), named, len(numbers), int(keep_numbers), room, size, count, refusal
-            ),
+            len(cff) + 1024, lambda *lent: _library.psf_font_subset(*cff.told, named, len(numbers), int(keep_numbers), limit, *lent)
         )
 
     def glyph_of(self, character: str) -> Glyph:
-        """The glyph of a character: the glyph 0 where it has none."""
-        if self._cmap is None:
-            raise Error(Status.NO_MAP)
-        glyph = c_size_t()
-        _checked(_library.psf_map_glyph(self._cmap, len(self._cmap), ord(character), byref(glyph)))
-        return Glyph(self, glyph.value)
+        """The glyph of a character: the glyph 0 where it has none. Refused with `Status.NO_MAP`."""
+        return Glyph(self, self.cmap._glyph(ord(character)))
 
     def glyph_named(self, name: Union[str, bytes]) -> Glyph:
         """The first glyph that has a name. Refused with `Status.NO_GLYPH` where none has it."""
         text = name.encode() if isinstance(name, str) else name
         glyph = c_size_t()
-        _checked(_library.psf_named_glyph(self._cff, len(self._cff), text, len(text), byref(glyph)))
+        _checked(_library.psf_named_glyph(*self._view.told, text, len(text), byref(glyph)))
         return Glyph(self, glyph.value)
 
 
@@ -404,6 +591,7 @@ class Glyph:
     `Status.NO_CODE`, `NO_ACCENTS`, `NO_COMPONENT` and `NESTED_ACCENT`; and with what a run is refused with."""
 
     def __init__(self, font: Font, number: int) -> None:
+        #: the font, and the number there, from 0 on
         self.font, self.number = font, number
         self._drawn: Optional[Tuple[List[Segment], _Glyph]] = None
 
@@ -416,15 +604,15 @@ class Glyph:
         return self._drawn
 
     def _draw(self) -> Tuple[List[Segment], _Glyph]:
-        cff, font = self.font._cff, self.font._font
+        cff, font = self.font._view, self.font._font
         room, count, info = 64, c_size_t(), _Glyph()
         while True:
             segments = (_Segment * room)()
-            status = _library.psf_glyph_outline(cff, len(cff), byref(font), self.number, segments, room, byref(count), byref(info))
+            status = _library.psf_glyph_outline(*cff.told, byref(font), self.number, segments, room, byref(count), byref(info))
             if status == Status.OK:
                 return [_segment(s) for s in segments[: count.value]], info
             if status != Status.NO_ROOM:
-                raise Error(status)
+                raise Error(status, glyph=self.number)
             room = count.value
 
     @property
@@ -446,16 +634,16 @@ class Glyph:
     def tight_bounds(self) -> Optional[Bounds]:
         """The bounds of the lines and curves, to a 65536th of a unit more: of an accented glyph those of the whole. None where there is
         no point."""
-        cff, told = self.font._cff, _Bounds()
-        _checked(_library.psf_glyph_bounds(cff, len(cff), byref(self.font._font), self.number, byref(told)))
+        told = _Bounds()
+        _checked(_library.psf_glyph_bounds(*self.font._view.told, byref(self.font._font), self.number, byref(told)), self.number)
         return _bounds(told)
 
     @property
     def name(self) -> Optional[str]:
         """The name, where it has one. A byte that is no ASCII is written as `\\x` and its two digits."""
-        cff = self.font._cff
+        cff = self.font._view
         try:
-            text = _bytes_of(lambda room, size, count: _library.psf_glyph_name(cff, len(cff), self.number, room, size, count))
+            text = _bytes_of(lambda *lent: _library.psf_glyph_name(*cff.told, self.number, *lent), self.number)
         except Error as e:
             if e.status == Status.NO_NAME:
                 return None
@@ -465,29 +653,28 @@ class Glyph:
     def flat_code(self) -> bytes:
         """The code without calls of subroutines: over any subroutines it has the operations and the width of the glyph. Refused with
         `Status.TOO_LONG` where its run uses up the font's limit."""
-        cff, font = self.font._cff, byref(self.font._font)
-        return _bytes_of(lambda room, size, count: _library.psf_glyph_flat(cff, len(cff), font, self.number, room, size, count))
+        cff, font = self.font._view, byref(self.font._font)
+        return _bytes_of(lambda *lent: _library.psf_glyph_flat(*cff.told, font, self.number, *lent), self.number)
 
     def operations(self) -> List[Operation]:
         """The operations, in the order of the run: with subroutines called, the width taken off, and numbers worked out. `endchar` is not
         one of them. An accented glyph has its own alone. Refused with `Status.TOO_LONG` where its run uses up the font's limit."""
-        cff, font = self.font._cff, byref(self.font._font)
+        cff, font = self.font._view, byref(self.font._font)
         room, operand_room, count, operand_count = 64, 256, c_size_t(), c_size_t()
         while True:
             rows, operands = (_Operation * room)(), (c_int32 * operand_room)()
             status = _library.psf_glyph_operations(
-                cff, len(cff), font, self.number, rows, room, byref(count), operands, operand_room, byref(operand_count)
+                *cff.told, font, self.number, rows, room, byref(count), operands, operand_room, byref(operand_count)
             )
             if status == Status.OK:
                 return [_operation(row, operands[row.first : row.first + row.count]) for row in rows[: count.value]]
             if status != Status.NO_ROOM:
-                raise Error(status)
+                raise Error(status, glyph=self.number)
             room, operand_room = count.value, operand_count.value
 
     def draw(self, pen: Pen) -> None:
         """Draws the outline with a pen of fontTools."""
-        for method, points in self.segments:
-            getattr(pen, method)(*points)
+        draw(self.segments, pen)
 
     def svg_path(self) -> str:
         """The path data of an SVG picture. Its y axis goes up, as that of the font, so show it under `scale(1 -1)`."""

@@ -1,0 +1,11 @@
+pub mod Bytes
+pub mod Limit
+pub mod Reading
+pub mod Deltas
+pub mod Remains
+pub mod Fronts
+pub mod TokenLaws
+pub mod MeaningLaws
+pub mod EndingLaws
+pub mod BlendLaws
+pub mod OperatorLaws

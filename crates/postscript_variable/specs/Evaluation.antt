@@ -1,0 +1,93 @@
+-- The meaning, computed.
+use Rattle.std.specs.Prelude.{ℕ, zero, suc, ◌+◌, nat_lt, List, [], ◌∷◌, ◌++◌, drop, length, Option, Some, None, if◌then◌else◌}
+use Rattle.postscript_base.specs.Refusal.{Refusal, too_deep, overflow}
+use Rattle.postscript_type2.specs.Program.Runs.{Answer}
+use Rattle.postscript_variable.specs.Costs.{cost_beside}
+use Rattle.postscript_variable.specs.Effects.{Font, State, start, stack_limit, pushed, Move, Keeps, Clears, Calls, Refuses, effect}
+use Rattle.postscript_variable.specs.Meaning.{End, UsedUp, Stopped, answer}
+use Rattle.postscript_variable.specs.Tokens.{Token, Number, Operator, NoToken, token}
+
+-- a run: its answers, what each number and operator costs that it reads, and its end
+pub record Run : Type 0 where
+  pub answers : List Answer
+  pub costs : List ℕ
+  pub end : End
+
+abbrev pub at_end : End → Run
+at_end end = record { answers = []; costs = []; end = end }
+
+-- one more number or operator before a run, and what it answers
+abbrev pub with_step : (cost : ℕ) → Run → Run
+with_step cost run = record { answers = run.answers; costs = cost ∷ run.costs; end = run.end }
+
+abbrev pub with_answer : Answer → Run → Run
+with_answer answer run = record { answers = answer ∷ run.answers; costs = run.costs; end = run.end }
+
+abbrev pub with_any_answer : Option Answer → Run → Run
+with_any_answer None run = run
+with_any_answer (Some answer) run = with_answer answer run
+
+-- a run, and what comes of its end
+abbrev pub followed : Run → (End → Run) → Run
+followed run go = record {
+  answers = run.answers ++ (go run.end).answers;
+  costs = run.costs ++ (go run.end).costs;
+  end = (go run.end).end;
+}
+
+abbrev pub after_call : (State → Run) → End → Run
+after_call go (UsedUp st) = go st
+after_call go (Stopped e) = at_end (Stopped e)
+
+-- what a number or an operator comes to. more: how many bytes are passed behind the first. cost: what it costs
+pub data Stride : Type 0 where
+  On : Option Answer → State → (more : ℕ) → (cost : ℕ) → Stride
+  Into : (routine : List ℕ) → State → (more : ℕ) → (cost : ℕ) → Stride
+  Halts : Refusal → Stride
+
+-- cost: that of the operator without its mask
+abbrev pub moved : (more : ℕ) → (cost : ℕ) → Move → Stride
+moved more cost (Keeps st) = On None st more cost
+moved more cost (Clears op taken st mask) = On (Some (answer op taken)) st (more + mask) (cost + mask)
+moved more cost (Calls routine st) = Into routine st more cost
+moved more cost (Refuses e) = Halts e
+
+abbrev pub stride_by : Font → (r : List ℕ) → State → Token → Stride
+stride_by font r st (Number x more) =
+    if nat_lt (length st.stack) stack_limit then On None (pushed x st) more (suc more) else Halts overflow
+stride_by font r st (Operator command more) =
+    moved more (suc more + cost_beside command st.stack) (effect font command (drop more r) st)
+stride_by font r st (NoToken e) = Halts e
+
+abbrev pub stride : Font → (first : ℕ) → (r : List ℕ) → State → Stride
+stride font first r st = stride_by font r st (token first r)
+
+-- what a routine means, where calls may still nest
+abbrev pub Callee : Type 0
+Callee = Option (List ℕ → State → Run)
+
+abbrev pub called : Callee → (cost : ℕ) → (routine : List ℕ) → State → (End → Run) → Run
+called None cost routine st go = at_end (Stopped too_deep)
+called (Some means) cost routine st go = with_step cost (followed (means routine st) go)
+
+abbrev pub paced : Callee → (go : ℕ → State → Run) → Stride → Run
+paced callee go (On answer st more cost) = with_step cost (with_any_answer answer (go more st))
+paced callee go (Into routine st more cost) = called callee cost routine st (after_call (go more))
+paced callee go (Halts e) = at_end (Stopped e)
+
+-- what a routine means past its first k bytes
+abbrev pub routine : Font → Callee → (k : ℕ) → List ℕ → State → Run
+routine font callee k [] st = at_end (UsedUp st)
+routine font callee (suc k) (b ∷ r) st = routine font callee k r st
+routine font callee zero (b ∷ r) st = paced callee (λ more st'. routine font callee more r st') (stride font b r st)
+
+abbrev pub callee : Font → (left : ℕ) → Callee
+callee font zero = None
+callee font (suc left) = Some (λ r st. routine font (callee font left) 0 r st)
+
+-- what a rest means where so many calls may still nest
+abbrev pub mean : Font → (left : ℕ) → List ℕ → State → Run
+mean font left r st = routine font (callee font left) 0 r st
+
+abbrev pub run_of : Font → (index : ℕ) → (code : List ℕ) → Run
+run_of font index code = mean font 10 code (start font.tables index)

@@ -1,0 +1,7 @@
+-- Named by private contracts and proofs alone.
+pub mod Refused
+pub mod Working
+pub mod Remaining
+pub mod Machines
+pub mod Limited
+pub mod Views

@@ -1,0 +1,106 @@
+-- What the code of operators does, as moves.
+use Rattle.std.specs.Prelude.{◌≡◌, ◌+◌, ◌*◌, ◌-◌, ℕ, suc, ℤ, List, [], ◌∷◌, ◌++◌, reverse, drop, take, length, Option, Some, None, option_map, Result, Ok, Err}
+use Rattle.postscript_base.specs.Refusal.{Refusal}
+use Rattle.postscript_type2.specs.Program.Effects.{last_of}
+use Rattle.postscript_type2.specs.Program.Charstrings.{lists_of}
+use Rattle.postscript_type2.specs.Program.StackWork.{Work}
+use Rattle.postscript_variable.specs.declared.callers.Callers.{Callers}
+use Rattle.postscript_variable.specs.declared.command.Command.{Command}
+use Rattle.postscript_variable.specs.declared.refused.Refused.{Refused}
+use Rattle.postscript_variable.specs.declared.routine.Token as code_token
+use Rattle.postscript_variable.specs.declared.routine.Token.TheVariants as tokens
+use Rattle.postscript_variable.specs.declared.state.Effect.{Effect}
+use Rattle.postscript_variable.specs.declared.state.Effect.TheVariants as effects
+use Rattle.postscript_variable.specs.declared.state.State as code
+use Rattle.postscript_variable.specs.declared.state.Font as code_font
+use Rattle.postscript_variable.specs.Blending.{values}
+use Rattle.postscript_variable.specs.Effects.{Font, State, Move, Keeps, Clears, Calls, Refuses, cleared}
+use Rattle.postscript_variable.specs.Private.Refused.{reason}
+use Rattle.postscript_variable.specs.Programs.{tables_of}
+use Rattle.postscript_variable.specs.Tokens.{Token, Number, Operator, NoToken, commanded, token}
+
+abbrev pub font_of : code_font.Font → Font
+font_of font = record { lists = lists_of font.subroutines; tables = tables_of font.tables.now }
+
+abbrev pub state_of : code.State → State
+state_of st = record {
+  stack = st.stack.items;
+  stems = st.stems;
+  scalars = option_map (λ scalars. scalars.now) st.scalars;
+  is_blended = st.is_blended;
+}
+
+-- the rests of the callers, the innermost first: they are kept the outermost first
+abbrev pub rests : Callers → List (List ℕ)
+rests callers = reverse callers.frames.items
+
+-- an operator that a first byte begins, and the place behind it, where its second byte would stand at a place
+abbrev pub EndsAt : (first : ℕ) → (behind : List ℕ) → (place : ℕ) → Result (Command × ℕ) Refused → Type 0
+EndsAt first behind place (Ok read) = (more : ℕ) × (commanded first behind ≡ Operator read.0 more) × (read.1 ≡ place + more)
+EndsAt first behind place (Err e) = commanded first behind ≡ NoToken (reason e)
+
+-- what is read, with the bytes that it has after its first
+abbrev pub token_of : code_token.Token → (more : ℕ) → Token
+token_of (tokens.Number x) more = Number x more
+token_of (tokens.Operator command) more = Operator command more
+
+-- What a first byte begins is read, and the place behind it, where its second byte would stand at a place.
+abbrev pub ReadsTokenAt : (first : ℕ) → (behind : List ℕ) → (place : ℕ) → Result (code_token.Token × ℕ) Refused → Type 0
+ReadsTokenAt first behind place (Ok read) = (more : ℕ) × (token first behind ≡ token_of read.0 more) × (read.1 ≡ place + more)
+ReadsTokenAt first behind place (Err e) = token first behind ≡ NoToken (reason e)
+
+-- What stands at the front of a routine is read, with the number of its bytes, unless the routine is used up.
+abbrev pub ReadsFront : List ℕ → Result (Option (code_token.Token × ℕ)) Refused → List ℕ → Type 0
+ReadsFront old (Ok None) new = (old ≡ []) × (new ≡ [])
+ReadsFront old (Ok (Some read)) new = (first : ℕ) × (behind : List ℕ) × (more : ℕ) × (old ≡ first ∷ behind) ×
+    (token first behind ≡ token_of read.0 more) × (read.1 ≡ suc more) × (new ≡ drop more behind)
+ReadsFront old (Err e) new = (first : ℕ) × (behind : List ℕ) × (old ≡ first ∷ behind) × (token first behind ≡ NoToken (reason e))
+
+-- the code gives what it is to give, or refuses likewise
+abbrev pub Gives : {A : Type 0} → Result A Refusal → Result A Refused → Type 0
+Gives wanted (Ok x) = wanted ≡ Ok x
+Gives wanted (Err e) = wanted ≡ Err (reason e)
+
+abbrev pub Performs : {A : Type 0} → Work A → List ℤ → Result A Refused → List ℤ → Type 0
+Performs work old (Ok x) new = work old ≡ Ok (x, new)
+Performs work old (Err e) new = work old ≡ Err (reason e)
+
+-- the values stand in place of the defaults
+abbrev pub BlendsEach : (defaults deltas : List ℤ) → (scalars : List ℕ) → Result (Unit {0}) Refused → List ℤ → Type 0
+BlendsEach defaults deltas scalars (Ok done) new = values defaults deltas scalars ≡ Ok new
+BlendsEach defaults deltas scalars (Err e) new = values defaults deltas scalars ≡ Err (reason e)
+
+-- the values stand at the front, in place of the n defaults there
+abbrev pub BlendsAll : List ℤ → (n : ℕ) → (scalars : List ℕ) → Result (Unit {0}) Refused → List ℤ → Type 0
+BlendsAll old n scalars (Ok done) new = (values (take n old) (drop n old) scalars ≡ Ok (take n new)) × (length new ≡ length old)
+BlendsAll old n scalars (Err e) new = values (take n old) (drop n old) scalars ≡ Err (reason e)
+
+-- the same behind a place
+abbrev pub BlendsBehind : List ℤ → (base n : ℕ) → (scalars : List ℕ) → Result (Unit {0}) Refused → List ℤ → Type 0
+BlendsBehind old base n scalars (Ok done) new =
+    (values (take n (drop base old)) (drop n (drop base old)) scalars ≡ Ok (take n (drop base new))) × (take base new ≡ take base old) ×
+    (length new ≡ length old)
+BlendsBehind old base n scalars (Err e) new = values (take n (drop base old)) (drop n (drop base old)) scalars ≡ Err (reason e)
+
+-- the values stand in place of the last n operands and their deltas
+abbrev pub Blends : List ℤ → (n : ℕ) → (scalars : List ℕ) → Result (Unit {0}) Refused → List ℤ → Type 0
+Blends old n scalars (Ok done) new =
+    let top = last_of old (n * suc (length scalars)) in
+    (vals : List ℤ) × (values (take n top) (drop n top) scalars ≡ Ok vals) ×
+    (new ≡ take (length old - n * suc (length scalars)) old ++ vals)
+Blends old n scalars (Err e) new =
+    let top = last_of old (n * suc (length scalars)) in values (take n top) (drop n top) scalars ≡ Err (reason e)
+
+abbrev pub move_of : Effect → State → Move
+move_of effects.Keeps st = Keeps st
+move_of (effects.Clears operator count mask) st = Clears operator (last_of st.stack count) (cleared st.stems st) mask
+move_of (effects.Calls routine) st = Calls routine.now st
+
+abbrev pub mask_of : Effect → ℕ
+mask_of (effects.Clears operator count mask) = mask
+mask_of effect = 0
+
+-- The code makes a move to a new state, or it refuses what the move refuses.
+abbrev pub Does : Move → Result Effect Refused → code.State → Type 0
+Does move (Ok effect) new = move ≡ move_of effect (state_of new)
+Does move (Err e) new = move ≡ Refuses (reason e)

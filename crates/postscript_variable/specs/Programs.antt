@@ -1,0 +1,42 @@
+-- What a program still answers, as its callers see it.
+use Rattle.std.specs.Prelude.{ℕ, Bool, true, false, List, [], map, Vec}
+use Rattle.std.specs.declared.alloc.Global.{Global}
+use Rattle.postscript_base.specs.declared.error.Error.TheVariants.{AlreadyFailed}
+use Rattle.postscript_base.specs.Refusal.{refusal_of}
+use Rattle.postscript_type2.specs.Program.Routines.{Lists}
+use Rattle.postscript_type2.specs.Program.Runs as type2
+use Rattle.postscript_type2.specs.Program.Runs.{Answer}
+use Rattle.postscript_variable.specs.Effects.{Font}
+use Rattle.postscript_variable.specs.Evaluation.{Run}
+use Rattle.postscript_variable.specs.Meaning.{End, UsedUp, Stopped}
+
+-- the scalars of each item variation data
+abbrev pub tables_of : List (Vec ℕ Global) → List (List ℕ)
+tables_of tables = map (λ table. table.items) tables
+
+-- subroutines, and scalars to blend with
+abbrev pub font : Lists → (tables : List (Vec ℕ Global)) → Font
+font lists tables = record { lists = lists; tables = tables_of tables }
+
+-- an end as callers see it: that of Type 2 charstrings, so that one relation draws both
+abbrev pub end_of : End → type2.End
+end_of (UsedUp st) = type2.UsedUp
+end_of (Stopped e) = type2.Fault e
+
+-- the answers that are left, what each number and operator costs that is still to be read, the end behind them, and whether it was told
+pub record Pending : Type 0 where
+  pub answers : List Answer
+  pub costs : List ℕ
+  pub end : type2.End
+  pub is_told : Bool
+
+-- before the first answer of a run
+abbrev pub begun : Run → Pending
+begun run = record { answers = run.answers; costs = run.costs; end = end_of run.end; is_told = false }
+
+-- after an end without fault was told, and after a refusal was
+abbrev pub ended : Pending
+ended = record { answers = []; costs = []; end = type2.UsedUp; is_told = true }
+
+abbrev pub failed : Pending
+failed = record { answers = []; costs = []; end = type2.Fault (refusal_of AlreadyFailed); is_told = true }

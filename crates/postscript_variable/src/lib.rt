@@ -1,0 +1,18 @@
+//! Charstrings of CFF2 (OpenType 1.9, "CFF2 CharString Format").
+#![tactic(auto)]
+
+mod blend;
+mod callers;
+mod charstring;
+mod command;
+pub mod laws;
+mod machine;
+mod program;
+mod refused;
+mod routine;
+mod state;
+mod within;
+
+pub use charstring::{Blends, Charstring};
+pub use command::Command;
+pub use program::Program;

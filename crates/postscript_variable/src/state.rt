@@ -1,0 +1,217 @@
+//! What an operator does with the stack.
+ghost use Rattle.std.specs.Prelude.{◌≡◌, ◌≤◌, ◌^◌, ℕ, List, length, nat_lt, Ok, Err, IfOk, if◌then◌else◌};
+ghost use Rattle.postscript_variable.specs.declared.refused.Refused.TheVariants as cases;
+ghost use Rattle.postscript_type2.specs.Program.Charstrings.{lists_of};
+ghost use Rattle.postscript_type2.specs.Program.StackWork.{whole_operand as the_whole_operand};
+ghost use Rattle.postscript_variable.specs.Effects.{effect, path_move, stem_move, mask_move, answer_move, index_move, blend_over, call_move, stems_after as the_stems_after};
+ghost use Rattle.postscript_type2.specs.Operation.Kinds.{kind};
+ghost use Rattle.postscript_variable.specs.Programs.{tables_of};
+ghost use Rattle.postscript_variable.specs.Private.Working.{font_of, state_of, mask_of, Performs, Does};
+
+use crate::blend::blend;
+use crate::command::Command;
+use crate::refused::{Refused, Result};
+use postscript_type2::{Operand, Operator, Subroutines};
+
+/// What a charstring is run over: the subroutines, and the scalars of the regions of each item variation data.
+#[derive(Clone, Copy)]
+pub(crate) struct Font<'l> {
+    pub(crate) subroutines: Subroutines<'l>,
+    pub(crate) tables: &'l [Vec<u32>],
+}
+
+/// The operands, the top last; the stems so far; the scalars in use; and whether a blend came.
+#[derive(Drop)]
+pub(crate) struct State<'l> {
+    pub(crate) stack: Vec<Operand>,
+    pub(crate) stems: u32,
+    pub(crate) scalars: Option<&'l [u32]>,
+    pub(crate) is_blended: bool,
+}
+
+/// What an operator does: it goes on; it is answered as an operator of Type 2 charstrings, with so many operands, the last ones,
+/// and so many bytes of a mask are its own; or it calls a routine.
+#[derive(Drop)]
+pub(crate) enum Effect<'l> {
+    Keeps,
+    Clears(Operator, usize, usize),
+    Calls(&'l [u8]),
+}
+
+/// The whole number on top, which is popped.
+#[inline(always)]
+fn whole_operand(stack: &mut Vec<Operand>) -> Result<i16>
+    ensures { Performs the_whole_operand stack.old.items result stack.new.items }
+{
+    let Some(top) = stack.pop() else {
+        return Err(Refused::ExpectedInteger);
+    };
+    match top.to_int() {
+        Some(number) => Ok(number),
+        None => Err(Refused::ExpectedInteger),
+    }
+}
+
+impl<'l> State<'l> {
+    /// The stems, where each two operands of the stack are one more.
+    #[inline(always)]
+    fn stems_after(&self) -> Result<u32>
+        ensures { let stems = the_stems_after (state_of self.now) in
+            result ≡ (if nat_lt stems (2 ^ 32) then Ok stems else Err cases.TooManyStems) }
+    {
+        let stems = self.stems;
+        let more = self.stack.len() / 2;
+        if more > (u32::MAX - stems) as usize {
+            return Err(Refused::TooManyStems);
+        }
+        Ok(stems + more as u32)
+    }
+
+    /// An operator that draws.
+    fn path(&mut self, operator: Operator) -> Result<Effect<'l>>
+        ensures value { Does (path_move operator (state_of self.old)) result self.new }
+        ensures room { IfOk result (λ effect. mask_of effect ≡ 0) }
+    {
+        match operator.taken(self.stack.len()) {
+            Some(count) => Ok(Effect::Clears(operator, count, 0)),
+            None => Err(Refused::MalformedOperands),
+        }
+    }
+
+    /// An operator that declares stems.
+    #[inline(always)]
+    fn stem(&mut self, operator: Operator) -> Result<Effect<'l>>
+        ensures value { Does (stem_move operator (state_of self.old)) result self.new }
+        ensures room { IfOk result (λ effect. mask_of effect ≡ 0) }
+    {
+        let stems = self.stems_after()?;
+        let Some(count) = operator.taken(self.stack.len()) else {
+            return Err(Refused::MalformedOperands);
+        };
+        self.stems = stems;
+        Ok(Effect::Clears(operator, count, 0))
+    }
+
+    /// A mask, where so many bytes are behind its operator.
+    #[inline(always)]
+    fn mask(&mut self, operator: Operator, behind: usize) -> Result<Effect<'l>>
+        ensures value { (bytes : List ℕ) → length bytes ≡ behind → Does (mask_move operator bytes (state_of self.old)) result self.new }
+        ensures room { IfOk result (λ effect. mask_of effect ≤ behind) }
+    {
+        let stems = self.stems_after()?;
+        let mask = (stems as usize).div_ceil(8);
+        if behind < mask {
+            return Err(Refused::UnexpectedEof);
+        }
+        let Some(count) = operator.taken(self.stack.len()) else {
+            return Err(Refused::MalformedOperands);
+        };
+        self.stems = stems;
+        Ok(Effect::Clears(operator, count, mask))
+    }
+
+    /// An operator that is answered.
+    fn answer(&mut self, operator: Operator, behind: usize) -> Result<Effect<'l>>
+        ensures value { (bytes : List ℕ) → length bytes ≡ behind →
+            Does (answer_move (kind operator) operator bytes (state_of self.old)) result self.new }
+        ensures room { IfOk result (λ effect. mask_of effect ≤ behind) }
+    {
+        match operator {
+            Operator::HStem | Operator::VStem | Operator::HStemHM | Operator::VStemHM => self.stem(
+                operator,
+            ),
+            Operator::HintMask | Operator::CntrMask => self.mask(operator, behind),
+            _ => self.path(operator),
+        }
+    }
+
+    /// |- ivs vsindex (15) |-
+    fn index(&mut self, tables: &'l [Vec<u32>]) -> Result<Effect<'l>>
+        ensures value { Does (index_move (tables_of tables.now) (state_of self.old)) result self.new }
+        ensures room { IfOk result (λ effect. mask_of effect ≡ 0) }
+    {
+        if self.is_blended {
+            return Err(Refused::InvalidOperand);
+        }
+        let number = whole_operand(&mut self.stack)?;
+        if number < 0 {
+            return Err(Refused::InvalidOperand);
+        }
+        match tables.get(number as usize) {
+            Some(scalars) => {
+                self.scalars = Some(scalars.as_slice());
+                self.stack.clear();
+                Ok(Effect::Keeps)
+            }
+            None => Err(Refused::InvalidOperand),
+        }
+    }
+
+    /// num(0) .. num(n-1) delta(0,0) .. delta(k-1,n-1) n blend (16) val(0) .. val(n-1)
+    fn blend(&mut self) -> Result<Effect<'l>>
+        ensures value { Does (blend_over (state_of self.old) (state_of self.old).scalars) result self.new }
+        ensures room { IfOk result (λ effect. mask_of effect ≡ 0) }
+    {
+        let Some(scalars) = self.scalars else {
+            return Err(Refused::InvalidOperand);
+        };
+        let number = whole_operand(&mut self.stack)?;
+        if number < 0 {
+            return Err(Refused::InvalidOperand);
+        }
+        let n = number as usize;
+        if n > 0 && self.stack.len() / n <= scalars.len() {
+            return Err(Refused::ExpectedMoreOperands);
+        }
+        blend(&mut self.stack, n, scalars)?;
+        self.is_blended = true;
+        Ok(Effect::Keeps)
+    }
+
+    /// subr# callsubr (10)
+    #[inline(always)]
+    fn call_local(&mut self, subroutines: &Subroutines<'l>) -> Result<Effect<'l>>
+        ensures value { Does (call_move (state_of self.old) (lists_of subroutines.now).local) result self.new }
+        ensures room { IfOk result (λ effect. mask_of effect ≡ 0) }
+    {
+        let number = whole_operand(&mut self.stack)?;
+        match subroutines.local(number) {
+            Some(routine) => Ok(Effect::Calls(routine)),
+            None => Err(Refused::MissingSubroutine),
+        }
+    }
+
+    /// globalsubr# callgsubr (29)
+    #[inline(always)]
+    fn call_global(&mut self, subroutines: &Subroutines<'l>) -> Result<Effect<'l>>
+        ensures value { Does (call_move (state_of self.old) (lists_of subroutines.now).global) result self.new }
+        ensures room { IfOk result (λ effect. mask_of effect ≡ 0) }
+    {
+        let number = whole_operand(&mut self.stack)?;
+        match subroutines.global(number) {
+            Some(routine) => Ok(Effect::Calls(routine)),
+            None => Err(Refused::MissingSubroutine),
+        }
+    }
+
+    /// What the operator does, where so many bytes are behind it.
+    #[inline(always)]
+    pub(crate) fn act(
+        &mut self,
+        font: &Font<'l>,
+        command: Command,
+        behind: usize,
+    ) -> Result<Effect<'l>>
+        ensures value { (bytes : List ℕ) → length bytes ≡ behind →
+            Does (effect (font_of font.now) command bytes (state_of self.old)) result self.new }
+        ensures room { IfOk result (λ effect. mask_of effect ≤ behind) }
+    {
+        match command {
+            Command::Answered(operator) => self.answer(operator, behind),
+            Command::Index => self.index(font.tables),
+            Command::Blend => self.blend(),
+            Command::Local => self.call_local(&font.subroutines),
+            Command::Global => self.call_global(&font.subroutines),
+        }
+    }
+}

@@ -1,0 +1,3 @@
+-- What contracts say of glyphs of variable fonts.
+pub mod Places
+pub mod Glyphs

@@ -1,0 +1,22 @@
+#!/bin/sh
+# What is handed out: an archive, Debian's packages, a wheel and a crate, in the folder dist/ at the top.
+#
+#     make dist
+#
+# Needs `rt` on the path, and Debian's packages gcc, make, binutils, python3-build, python3-setuptools and python3-wheel. What is proved is
+# built once, and put into each. Two runs of one commit make the same bytes (tools/dist/reproducible.sh).
+. "$(dirname "$0")/env.sh"
+work=$(mktemp -d)
+trap 'rm -r "$work"' EXIT
+"$top/tools/version.sh"
+"$top/tools/dist/prove.sh" "$work/PROOF.txt"
+"$top/tools/dist/tree.sh" "$work/PROOF.txt" "$work/tree"
+"$top/tools/version.sh" "$work/tree"
+rm -rf "$top/dist"
+mkdir "$work/dist"
+for kind in archive wheel crate deb; do "$top/tools/dist/$kind.sh" "$work/tree" "$work/dist"; done
+cp "$work/PROOF.txt" "$work/dist/postscript-proved-$version-PROOF.txt"
+"$top/tools/dist/leaks.sh" "$work/dist"
+(cd "$work/dist" && sha256sum -- * > SHA256SUMS)
+mv "$work/dist" "$top/dist"
+ls -l "$top/dist"

@@ -1,0 +1,21 @@
+#!/bin/sh
+# The crate of the Rust binding, with the static library in it.
+#
+#     tools/dist/crate.sh TREE OUT
+. "$(dirname "$0")/env.sh"
+tree=$1 out=$2
+crate=postscript-proved-$version
+work=$(mktemp -d)
+trap 'rm -r "$work"' EXIT
+mkdir "$work/$crate" "$work/$crate/lib"
+cp -r "$top/bindings/rust/src" "$top/bindings/rust/tests" "$top/bindings/rust/examples" "$work/$crate"
+cp "$top/bindings/rust/build.rs" "$top/bindings/rust/README.md" "$top/bindings/rust/Cargo.toml" "$work/$crate"
+cp "$top/bindings/font.hex" "$top/bindings/accents.hex" "$work/$crate/tests"
+sed -i 's|"../../\(font\|accents\)\.hex"|"\1.hex"|' "$work/$crate/tests"/*.rs
+cp "$tree/lib/libpostscript.a" "$work/$crate/lib"
+cp "$tree/LICENSE-APACHE" "$tree/LICENSE-MIT" "$tree/PROOF.txt" "$work/$crate"
+chmod -R u=rwX,go=rX "$work/$crate"
+dated "$work/$crate"
+# what `cargo package` lays out, without its Cargo.lock, which a library needs not, and with the date of the commit
+tar --create --directory "$work" --sort=name --mtime "@$SOURCE_DATE_EPOCH" --owner=0 --group=0 --numeric-owner --format=ustar \
+    "$crate" | gzip -9n > "$out/$crate.crate"

@@ -1,0 +1,87 @@
+#!/bin/sh
+# Debian's packages: psotf, libpostscript-proved0, libpostscript-proved-dev and python3-postscript-proved.
+#
+#     tools/dist/deb.sh TREE OUT
+#
+# Needs dpkg-deb. Where lintian is there, it is asked of each package, and an error of it ends the script.
+. "$(dirname "$0")/env.sh"
+tree=$1 out=$2
+work=$(mktemp -d)
+trap 'rm -r "$work"' EXIT
+maintainer='The Hozhvir developers <postscript-proved@hozhvir.invalid>'
+libs=usr/lib/x86_64-linux-gnu
+libc=$(wanted_libc "$tree/lib/libpostscript.so.0")
+libc_of_programs=$(wanted_libc "$tree"/bin/*)
+mkdir "$work/psotf" "$work/libpostscript-proved0" "$work/libpostscript-proved-dev" "$work/python3-postscript-proved"
+
+cd "$work/psotf"
+mkdir -p usr/share/man/man1
+cp -r "$tree/bin" usr/bin
+for page in psotf psfont; do gzip -9n < "$tree/share/man/man1/$page.1" > usr/share/man/man1/$page.1.gz; done
+cp -r "$tree/share/bash-completion" "$tree/share/zsh" "$tree/share/fish" usr/share
+
+cd "$work/libpostscript-proved0"
+mkdir -p $libs DEBIAN
+cp "$tree/lib/libpostscript.so.0" $libs
+echo "libpostscript 0 libpostscript-proved0 (>= $version)" > DEBIAN/shlibs
+echo 'activate-noawait ldconfig' > DEBIAN/triggers
+
+cd "$work/libpostscript-proved-dev"
+mkdir -p $libs/pkgconfig usr/include usr/share/man/man3 usr/share/doc/libpostscript-proved-dev
+cp "$tree/lib/libpostscript.a" $libs
+ln -s libpostscript.so.0 $libs/libpostscript.so
+cp "$tree/include/postscript.h" usr/include
+filled "$top/tools/dist/postscript.pc.in" PREFIX=/usr 'LIBDIR=${prefix}/lib/x86_64-linux-gnu' > $libs/pkgconfig/postscript.pc
+cp -r "$tree/lib/cmake" $libs
+filled "$top/tools/dist/postscriptConfig.cmake.in" INCLUDE=../../include > $libs/cmake/postscript/postscriptConfig.cmake
+gzip -9n < "$tree/share/man/man3/postscript.h.3" > usr/share/man/man3/postscript.h.3.gz
+cp -r "$tree/examples" usr/share/doc/libpostscript-proved-dev
+gzip -9n < "$tree/docs/LINKED.md" > usr/share/doc/libpostscript-proved-dev/LINKED.md.gz
+
+cd "$work/python3-postscript-proved"
+mkdir -p usr/lib/python3/dist-packages/postscript DEBIAN
+cp "$top/bindings/python/postscript/__init__.py" "$top/bindings/python/postscript/py.typed" usr/lib/python3/dist-packages/postscript
+cat > DEBIAN/postinst << 'END'
+#!/bin/sh
+set -e
+if command -v py3compile > /dev/null 2>&1; then py3compile -p python3-postscript-proved; fi
+END
+cat > DEBIAN/prerm << 'END'
+#!/bin/sh
+set -e
+if command -v py3clean > /dev/null 2>&1; then py3clean -p python3-postscript-proved; fi
+END
+
+# how many KiB the files have
+sizes() { find usr -type f -printf '%s\n' | awk '{ size += int(($1 + 1023) / 1024) } END { print size }'; }
+
+# finished PACKAGE: what each has, and the package
+finished() {
+    cd "$work/$1"
+    doc=usr/share/doc/$1
+    mkdir -p DEBIAN "$doc"
+    cp "$tree/PROOF.txt" "$doc"
+    awk -v text="$(sed 's/^$/./; s/^/ /' "$tree/LICENSE-MIT")" '{ if ($0 == "@MIT@") print text; else print }' \
+        "$top/tools/dist/debian/copyright.in" > "$doc/copyright"
+    filled "$top/tools/dist/debian/changelog.in" "MAINTAINER=$maintainer" "DATE=$(date -R -d "@$SOURCE_DATE_EPOCH")" | gzip -9n > "$doc/changelog.gz"
+    filled "$top/tools/dist/debian/control.in" "LIBC=$libc" "LIBC_OF_PROGRAMS=$libc_of_programs" | awk -v RS= -v wanted="Package: $1" 'index($0, wanted "\n") == 1' > DEBIAN/control
+    grep -q '^Architecture:' DEBIAN/control || sed -i '/^Section:/i Architecture: amd64' DEBIAN/control
+    sed -i "/^Section:/i Source: postscript-proved\nVersion: $version\nMaintainer: $maintainer\nInstalled-Size: $(sizes)" \
+        DEBIAN/control
+    sed -i '/^Section:/a Priority: optional' DEBIAN/control
+    find usr -type f | sort | xargs md5sum > DEBIAN/md5sums
+    chmod -R u=rwX,go=rX .
+    for script in postinst prerm; do if [ -f DEBIAN/$script ]; then chmod 755 DEBIAN/$script; fi; done
+    dated .
+    dpkg-deb --root-owner-group -Zxz --threads-max=1 --build . "$out/${1}_${version}_$(sed -n 's/^Architecture: //p' DEBIAN/control).deb" > /dev/null
+}
+
+for package in psotf libpostscript-proved0 libpostscript-proved-dev python3-postscript-proved; do
+    finished $package
+    if command -v lintian > /dev/null; then
+        lintian --no-cfg --fail-on error --allow-root "$out/${package}_"*.deb > "$work/lintian" 2>&1 || {
+            cat "$work/lintian"
+            exit 1
+        }
+    fi
+done

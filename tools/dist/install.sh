@@ -1,0 +1,17 @@
+#!/bin/sh
+# Puts what the archive holds under a folder: the programs, the library, the header, the manual pages and the completions.
+#
+#     tools/dist/install.sh PREFIX
+#
+# What `make dist` made is taken.
+. "$(dirname "$0")/env.sh"
+prefix=$1
+if [ ! -f "$top/dist/$name.tar.gz" ]; then
+    echo "install: no dist/$name.tar.gz: run make dist first" >&2
+    exit 1
+fi
+doc=share/doc/postscript-proved
+mkdir -p "$prefix/$doc"
+tar -xzf "$top/dist/$name.tar.gz" -C "$prefix" --strip-components=1 --no-same-owner "$name/bin" "$name/lib" "$name/include" "$name/share"
+tar -xzf "$top/dist/$name.tar.gz" -C "$prefix/$doc" --strip-components=1 --no-same-owner \
+    --exclude="$name/bin" --exclude="$name/lib" --exclude="$name/include" --exclude="$name/share"

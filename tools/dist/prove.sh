@@ -1,0 +1,33 @@
+#!/bin/sh
+# Proves and builds what is handed out, and writes how it was proved.
+#
+#     tools/dist/prove.sh OUT
+#
+# The crates are those that postscript_c, psotf and psfont are made of, by crates.txt. What `rt` kept is taken; from nothing it takes
+# an hour or so. With RT_JOBS each check has so many jobs.
+. "$(dirname "$0")/env.sh"
+out=$1
+crates='postscript_c psotf psfont'
+while :; do
+    more=$(for crate in $crates; do echo "$crate"; sed -n "s/^$crate\( staticlib\)\?://p" "$top/crates.txt"; done | tr ' ' '\n' | sort -u |
+        while read -r crate; do if grep -q "^$crate\( staticlib\)\?:" "$top/crates.txt"; then echo "$crate"; fi; done | tr '\n' ' ')
+    if [ "$more" = "$crates" ]; then break; fi
+    crates=$more
+done
+# in their own order, the lowest first
+crates=$(sed -n 's/^\([a-z0-9_]*\)\( staticlib\)\?:.*/\1/p' "$top/crates.txt" | while read -r crate; do
+    case " $crates " in *" $crate "*) echo "$crate" ;; esac
+done)
+
+(cd "$top/crates/postscript_c" && rt lib ${RT_JOBS:+--jobs "$RT_JOBS"} > /dev/null)
+(cd "$top/crates/psotf" && rt run ${RT_JOBS:+--jobs "$RT_JOBS"} -- --version > /dev/null)
+(cd "$top/crates/psfont" && rt run ${RT_JOBS:+--jobs "$RT_JOBS"} < /dev/null > /dev/null)
+filled "$top/tools/dist/PROOF.in" "COMMIT=$commit" "KIT=$(rt version)" > "$out"
+for crate in $crates; do
+    (cd "$top/crates/$crate" && rt check ${RT_JOBS:+--jobs "$RT_JOBS"} > "$out.check" 2>&1) || {
+        cat "$out.check"
+        exit 1
+    }
+    printf '%s: %s\n' "$crate" "$(tail -n 1 "$out.check")" >> "$out"
+done
+rm "$out.check"

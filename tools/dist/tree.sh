@@ -1,0 +1,41 @@
+#!/bin/sh
+# Lays out what the archive holds, and what the packages take from it.
+#
+#     tools/dist/tree.sh PROOF.txt TREE
+#
+# The library and the programs have to be built (tools/dist/prove.sh).
+. "$(dirname "$0")/env.sh"
+proof=$1 tree=$2
+share=$tree/share
+mkdir -p "$tree/bin" "$tree/lib/pkgconfig" "$tree/lib/cmake/postscript" "$tree/include" "$tree/docs" "$tree/examples" "$tree/licences"
+
+make --no-print-directory -s -C "$top/bindings/c" build/libpostscript.a build/libpostscript.so
+cp "$top/bindings/c/build/libpostscript.a" "$top/bindings/c/build/libpostscript.so.0" "$tree/lib"
+for program in psotf psfont; do cp "$top/crates/$program/out/$program" "$tree/bin"; done
+# without names of files and places of lines, and with no dates
+strip --strip-debug --enable-deterministic-archives --remove-section=.comment "$tree/lib/libpostscript.a"
+strip --strip-unneeded --remove-section=.comment "$tree/lib/libpostscript.so.0"
+strip --strip-all --remove-section=.comment "$tree/bin/psotf" "$tree/bin/psfont"
+chmod 644 "$tree/lib"/libpostscript.*
+chmod 755 "$tree/bin"/*
+
+cp "$top/bindings/c/postscript.h" "$tree/include"
+filled "$top/tools/dist/postscript.pc.in" 'PREFIX=${pcfiledir}/../..' 'LIBDIR=${prefix}/lib' > "$tree/lib/pkgconfig/postscript.pc"
+filled "$top/tools/dist/postscriptConfig.cmake.in" INCLUDE=../include > "$tree/lib/cmake/postscript/postscriptConfig.cmake"
+filled "$top/tools/dist/postscriptConfigVersion.cmake.in" > "$tree/lib/cmake/postscript/postscriptConfigVersion.cmake"
+"$top/tools/dist/pages.py" "$tree/bin/psotf" "$tree/bin/psfont" "$share"
+
+cp "$top/README.md" "$top/CHANGELOG.md" "$top/LICENSE-APACHE" "$top/LICENSE-MIT" "$tree"
+cp "$proof" "$tree/PROOF.txt"
+cp "$top/docs"/*.md "$top/docs"/*.svg "$tree/docs"
+cp "$top/bindings/c/svg_glyph.c" "$top/bindings/c/operations.c" "$top/tools/dist/example/advance.c" "$tree/examples"
+cp "$top/bindings/rust/examples/small.otf" "$tree/examples"
+filled "$top/tools/dist/example/CMakeLists.txt" > "$tree/examples/CMakeLists.txt"
+# the licences of the toolchain's crates that are compiled in
+kit=$(dirname "$(rt doc)")/rattle
+for crate in $(sed -n 's/^[a-z0-9_]*\( staticlib\)\?: *//p' "$top/crates.txt" | tr ' ' '\n' | sort -u); do
+    for licence in "$kit/$crate"/LICENSE*; do
+        if [ -f "$licence" ]; then cp "$licence" "$tree/licences/$crate-$(basename "$licence")"; fi
+    done
+done
+chmod -R u=rwX,go=rX "$tree"

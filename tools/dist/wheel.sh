@@ -1,0 +1,43 @@
+#!/bin/sh
+# The wheel of the Python module, with the shared library in it.
+#
+#     tools/dist/wheel.sh TREE OUT
+#
+# Needs Debian's python3-build, python3-setuptools and python3-wheel. The wheel is for any Python 3, x86-64, and the C library whose
+# symbols the library wants, or a newer one.
+. "$(dirname "$0")/env.sh"
+tree=$1 out=$2
+work=$(mktemp -d)
+trap 'rm -r "$work"' EXIT
+cp -r "$top/bindings/python/postscript" "$top/bindings/python/pyproject.toml" "$top/bindings/python/README.md" "$work"
+find "$work" -name __pycache__ -prune -exec rm -r {} +
+cp "$tree/lib/libpostscript.so.0" "$work/postscript"
+cp "$tree/LICENSE-APACHE" "$tree/LICENSE-MIT" "$tree/PROOF.txt" "$work"
+# pip knows the C library's versions from 2.5 on
+libc=$(printf '2.5\n%s\n' "$(wanted_libc "$tree/lib/libpostscript.so.0")" | sort -V | tail -n 1 | cut -d . -f 1,2 | tr . _)
+cat > "$work/setup.py" << END
+from setuptools import Distribution, setup
+from wheel.bdist_wheel import bdist_wheel
+
+
+class Built(Distribution):
+    def has_ext_modules(self):
+        return True
+
+
+class Wheel(bdist_wheel):
+    def get_tag(self):
+        return "py3", "none", "manylinux_${libc}_x86_64"
+
+
+setup(distclass=Built, cmdclass={"bdist_wheel": Wheel}, license_files=["LICENSE-APACHE", "LICENSE-MIT", "PROOF.txt"])
+END
+chmod -R u=rwX,go=rX "$work"
+dated "$work"
+# Debian's own Python, whose packages these are
+(cd "$work" && env -i PATH=/usr/bin:/bin HOME="$work" LC_ALL=C.UTF-8 SOURCE_DATE_EPOCH="$SOURCE_DATE_EPOCH" PYTHONHASHSEED=0 \
+    /usr/bin/python3 -m build --wheel --no-isolation --outdir "$work/dist" > "$work/log" 2>&1) || {
+    cat "$work/log"
+    exit 1
+}
+cp "$work/dist"/*.whl "$out"
