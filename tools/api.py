@@ -31,6 +31,7 @@ CRATES = (
     "postscript_drawing",
     "postscript_sfnt",
     "postscript_sfnt_write",
+    "postscript_variation",
     "postscript_write",
 )
 QUOTING = ("README.md", "docs/RECIPES.md")

@@ -29,10 +29,10 @@ cp "$top/bindings/font.hex" "$top/bindings/accents.hex" "$root/t"
 passed=0 failed=0
 font=/usr/share/fonts/opentype/ebgaramond/EBGaramond12-Regular.otf
 
-# inside SCRIPT: runs it in the clean root, in /t
+# inside SCRIPT: runs it in the clean root, in /t; there `refused COMMAND` ends it where the command does not fail
 inside() {
     unshare --mount --pid --fork --mount-proc="$root/proc" chroot "$root" /usr/bin/env -i PATH=/usr/sbin:/usr/bin:/sbin:/bin HOME=/root \
-        LC_ALL=C.UTF-8 DEBIAN_FRONTEND=noninteractive V="$version" N="/t/$name" F="$font" S="/t/$name/examples/small.otf" sh -euc "cd /t; $1"
+        LC_ALL=C.UTF-8 DEBIAN_FRONTEND=noninteractive V="$version" N="/t/$name" F="$font" S="/t/$name/examples/small.otf" sh -euc "refused() { if \"\$@\"; then exit 1; fi; }; cd /t; $1"
 }
 
 # case WHAT SCRIPT: whether the script ends well in the clean root
@@ -53,7 +53,7 @@ got() { inside "apt-get install -y -qq --no-install-recommends $*" > "$work/log"
 inside 'apt-get update -qq' > "$work/log" 2>&1 || { cat "$work/log"; exit 1; }
 got fonts-ebgaramond
 
-case_of 'no rt, no compiler and no Python' '! command -v rt; ! command -v cc; ! command -v python3; ! test -e /opt/rattle'
+case_of 'no rt, no compiler and no Python' 'refused command -v rt; refused command -v cc; refused command -v python3; refused test -e /opt/rattle'
 case_of 'the checksums' 'cd dist && sha256sum --quiet -c SHA256SUMS'
 
 # --- the archive
@@ -62,7 +62,7 @@ case_of 'the archive: psotf draws a text' '$N/bin/psotf svg $F --text Hamburgefo
 case_of 'the archive: versions' 'test "$($N/bin/psotf --version)" = "psotf $V"; test "$(sed -n "s/^Version: //p" $N/lib/pkgconfig/postscript.pc)" = "$V"'
 case_of 'the archive: psfont' 'test "$(printf "code 8e8c8d150e\nrun\n" | $N/bin/psfont | tr "\n" ,)" = "ok,RMoveTo 1 2,end,width 3,"'
 case_of 'the archive: what is proved is said' 'grep -q "LLVM, and put together" $N/PROOF.txt; test $(grep -c "^[a-z_0-9]*: logic=proved" $N/PROOF.txt) -ge 10;
-    ! grep "^[a-z_0-9]*: " $N/PROOF.txt | grep -v logic=proved; grep -q "^## What is proved" $N/docs/LINKED.md'
+    test $(grep "^[a-z_0-9]*: " $N/PROOF.txt | grep -vc logic=proved) = 0; grep -q "^## What is proved" $N/docs/LINKED.md'
 got gcc libc6-dev pkg-config
 case_of 'the archive: a program in C, by pkg-config' 'export PKG_CONFIG_PATH=$N/lib/pkgconfig
     cc -Wall -Werror $N/examples/svg_glyph.c $(pkg-config --cflags --libs postscript) -o svg_glyph
@@ -74,9 +74,9 @@ case_of 'CMake: the static library' 'cmake -S $N/examples -B cmake -DCMAKE_PREFI
     cmake/svg_glyph $F 0x41 > out/cmake.svg; cmake/svg_glyph $S 0x41 > out/small_cmake.svg'
 case_of 'CMake: the shared library' 'test "$(cmake/advance_shared $S 0x41)" = 500; test "$(cmake/advance $S 0x41)" = 500'
 case_of 'CMake: another version is refused' 'mkdir other; printf "cmake_minimum_required(VERSION 3.13)\nproject(p C)\nfind_package(postscript 0.1 REQUIRED)\n" \
-    > other/CMakeLists.txt; ! cmake -S other -B other/b -DCMAKE_PREFIX_PATH=$N > log 2>&1; grep -q "version: $V" log'
+    > other/CMakeLists.txt; refused cmake -S other -B other/b -DCMAKE_PREFIX_PATH=$N > log 2>&1; grep -q "version: $V" log'
 case_of 'CMake: another processor is refused' 'sed -i "s/0.1/$V/" other/CMakeLists.txt; rm -r other/b
-    ! cmake -S other -B other/b -DCMAKE_PREFIX_PATH=$N -DCMAKE_SYSTEM_NAME=Linux -DCMAKE_SYSTEM_PROCESSOR=aarch64 > log 2>&1
+    refused cmake -S other -B other/b -DCMAKE_PREFIX_PATH=$N -DCMAKE_SYSTEM_NAME=Linux -DCMAKE_SYSTEM_PROCESSOR=aarch64 > log 2>&1
     tr -s "\n " " " < log | grep -q "is for x86_64 and Linux, and not for aarch64"'
 
 # --- the wheel
@@ -86,12 +86,12 @@ case_of 'the wheel: installed, and draws' 'python3 -m venv v; v/bin/pip -q insta
     v/bin/python3 -c "import postscript, sys; print(\"d=\\\"%s\\\"\" % postscript.Font.open(sys.argv[1]).glyph_of(\"A\").svg_path())" $S > out/small_wheel.svg'
 case_of 'the wheel: its tests' 'cd tests; ../v/bin/python3 -m unittest --quiet'
 case_of 'the wheel: types, and the version' 'cd v/lib/python3*/site-packages; test -f postscript/py.typed; test -d postscript_proved-$V.dist-info'
-case_of 'the wheel: another processor is refused' '! v/bin/pip download --no-index --find-links dist --no-deps --only-binary :all: \
+case_of 'the wheel: another processor is refused' 'refused v/bin/pip download --no-index --find-links dist --no-deps --only-binary :all: \
     --platform manylinux2014_aarch64 -d x postscript-proved > log 2>&1; grep -q "No matching distribution" log'
-case_of 'the wheel: an older C library is refused' '! v/bin/pip download --no-index --find-links dist --no-deps --only-binary :all: \
+case_of 'the wheel: an older C library is refused' 'refused v/bin/pip download --no-index --find-links dist --no-deps --only-binary :all: \
     --platform manylinux1_x86_64 -d x postscript-proved > log 2>&1; grep -q "No matching distribution" log'
 case_of 'the wheel: a library of another version is refused' 'echo "unsigned psf_version(void) { return 0x010203; }" > other.c; cc -shared -o other.so other.c
-    ! POSTSCRIPT_LIBRARY=/t/other.so v/bin/python3 -c "import postscript" 2> log
+    refused env POSTSCRIPT_LIBRARY=/t/other.so v/bin/python3 -c "import postscript" 2> log
     test "$(tail -n 1 log)" = "ImportError: postscript $V wants a library of its own version: /t/other.so is 1.2.3"'
 
 # --- the crate
@@ -116,10 +116,10 @@ case_of 'the crate: without std' 'cd postscript-proved-$V; cargo build -q --offl
 case_of 'the crate: its documents have no warning' 'cd postscript-proved-$V; RUSTDOCFLAGS="-D warnings" cargo doc -q --offline'
 case_of 'the crate: a library of another version is refused' "mkdir -p other_lib; sed -n 's/.*fn \(psf_[a-z_]*\)(.*/\1/p' postscript-proved-\$V/src/c.rs |
     sort -u | grep -v psf_version | sed 's/.*/int &(void) { return 39; }/' >> other.c; cc -c other.c -o other.o; ar rc other_lib/libpostscript.a other.o
-    cd app; ! POSTSCRIPT_LIB_DIR=/t/other_lib CARGO_TARGET_DIR=/t/other_target cargo run -q --offline -- \$F 2> ../log
+    cd app; refused env POSTSCRIPT_LIB_DIR=/t/other_lib CARGO_TARGET_DIR=/t/other_target cargo run -q --offline -- \$F 2> ../log
     grep -q OtherVersion ../log"
 case_of 'the crate: another processor is refused' 'rustc -o build_rs postscript-proved-$V/build.rs
-    ! CARGO_MANIFEST_DIR=/t/postscript-proved-$V CARGO_CFG_TARGET_ARCH=aarch64 CARGO_CFG_TARGET_OS=linux ./build_rs > log 2>&1
+    refused env CARGO_MANIFEST_DIR=/t/postscript-proved-$V CARGO_CFG_TARGET_ARCH=aarch64 CARGO_CFG_TARGET_OS=linux ./build_rs > log 2>&1
     grep -q "is for x86_64 and linux, and not for aarch64 and linux" log'
 
 # --- Debian's packages
@@ -132,10 +132,14 @@ case_of 'the packages: Python' 'python3 -c "import postscript, sys; print(\"d=\\
     $F > out/packages_python.svg; cd tests; python3 -m unittest --quiet'
 case_of 'the packages: CMake' 'cmake -S $N/examples -B cmake_packages > /dev/null; cmake --build cmake_packages > /dev/null
     test "$(cmake_packages/advance_shared $S 0x41)" = 500; grep -q "^postscript_DIR:PATH=/usr/lib" cmake_packages/CMakeCache.txt'
+case_of 'the lines of README' 'sed -n "/^To install it without/,/^Proved is/s/^    //p" $N/README.md > lines; test $(wc -l < lines) = 4
+    cargo init -q --vcs none --name reader reader; cp dist/* reader; cp $F reader/Font.otf; cd reader
+    for n in 1 2 3 4; do sed -n ${n}p ../lines > line; PATH=/t/v/bin:$PATH DEBIAN_FRONTEND=noninteractive sh -eu line > told; cat told; done
+    grep -q "<svg" hello.svg; test -s told; cargo build -q --offline'
 got man-db bash zsh fish
-case_of 'manual pages: no warning' 'for page in $N/share/man/man*/*; do MANROFFSEQ= man --warnings -E UTF-8 -l -Tutf8 -Z $page > /dev/null 2> log; cat log; ! test -s log; done'
+case_of 'manual pages: no warning' 'for page in $N/share/man/man*/*; do MANROFFSEQ= man --warnings -E UTF-8 -l -Tutf8 -Z $page > /dev/null 2> log; cat log; refused test -s log; done'
 case_of 'manual pages: each option' 'for c in inspect glyph svg sheet flat subset; do psotf $c --help | grep -o -e "--[a-z-]*" | sort -u | while read -r o; do
-    sed "s/\\\\\\\\-/-/g" $N/share/man/man1/psotf.1 | grep -q -e "$o"; done; done'
+    sed "s/\\\\-/-/g" $N/share/man/man1/psotf.1 | grep -q -e "$o"; done; done'
 case_of 'completions: bash' 'cat > complete.bash << "END"
 source /usr/share/bash-completion/completions/psotf
 COMP_WORDS=(psotf glyph --) COMP_CWORD=2; _psotf; echo "${COMPREPLY[*]}"
@@ -144,8 +148,8 @@ END
 case_of 'completions: fish' 'test "$(fish --no-config -c "source /usr/share/fish/vendor_completions.d/psotf.fish; complete -C \"psotf glyph --\"" | cut -f 1 | sort)" = \
     "$(psotf glyph --help | grep -o -e "^ .*--[a-z]*" | grep -o -e "--[a-z]*" | sort)"'
 case_of 'completions: zsh' 'zsh -n /usr/share/zsh/vendor-completions/_psotf; zsh -n /usr/share/zsh/vendor-completions/_psfont'
-case_of 'the packages: removed' 'apt-get purge -y -qq psotf libpostscript-proved0; ! test -e /usr/bin/psotf; ! test -e /usr/include/postscript.h
-    ! test -e /usr/lib/python3/dist-packages/postscript'
+case_of 'the packages: removed' 'apt-get purge -y -qq psotf libpostscript-proved0; refused test -e /usr/bin/psotf; refused test -e /usr/include/postscript.h
+    refused test -e /usr/lib/python3/dist-packages/postscript'
 
 # --- the same glyph by each
 if python3 - "$root/t/out" << 'END'; then passed=$((passed + 1)); else failed=$((failed + 1)); fi

@@ -472,6 +472,19 @@ class Installed(unittest.TestCase):
                     again = other_font[glyph.number]
                     self.assertEqual((again.segments, again.advance), (glyph.segments, glyph.advance), (file.name, glyph))
 
+    def test_characters(self):
+        try:
+            from fontTools.ttLib import TTFont
+        except ImportError:
+            self.skipTest("no fontTools")
+        file = FONTS / "ebgaramond" / "EBGaramond12-Regular.otf"
+        if not file.exists():
+            self.skipTest("no font")
+        font, theirs = Font.open(file), TTFont(file)
+        names = font.names
+        self.assertEqual(names, theirs.getGlyphOrder())
+        self.assertEqual({character: names[glyph] for character, glyph in font.cmap.items()}, theirs.getBestCmap())
+
     def test_operations(self):
         try:
             from fontTools.ttLib import TTFont

@@ -6,6 +6,13 @@
 # Needs `rt` on the path, and Debian's packages gcc, make, binutils, python3-build, python3-setuptools and python3-wheel. What is proved is
 # built once, and put into each. Two runs of one commit make the same bytes (tools/dist/reproducible.sh).
 . "$(dirname "$0")/env.sh"
+for command in rt cc make strip objdump dpkg-deb; do
+    command -v $command > /dev/null || { echo "make dist: no $command" >&2; exit 1; }
+done
+/usr/bin/python3 -c 'import build, setuptools, wheel' || {
+    echo "make dist: Debian's python3-build, python3-setuptools and python3-wheel are wanted" >&2
+    exit 1
+}
 work=$(mktemp -d)
 trap 'rm -r "$work"' EXIT
 "$top/tools/version.sh"

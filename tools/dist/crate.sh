@@ -3,7 +3,7 @@
 #
 #     tools/dist/crate.sh TREE OUT
 . "$(dirname "$0")/env.sh"
-tree=$1 out=$2
+tree=$(cd "$1" && pwd) out=$(cd "$2" && pwd)
 crate=postscript-proved-$version
 work=$(mktemp -d)
 trap 'rm -r "$work"' EXIT

@@ -5,7 +5,7 @@
 #
 # Needs dpkg-deb. Where lintian is there, it is asked of each package, and an error of it ends the script.
 . "$(dirname "$0")/env.sh"
-tree=$1 out=$2
+tree=$(cd "$1" && pwd) out=$(cd "$2" && pwd)
 work=$(mktemp -d)
 trap 'rm -r "$work"' EXIT
 maintainer='The Hozhvir developers <postscript-proved@hozhvir.invalid>'
@@ -18,7 +18,9 @@ cd "$work/psotf"
 mkdir -p usr/share/man/man1
 cp -r "$tree/bin" usr/bin
 for page in psotf psfont; do gzip -9n < "$tree/share/man/man1/$page.1" > usr/share/man/man1/$page.1.gz; done
-cp -r "$tree/share/bash-completion" "$tree/share/zsh" "$tree/share/fish" usr/share
+mkdir usr/share/zsh
+cp -r "$tree/share/bash-completion" "$tree/share/fish" usr/share
+cp -r "$tree/share/zsh/site-functions" usr/share/zsh/vendor-completions
 
 cd "$work/libpostscript-proved0"
 mkdir -p $libs DEBIAN

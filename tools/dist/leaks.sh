@@ -1,6 +1,6 @@
 #!/bin/sh
-# Whether a file of a folder holds a path of the machine that it was made on: of the checkout, of the toolchain, of the home folder, or
-# of a temporary file. Archives and packages are unpacked, and what these hold is looked through.
+# Whether a file of a folder holds a path of the machine that it was made on: of the checkout, of the toolchain, of a home
+# folder, of a temporary file, or of another place that is no Debian folder. Archives and packages are unpacked, and what these hold is looked through.
 #
 #     tools/dist/leaks.sh FOLDER
 #
@@ -24,7 +24,7 @@ done
 kit=$(dirname "$(rt doc)")
 for path in "$top" "$kit/" "${HOME:-/root}/" "${TMPDIR:-/tmp}/tmp." "${TMPDIR:-/tmp}/rt"; do printf '%s\n' "$path"; done > "$work.paths"
 find "$work" -type f | sort | while read -r file; do
-    strings -a -n 4 "$file" | grep -F -f "$work.paths" | sed "s|^|${file#"$work"/}: |"
+    strings -a -n 4 "$file" | grep -F -f "$work.paths" -e /home/ -e /root/ -e /work/ -e /mnt/ -e /srv/ | sed "s|^|${file#"$work"/}: |"
 done > "$work.found"
 rm "$work.paths"
 status=0

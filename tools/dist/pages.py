@@ -355,8 +355,8 @@ def main():
         "man/man3/postscript.h.3": header_page(),
         "bash-completion/completions/psotf": bash(commands, options),
         "bash-completion/completions/psfont": plain["bash"],
-        "zsh/vendor-completions/_psotf": zsh(commands, options),
-        "zsh/vendor-completions/_psfont": plain["zsh"],
+        "zsh/site-functions/_psotf": zsh(commands, options),
+        "zsh/site-functions/_psfont": plain["zsh"],
         "fish/vendor_completions.d/psotf.fish": fish(commands, options),
         "fish/vendor_completions.d/psfont.fish": plain["fish"],
     }.items():

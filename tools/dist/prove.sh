@@ -22,6 +22,7 @@ done)
 (cd "$top/crates/postscript_c" && rt lib ${RT_JOBS:+--jobs "$RT_JOBS"} > /dev/null)
 (cd "$top/crates/psotf" && rt run ${RT_JOBS:+--jobs "$RT_JOBS"} -- --version > /dev/null)
 (cd "$top/crates/psfont" && rt run ${RT_JOBS:+--jobs "$RT_JOBS"} < /dev/null > /dev/null)
+if [ -n "$(git -C "$top" status --porcelain)" ]; then commit="$commit, and changes that are not committed"; fi
 filled "$top/tools/dist/PROOF.in" "COMMIT=$commit" "KIT=$(rt version)" > "$out"
 for crate in $crates; do
     (cd "$top/crates/$crate" && rt check ${RT_JOBS:+--jobs "$RT_JOBS"} > "$out.check" 2>&1) || {

@@ -9,7 +9,7 @@ proof=$1 tree=$2
 share=$tree/share
 mkdir -p "$tree/bin" "$tree/lib/pkgconfig" "$tree/lib/cmake/postscript" "$tree/include" "$tree/docs" "$tree/examples" "$tree/licences"
 
-make --no-print-directory -s -C "$top/bindings/c" build/libpostscript.a build/libpostscript.so
+make --no-print-directory -s -C "$top/bindings/c"
 cp "$top/bindings/c/build/libpostscript.a" "$top/bindings/c/build/libpostscript.so.0" "$tree/lib"
 for program in psotf psfont; do cp "$top/crates/$program/out/$program" "$tree/bin"; done
 # without names of files and places of lines, and with no dates

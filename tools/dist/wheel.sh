@@ -6,7 +6,7 @@
 # Needs Debian's python3-build, python3-setuptools and python3-wheel. The wheel is for any Python 3, x86-64, and the C library whose
 # symbols the library wants, or a newer one.
 . "$(dirname "$0")/env.sh"
-tree=$1 out=$2
+tree=$(cd "$1" && pwd) out=$(cd "$2" && pwd)
 work=$(mktemp -d)
 trap 'rm -r "$work"' EXIT
 cp -r "$top/bindings/python/postscript" "$top/bindings/python/pyproject.toml" "$top/bindings/python/README.md" "$work"

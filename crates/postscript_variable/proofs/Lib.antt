@@ -9,3 +9,4 @@ pub mod MeaningLaws
 pub mod EndingLaws
 pub mod BlendLaws
 pub mod OperatorLaws
+pub mod DefaultLaws

@@ -1,5 +1,5 @@
 -- A limit that is spent on numbers and operators.
-use Rattle.std.proofs.Common.{◌≡◌, ◌≢◌, ◌⊎◌, refl, ap, subst, sym, ◌∙◌, ℕ, ◌+◌, ◌-◌, ◌<◌, ◌≤◌, List, [], ◌∷◌, ◌++◌, length, Ok, Err, inl, inr, append_assoc, arith}
+use Rattle.std.proofs.Common.{◌≡◌, ◌≢◌, refl, subst, sym, ◌∙◌, ℕ, ◌+◌, ◌-◌, ◌<◌, ◌≤◌, List, [], ◌∷◌, ◌++◌, Ok, Err, inl, inr, append_assoc, arith}
 use Rattle.postscript_base.specs.declared.error.Error.TheVariants.{AlreadyFailed}
 use Rattle.postscript_type2.specs.declared.program.within.Within.TheVariants.{End}
 use Rattle.postscript_variable.specs.declared.machine.Machine.{Machine}

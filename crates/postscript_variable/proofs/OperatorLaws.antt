@@ -15,7 +15,7 @@ use Rattle.postscript_type2.specs.Program.StackWork.{whole_operand, at}
 use Rattle.postscript_type2.proofs.Greatest.{greatest-none}
 use Rattle.postscript_type2.proofs.Taken.{exactly-taken}
 use Rattle.postscript_variable.specs.declared.command.Command.{Command}
-use Rattle.postscript_variable.specs.declared.command.Command.TheVariants.{Answered, Index, Blend, Local, Global}
+use Rattle.postscript_variable.specs.declared.command.Command.TheVariants.{Answered, VsIndex, Blend, CallSubr, CallGSubr}
 use Rattle.postscript_variable.specs.Blending.{values}
 use Rattle.postscript_variable.specs.Effects.{Font, State, cleared, Move, Clears, Refuses, clearing, stems_after, with_stems, path_move, answer_move, index_move, chosen, chosen_by, blended, blend_top, blend_many, blend_by, blend_over, called_as, call_by, call_move, effect}
 use Rattle.postscript_variable.specs.OperatorRules as rules
@@ -107,10 +107,10 @@ call-without st routines h = ap (call_by st routines) (no-whole st.stack h)
 
 calls-from : (font : Font) (command : Command) (behind : List ℕ) (st : State) (routines : List (List ℕ)) → CallsFrom font command routines →
     effect font command behind st ≡ call_move st routines
-calls-from font Local behind st routines is = ap (call_move st) (sym is)
-calls-from font Global behind st routines is = ap (call_move st) (sym is)
+calls-from font CallSubr behind st routines is = ap (call_move st) (sym is)
+calls-from font CallGSubr behind st routines is = ap (call_move st) (sym is)
 calls-from font (Answered op) behind st routines is = absurd is
-calls-from font Index behind st routines is = absurd is
+calls-from font VsIndex behind st routines is = absurd is
 calls-from font Blend behind st routines is = absurd is
 
 -- vsindex
@@ -259,19 +259,19 @@ found-answer font op behind st GoesBack e = found-other font op behind st GoesBa
 found-answer font op behind st EndsGlyph e = found-other font op behind st EndsGlyph e tt
 found-answer font op behind st (IsRefused part) e = found-other font op behind st (IsRefused part) e tt
 
-found-index : (font : Font) (behind : List ℕ) (st : State) → Found font Index behind st
+found-index : (font : Font) (behind : List ℕ) (st : State) → Found font VsIndex behind st
 found-index font behind st = by_time st.is_blended refl
   where
-    by_table : st.is_blended ≡ false → (beneath : List ℤ) (n : ℤ) → st.stack ≡ beneath ++ whole n ∷ [] → (o : Option (List ℕ)) → at font.tables n ≡ o → Found font Index behind st
+    by_table : st.is_blended ≡ false → (beneath : List ℤ) (n : ℤ) → st.stack ≡ beneath ++ whole n ∷ [] → (o : Option (List ℕ)) → at font.tables n ≡ o → Found font VsIndex behind st
     by_table early beneath (pos n) e (Some scalars) there = (_, rules.chooses beneath n scalars early e there)
     by_table early beneath (negsuc n) e (Some scalars) there = absurd (cc)
     by_table early beneath n e None none = (_, rules.chooses_no_table beneath n early e none)
 
-    by_top : st.is_blended ≡ false → WholeTop st.stack → Found font Index behind st
+    by_top : st.is_blended ≡ false → WholeTop st.stack → Found font VsIndex behind st
     by_top early (inl other) = (_, rules.chooses_no_number early other)
     by_top early (inr there) = by_table early there.0 there.1 there.2 (at font.tables there.1) refl
 
-    by_time : (b : Bool) → st.is_blended ≡ b → Found font Index behind st
+    by_time : (b : Bool) → st.is_blended ≡ b → Found font VsIndex behind st
     by_time true late = (_, rules.chooses_late late)
     by_time false early = by_top early (whole-top st.stack)
 
@@ -331,10 +331,10 @@ found-call font command behind st routines from = by_top (whole-top st.stack)
 
 found : (font : Font) (command : Command) (behind : List ℕ) (st : State) → Found font command behind st
 found font (Answered op) behind st = found-answer font op behind st (kind op) refl
-found font Index behind st = found-index font behind st
+found font VsIndex behind st = found-index font behind st
 found font Blend behind st = found-blend font behind st
-found font Local behind st = found-call font Local behind st font.lists.local refl
-found font Global behind st = found-call font Global behind st font.lists.global refl
+found font CallSubr behind st = found-call font CallSubr behind st font.lists.local refl
+found font CallGSubr behind st = found-call font CallGSubr behind st font.lists.global refl
 
 pub law : OperatorsDoSo
 law font command behind st move = (

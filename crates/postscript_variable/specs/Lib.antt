@@ -1,6 +1,7 @@
 -- What contracts say of charstrings of CFF2 (OpenType 1.9, "CFF2 CharString Format"). People begin at Meaning.
 pub mod Commands
 pub mod Blending
+pub mod Defaults
 pub mod Effects
 pub mod Tokens
 pub mod Meaning

@@ -1,5 +1,6 @@
 //! Laws of the definitions.
 ghost use Rattle.postscript_variable.specs.Computed.{NumberIsRead, OperatorIsRead, NothingIsRead, MeaningIsComputed, RunIsMeant, EachHasARun, NoOtherRun};
+ghost use Rattle.postscript_variable.specs.Defaults.{DefaultsStay};
 ghost use Rattle.postscript_variable.specs.Endings.{RunsEndSo};
 ghost use Rattle.postscript_variable.specs.Limit.{LimitIsCost, LimitLasts, LimitBoundsSteps};
 ghost use Rattle.postscript_variable.specs.OperatorRules.{OperatorsDoSo};
@@ -28,6 +29,12 @@ pub fn each_has_one_run()
 /// A law: whole runs end in no refusal but those of `run_refusals`. It does nothing and is never refused.
 pub fn runs_end_so()
     ensures { RunsEndSo }
+{}
+
+/// A law: where no region counts, as at the default place of a font's axes, blended values are the defaults, exactly. It does nothing
+/// and is never refused.
+pub fn defaults_stay()
+    ensures { DefaultsStay }
 {}
 
 /// A law: the limit that `Program::step_within` takes is what the numbers and operators cost that it reads, of which all but the

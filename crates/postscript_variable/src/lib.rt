@@ -11,6 +11,8 @@ mod program;
 mod refused;
 mod routine;
 mod state;
+#[cfg(test)]
+mod tests;
 mod within;
 
 pub use charstring::{Blends, Charstring};

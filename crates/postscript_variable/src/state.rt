@@ -208,10 +208,10 @@ impl<'l> State<'l> {
     {
         match command {
             Command::Answered(operator) => self.answer(operator, behind),
-            Command::Index => self.index(font.tables),
+            Command::VsIndex => self.index(font.tables),
             Command::Blend => self.blend(),
-            Command::Local => self.call_local(&font.subroutines),
-            Command::Global => self.call_global(&font.subroutines),
+            Command::CallSubr => self.call_local(&font.subroutines),
+            Command::CallGSubr => self.call_global(&font.subroutines),
         }
     }
 }

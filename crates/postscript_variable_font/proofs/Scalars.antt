@@ -1,6 +1,5 @@
 -- Lists that grow by one at the end.
 use Rattle.std.proofs.Common.{◌≡◌, refl, ap, sym, subst, ◌∙◌, ℕ, zero, suc, ◌+◌, ◌<◌, ◌⊎◌, inl, inr, ℤ, List, [], ◌∷◌, ◌++◌, length, length-append, Some, slice_get, Vec, arith}
-use Rattle.std.proofs.lemmas.Option.{slice_get_within}
 use Rattle.std.specs.declared.alloc.Global.{Global}
 use Rattle.postscript_variation.specs.Lent.{HasNoTable, scalar_at, table_count}
 use Rattle.postscript_variation.specs.declared.store.Data.{Data}
@@ -32,7 +31,7 @@ one_scalar table coordinates n xs x are is =
     record {
       counted = omega (arith, many, long);
       each = λ j h. elim (either j n h) [
-        inl less ↦ stays xs x j (omega (arith, less, many)) ∙ are.each j less
+        | inl less ↦ stays xs x j (omega (arith, less, many)) ∙ are.each j less
         | inr same ↦ ap (slice_get (xs ++ x ∷ [])) same ∙ at_end ∙ ap Some is ∙ ap (λ k. Some (scalar_at table coordinates k)) (sym same)
       ];
     }
@@ -49,7 +48,7 @@ one_table store coordinates n xs x are is =
     record {
       counted = omega (arith, many, long);
       each = λ j h. elim (either j n h) [
-        inl less ↦ let old = are.each j less in (old.0, stays xs x j (omega (arith, less, many)) ∙ old.1, old.2)
+        | inl less ↦ let old = are.each j less in (old.0, stays xs x j (omega (arith, less, many)) ∙ old.1, old.2)
         | inr same ↦ (x, ap (slice_get (xs ++ x ∷ [])) same ∙ at_end, subst (λ k. AreScalarsOf store coordinates k x.items) (sym same) is)
       ];
     }

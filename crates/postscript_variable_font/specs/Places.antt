@@ -1,5 +1,5 @@
 -- The scalars of a place of the design space (OpenType 1.9, "OpenType Font Variations Common Table Formats", "Item variation store").
-use Rattle.std.specs.Prelude.{◌≡◌, ◌⊎◌, ◌<◌, ℕ, ℤ, List, [], length, Option, Some, None, Vec, slice_get}
+use Rattle.std.specs.Prelude.{◌≡◌, ◌<◌, ℕ, ℤ, List, [], length, Option, Some, None, Vec, slice_get}
 use Rattle.std.specs.declared.alloc.Global.{Global}
 use denote.Ref.{Bor}
 use Rattle.postscript_variation.specs.Lent.{HasNoTable, IsDataIn, delta_count, scalar_at, table_count}

@@ -5,6 +5,8 @@
 mod error;
 mod glyph;
 mod place;
+#[cfg(test)]
+mod tests;
 
 pub use error::{Error, Result};
 pub use glyph::charstring;

@@ -1,8 +1,7 @@
 -- What is asked for, and the coordinates of it.
-use Rattle.std.proofs.Common.{◌≡◌, inl, inr, ℕ, ◌+◌, ◌<◌, ℤ, pos, List, length, slice_get, slice_set, Option, true, ap, sym, ◌∙◌, add-one, arith}
+use Rattle.std.proofs.Common.{◌≡◌, inl, inr, ℕ, ◌+◌, ◌<◌, ℤ, pos, List, length, slice_get, slice_set, Option, ap, sym, ◌∙◌, add-one, arith}
 use Rattle.std.proofs.lemmas.Bool.{cases_eq}
 use Rattle.std.proofs.lemmas.List.{get_or-set_same, get_or-set_other}
-use Rattle.std.specs.Prelude.{nat_lt}
 use Rattle.postscript_variation.specs.Asked.{asked_by, chosen}
 use Rattle.postscript_variation.specs.Axes.{axis_at}
 use Rattle.postscript_variation.specs.Coordinates.{AreCoordinates, coordinate_along, coordinate_by}
@@ -11,19 +10,17 @@ use Rattle.postscript_variation.specs.declared.axes.Axes.{Axes}
 use Rattle.postscript_variation.specs.declared.axes.Axis.{Axis}
 use Rattle.postscript_variation.specs.declared.coordinates.Setting.{Setting}
 use Rattle.postscript_variation.specs.declared.maps.Maps.{Maps}
+use Rattle.postscript_variation.proofs.Deciding.{less}
 
 pub by_one_more : (settings : List Setting) (tag k : ℕ) (standard value : ℤ) → value ≡ asked_by settings tag standard k
     → chosen (slice_get settings k) tag value ≡ asked_by settings tag standard (k + 1)
 by_one_more settings tag k standard value e = rw e (ap (asked_by settings tag standard) (sym (add-one k)))
 
-listed : (axis count : ℕ) → axis < count → nat_lt axis count ≡ true
-listed axis count h = grind arith
-
 -- the coordinate along an axis by its record
 pub along : (axes : Axes) (maps : Option Maps) (settings : List Setting) (axis : ℕ) (found : Axis)
     → axis < axis_count axes → found ≡ axis_at (bytes_of axes) (axis_place axes axis)
     → coordinate_by found axis maps settings ≡ coordinate_along axes maps settings axis
-along axes maps settings axis found h is = rw (listed axis (axis_count axes) h) (ap (λ axis'. coordinate_by axis' axis maps settings) is)
+along axes maps settings axis found h is = rw (less axis (axis_count axes) h) (ap (λ axis'. coordinate_by axis' axis maps settings) is)
 
 -- the list by one coordinate more
 pub one_more : (axes : Axes) (maps : Option Maps) (settings : List Setting) (coordinates : List ℤ) (axis : ℕ) (value : ℤ)

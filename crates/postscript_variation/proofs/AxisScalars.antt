@@ -2,11 +2,10 @@
 use Rattle.std.proofs.Common.{◌≡◌, ◌⊎◌, inl, inr, ℕ, ◌*◌, ◌<◌, ◌≤◌, ℤ, pos, ◌<ℤ◌, ◌≤ℤ◌, true, false, refl, arith}
 use Rattle.std.proofs.lemmas.Int.{ints, by_lt_z}
 use Rattle.std.proofs.Math.Nat.{div-eq_of_lt-le}
-use Rattle.std.specs.Ordering.{int_eq}
 use Rattle.postscript_variation.specs.Scalars.{IsAxisScalar, IsIgnored, IsNearest, apart, is_outside, is_passed_over, nearest, scaled}
 use Rattle.postscript_variation.specs.Scalars.IsIgnored.{start_behind, end_before, both_sides, default_peak}
 use Rattle.postscript_variation.specs.Scalars.IsAxisScalar.{ignored, outside, at_peak, rising, falling}
-use Rattle.postscript_variation.proofs.Normalizing.{below, not_below}
+use Rattle.postscript_variation.proofs.Deciding.{below, not_below, not_same, same}
 
 -- ---- the nearest number
 
@@ -17,12 +16,6 @@ pub nearest-only : (n d r : ℕ) → 0 < d → IsNearest n d r → nearest n d �
 nearest-only n d r h is = div-eq_of_lt-le {k = r} d (omega (arith, is.not_above)) (omega (arith, is.not_below))
 
 -- ---- whether an axis counts
-
-same : (a b : ℤ) → a ≡ b → int_eq a b ≡ true
-same a b h = grind (arith, ints)
-
-apart_not_same : (a b : ℤ) → (a ≡ b → ⊥) → int_eq a b ≡ false
-apart_not_same a b h = grind (arith, ints)
 
 pub passed_over : (start peak last : ℤ) → IsIgnored start peak last → is_passed_over start peak last ≡ true
 unfolding is_passed_over
@@ -35,10 +28,10 @@ passed_over_not : (start peak last : ℤ) → start ≤ℤ peak → peak ≤ℤ 
     → is_passed_over start peak last ≡ false
 unfolding is_passed_over
 passed_over_not start peak last h k (inl m) n =
-    let a = not_below peak start h in let b = not_below last peak k in let d = not_below start (pos 0) m in let e = apart_not_same peak (pos 0) n in
+    let a = not_below peak start h in let b = not_below last peak k in let d = not_below start (pos 0) m in let e = not_same peak (pos 0) n in
     rw a (rw b (rw d (rw e refl)))
 passed_over_not start peak last h k (inr m) n =
-    let a = not_below peak start h in let b = not_below last peak k in let d = not_below (pos 0) last m in let e = apart_not_same peak (pos 0) n in
+    let a = not_below peak start h in let b = not_below last peak k in let d = not_below (pos 0) last m in let e = not_same peak (pos 0) n in
     grind (arith, a, b, d, e)
 
 -- what is so where an axis counts

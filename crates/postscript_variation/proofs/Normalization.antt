@@ -6,7 +6,8 @@ use Rattle.postscript_variation.specs.Normalized.IsClamped.{below, above, within
 use Rattle.postscript_variation.specs.Normalized.IsNormalized.{does_not_vary, at_default, below_default, above_default}
 use Rattle.postscript_variation.specs.Scalars.{apart}
 use Rattle.postscript_variation.proofs.AxisScalars.{nearest-is, nearest-only}
-use Rattle.postscript_variation.proofs.Normalizing.{below as is_below, not_below, clamped-within, in_order, long-above, long-below, long-default, outside, outside_too}
+use Rattle.postscript_variation.proofs.Deciding.{below as is_below, not_below}
+use Rattle.postscript_variation.proofs.Normalizing.{clamped-within, in_order, long-above, long-below, long-default, outside, outside_too}
 
 -- ---- the value within the axis
 

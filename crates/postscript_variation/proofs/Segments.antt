@@ -1,5 +1,5 @@
 -- Segment maps as they are computed.
-use Rattle.std.proofs.Common.{◌≡◌, ◌↔◌, ◌⊎◌, inl, inr, ℕ, zero, suc, ◌+◌, ◌-◌, ◌<◌, ℤ, pos, negsuc, ◌-ℤ◌, ◌<ℤ◌, List, Bool, true, false, refl, ap, sym, subst, ◌∙◌, arith}
+use Rattle.std.proofs.Common.{◌≡◌, ◌↔◌, ◌⊎◌, inl, inr, ℕ, zero, suc, ◌+◌, ◌-◌, ◌<◌, ℤ, pos, negsuc, ◌-ℤ◌, ◌<ℤ◌, List, true, false, refl, ap, sym, subst, ◌∙◌, arith}
 use Rattle.std.proofs.lemmas.Bool.{both_ways, cases_eq, cases_lt}
 use Rattle.std.proofs.lemmas.Int.{ints, by_lt_z}
 use Rattle.std.specs.Ordering.{int_eq}
@@ -8,8 +8,7 @@ use Rattle.postscript_variation.specs.Maps.{AreBelow, HasRequired, IsFirst, IsKe
 use Rattle.postscript_variation.specs.Maps.IsMapped.{not_required, of_entry, before_all, behind_all, moved_on}
 use Rattle.postscript_variation.specs.Scalars.{apart}
 use Rattle.postscript_variation.proofs.AxisScalars.{nearest-is, nearest-only}
-use Rattle.postscript_variation.proofs.Keeping.{chosen, split}
-use Rattle.postscript_variation.proofs.Normalizing.{below, not_below}
+use Rattle.postscript_variation.proofs.Deciding.{below, by_test, chosen, equal, is_less, less, not_below, not_last, not_same, same, split}
 
 -- ---- the first entry that is not below a coordinate
 
@@ -54,24 +53,6 @@ none_above bytes place count at b =
     ]
 
 -- ---- tests
-
-same : (a b : ℤ) → a ≡ b → int_eq a b ≡ true
-same a b h = grind (arith, ints)
-
-not_same : (a b : ℤ) → b <ℤ a → int_eq a b ≡ false
-not_same a b h = grind (arith, ints)
-
-equal : (a b : ℤ) → int_eq a b ≡ true → a ≡ b
-equal a b h = grind (arith, ints)
-
-less : (i count : ℕ) → i < count → nat_lt i count ≡ true
-less i count h = grind arith
-
-is_less : (i count : ℕ) → nat_lt i count ≡ true → i < count
-is_less i count h = grind arith
-
-not_last : (i count : ℕ) → i < count → (i == count) ≡ false
-not_last i count h = grind arith
 
 not_zero : (i : ℕ) → (suc i == 0) ≡ false
 not_zero i = grind arith
@@ -129,7 +110,7 @@ moved_entry bytes place count at i h e = rw (not_last i count h) (rw (same (from
 
 moved_first : (bytes : List ℕ) (place count : ℕ) (at : ℤ) → 0 < count → at <ℤ from_at bytes place 0 → moved bytes place count 0 at ≡ at
 unfolding moved
-moved_first bytes place count at h k = rw (not_last 0 count h) (rw (not_same (from_at bytes place 0) at k) refl)
+moved_first bytes place count at h k = rw (not_last 0 count h) (rw (not_same (from_at bytes place 0) at (λ e. omega (arith, ints, e, k))) refl)
 
 moved_none : (bytes : List ℕ) (place count : ℕ) (at : ℤ) → moved bytes place count count at ≡ at
 unfolding moved
@@ -139,7 +120,7 @@ moved_further : (bytes : List ℕ) (place count : ℕ) (at : ℤ) (i : ℕ) → 
     → moved bytes place count (suc i) at
     ≡ (pos (weighted (lifted (to_at bytes place i)) (apart (from_at bytes place (suc i)) at) (lifted (to_at bytes place (suc i))) (apart at (from_at bytes place i))) -ℤ pos 131072)
 unfolding moved moved_between
-moved_further bytes place count at i h k = rw (not_last (suc i) count h) (rw (not_same (from_at bytes place (suc i)) at k) (rw (not_zero i) (rw (one_less i) refl)))
+moved_further bytes place count at i h k = rw (not_last (suc i) count h) (rw (not_same (from_at bytes place (suc i)) at (λ e. omega (arith, ints, e, k))) (rw (not_zero i) (rw (one_less i) refl)))
 
 whole : (from at : ℤ) (other : ℕ) → at <ℤ from → 0 < apart from at + other
 whole from at other h = omega (arith, ints)
@@ -181,10 +162,6 @@ with_required bytes place count at r =
           record { result = to_at bytes place (first_above bytes place count at); is = of_entry r (first_above bytes place count at) is e refl })
     ]
 
-by_test : {P : Type 0} (b : Bool) → (b ≡ true → P) → (b ≡ false → P) → P
-by_test true f g = f refl
-by_test false f g = g refl
-
 becomes_some : (bytes : List ℕ) (place count : ℕ) (at : ℤ) → BecomesSome bytes place count at
 becomes_some bytes place count at =
     by_test (counts bytes place count)
@@ -197,3 +174,21 @@ maps bytes place count at result = (
       subst (IsMapped bytes place count at) (sym (computed bytes place count at one.result one.is) ∙ e) one.is),
   computed bytes place count at result,
 )
+
+-- ---- what every map leaves as it is
+
+stays : (bytes : List ℕ) (place count : ℕ) (at : ℤ) → (HasRequired bytes place count → IsKept bytes place count at) → mapped bytes place count at ≡ at
+stays bytes place count at kept =
+    by_test (counts bytes place count)
+    (λ t. let r = has_required bytes place count t in let k = kept r in
+    computed bytes place count at at (of_entry r k.entry k.first k.from (sym k.to)))
+    (λ f. computed bytes place count at at (not_required (λ r. both_ways (counts bytes place count) f (counts_so bytes place count r)) refl))
+
+pub minima : (bytes : List ℕ) (place count : ℕ) → mapped bytes place count (negsuc 65535) ≡ negsuc 65535
+minima bytes place count = stays bytes place count (negsuc 65535) (λ r. r.0)
+
+pub defaults : (bytes : List ℕ) (place count : ℕ) → mapped bytes place count (pos 0) ≡ pos 0
+defaults bytes place count = stays bytes place count (pos 0) (λ r. r.1)
+
+pub maxima : (bytes : List ℕ) (place count : ℕ) → mapped bytes place count (pos 65536) ≡ pos 65536
+maxima bytes place count = stays bytes place count (pos 65536) (λ r. r.2)

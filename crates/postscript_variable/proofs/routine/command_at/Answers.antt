@@ -1,4 +1,4 @@
-use Rattle.std.proofs.Common.{◌≡◌, ◌+◌, option_map, drop}
+use Rattle.std.proofs.Common.{◌≡◌, option_map, drop}
 use Rattle.std.specs.Option.{ok_or}
 use Rattle.postscript_variable.specs.declared.refused.Refused.TheVariants.{UnknownOperator}
 use Rattle.postscript_variable.specs.Commands.{command_of}

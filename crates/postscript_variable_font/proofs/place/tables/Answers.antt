@@ -1,4 +1,4 @@
-use Rattle.std.proofs.Common.{◌≡◌, ◌<◌, ◌+◌, [], ◌∷◌, ◌++◌, rules, arith, subst, sym}
+use Rattle.std.proofs.Common.{◌≡◌, ◌<◌, ◌+◌, [], ◌∷◌, ◌++◌, rules, subst, sym}
 use Rattle.postscript_variation.specs.Lent.{table_count}
 use Rattle.postscript_variable_font.specs.Places.{AreScalarsOf, AreTables}
 use Rattle.postscript_variable_font.proofs.Scalars.{one_table, lacking}

@@ -1,4 +1,4 @@
-use Rattle.std.proofs.Common.{ap, sym}
+use Rattle.std.proofs.Common.{ap}
 use Rattle.postscript_variable.specs.Charstrings.{run_from, font_from}
 use Rattle.postscript_variable.specs.Evaluation.{Run}
 use Rattle.postscript_variable.specs.Programs.{end_of}

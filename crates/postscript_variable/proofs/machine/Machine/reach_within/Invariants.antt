@@ -1,4 +1,4 @@
-use Rattle.std.proofs.Common.{◌≡◌, ◌≤◌, ◌+◌}
+use Rattle.std.proofs.Common.{◌≡◌, ◌≤◌}
 use Rattle.postscript_variable.specs.Limit.{Spends}
 use Rattle.postscript_variable.specs.Private.Machines.{IsNested, still_of, work_of}
 use Rattle.postscript_variable.proofs.machine.Machine.reach_within.Given as goal

@@ -1,0 +1,18 @@
+-- Blends at a place where no region counts, as at the default place of a font's axes.
+use Rattle.std.specs.Prelude.{◌≡◌, ℕ, ℤ, List, [], ◌∷◌, Ok}
+use Rattle.postscript_type2.specs.Program.OperatorRules.{IsHeld}
+use Rattle.postscript_variable.specs.Blending.{values}
+
+-- no region counts
+abbrev pub AreZero : (scalars : List ℕ) → Type 0
+AreZero [] = Unit {0}
+AreZero (scalar ∷ scalars) = (scalar ≡ 0) × AreZero scalars
+
+-- numbers that 32 bits hold
+abbrev pub AreHeld : List ℤ → Type 0
+AreHeld [] = Unit {0}
+AreHeld (num ∷ nums) = IsHeld num × AreHeld nums
+
+-- A law of the definitions: the blended values are then the defaults, whatever the deltas are.
+abbrev pub DefaultsStay : Type 0
+DefaultsStay = (scalars : List ℕ) (nums deltas : List ℤ) → AreZero scalars → AreHeld nums → values nums deltas scalars ≡ Ok nums

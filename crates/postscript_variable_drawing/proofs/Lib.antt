@@ -1,0 +1,3 @@
+pub mod FittingLaws
+pub mod Applied
+pub mod Spending

@@ -1,0 +1,34 @@
+//! Glyphs that are drawn.
+ghost use Rattle.std.specs.Prelude.{◌≡◌, ◌≢◌, Err, OnOk, OnErr, IfErr};
+ghost use Rattle.postscript_drawing.specs.declared.error.Error.TheVariants as errors;
+ghost use Rattle.postscript_variable_drawing.specs.Drawn.{Gives};
+ghost use Rattle.postscript_variable_drawing.specs.Glyphs.{DrawsGlyph, IsGlyphUndrawn};
+
+use crate::drawing::draw;
+use postscript_cff2::Font;
+use postscript_drawing::{Error, Result};
+use postscript_outline::Sink;
+use postscript_variable_font::{Place, charstring};
+use std::alloc::Global;
+
+/// Gives the outline of a glyph of a font at a place of its design space to a sink, as `draw` gives that of its charstring.
+///
+/// Refused: `NoSuchGlyph` where the font has no such glyph, or no Font DICT for it that stands (`Font::part`); else as `draw` is.
+pub fn draw_glyph<S: Sink>(
+    alloc: Global,
+    font: &Font<'_>,
+    glyph: usize,
+    place: &Place,
+    limit: &mut u64,
+    sink: &mut S,
+) -> Result<()>
+    ensures drawn { OnOk result (Gives S.after (S.state sink.old) (S.state sink.new) (DrawsGlyph font.now glyph place.now)) }
+    ensures why { IfErr result (λ e. IsGlyphUndrawn font.now glyph place.now limit.new e) }
+    ensures nothing { OnErr result (result ≢ Err errors.Full → S.state sink.new ≡ S.state sink.old) }
+    ensures full { result ≡ Err errors.Full → S.refuses (S.state sink.new) }
+{
+    match charstring(font, glyph, place) {
+        Some(charstring) => draw(alloc, charstring, limit, sink),
+        None => Err(Error::NoSuchGlyph(glyph)),
+    }
+}
