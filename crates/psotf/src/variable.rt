@@ -26,18 +26,10 @@ pub struct VariableFace<'l> {
     pub advances: Option<AdvanceVariations<'l>>,
 }
 
-/// A table of variations, read where it is there.
-fn read<'l, T>(
-    file: &FontFile<'l>,
-    tag: [u8; 4],
-    name: &'static str,
-    reader: fn(&'l [u8]) -> postscript_variation::Result<T>,
-) -> Result<Option<T>, Failure> {
-    let Some(table) = file.table(tag) else {
-        return Ok(None);
-    };
-    match reader(table) {
-        Ok(read) => Ok(Some(read)),
+/// What a table of variations is read as, or that it is refused.
+fn read_as<T>(name: &'static str, read: postscript_variation::Result<T>) -> Result<T, Failure> {
+    match read {
+        Ok(read) => Ok(read),
         Err(error) => Err(Failure::Variations(name, error)),
     }
 }
@@ -51,12 +43,24 @@ impl<'l> VariableFace<'l> {
         if file.table(*b"CFF ").is_some() {
             return Ok(None);
         }
+        let axes = match file.table(*b"fvar") {
+            Some(fvar) => Some(read_as("fvar", Axes::read(fvar))?),
+            None => None,
+        };
+        let maps = match file.table(*b"avar") {
+            Some(avar) => Some(read_as("avar", Maps::read(avar))?),
+            None => None,
+        };
+        let advances = match file.table(*b"HVAR") {
+            Some(hvar) => Some(read_as("HVAR", AdvanceVariations::read(hvar))?),
+            None => None,
+        };
         Ok(Some(VariableFace {
             common: Common::open(file)?,
             font: Font::read(cff2)?,
-            axes: read(file, *b"fvar", "fvar", Axes::read)?,
-            maps: read(file, *b"avar", "avar", Maps::read)?,
-            advances: read(file, *b"HVAR", "HVAR", AdvanceVariations::read)?,
+            axes,
+            maps,
+            advances,
         }))
     }
 }
