@@ -1,5 +1,5 @@
 //! Which glyphs of a face are kept, and which of its characters.
-use crate::characters::{Mapped, by_glyph, of_glyph};
+use crate::characters::{Mapped, by_glyph, glyph_of, missing, of_glyph};
 use crate::face::Face;
 use crate::failure::Failure;
 use clap::ArgMatches;
@@ -16,10 +16,7 @@ pub struct Choice {
 impl Choice {
     /// Adds a character. One without a glyph is refused.
     fn put_char(&mut self, face: &Face<'_>, char: u32) -> Result<(), Failure> {
-        let glyph = match &face.map {
-            Some(map) => map.glyph_of(char),
-            None => 0,
-        };
+        let glyph = glyph_of(&face.map, char);
         if glyph == 0 {
             return Err(Failure::NoChar(char));
         }
@@ -28,8 +25,12 @@ impl Choice {
         Ok(())
     }
 
-    /// Adds the characters of a text.
-    fn put_text(&mut self, face: &Face<'_>, text: &str) -> Result<(), Failure> {
+    /// Adds the characters of a text. Those without a glyph are told together.
+    fn put_text(&mut self, alloc: Global, face: &Face<'_>, text: &str) -> Result<(), Failure> {
+        let missing = missing(alloc, &face.map, text)?;
+        if !missing.is_empty() {
+            return Err(Failure::NoChars(missing));
+        }
         for char in text.chars() {
             self.put_char(face, u32::from(char))?;
         }
@@ -104,7 +105,7 @@ impl Choice {
         words: &ArgMatches<'_>,
     ) -> Result<(), Failure> {
         if let Some(text) = words.get_str("text") {
-            return self.put_text(face, text);
+            return self.put_text(alloc, face, text);
         }
         if let Some(list) = words.get_str("unicodes") {
             return self.put_unicodes(face, list);

@@ -8,7 +8,9 @@ const EXAMPLES: &str = "Examples:
   psotf glyph Font.otf --char A
   psotf glyph Fonts.ttc --face 2 --all --json
   psotf svg Font.otf --text Hello -o hello.svg
+  psotf svg Variable.otf --text Hello --variations wght=650 -o hello.svg
   psotf sheet Font.otf --count 256 -o sheet.svg
+  psotf report Font.otf -o report.html
   psotf flat Font.otf -o Flat.otf
   psotf subset Font.otf --text Hello -o Hello.otf
   psotf subset Font.otf --unicodes 20-7e,U+20AC --retain-gids -o Small.otf";
@@ -39,6 +41,8 @@ struct Subcommand {
     group: &'static str,
     one_of: &'static [Word],
     others: &'static [Word],
+    /// Whether it takes the place of a variable font.
+    takes_place: bool,
 }
 
 /// The face of a file, which each subcommand is about, and how long the runs of its glyphs may take.
@@ -51,6 +55,16 @@ const FACE: &[Word] = &[
     ),
 ];
 
+/// The place of a variable font.
+const PLACE: &[Word] = &[
+    Word::Text(
+        "variations",
+        "LIST",
+        "The place of a variable font, as wght=650,opsz=12; by default that of its defaults",
+    ),
+    Word::Text("instance", "NAME", "A named instance of a variable font"),
+];
+
 const SUBCOMMANDS: &[Subcommand] = &[
     Subcommand {
         name: "inspect",
@@ -58,6 +72,7 @@ const SUBCOMMANDS: &[Subcommand] = &[
         group: "",
         one_of: &[],
         others: &[Word::Flag("json", "Write JSON")],
+        takes_place: false,
     },
     Subcommand {
         name: "glyph",
@@ -70,6 +85,7 @@ const SUBCOMMANDS: &[Subcommand] = &[
             Word::Flag("all", "Each glyph"),
         ],
         others: &[Word::Flag("json", "Write JSON")],
+        takes_place: true,
     },
     Subcommand {
         name: "svg",
@@ -79,7 +95,15 @@ const SUBCOMMANDS: &[Subcommand] = &[
             Word::Text("text", "TEXT", "A line of text"),
             Word::Number("gid", "The glyph of this number"),
         ],
-        others: &[Word::Out(false, "Where to write it, by default standard output")],
+        others: &[
+            Word::Text(
+                "missing",
+                "draw",
+                "With the word draw: characters that the face has no glyph for are drawn as .notdef",
+            ),
+            Word::Out(false, "Where to write it, by default standard output"),
+        ],
+        takes_place: true,
     },
     Subcommand {
         name: "sheet",
@@ -91,6 +115,19 @@ const SUBCOMMANDS: &[Subcommand] = &[
             Word::Given("count", "65535", "How many glyphs at most"),
             Word::Out(false, "Where to write it, by default standard output"),
         ],
+        takes_place: false,
+    },
+    Subcommand {
+        name: "report",
+        about: "A page to look at: what the face holds, and its glyphs, each operation of them",
+        group: "",
+        one_of: &[],
+        others: &[
+            Word::Given("from", "0", "The first glyph"),
+            Word::Given("count", "10000", "How many glyphs at most"),
+            Word::Out(true, "Where to write it"),
+        ],
+        takes_place: false,
     },
     Subcommand {
         name: "flat",
@@ -98,6 +135,7 @@ const SUBCOMMANDS: &[Subcommand] = &[
         group: "",
         one_of: &[],
         others: &[Word::Out(true, "Where to write it")],
+        takes_place: false,
     },
     Subcommand {
         name: "subset",
@@ -123,6 +161,7 @@ const SUBCOMMANDS: &[Subcommand] = &[
             ),
             Word::Out(true, "Where to write it"),
         ],
+        takes_place: false,
     },
 ];
 
@@ -192,7 +231,10 @@ fn with_one_of<'a>(
 /// A subcommand as a command.
 fn command_of<'a>(alloc: Global, one: &Subcommand) -> Result<Command<'a>, AllocError> {
     let plain = Command::new(alloc, one.name).about(one.about);
-    let command = with_words(alloc, plain, FACE)?;
+    let mut command = with_words(alloc, plain, FACE)?;
+    if one.takes_place {
+        command = with_words(alloc, command, PLACE)?;
+    }
     if one.one_of.is_empty() {
         return with_words(alloc, command, one.others);
     }
@@ -204,9 +246,10 @@ fn command_of<'a>(alloc: Global, one: &Subcommand) -> Result<Command<'a>, AllocE
 pub fn psotf<'a>(alloc: Global) -> Result<Command<'a>, AllocError> {
     let mut command = Command::new(alloc, "psotf")
         .version("0.2.0")
-        .about("Fonts with a table CFF in OpenType files")
+        .about("Fonts with a table CFF or CFF2 in OpenType files")
         .after_help(EXAMPLES)
-        .subcommand_required(true);
+        .subcommand_required(true)
+        .arg_required_else_help(true);
     for one in SUBCOMMANDS {
         command = command.subcommand(command_of(alloc, one)?)?;
     }

@@ -5,6 +5,16 @@ use postscript_sfnt::{Advances, CharacterMap, FontFile, Names, faces, glyphs, un
 use postscript_view::{CharSetView, FontView};
 use std::alloc::Global;
 
+/// What each face has beside its outlines.
+#[derive(Clone, Copy)]
+pub struct Common<'l> {
+    pub units: u16,
+    pub glyphs: u16,
+    pub advances: Advances<'l>,
+    pub map: Option<CharacterMap<'l>>,
+    pub names: Option<Names<'l>>,
+}
+
 /// A face of a file with a table `CFF `.
 #[derive(Drop)]
 pub struct Face<'l> {
@@ -57,22 +67,51 @@ fn opened<'l>(alloc: Global, cff: &'l [u8]) -> Result<FontView<'l>, Failure> {
     }
 }
 
-impl<'l> Face<'l> {
-    /// The face of this number.
-    pub fn open(alloc: Global, bytes: &'l [u8], number: u16) -> Result<Face<'l>, Failure> {
-        let faces = faces(bytes)?;
-        let file = FontFile::read(bytes, usize::from(number))?;
-        let cff = needed(&file, [b'C', b'F', b'F', b' '], "CFF")?;
-        let head = needed(&file, [b'h', b'e', b'a', b'd'], "head")?;
-        let maxp = needed(&file, [b'm', b'a', b'x', b'p'], "maxp")?;
+/// What a file is that holds no face for this program, if it is one of these.
+fn other_kind(bytes: &[u8]) -> Option<&'static str> {
+    if bytes.starts_with(b"wOFF") {
+        Some("a WOFF file, which is packed")
+    } else if bytes.starts_with(b"wOF2") {
+        Some("a WOFF2 file, which is packed")
+    } else if bytes.starts_with(b"%!PS") || bytes.starts_with(&[0x80, 0x01]) {
+        Some("a Type 1 font")
+    } else {
+        None
+    }
+}
+
+/// What a face is that has no table `CFF `, if it is one of these.
+fn other_outlines(file: &FontFile<'_>) -> Option<&'static str> {
+    if file.table(*b"glyf").is_some() {
+        return Some("a TrueType font, whose outlines stand in the table glyf");
+    }
+    None
+}
+
+/// The bytes of the table `CFF ` of a face.
+fn cff_of<'l>(file: &FontFile<'l>) -> Result<&'l [u8], Failure> {
+    match needed(file, *b"CFF ", "CFF") {
+        Ok(table) => Ok(table),
+        Err(failure) => match other_outlines(file) {
+            Some(kind) => Err(Failure::OtherKind(kind)),
+            None => Err(failure),
+        },
+    }
+}
+
+impl<'l> Common<'l> {
+    /// What a face of a file has.
+    pub fn open(file: &FontFile<'l>) -> Result<Common<'l>, Failure> {
+        let head = needed(file, *b"head", "head")?;
+        let maxp = needed(file, *b"maxp", "maxp")?;
         let Some(units) = units_per_em(head) else {
             return Err(Failure::Cut("head"));
         };
         let Some(glyphs) = glyphs(maxp) else {
             return Err(Failure::Cut("maxp"));
         };
-        let advances = advances_of(&file)?;
-        let map = match file.table([b'c', b'm', b'a', b'p']) {
+        let advances = advances_of(file)?;
+        let map = match file.table(*b"cmap") {
             Some(cmap) => CharacterMap::read(cmap),
             None => None,
         };
@@ -80,12 +119,41 @@ impl<'l> Face<'l> {
             Some(names) => Names::read(names),
             None => None,
         };
+        Ok(Common {
+            units,
+            glyphs,
+            advances,
+            map,
+            names,
+        })
+    }
+}
+
+/// The face of this number of a file, whatever outlines it has.
+pub fn file_of(bytes: &[u8], number: u16) -> Result<FontFile<'_>, Failure> {
+    if let Some(kind) = other_kind(bytes) {
+        return Err(Failure::OtherKind(kind));
+    }
+    Ok(FontFile::read(bytes, usize::from(number))?)
+}
+
+impl<'l> Face<'l> {
+    /// The face of a file.
+    pub fn open(alloc: Global, bytes: &'l [u8], file: FontFile<'l>) -> Result<Face<'l>, Failure> {
+        let cff = cff_of(&file)?;
+        let Common {
+            units,
+            glyphs,
+            advances,
+            map,
+            names,
+        } = Common::open(&file)?;
         let font = opened(alloc, cff)?;
         let set = font.char_set().ok();
         Ok(Face {
             file,
             size: bytes.len(),
-            faces,
+            faces: faces(bytes)?,
             units,
             glyphs,
             advances,

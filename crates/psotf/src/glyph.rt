@@ -14,7 +14,7 @@ use std::io::Write;
 use std::ops::Range;
 
 /// Writes the name of a glyph, or in a CID-keyed font its CID.
-fn name(alloc: Global, sheet: &mut Sheet, face: &Face<'_>, gid: u16) -> Result<(), AllocError> {
+pub fn name(alloc: Global, sheet: &mut Sheet, face: &Face<'_>, gid: u16) -> Result<(), AllocError> {
     if face.font.is_cid_keyed() {
         sheet.json.key("cid")?;
         match face.cid(gid) {
@@ -30,7 +30,7 @@ fn name(alloc: Global, sheet: &mut Sheet, face: &Face<'_>, gid: u16) -> Result<(
 }
 
 /// Writes the characters of a glyph.
-fn chars(alloc: Global, sheet: &mut Sheet, chars: &[Mapped]) -> Result<(), AllocError> {
+pub fn chars(alloc: Global, sheet: &mut Sheet, chars: &[Mapped]) -> Result<(), AllocError> {
     sheet.json.key("chars")?;
     sheet.json.begin_array()?;
     for mapped in chars {
@@ -41,8 +41,12 @@ fn chars(alloc: Global, sheet: &mut Sheet, chars: &[Mapped]) -> Result<(), Alloc
     sheet.json.end_array()
 }
 
-/// Writes what a glyph draws.
-fn drawn(sheet: &mut Sheet, glyph: &Glyph<'_, '_>, outline: &Outline) -> Result<(), AllocError> {
+/// Writes the width of a glyph, and its bounds.
+pub fn measures(
+    sheet: &mut Sheet,
+    glyph: &Glyph<'_, '_>,
+    outline: &Outline,
+) -> Result<(), AllocError> {
     sheet.json.key("width")?;
     match width_of(glyph, outline) {
         Some(bits) => sheet.bits(bits)?,
@@ -51,7 +55,12 @@ fn drawn(sheet: &mut Sheet, glyph: &Glyph<'_, '_>, outline: &Outline) -> Result<
     sheet.json.key("bounds")?;
     sheet.bounds(outline.bounds())?;
     sheet.json.key("tight_bounds")?;
-    sheet.bounds(outline.tight_bounds())?;
+    sheet.bounds(outline.tight_bounds())
+}
+
+/// Writes what a glyph draws.
+fn drawn(sheet: &mut Sheet, glyph: &Glyph<'_, '_>, outline: &Outline) -> Result<(), AllocError> {
+    measures(sheet, glyph, outline)?;
     sheet.json.key("segments")?;
     sheet.json.begin_array()?;
     for segment in &outline.segments {
@@ -71,7 +80,7 @@ fn refused(sheet: &mut Sheet, refusal: &Refusal) -> Result<(), AllocError> {
 }
 
 /// Writes the operations of a glyph that was drawn, each as a text.
-fn operations(
+pub fn operations(
     alloc: Global,
     sheet: &mut Sheet,
     glyph: &Glyph<'_, '_>,

@@ -212,6 +212,20 @@ fn head(sheet: &mut Sheet, face: &Face<'_>) -> Result<(), AllocError> {
     Ok(())
 }
 
+/// Writes all that is told, as an object on a sheet.
+pub fn put(
+    alloc: Global,
+    sheet: &mut Sheet,
+    face: &Face<'_>,
+    hinted: u64,
+) -> Result<(), Failure> {
+    sheet.json.begin_object()?;
+    head(sheet, face)?;
+    font(alloc, sheet, face, hinted)?;
+    sheet.json.end_object()?;
+    Ok(())
+}
+
 /// Writes an object of all that is told.
 fn object<W: Write>(
     alloc: Global,
@@ -220,10 +234,7 @@ fn object<W: Write>(
     out: &mut W,
 ) -> Result<(), Failure> {
     let mut sheet = Sheet::new(alloc);
-    sheet.json.begin_object()?;
-    head(&mut sheet, face)?;
-    font(alloc, &mut sheet, face, hinted)?;
-    sheet.json.end_object()?;
+    put(alloc, &mut sheet, face, hinted)?;
     let _ = sheet.end(out)?;
     Ok(())
 }

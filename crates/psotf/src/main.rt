@@ -21,22 +21,25 @@ mod inspect;
 mod limit;
 mod progress;
 mod refused;
+mod report;
 mod saving;
 mod sheet;
 mod specimen;
 mod stopped;
 mod subset;
 mod svg;
+mod variable;
 
 use clap::ArgMatches;
 use commands::psotf;
-use face::Face;
+use face::{Face, file_of};
 use failure::Failure;
 use limit::Budget;
 use postscript_drawing::LIMIT;
 use std::io::{BufWriter, Write};
 use std::process::ExitCode;
 use std::{env, fs, io};
+use variable::VariableFace;
 
 /// How much a unit of a run may come to in a subcommand.
 fn weight_of(name: &str, words: &ArgMatches<'_>) -> u64
@@ -46,6 +49,7 @@ fn weight_of(name: &str, words: &ArgMatches<'_>) -> u64
         "inspect" => 1,
         "flat" => flat::RUNS,
         "subset" => subset::RUNS,
+        "report" => report::RUNS,
         "glyph" if words.get_flag("json") => drawing::OBJECT,
         _ => drawing::PATH,
     }
@@ -61,19 +65,39 @@ fn answer<W: Write>(
     let path = words.get_str("FILE").unwrap_or("");
     let number = words.get_one::<u16>("face").unwrap_or(0);
     let bytes = fs::read(rt, path)?;
-    let face = Face::open(rt.alloc(), bytes.as_slice(), number)?;
+    let file = file_of(bytes.as_slice(), number)?;
     let limit = words.get_one::<u64>("limit").unwrap_or(LIMIT);
     let mut budget = Budget::new(limit, weight_of(name, words));
-    let told = match name {
-        "inspect" => inspect::write(rt, &face, words.get_flag("json"), &mut budget, out),
-        "glyph" => glyph::write(rt, &face, words, &mut budget, out),
-        "svg" => svg::write(rt, &face, words, &mut budget, out),
-        "flat" => flat::write(rt, &face, words, &mut budget, out),
-        "subset" => subset::write(rt, &face, words, &mut budget, out),
-        _ => specimen::write(rt, &face, words, &mut budget, out),
+    let told = match VariableFace::open(&file)? {
+        Some(face) => variable::write(rt, &face, name, words, &mut budget, out),
+        None => {
+            let face = Face::open(rt.alloc(), bytes.as_slice(), file)?;
+            write(rt, &face, name, words, &mut budget, out)
+        }
     };
     out.flush()?;
     told
+}
+
+/// Writes what is asked of a face.
+fn write<W: Write>(
+    rt: &HostRuntime,
+    face: &Face<'_>,
+    name: &str,
+    words: &ArgMatches<'_>,
+    budget: &mut Budget,
+    out: &mut W,
+) -> Result<(), Failure> {
+    variable::refuse(words)?;
+    match name {
+        "inspect" => inspect::write(rt, face, words.get_flag("json"), budget, out),
+        "glyph" => glyph::write(rt, face, words, budget, out),
+        "svg" => svg::write(rt, face, words, budget, out),
+        "flat" => flat::write(rt, face, words, budget, out),
+        "subset" => subset::write(rt, face, words, budget, out),
+        "report" => report::write(rt, face, words, budget, out),
+        _ => specimen::write(rt, face, words, budget, out),
+    }
 }
 
 /// Answers a command, and tells how it ended: 0, 1 where it failed, or 2 for wrong words. A closed pipe is no failure.
@@ -92,8 +116,22 @@ fn start(rt: &HostRuntime, name: &str, words: &ArgMatches<'_>) -> io::Result<Exi
     }
 }
 
+/// Whether a word names a file rather than a subcommand.
+fn names_file(word: &str) -> bool {
+    !word.starts_with('-') && (word.contains('.') || word.contains('/'))
+}
+
+/// The words of the program. A file alone is one to inspect.
+fn words_of(rt: &HostRuntime) -> anyhow::Result<Vec<String>> {
+    let mut words: Vec<String> = env::args(rt)?.collect(rt.alloc())?;
+    if words.len() == 2 && names_file(words[1].as_str()) {
+        words.insert(1, String::from_str(rt.alloc(), "inspect")?)?;
+    }
+    Ok(words)
+}
+
 fn main(rt: HostRuntime) -> anyhow::Result<ExitCode> {
-    let words: Vec<String> = env::args(&rt)?.collect(rt.alloc())?;
+    let words = words_of(&rt)?;
     let command = psotf(rt.alloc())?;
     let matches = match command.try_get_matches_from(words.as_slice()) {
         Ok(matches) => matches,

@@ -126,6 +126,25 @@ impl Sheet {
         self.json.end_array()
     }
 
+    /// Adds the line to a page, and gives an empty one on the same memory. A `<` would end the block that it stands in, and is spelled
+    /// by its number.
+    pub fn end_in(self, page: &mut Vec<u8>) -> Result<Sheet, AllocError> {
+        let Sheet { json, text } = self;
+        let mut bytes = json.into_inner();
+        for byte in &bytes {
+            if *byte == b'<' {
+                page.extend_from_slice(b"\\u003c")?;
+            } else {
+                page.push(*byte)?;
+            }
+        }
+        bytes.clear();
+        Ok(Sheet {
+            json: Writer::new(bytes),
+            text,
+        })
+    }
+
     /// Writes the line, and gives an empty one on the same memory.
     pub fn end<W: Write>(self, out: &mut W) -> Result<Sheet, Failure> {
         let Sheet { json, text } = self;

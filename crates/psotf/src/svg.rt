@@ -1,4 +1,5 @@
 //! Lines of text as pictures.
+use crate::characters::missing;
 use crate::drawing::{count, draw};
 use crate::face::Face;
 use crate::failure::Failure;
@@ -51,6 +52,26 @@ fn paths(
     Ok((picture, x))
 }
 
+/// The paths of a text, whose characters all have a glyph, unless words say that others are drawn as `.notdef`: these are told on
+/// standard error then.
+fn paths_of(
+    rt: &HostRuntime,
+    face: &Face<'_>,
+    words: &ArgMatches<'_>,
+    budget: &mut Budget,
+) -> Result<(String, u64), Failure> {
+    let text = words.get_str("text").unwrap_or("");
+    let missing = missing(rt.alloc(), &face.map, text)?;
+    if !missing.is_empty() {
+        match words.get_str("missing") {
+            Some("draw") => eprintln!(rt; "psotf: the face has no glyph for:{missing}")?,
+            Some(_) => return Err(Failure::Usage("--missing takes the word draw")),
+            None => return Err(Failure::NoChars(missing)),
+        }
+    }
+    paths(rt.alloc(), face, text, budget)
+}
+
 /// The path of one glyph, and its advance.
 fn path(
     alloc: Global,
@@ -73,12 +94,7 @@ pub fn write<W: Write>(
 ) -> Result<(), Failure> {
     let (paths, width) = match words.get_one::<u16>("gid") {
         Some(gid) => path(rt.alloc(), face, gid, budget)?,
-        None => paths(
-            rt.alloc(),
-            face,
-            words.get_str("text").unwrap_or(""),
-            budget,
-        )?,
+        None => paths_of(rt, face, words, budget)?,
     };
     let units = u64::from(face.units);
     let height = units.saturating_mul(2);

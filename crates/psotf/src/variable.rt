@@ -1,0 +1,94 @@
+//! Variable fonts: faces whose outlines stand in the table CFF2.
+mod fixed;
+mod glyphs;
+mod holds;
+mod place;
+
+use crate::face::Common;
+use crate::failure::Failure;
+use crate::limit::Budget;
+use clap::ArgMatches;
+use postscript_cff2::Font;
+use postscript_sfnt::FontFile;
+use postscript_variation::{AdvanceVariations, Axes, Maps};
+use std::io::Write;
+
+/// A face of a file with a table `CFF2`.
+#[derive(Clone, Copy)]
+pub struct VariableFace<'l> {
+    pub common: Common<'l>,
+    pub font: Font<'l>,
+    /// What `fvar` tells. A face without it has no axes.
+    pub axes: Option<Axes<'l>>,
+    /// What `avar` tells.
+    pub maps: Option<Maps<'l>>,
+    /// What `HVAR` tells.
+    pub advances: Option<AdvanceVariations<'l>>,
+}
+
+/// What a table of variations is read as, or that it is refused.
+fn read_as<T>(name: &'static str, read: postscript_variation::Result<T>) -> Result<T, Failure> {
+    match read {
+        Ok(read) => Ok(read),
+        Err(error) => Err(Failure::Variations(name, error)),
+    }
+}
+
+impl<'l> VariableFace<'l> {
+    /// The face of a file. None where it has no table `CFF2`, or a table `CFF ` too.
+    pub fn open(file: &FontFile<'l>) -> Result<Option<VariableFace<'l>>, Failure> {
+        let Some(cff2) = file.table(*b"CFF2") else {
+            return Ok(None);
+        };
+        if file.table(*b"CFF ").is_some() {
+            return Ok(None);
+        }
+        let axes = match file.table(*b"fvar") {
+            Some(fvar) => Some(read_as("fvar", Axes::read(fvar))?),
+            None => None,
+        };
+        let maps = match file.table(*b"avar") {
+            Some(avar) => Some(read_as("avar", Maps::read(avar))?),
+            None => None,
+        };
+        let advances = match file.table(*b"HVAR") {
+            Some(hvar) => Some(read_as("HVAR", AdvanceVariations::read(hvar))?),
+            None => None,
+        };
+        Ok(Some(VariableFace {
+            common: Common::open(file)?,
+            font: Font::read(cff2)?,
+            axes,
+            maps,
+            advances,
+        }))
+    }
+}
+
+/// Refuses words that name a place, where the face is of no variable font.
+pub fn refuse(words: &ArgMatches<'_>) -> Result<(), Failure> {
+    if words.get_str("variations").is_some() || words.get_str("instance").is_some() {
+        return Err(Failure::Usage("--variations and --instance want a variable font"));
+    }
+    Ok(())
+}
+
+/// Writes what is asked of a face of a variable font.
+pub fn write<W: Write>(
+    rt: &HostRuntime,
+    face: &VariableFace<'_>,
+    name: &str,
+    words: &ArgMatches<'_>,
+    budget: &mut Budget,
+    out: &mut W,
+) -> Result<(), Failure> {
+    match name {
+        "inspect" => holds::write(rt.alloc(), face, words.get_flag("json"), out),
+        "glyph" => glyphs::write(rt, face, words, budget, out),
+        "svg" => glyphs::write_picture(rt, face, words, budget, out),
+        "flat" => Err(Failure::Variable("flat")),
+        "subset" => Err(Failure::Variable("subset")),
+        "report" => Err(Failure::Variable("report")),
+        _ => Err(Failure::Variable("sheet")),
+    }
+}

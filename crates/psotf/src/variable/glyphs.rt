@@ -1,0 +1,320 @@
+//! Glyphs of variable fonts, at a place.
+use super::VariableFace;
+use super::place::Chosen;
+use crate::characters::{Mapped, by_glyph, glyph_of, missing, of_glyph};
+use crate::drawing::SEGMENT;
+use crate::failure::{Failure, Refusal};
+use crate::glyph::chars;
+use crate::limit::Budget;
+use crate::progress::Progress;
+use crate::saving;
+use crate::sheet::Sheet;
+use clap::ArgMatches;
+use postscript_drawing::Error as Undrawn;
+use postscript_outline::Outline;
+use postscript_variable_drawing::draw_glyph;
+use postscript_variation::in_whole;
+use std::alloc::{AllocError, Global};
+use std::io::Write;
+use std::ops::Range;
+
+/// How many glyphs a face has that have a charstring too.
+fn count(face: &VariableFace<'_>) -> u16 {
+    let charstrings = face.font.char_strings.len().min(65535) as u16;
+    face.common.glyphs.min(charstrings)
+}
+
+/// The advance of a glyph at a place: that of `hmtx`, and what `HVAR` adds, to the nearest unit.
+fn advance_of(face: &VariableFace<'_>, gid: u16, chosen: &Chosen) -> i64 {
+    let advance = i64::from(face.common.advances.of(gid));
+    let Some(variations) = face.advances else {
+        return advance;
+    };
+    match variations.variation(usize::from(gid), chosen.coordinates.as_slice()) {
+        Some(total) => advance.saturating_add(in_whole(total)),
+        None => advance,
+    }
+}
+
+/// Why a glyph is refused that was given a share.
+fn refusal_of(error: Undrawn, face: &VariableFace<'_>, share: u64, budget: &mut Budget) -> Refusal {
+    match error {
+        Undrawn::Font(fault) => {
+            budget.spend_whole(face.font.bytes.len() as u64);
+            Refusal::Run(fault)
+        }
+        Undrawn::NoSuchGlyph(_) => Refusal::NoPart,
+        Undrawn::TooLong => budget.stop(share),
+        error => Refusal::Accent(error),
+    }
+}
+
+/// The outline of a glyph at a place, while its share lasts.
+fn outline_of(
+    alloc: Global,
+    face: &VariableFace<'_>,
+    gid: u16,
+    chosen: &Chosen,
+    budget: &mut Budget,
+) -> Result<Outline, Refusal> {
+    let share = budget.share();
+    let mut left = share;
+    let mut segments = Vec::new(alloc);
+    let drawn = draw_glyph(
+        alloc,
+        &face.font,
+        usize::from(gid),
+        &chosen.place,
+        &mut left,
+        &mut segments,
+    );
+    budget.spend(share.saturating_sub(left));
+    budget.spend((segments.len() as u64).saturating_mul(SEGMENT));
+    match drawn {
+        Ok(()) => Ok(Outline {
+            segments,
+            width: None,
+        }),
+        Err(error) => Err(refusal_of(error, face, share, budget)),
+    }
+}
+
+/// Writes what a glyph draws, or why it is refused, and tells whether it is drawn.
+fn drawn(sheet: &mut Sheet, outline: &Result<Outline, Refusal>) -> Result<bool, AllocError> {
+    match outline {
+        Ok(outline) => {
+            sheet.json.key("bounds")?;
+            sheet.bounds(outline.bounds())?;
+            sheet.json.key("tight_bounds")?;
+            sheet.bounds(outline.tight_bounds())?;
+            sheet.json.key("segments")?;
+            sheet.json.begin_array()?;
+            for segment in &outline.segments {
+                sheet.segment(*segment)?;
+            }
+            sheet.json.end_array()?;
+            Ok(true)
+        }
+        Err(refusal) => {
+            sheet.json.key("refused")?;
+            sheet.shown(refusal)?;
+            Ok(false)
+        }
+    }
+}
+
+/// Writes a glyph as an object, and tells whether it is drawn.
+fn object(
+    alloc: Global,
+    sheet: &mut Sheet,
+    face: &VariableFace<'_>,
+    mapped: &[Mapped],
+    gid: u16,
+    chosen: &Chosen,
+    budget: &mut Budget,
+) -> Result<bool, Failure> {
+    sheet.json.begin_object()?;
+    sheet.number("gid", u64::from(gid))?;
+    chars(alloc, sheet, of_glyph(mapped, gid))?;
+    sheet.json.key("advance")?;
+    sheet.json.i64(advance_of(face, gid, chosen))?;
+    let is_drawn = drawn(sheet, &outline_of(alloc, face, gid, chosen, budget))?;
+    sheet.json.end_object()?;
+    Ok(is_drawn)
+}
+
+/// Writes a glyph as a line: its number, its advance and its path; and tells whether it is drawn.
+fn line<W: Write>(
+    alloc: Global,
+    face: &VariableFace<'_>,
+    gid: u16,
+    chosen: &Chosen,
+    budget: &mut Budget,
+    out: &mut W,
+) -> Result<bool, Failure> {
+    let advance = advance_of(face, gid, chosen);
+    match outline_of(alloc, face, gid, chosen, budget) {
+        Ok(outline) => {
+            writeln!(out, "{gid} {advance} {outline}")?;
+            Ok(true)
+        }
+        Err(refusal) => {
+            writeln!(out, "{gid} {advance} refused: {refusal}")?;
+            Ok(false)
+        }
+    }
+}
+
+/// The glyph that words name.
+fn asked(face: &VariableFace<'_>, words: &ArgMatches<'_>) -> Result<u16, Failure> {
+    if let Some(gid) = words.get_one::<u16>("gid") {
+        return Ok(gid);
+    }
+    if words.get_str("name").is_some() {
+        return Err(Failure::Lacks("names of glyphs: CFF2 has none"));
+    }
+    let mut chars = words.get_str("char").unwrap_or("").chars();
+    let (Some(char), None) = (chars.next(), chars.next()) else {
+        return Err(Failure::Usage("--char takes one character"));
+    };
+    match glyph_of(&face.common.map, u32::from(char)) {
+        0 => Err(Failure::Lacks("glyph of this character")),
+        gid => Ok(gid),
+    }
+}
+
+/// The numbers of the glyphs that words name.
+fn named(face: &VariableFace<'_>, words: &ArgMatches<'_>) -> Result<Range<u16>, Failure> {
+    let glyphs = count(face);
+    if words.get_flag("all") {
+        return Ok(0..glyphs);
+    }
+    let gid = asked(face, words)?;
+    if gid >= glyphs {
+        return Err(Failure::NoGlyph(gid));
+    }
+    Ok(gid..gid.saturating_add(1))
+}
+
+/// Writes glyphs, each as an object on a line, and tells how many are refused.
+fn objects<W: Write>(
+    rt: &HostRuntime,
+    face: &VariableFace<'_>,
+    gids: Range<u16>,
+    chosen: &Chosen,
+    budget: &mut Budget,
+    out: &mut W,
+) -> Result<u64, Failure> {
+    let mapped = by_glyph(rt.alloc(), &face.common.map)?;
+    let mut progress = Progress::of_answers(rt, gids.end);
+    let mut sheet = Sheet::new(rt.alloc());
+    let mut refused = 0u64;
+    for gid in gids {
+        progress.at(gid);
+        if !object(rt.alloc(), &mut sheet, face, &mapped, gid, chosen, budget)? {
+            refused = refused.saturating_add(1);
+        }
+        sheet = sheet.end(out)?;
+    }
+    progress.end();
+    Ok(refused)
+}
+
+/// Writes glyphs, each on a line, and tells how many are refused.
+fn lines<W: Write>(
+    rt: &HostRuntime,
+    face: &VariableFace<'_>,
+    gids: Range<u16>,
+    chosen: &Chosen,
+    budget: &mut Budget,
+    out: &mut W,
+) -> Result<u64, Failure> {
+    let mut progress = Progress::of_answers(rt, gids.end);
+    let mut refused = 0u64;
+    for gid in gids {
+        progress.at(gid);
+        if !line(rt.alloc(), face, gid, chosen, budget, out)? {
+            refused = refused.saturating_add(1);
+        }
+    }
+    progress.end();
+    Ok(refused)
+}
+
+/// Writes the glyphs that words name, at the place that they name.
+pub fn write<W: Write>(
+    rt: &HostRuntime,
+    face: &VariableFace<'_>,
+    words: &ArgMatches<'_>,
+    budget: &mut Budget,
+    out: &mut W,
+) -> Result<(), Failure> {
+    let chosen = Chosen::read(rt, face, words)?;
+    let gids = named(face, words)?;
+    let refused = if words.get_flag("json") {
+        objects(rt, face, gids, &chosen, budget, out)?
+    } else {
+        lines(rt, face, gids, &chosen, budget, out)?
+    };
+    match refused {
+        0 => Ok(()),
+        refused => Err(Failure::Refused(refused)),
+    }
+}
+
+/// Adds the path of a glyph so far to the right, and tells its advance.
+fn put(
+    alloc: Global,
+    face: &VariableFace<'_>,
+    gid: u16,
+    x: i64,
+    chosen: &Chosen,
+    budget: &mut Budget,
+    picture: &mut String,
+) -> Result<i64, Failure> {
+    if gid >= count(face) {
+        return Err(Failure::NoGlyph(gid));
+    }
+    match outline_of(alloc, face, gid, chosen, budget) {
+        Ok(outline) => {
+            writeln!(
+                picture,
+                "<path transform=\"translate({x} 0)\" d=\"{outline}\"/>"
+            )?;
+            Ok(advance_of(face, gid, chosen))
+        }
+        Err(refusal) => Err(Failure::Glyph { gid, refusal }),
+    }
+}
+
+/// The paths of a text, whose characters all have a glyph, and its width.
+fn paths(
+    alloc: Global,
+    face: &VariableFace<'_>,
+    text: &str,
+    chosen: &Chosen,
+    budget: &mut Budget,
+) -> Result<(String, i64), Failure> {
+    let missing = missing(alloc, &face.common.map, text)?;
+    if !missing.is_empty() {
+        return Err(Failure::NoChars(missing));
+    }
+    let mut picture = String::new(alloc);
+    let mut x = 0i64;
+    for char in text.chars() {
+        let gid = glyph_of(&face.common.map, u32::from(char));
+        x = x.saturating_add(put(alloc, face, gid, x, chosen, budget, &mut picture)?);
+    }
+    Ok((picture, x))
+}
+
+/// Writes a picture of the glyph or the text that words name, at the place that they name.
+pub fn write_picture<W: Write>(
+    rt: &HostRuntime,
+    face: &VariableFace<'_>,
+    words: &ArgMatches<'_>,
+    budget: &mut Budget,
+    out: &mut W,
+) -> Result<(), Failure> {
+    let chosen = Chosen::read(rt, face, words)?;
+    let (paths, width) = match words.get_one::<u16>("gid") {
+        Some(gid) => {
+            let mut picture = String::new(rt.alloc());
+            let width = put(rt.alloc(), face, gid, 0, &chosen, budget, &mut picture)?;
+            (picture, width)
+        }
+        None => paths(
+            rt.alloc(),
+            face,
+            words.get_str("text").unwrap_or(""),
+            &chosen,
+            budget,
+        )?,
+    };
+    let units = u64::from(face.common.units);
+    let height = units.saturating_mul(2);
+    let picture = format!(in rt.alloc();
+        "<svg xmlns=\"http://www.w3.org/2000/svg\" viewBox=\"0 -{units} {width} {height}\">\n<g transform=\"scale(1 -1)\">\n{paths}</g>\n</svg>\n"
+    )?;
+    saving::put(rt, words, picture.as_bytes(), out)
+}
