@@ -45,6 +45,10 @@ pub fn fixed_of(word: &str) -> Option<i32> {
     let size = number_of(whole)?
         .saturating_mul(65536)
         .saturating_add(fraction_of(fraction)?);
-    let signed = if digits.len() < word.len() { -size } else { size };
+    let signed = if digits.len() < word.len() {
+        0i64.saturating_sub(size)
+    } else {
+        size
+    };
     i32::try_from(signed).ok()
 }
