@@ -25,7 +25,7 @@ abbrev pub TellsFlatBy : (bytes : List ℕ) (font : PsfFont) (part : PsfPart) (g
 TellsFlatBy bytes font part glyph status old new =
     TellsTooLong bytes font part glyph status (new ≡ old)
     ⊎ ((answer : Result (Option Flat) Error) × KeepsToLimit bytes font part glyph answer
-        × Answers (option_map flat_shown) answer 0 (flat_at font part glyph bytes 0) × TellsFlat answer status old new)
+    × Answers (option_map flat_shown) answer 0 (flat_at font part glyph bytes 0) × TellsFlat answer status old new)
 
 abbrev pub TellsFlatOf : (bytes : List ℕ) (font : PsfFont) (glyph : ℕ) (status : ℤ) (old new : Bytes) → Type 0
 TellsFlatOf bytes font glyph status old new = TellsByPart bytes font glyph status (λ part. TellsFlatBy bytes font part glyph status old new) (new ≡ old)

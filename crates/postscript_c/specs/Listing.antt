@@ -52,7 +52,7 @@ abbrev pub TellsOperationsBy : (bytes : List ℕ) (font : PsfFont) (part : PsfPa
 TellsOperationsBy bytes font part glyph status old new =
     TellsTooLong bytes font part glyph status (new ≡ old)
     ⊎ ((answer : Result (Option Listed) Error) × KeepsToLimit bytes font part glyph answer
-        × Answers (option_map shown) answer 0 (listed_at font part glyph bytes 0) × TellsOperations answer status old new)
+    × Answers (option_map shown) answer 0 (listed_at font part glyph bytes 0) × TellsOperations answer status old new)
 
 abbrev pub TellsOperationsOf : (bytes : List ℕ) (font : PsfFont) (glyph : ℕ) (status : ℤ) (old new : Rooms) → Type 0
 TellsOperationsOf bytes font glyph status old new = TellsByPart bytes font glyph status (λ part. TellsOperationsBy bytes font part glyph status old new) (new ≡ old)

@@ -213,12 +213,7 @@ fn head(sheet: &mut Sheet, face: &Face<'_>) -> Result<(), AllocError> {
 }
 
 /// Writes all that is told, as an object on a sheet.
-pub fn put(
-    alloc: Global,
-    sheet: &mut Sheet,
-    face: &Face<'_>,
-    hinted: u64,
-) -> Result<(), Failure> {
+pub fn put(alloc: Global, sheet: &mut Sheet, face: &Face<'_>, hinted: u64) -> Result<(), Failure> {
     sheet.json.begin_object()?;
     head(sheet, face)?;
     font(alloc, sheet, face, hinted)?;

@@ -110,11 +110,7 @@ fn space(alloc: Global, sheet: &mut Sheet, face: &VariableFace<'_>) -> Result<()
 }
 
 /// Writes an object of all that is told.
-fn object<W: Write>(
-    alloc: Global,
-    face: &VariableFace<'_>,
-    out: &mut W,
-) -> Result<(), Failure> {
+fn object<W: Write>(alloc: Global, face: &VariableFace<'_>, out: &mut W) -> Result<(), Failure> {
     let mut sheet = Sheet::new(alloc);
     sheet.json.begin_object()?;
     let (family, style) = names(face);
@@ -151,7 +147,10 @@ fn axis_lines<W: Write>(
             let middle = shown(alloc, axis.default)?;
             let high = shown(alloc, axis.maximum)?;
             let hidden = if axis.flags % 2 == 1 { ", hidden" } else { "" };
-            writeln!(out, "axis {tag}: {name}, {low} to {high}, by default {middle}{hidden}")?;
+            writeln!(
+                out,
+                "axis {tag}: {name}, {low} to {high}, by default {middle}{hidden}"
+            )?;
         }
     }
     Ok(())

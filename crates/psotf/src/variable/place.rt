@@ -61,7 +61,9 @@ fn setting_of(rt: &HostRuntime, axes: &Axes<'_>, word: &str) -> Result<Setting, 
         return Err(Failure::NoAxis(String::from_str(rt.alloc(), name)?));
     };
     if value < axis.minimum || value > axis.maximum {
-        eprintln!(rt; "psotf: {number} is past the end of the axis {name}, which is taken instead")?;
+        eprintln!(rt;
+            "psotf: {number} is past the end of the axis {name}, which is taken instead"
+        )?;
     }
     Ok(Setting { tag, value })
 }
