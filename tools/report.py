@@ -39,7 +39,7 @@ FONTS = [
     "freefont/FreeSerif.otf", "freefont/FreeSans.otf", "freefont/FreeMono.otf", "freefont/FreeSansBold.otf",
     "freefont/FreeSerifItalic.otf", "freefont/FreeMonoBold.otf", "freefont/FreeSerifBold.otf",
 ]
-EVIL = ["</script><script>document.title='taken'</script>", "<img src=x onerror=\"document.title='taken'\">", "\"'`&<>", "\x00\x01\x1b[31m\u2028\u2029", "x" * 60_000]
+EVIL = ["</script><script>document.title='taken'</script>", "<img src=x onerror=\"document.title='taken'\">", "\"'`&<>", "\x00\x01\x1b[31m\u2028\u2029", "x" * 30_000]
 
 
 def name_table(texts):
@@ -70,7 +70,7 @@ def hostile():
     texts = [text.encode("utf-8", "surrogatepass") for text in EVIL]
     font, count = file_of(plain_font([END, *[square] * len(EVIL)], char_set=char_set, strings=texts), len(EVIL) + 1)
     yield "names that leave their place", with_names(font, [EVIL[0], EVIL[1], EVIL[2], "\ud800\udfff\udc00" + EVIL[3]])
-    yield "a family of 60 KB", with_names(font, [EVIL[4], "</style>", "-->", "]]>"])
+    yield "a family of 60 KB in UTF-16", with_names(font, [EVIL[4], "</style>", "-->", "]]>"])
     font, count = file_of(plain_font([END, *[call(0, 1) + END] * 65_534], [ONE * 30]), 65_535)
     yield "65,535 glyphs, refused", font
 

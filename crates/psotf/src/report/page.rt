@@ -6,7 +6,7 @@ pub const BEFORE_STYLE: &str = r##"<!DOCTYPE html>
 <head>
 <meta charset="utf-8">
 <meta name="viewport" content="width=device-width">
-<meta http-equiv="Content-Security-Policy" content="default-src 'none'; script-src 'sha256-RLMARpjUeZU+jdeVda0ar96dSgeE93FuBY42WvCvEkc='; style-src 'sha256-gVxjbfCFXHsDM6vG+Z2IS2hefW3cd0Bu1mlP/VAVs4U='; base-uri 'none'; form-action 'none'">
+<meta http-equiv="Content-Security-Policy" content="default-src 'none'; script-src 'sha256-wKQN1ogspJDNgAnmNwV1WbAdGIyPiA391KK+xUxi8tQ='; style-src 'sha256-gVxjbfCFXHsDM6vG+Z2IS2hefW3cd0Bu1mlP/VAVs4U='; base-uri 'none'; form-action 'none'">
 <title>psotf report</title>
 <style>"##;
 

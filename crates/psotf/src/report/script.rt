@@ -20,6 +20,11 @@ function put(node, attributes, children) {
 const make = (tag, attributes = {}, ...children) => put(document.createElement(tag), attributes, children);
 const draw = (tag, attributes = {}, ...children) => put(document.createElementNS(SVG, tag), attributes, children);
 const section = (title, ...children) => make("section", {}, make("h2", {}, title), ...children);
+// A number of a font: a decimal, or 65536ths, as 372210/65536.
+function value(text) {
+  const [above, below] = String(text).split("/");
+  return Number(above) / Number(below ?? 1);
+}
 const count = (n) => Number(n).toLocaleString("en");
 
 function table(titles, rows, numbers = []) {
@@ -197,9 +202,9 @@ function stemsOf(glyph) {
     if (!/Stem/.test(words[0])) continue;
     const side = words[0][0];
     for (let i = 1; i + 1 < words.length; i += 2) {
-      const from = edge[side] + Number(words[i]);
-      edge[side] = from + Number(words[i + 1]);
-      bands.push({ side, from: Math.min(from, edge[side]), size: Math.abs(Number(words[i + 1])) });
+      const from = edge[side] + value(words[i]);
+      edge[side] = from + value(words[i + 1]);
+      bands.push({ side, from: Math.min(from, edge[side]), size: Math.abs(value(words[i + 1])) });
     }
   }
   return bands;
@@ -221,7 +226,7 @@ function lines(glyph) {
 }
 
 function big(glyph, segments, totals) {
-  const bounds = (glyph.bounds ?? [0, 0, 0, 0]).map(Number);
+  const bounds = (glyph.bounds ?? [0, 0, 0, 0]).map(value);
   const x = Math.min(0, bounds[0]), right = Math.max(glyph.advance, bounds[2], 1);
   const bottom = Math.min(low, bounds[1]), top = Math.max(high, bounds[3]);
   const pad = font.units_per_em / 10, width = (right - x + 2 * pad) / shown.zoom, height = (top - bottom + 2 * pad) / shown.zoom;
@@ -234,7 +239,7 @@ function big(glyph, segments, totals) {
   up.append(draw("line", { x1: x - pad, x2: right + pad, y1: 0, y2: 0 }));
   const kept = segments.slice(0, shown.step >= glyph.operations.length ? segments.length : shown.step === 0 ? 0 : totals[shown.step - 1]);
   up.append(draw("path", { class: "shape", d: kept.map((segment) => segment.text).join("") }));
-  if (glyph.tight_bounds) { const [l, b, r, t] = glyph.tight_bounds.map(Number); up.append(draw("rect", { class: "box", x: l, y: b, width: r - l, height: t - b })); }
+  if (glyph.tight_bounds) { const [l, b, r, t] = glyph.tight_bounds.map(value); up.append(draw("rect", { class: "box", x: l, y: b, width: r - l, height: t - b })); }
   if (shown.points) up.append(...points(kept, size));
   svg.append(up);
   return svg;
