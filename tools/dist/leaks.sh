@@ -24,7 +24,7 @@ done
 kit=$(dirname "$(rt doc)")
 for path in "$top" "$kit/" "${HOME:-/root}/" "${TMPDIR:-/tmp}/tmp." "${TMPDIR:-/tmp}/rt"; do printf '%s\n' "$path"; done > "$work.paths"
 find "$work" -type f | sort | while read -r file; do
-    strings -a -n 4 "$file" | grep -F -f "$work.paths" -e /home/ -e /root/ -e /work/ -e /mnt/ -e /srv/ | sed "s|^|${file#"$work"/}: |"
+    strings -a -n 4 "$file" | grep -F -f "$work.paths" -e /home/ -e /root/ -e /mnt/ -e /srv/ | sed "s|^|${file#"$work"/}: |"
 done > "$work.found"
 rm "$work.paths"
 status=0
