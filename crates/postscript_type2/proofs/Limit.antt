@@ -16,6 +16,7 @@ use Rattle.postscript_type2.specs.Program.Flat.{flat_of, flat_bytes, flat_text}
 use Rattle.postscript_type2.specs.Program.Limit.{cost_of, cost, IsLast, Spends, nothing, one_more, LimitLasts, LimitIsCost, LimitBoundsPhrases, FlatIsBounded}
 use Rattle.postscript_type2.specs.Program.Programs.{Pending, ended_over, failed}
 use Rattle.postscript_type2.specs.Program.Runs.{Said, Run}
+use Rattle.postscript_type2.specs.Program.Told.{ComesTo}
 use Rattle.postscript_type2.specs.Program.Within.{StepsWithin, Fits, FitsBoundsPhrases, FitsBoundsCost}
 use Rattle.postscript_type2.specs.Private.Machines.{taken_of}
 use Rattle.postscript_type2.specs.Private.Views.{pending_of}
@@ -79,6 +80,12 @@ spent limit phrases left rest (one_more before said behind spends is_left costs)
     let ran = all.0 in
     let costs = cost-append ran (said ∷ []) in
     (ran ++ said ∷ [], all.1 ∙ sym (append_assoc ran (said ∷ []) rest), omega (arith, costs, all.2), inr (ran, said, refl, omega (arith, all.2, is_left)))
+
+-- the phrase at the front of what is still run is come to
+pub comes : {limit left : ℕ} {phrases : List Said} {before rest : Run} {said : Said} → Spends limit phrases left before.trace → before ≡ with_phrase said rest →
+    ComesTo phrases said rest.trace
+comes {limit} {left} {phrases} {before} {rest} {said} spends is =
+    let all = spent limit phrases left before.trace spends in (all.0, all.1 ∙ ap (λ (run : Run). all.0 ++ run.trace) is)
 
 -- what is left is spent on
 pub goes-on : (limit : ℕ) (phrases : List Said) (left : ℕ) (rest : List Said) (last : ℕ) (end : List Said) → Spends limit phrases left rest → Spends left rest last end → Spends limit phrases last end

@@ -12,7 +12,7 @@ use Rattle.postscript_type2.proofs.PhraseLaws.{reads-number, form, Stands, IsCut
 use Rattle.postscript_type2.proofs.Slices.{at-place, past-end}
 
 -- the first byte, and what stands behind it
-at-first : (bytes : List ℕ) (place b : ℕ) (r : List ℕ) → b ∷ r ≡ drop place bytes → number bytes place ≡ later (place + 1) (spelled b r 0)
+pub at-first : (bytes : List ℕ) (place b : ℕ) (r : List ℕ) → b ∷ r ≡ drop place bytes → number bytes place ≡ later (place + 1) (spelled b r 0)
 unfolding number
 at-first bytes place b r e =
     let left = length-drop place bytes in
@@ -35,7 +35,7 @@ all bytes place bits next h =
     at-first bytes place b (s ++ tail) parts ∙ ap (later (place + 1)) (r.4 tail) ∙ ap (Got bits) last
 
 -- no number begins with the byte
-no-number : (b : ℕ) (r : List ℕ) → is_number b ≡ false → spelled b r 0 ≡ Fault malformed_number
+pub no-number : (b : ℕ) (r : List ℕ) → is_number b ≡ false → spelled b r 0 ≡ Fault malformed_number
 no-number b r h = grind arith
 
 only : (bytes : List ℕ) (place : ℕ) (bits : ℤ) (next : ℕ) → number bytes place ≡ Got bits next → IsNumberAt bytes place bits next

@@ -89,7 +89,7 @@ reads-number number x (spellings.of_bits b a c d e low) = (
   λ tail. reads-bits b (a ∷ c ∷ d ∷ e ∷ tail) low ∙ unsigned-there 4 (two_sided 0x80000000) (a ∷ c ∷ d ∷ e ∷ tail) (omega arith),
 )
 
-same-next : (x y : ℤ) (m n : ℕ) → Got x m ≡ Got y n → m ≡ n
+pub same-next : (x y : ℤ) (m n : ℕ) → Got x m ≡ Got y n → m ≡ n
 same-next x y m n h = cc
 
 -- the same by the first byte
@@ -155,7 +155,7 @@ number-before number x is tail =
     )
 
 -- an operator of one byte begins no number and is no escape
-no-number : (code : ℕ) (op : Operator) → code < 0x20 → operator_of code ≡ Some op → (is_number code ≡ false) × ((code == 0x0c) ≡ false)
+pub no-number : (code : ℕ) (op : Operator) → code < 0x20 → operator_of code ≡ Some op → (is_number code ≡ false) × ((code == 0x0c) ≡ false)
 no-number code op low is = grind (arith, nat_tests)
 
 one-byte : (code : ℕ) (behind : List ℕ) → is_number code ≡ false → (code == 0x0c) ≡ false → phrase (code ∷ behind) ≡ with_operator 0 (operator_of code)

@@ -1,0 +1,44 @@
+-- What a program tells of an operation within a limit: as `step_within`, and how it is spelled.
+use Rattle.std.specs.Prelude.{◌≡◌, ◌<◌, ℕ, ℤ, List, [], ◌∷◌, ◌++◌, Result, Ok, Err}
+use Rattle.std.specs.Borrow.{Fml, MutBor}
+use Rattle.std.specs.Io.BufRead.{Rests}
+use mir.Syntax.{named}
+use Rattle.postscript_base.specs.declared.error.Error.{Error}
+use Rattle.postscript_type2.specs.contracts.program.Program.{the_row}
+use Rattle.postscript_type2.specs.declared.operation.Operator.{Operator}
+use Rattle.postscript_type2.specs.declared.program.told.Told.{Told}
+use Rattle.postscript_type2.specs.declared.program.told.Told.TheVariants as told
+use Rattle.postscript_type2.specs.declared.program.within.Within.{Within}
+use Rattle.postscript_type2.specs.declared.program.within.Within.TheVariants as within
+use Rattle.postscript_type2.specs.Program.Phrases.{IsPhrase}
+use Rattle.postscript_type2.specs.Program.Programs.{Pending}
+use Rattle.postscript_type2.specs.Program.Runs.{Said, by}
+use Rattle.postscript_type2.specs.Program.Within.{StepsWithin, IsHeadWithin}
+
+-- these phrases come to this one, behind those that are passed, and go on with the rest
+abbrev pub ComesTo : List Said → Said → (rest : List Said) → Type 0
+ComesTo phrases said rest = (passed : List Said) × (phrases ≡ passed ++ said ∷ rest)
+
+-- what is told, less the phrase
+abbrev less : Told → Within
+less (told.Operation operator operands phrase) = within.Operation operator operands
+less told.End = within.End
+less told.Paused = within.Paused
+
+abbrev pub within_of : Result Told Error → Result Within Error
+within_of (Ok answer) = Ok (less answer)
+within_of (Err e) = Err e
+
+-- the phrase of an operation is that to which the phrases of the run come
+abbrev pub TellsPhraseOf : Pending → Result Told Error → Pending → Type 0
+TellsPhraseOf old (Ok (told.Operation operator operands phrase)) new = ComesTo old.trace (by operator phrase.now) new.trace
+TellsPhraseOf old answer new = Unit {0}
+
+-- The operands and the phrase are lent, and once they are given back the program is as `StepsWithin` says.
+abbrev pub LendsTold : MutBor Pending → (limit : ℕ) → Result Told Error → (left : ℕ) → Fml
+LendsTold program limit result left = Rests (the_row (record { mir = named 0; lft = [] })) program
+    (λ new. StepsWithin program.now limit (within_of result) new left × TellsPhraseOf program.now result new)
+
+-- the bytes of a mask, where these are a phrase and its mask
+abbrev pub IsMaskOf : (bytes mask : List ℕ) → Type 0
+IsMaskOf bytes mask = (phrase behind : List ℕ) (numbers : List ℤ) (op : Operator) → IsPhrase phrase numbers op → bytes ≡ phrase ++ behind → mask ≡ behind
