@@ -30,6 +30,8 @@ mod outlines;
 #[cfg(test)]
 mod parts;
 #[cfg(test)]
+mod phrases;
+#[cfg(test)]
 mod programs;
 #[cfg(test)]
 mod readings;

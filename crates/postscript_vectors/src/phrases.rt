@@ -1,0 +1,60 @@
+//! Operations that are told with their phrases and their masks.
+use crate::checks::{bytes_of, holds};
+use crate::programs::routines_of;
+use postscript::type2::{Program, Told, mask_of};
+use std::alloc::Global;
+use std::process::Abort;
+
+/// A phrase and its mask in hex.
+type Spelled = (&'static str, &'static str);
+
+/// A code and its local subroutines in hex, and how each operation is spelled.
+#[rattlefmt::skip]
+const PHRASES: &[(&str, &str, &[Spelled])] = &[
+    ("8c8d150e", "", &[("8c8d15", "")]),
+    ("8c8d0113ff0e", "", &[("8c8d01", ""), ("13ff", "ff")]),
+    // The operands of a mask are stems: four of them in all, and so one byte.
+    ("8c8d8e8f128c8d8e8f13f08c16", "", &[("8c8d8e8f12", ""), ("8c8d8e8f13f0", "f0"), ("8c16", "")]),
+    // Nine stems: two bytes, of which each would be an operator.
+    ("8c8c8c8c8c8c8c8c8c8c8c8c8c8c8c8c8c8c12130c16140e050e", "", &[("8c8c8c8c8c8c8c8c8c8c8c8c8c8c8c8c8c8c12", ""), ("130c16", "0c16"), ("140e05", "0e05")]),
+    // A number of each form before the operator, and one whose bytes would be operators.
+    ("1c0e0ef70efb0eff000e000e130e0e", "", &[("1c0e0ef70efb0eff000e000e130e", "0e")]),
+    // What stands before a call, and what is calculated, is no part of the phrase.
+    ("8c200a8d160e", "160b", &[("16", ""), ("8d16", "")]),
+    ("8c8d0c0a160e", "", &[("16", "")]),
+    // An operator of two bytes.
+    ("8c8d8e8f9091920c220e", "", &[("8c8d8e8f9091920c22", "")]),
+];
+
+/// Whether the next operation is spelled so.
+fn is_told<R: Abort>(rt: &R, alloc: Global, program: &mut Program<'_>, spelled: &Spelled) -> bool {
+    let phrase = bytes_of(rt, alloc, spelled.0);
+    let mask = bytes_of(rt, alloc, spelled.1);
+    match program.tell_within(&mut 100) {
+        Ok(Told::Operation(_, _, told)) => {
+            told == phrase.as_slice() && mask_of(told) == mask.as_slice()
+        }
+        _ => false,
+    }
+}
+
+/// Whether nothing is told where nothing is left of a limit.
+fn is_paused(program: &mut Program<'_>) -> bool {
+    matches!(program.tell_within(&mut 0), Ok(Told::Paused))
+}
+
+#[test]
+fn phrases_and_masks(rt: HostRuntime) {
+    let alloc = rt.alloc();
+    for row in PHRASES {
+        let bytes = bytes_of(&rt, alloc, row.0);
+        let local = routines_of(&rt, alloc, row.1);
+        let mut program = Program::new(alloc, bytes.as_slice(), &[], local.as_slice());
+        for spelled in row.2 {
+            holds(&rt, is_paused(&mut program), row.0);
+            holds(&rt, is_told(&rt, alloc, &mut program, spelled), row.0);
+        }
+        let is_over = matches!(program.tell_within(&mut 100), Ok(Told::End));
+        holds(&rt, is_over, row.0);
+    }
+}
