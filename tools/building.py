@@ -53,14 +53,15 @@ def write_crate(folder, line, file, text):
     return own
 
 
-def proved(folder, name, uses, top=TOP):
-    """The program tools/NAME_main.txt, proved and built in a folder, over copies of the crates below TOP that it uses."""
+def proved(folder, name, uses, top=TOP, changed=str):
+    """The program tools/NAME_main.txt, its text changed by a function, proved and built in a folder, over copies of the crates below TOP
+    that it uses."""
     crates = crates_of(top)
     libraries = below(crates, uses.split())
     for library in libraries:
         shutil.copytree(top / "crates" / library, folder / "crates" / library)
     (folder / "crates.txt").write_text("".join(f"{crates[library][0]}\n" for library in libraries))
-    own = write_crate(folder, f"{name}: {uses}", "main.rt", (TOOLS / f"{name}_main.txt").read_text())
+    own = write_crate(folder, f"{name}: {uses}", "main.rt", changed((TOOLS / f"{name}_main.txt").read_text()))
     printed("rt", "run", folder=own)
     return own / "out" / name
 

@@ -6,7 +6,8 @@ table; then how many requests for memory each glyph makes here by `step`.
 
 CRATE is the folder of the Rust crate's source, with its folder src/. Each FONT is a font file with a table `CFF ` and one
 Private dictionary. Instructions are counted by valgrind's callgrind: those of two rounds over all glyphs, less those of none, so
-starting and reading the file are left out. Requests are counted by tools/memory.c, those of one round less those of none: of all
+starting and reading the file are left out. How much the compiler inlines depends on how many calls a program has: so `step`,
+`step_within` and `draw_program` are counted once more, each in a program of its own, as `ttf-parser` has one. Requests are counted by tools/memory.c, those of one round less those of none: of all
 glyphs, and of each of the first 300 alone. It stops where `step`, `next`, both over subroutines in place, and the Rust crate answer
 different numbers of operations.
 
@@ -30,9 +31,11 @@ from font_files import write_glyphs
 
 USES = "postscript_drawing postscript_outline postscript_type2 postscript_items postscript_base hex anyhow"
 ALONE = 300
-WAYS = ["step", "step_over", "next", "next_over", "run", "flat_len", "flatten", "draw_program"]
-ALIKE = ["step", "step_over", "next", "next_over"]
+WAYS = ["step", "step_over", "step_within", "next", "next_over", "run", "flat_len", "flatten", "draw_program"]
+ALONE_WAYS = ["step", "step_within", "draw_program"]
+ALIKE = ["step", "step_over", "step_within", "next", "next_over"]
 ROUNDS = 2
+ARM = re.compile(r' {8}("\w+"|_) => ')
 
 
 def counted(command, given):
@@ -50,12 +53,24 @@ def each_glyph(command, given, glyphs):
     return round((whole - start) / ROUNDS / glyphs), told
 
 
-def print_line(programs, given, font):
+def of_one_way(way):
+    """Leaves this way alone of those of the program."""
+    def changed(text):
+        arms = [line for line in text.splitlines(keepends=True) if ARM.match(line)]
+        own = next(line for line in arms if f'"{way}" =>' in line)
+        for line in arms:
+            text = text.replace(line, line.replace(f'"{way}"', "_") if line is own else "")
+        return text
+    return changed
+
+
+def print_line(programs, alone, given, font):
     ours, rust, ttf = programs
     glyphs = sum(line.startswith("code ") for line in given.read_text().splitlines())
     counts = [each_glyph([ours, way], given, glyphs) for way in WAYS]
+    counts += [each_glyph([alone[way], way], given, glyphs) for way in ALONE_WAYS]
     counts += [each_glyph([rust], given, glyphs), each_glyph([ttf, font], given, glyphs)]
-    if any(counts[WAYS.index(way)][1] != counts[len(WAYS)][1] for way in ALIKE):
+    if any(counts[WAYS.index(way)][1] != counts[-2][1] for way in ALIKE):
         sys.exit("the programs did not answer the same number of operations")
     print(f"| {given.name} | {glyphs} | {' | '.join(str(count) for count, _ in counts)} |", flush=True)
 
@@ -84,11 +99,12 @@ def print_requests(ours, counter, given):
     print(f"{given.name}: {len(codes)} glyphs, {whole} requests; of the first {ALONE} alone {told}", flush=True)
 
 
-def print_all(programs, counter, fonts):
-    print(f"| font | glyphs | {' | '.join(f'`{way}`' for way in WAYS)} | the Rust crate's `next` | `ttf-parser` |")
-    print("|---" * (len(WAYS) + 4) + "|")
+def print_all(programs, alone, counter, fonts):
+    ways = [f"`{way}`" for way in WAYS] + [f"`{way}` alone" for way in ALONE_WAYS]
+    print(f"| font | glyphs | {' | '.join(ways)} | the Rust crate's `next` | `ttf-parser` |")
+    print("|---" * (len(ways) + 4) + "|")
     for font, given in fonts:
-        print_line(programs, given, font)
+        print_line(programs, alone, given, font)
     print()
     for _, given in fonts:
         print_requests(programs[0], counter, given)
@@ -104,7 +120,8 @@ def main(words):
         rust = building.rival(folder / "rust", words[0], "charstrings")
         ttf = building.parser_program(folder / "ttf", "instructions")
         ours = building.proved(folder / "ours", "instructions", USES)
-        print_all([ours, rust, ttf], building.memory(folder), fonts)
+        alone = {way: building.proved(folder / way, "instructions", USES, changed=of_one_way(way)) for way in ALONE_WAYS}
+        print_all([ours, rust, ttf], alone, building.memory(folder), fonts)
 
 
 if __name__ == "__main__":
