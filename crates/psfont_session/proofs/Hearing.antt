@@ -4,7 +4,7 @@ use Rattle.std.specs.List.{flat_map, FoldsTo}
 use Rattle.std.specs.Io.KnownBytes.{Consumes, Keeps}
 use Rattle.std.proofs.lemmas.Grind.{flat_map-append}
 use Rattle.std.proofs.lemmas.List.Elements.{All-append}
-use Rattle.psfont_session.specs.Session.{Talk, fresh, LineTold, Heard, Answered, AnsweredLine, Session, IsFree}
+use Rattle.psfont_session.specs.Session.{Talk, fresh, LineToldWithin, Heard, Answered, AnsweredLine, SessionWithin, IsFree}
 use Rattle.psfont_session.specs.Loaded.{Loaded}
 use Rattle.psfont_session.specs.Look.{Turn, Gains, Ends, Looked, Far, Goes}
 
@@ -34,8 +34,8 @@ folds : {P A : Type 0} (R : P → A → P → Type 0) (p q r : P) (xs : List A) 
 folds R p q r [] x same step = (r, subst (λ t. R t x r) (sym same) step, refl)
 folds R p q r (y ∷ ys) x (j, step, rest) last = (j, step, folds R j q r ys x rest last)
 
-gained : (left written : Option (List ℕ)) (old new : Turn) → Far left written old → Gains old new → Far left written new
-gained left written old new far g = record {
+gained : (limit : Option ℕ) (left written : Option (List ℕ)) (old new : Turn) → Far limit left written old → Gains old new → Far limit left written new
+gained limit left written old new far g = record {
   input = far.input ++ g.bytes;
   spent = then left old.left new.left _ _ far.spent g.spent;
   talk = far.talk;
@@ -50,12 +50,12 @@ gained left written old new far g = record {
   kept = keeps _ _ _ far.kept g.kept;
 }
 
-ended : (left written : Option (List ℕ)) (old new : Turn) → Far left written old → Ends old new → Far left written new
-ended left written old new far e =
+ended : (limit : Option ℕ) (left written : Option (List ℕ)) (old new : Turn) → Far limit left written old → Ends limit old new → Far limit left written new
+ended limit left written old new far e =
     let line : List ℕ = old.open_line ++ e.bytes in
     let whole = λ (line : List ℕ). line ++ 10 ∷ [] in
     let next : Talk = record { loaded = new.loaded; written = e.written } in
-    let told : Answered far.talk e.text next = (old.written, far.kept, subst (λ t. LineTold e.text t old.written new.loaded e.written) (sym far.loaded) e.told) in
+    let told : Answered limit far.talk e.text next = (old.written, far.kept, subst (λ t. LineToldWithin limit e.text t old.written new.loaded e.written) (sym far.loaded) e.told) in
     record {
       input = far.input ++ (e.bytes ++ 10 ∷ []);
       spent = then left old.left new.left _ _ far.spent e.spent;
@@ -69,7 +69,7 @@ ended left written old new far e =
             ∙ sym (append-nil _)
             ∙ ap (λ t. flat_map whole (far.heard.lines ++ line ∷ []) ++ t) (sym e.line);
         free = subst IsFree (sym e.line) (λ k d below. omega (arith, below));
-        answered = folds AnsweredLine _ _ _ far.heard.lines line far.heard.answered
+        answered = folds (AnsweredLine limit) _ _ _ far.heard.lines line far.heard.answered
             (e.text, All-append (λ byte. byte ≢ 10) old.open_line e.bytes far.heard.free e.free, e.is_text, told);
       };
       loaded = refl;
@@ -77,13 +77,13 @@ ended left written old new far e =
     }
 
 -- a look takes a session farther
-pub looked : (left written : Option (List ℕ)) (old new : Turn) → Far left written old → Looked old new → Far left written new
-looked left written old new far (inl g) = gained left written old new far g
-looked left written old new far (inr e) = ended left written old new far e
+pub looked : (limit : Option ℕ) (left written : Option (List ℕ)) (old new : Turn) → Far limit left written old → Looked limit old new → Far limit left written new
+looked limit left written old new far (inl g) = gained limit left written old new far g
+looked limit left written old new far (inr e) = ended limit left written old new far e
 
 -- nothing is heard yet
-pub begun : (left written : Option (List ℕ)) → Far left written (record { left = left; written = written; loaded = record { code = []; global = []; local = [] }; open_line = [] })
-begun left written = record {
+pub begun : (limit : Option ℕ) (left written : Option (List ℕ)) → Far limit left written (record { left = left; written = written; loaded = record { code = []; global = []; local = [] }; open_line = [] })
+begun limit left written = record {
   input = [];
   spent = nothing left;
   talk = fresh written;
@@ -93,9 +93,9 @@ begun left written = record {
 }
 
 -- the open line is answered at last
-pub over : (left written : Option (List ℕ)) (now : Turn) (loaded : Loaded) (after : Option (List ℕ)) → Far left written now →
-    LineTold now.open_line now.loaded now.written loaded after → (input : List ℕ) × Consumes left now.left input × Session input written after
-over left written now loaded after far told = (
+pub over : (limit : Option ℕ) (left written : Option (List ℕ)) (now : Turn) (loaded : Loaded) (after : Option (List ℕ)) → Far limit left written now →
+    LineToldWithin limit now.open_line now.loaded now.written loaded after → (input : List ℕ) × Consumes left now.left input × SessionWithin limit input written after
+over limit left written now loaded after far told = (
   far.input,
   far.spent,
   (
@@ -103,17 +103,17 @@ over left written now loaded after far told = (
     far.talk,
     record { loaded = loaded; written = after },
     far.heard,
-    (now.written, far.kept, subst (λ t. LineTold now.open_line t now.written loaded after) (sym far.loaded) told),
+    (now.written, far.kept, subst (λ t. LineToldWithin limit now.open_line t now.written loaded after) (sym far.loaded) told),
     same after,
   ),
 )
 
 -- a look more
-pub goes_on : (old now new : Turn) → Goes old now → Looked now new → Goes old new
-goes_on old now new goes look = λ left written far. looked left written now new (goes left written far) look
+pub goes_on : (limit : Option ℕ) (old now new : Turn) → Goes limit old now → Looked limit now new → Goes limit old new
+goes_on limit old now new goes look = λ left written far. looked limit left written now new (goes left written far) look
 
 -- and the writer is flushed at last
-pub flushed : (left now written after last : Option (List ℕ)) → (input : List ℕ) × Consumes left now input × Session input written after → Keeps after last →
-    (input : List ℕ) × Consumes left now input × Session input written last
-flushed left now written after last (input, spent, (line, talk, end, heard, told, kept)) flush =
+pub flushed : (limit : Option ℕ) (left now written after last : Option (List ℕ)) → (input : List ℕ) × Consumes left now input × SessionWithin limit input written after → Keeps after last →
+    (input : List ℕ) × Consumes left now input × SessionWithin limit input written last
+flushed limit left now written after last (input, spent, (line, talk, end, heard, told, kept)) flush =
     (input, spent, (line, talk, end, heard, told, keeps _ _ _ kept flush))

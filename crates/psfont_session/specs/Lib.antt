@@ -9,3 +9,4 @@ pub mod Summary
 pub mod Texts
 pub mod Output
 pub mod Words
+pub mod Limit

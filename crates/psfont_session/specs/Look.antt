@@ -2,7 +2,7 @@
 use Rattle.std.specs.Prelude.{◌≡◌, ◌⊎◌, ℕ, List, [], ◌∷◌, ◌++◌, Option}
 use Rattle.std.specs.Io.KnownBytes.{Consumes, Keeps}
 use Rattle.psfont_session.specs.Loaded.{Loaded}
-use Rattle.psfont_session.specs.Session.{LineTold, IsFree, IsText, Heard, Talk, fresh}
+use Rattle.psfont_session.specs.Session.{LineToldWithin, IsFree, IsText, Heard, Talk, fresh}
 
 -- what is left of the input, what is written, what is loaded, and the open line
 pub record Turn : Type 0 where
@@ -21,29 +21,29 @@ pub record Gains (old new : Turn) : Type 0 where
   pub loaded : new.loaded ≡ old.loaded
 
 -- the line ends, and is answered
-pub record Ends (old new : Turn) : Type 0 where
+pub record Ends (limit : Option ℕ) (old new : Turn) : Type 0 where
   pub bytes : List ℕ
   pub free : IsFree bytes
   pub spent : Consumes old.left new.left (bytes ++ 10 ∷ [])
   pub text : List ℕ
   pub is_text : IsText (old.open_line ++ bytes) text
   pub written : Option (List ℕ)
-  pub told : LineTold text old.loaded old.written new.loaded written
+  pub told : LineToldWithin limit text old.loaded old.written new.loaded written
   pub kept : Keeps written new.written
   pub line : new.open_line ≡ []
 
-abbrev pub Looked : Turn → Turn → Type 0
-Looked old new = Gains old new ⊎ Ends old new
+abbrev pub Looked : (limit : Option ℕ) → Turn → Turn → Type 0
+Looked limit old new = Gains old new ⊎ Ends limit old new
 
 -- how far a session is: what it has consumed and answered
-pub record Far (left written : Option (List ℕ)) (now : Turn) : Type 0 where
+pub record Far (limit : Option ℕ) (left written : Option (List ℕ)) (now : Turn) : Type 0 where
   pub input : List ℕ
   pub spent : Consumes left now.left input
   pub talk : Talk
-  pub heard : Heard input (fresh written) now.open_line talk
+  pub heard : Heard limit input (fresh written) now.open_line talk
   pub loaded : talk.loaded ≡ now.loaded
   pub kept : Keeps talk.written now.written
 
 -- however far a session was, it is as much farther
-abbrev pub Goes : Turn → Turn → Type 0
-Goes old new = (left written : Option (List ℕ)) → Far left written old → Far left written new
+abbrev pub Goes : (limit : Option ℕ) → Turn → Turn → Type 0
+Goes limit old new = (left written : Option (List ℕ)) → Far limit left written old → Far limit left written new

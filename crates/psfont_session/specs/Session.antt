@@ -1,5 +1,5 @@
 -- A session: the lines of an input, one after the other, and what is told on each.
-use Rattle.std.specs.Prelude.{◌≡◌, ◌≢◌, ◌⊎◌, ℕ, List, [], ◌∷◌, ◌++◌, All, Option, codes, flat_map}
+use Rattle.std.specs.Prelude.{◌≡◌, ◌≢◌, ◌⊎◌, ℕ, List, [], ◌∷◌, ◌++◌, All, Option, Some, None, codes, flat_map}
 use Rattle.std.specs.List.{FoldsTo}
 use Rattle.std.specs.Io.KnownBytes.{Appends, Consumes, Keeps}
 use Rattle.hex.specs.Hex.{decode_of}
@@ -9,7 +9,9 @@ use Rattle.psfont_session.specs.declared.command.Place.{Place}
 use Rattle.psfont_session.specs.Command.{name_of}
 use Rattle.psfont_session.specs.Line.{word_of, argument_of, IsBad}
 use Rattle.psfont_session.specs.Loaded.{Loaded, put, Loads}
-use Rattle.psfont_session.specs.Texts.{loaded_line}
+use Rattle.psfont_session.specs.Texts.{fault_line, loaded_line}
+use Rattle.postscript_base.specs.declared.error.Error.TheVariants.{Memory}
+use Rattle.psfont_session.specs.Limit.{IsUsedUp, KeepsToLimit, past_line}
 use Rattle.psfont_session.specs.Output.{RunTold, FlatTold, FontTold}
 
 -- what a line does to what is loaded, and what is written on it
@@ -22,6 +24,21 @@ pub record LineTold (line : List ℕ) (old : Loaded) (before : Option (List ℕ)
   pub shown : (manner : Manner) → word_of line ≡ name_of (Font manner) → FontTold manner (argument_of line) before after
   pub bad : IsBad line → line ≢ [] → Appends before after (codes "bad command\n")
   pub silent : line ≡ [] → Keeps before after
+
+-- the line asks for what takes a run of the code: the run or its flat code
+abbrev pub AsksRun : List ℕ → Type 0
+AsksRun line = ((word_of line ≡ name_of Run) ⊎ (word_of line ≡ name_of Flat)) × (argument_of line ≡ [])
+
+-- What is told within a limit, if there is one: where the line asks for a run that uses up the limit, that it does, and where memory is
+-- wanting for that, so; else what is told without a limit, of a run that comes to its end, or is refused, within it.
+pub data ToldWithin (limit : ℕ) (line : List ℕ) (old : Loaded) (before : Option (List ℕ)) (new : Loaded) (after : Option (List ℕ)) : Type 0 where
+  past : AsksRun line → IsUsedUp limit old → new ≡ old → Appends before after (past_line limit old.code) → ToldWithin limit line old before new after
+  wanting : AsksRun line → new ≡ old → Appends before after (fault_line Memory) → ToldWithin limit line old before new after
+  told : (AsksRun line → KeepsToLimit limit old) → LineTold line old before new after → ToldWithin limit line old before new after
+
+abbrev pub LineToldWithin : (limit : Option ℕ) → List ℕ → Loaded → Option (List ℕ) → Loaded → Option (List ℕ) → Type 0
+LineToldWithin None line old before new after = LineTold line old before new after
+LineToldWithin (Some limit) line old before new after = ToldWithin limit line old before new after
 
 -- what is loaded, and what the writer holds, where that is known
 pub record Talk : Type 0 where
@@ -41,21 +58,24 @@ abbrev pub IsText : List ℕ → List ℕ → Type 0
 IsText line text = ((front : List ℕ) → line ≡ front ++ 13 ∷ [] → text ≡ front) × (((front : List ℕ) → line ≢ front ++ 13 ∷ []) → text ≡ line)
 
 -- a line is answered; the writer may be flushed before
-abbrev pub Answered : Talk → List ℕ → Talk → Type 0
-Answered old text new = (flushed : Option (List ℕ)) × Keeps old.written flushed × LineTold text old.loaded flushed new.loaded new.written
+abbrev pub Answered : (limit : Option ℕ) → Talk → List ℕ → Talk → Type 0
+Answered limit old text new = (flushed : Option (List ℕ)) × Keeps old.written flushed × LineToldWithin limit text old.loaded flushed new.loaded new.written
 
 -- the same of a line that has its end
-abbrev pub AnsweredLine : Talk → List ℕ → Talk → Type 0
-AnsweredLine old line new = (text : List ℕ) × IsFree line × IsText line text × Answered old text new
+abbrev pub AnsweredLine : (limit : Option ℕ) → Talk → List ℕ → Talk → Type 0
+AnsweredLine limit old line new = (text : List ℕ) × IsFree line × IsText line text × Answered limit old text new
 
 -- an input is these lines, each with its end, and an open line behind them; each line is answered in its turn
-pub record Heard (input : List ℕ) (old : Talk) (open_line : List ℕ) (new : Talk) : Type 0 where
+pub record Heard (limit : Option ℕ) (input : List ℕ) (old : Talk) (open_line : List ℕ) (new : Talk) : Type 0 where
   pub lines : List (List ℕ)
   pub spelled : input ≡ flat_map (λ line. line ++ 10 ∷ []) lines ++ open_line
   pub free : IsFree open_line
-  pub answered : FoldsTo AnsweredLine old lines new
+  pub answered : FoldsTo (AnsweredLine limit) old lines new
 
--- an input is answered, line by line, and its open line at last
+-- an input is answered, line by line, and its open line at last, within a limit, if there is one
+abbrev pub SessionWithin : (limit : Option ℕ) → List ℕ → Option (List ℕ) → Option (List ℕ) → Type 0
+SessionWithin limit input before after = (open_line : List ℕ) × (talk : Talk) × (last : Talk) × Heard limit input (fresh before) open_line talk
+    × Answered limit talk open_line last × Keeps last.written after
+
 abbrev pub Session : List ℕ → Option (List ℕ) → Option (List ℕ) → Type 0
-Session input before after = (open_line : List ℕ) × (talk : Talk) × (last : Talk) × Heard input (fresh before) open_line talk
-    × Answered talk open_line last × Keeps last.written after
+Session input before after = SessionWithin None input before after

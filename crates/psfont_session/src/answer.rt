@@ -1,5 +1,5 @@
 //! What a line is answered with.
-ghost use Rattle.std.specs.Prelude.{◌≡◌, List, [], ℕ, Ok, None, IsErr, IfOk, IfSome, ◌∷◌, ◌≢◌, OnOk, MatchResult, flat_map, codes};
+ghost use Rattle.std.specs.Prelude.{◌≡◌, List, [], ℕ, Ok, None, IsErr, IfOk, IfSome, ◌∷◌, ◌≢◌, OnOk, MatchBool, MatchResult, flat_map, codes};
 ghost use Rattle.std.specs.Io.KnownBytes.{Appends, Keeps};
 ghost use Rattle.hex.specs.Hex.{decode_of};
 ghost use Rattle.postscript.specs.Error.{IsListed};
@@ -8,6 +8,8 @@ ghost use Rattle.psfont_session.specs.Command.{name_of as command_name};
 ghost use Rattle.psfont_session.specs.Line.{word_of, argument_of, IsBad};
 ghost use Rattle.psfont_session.specs.Loaded.{put, Loads};
 ghost use Rattle.psfont_session.specs.Texts.{operation_line, operand_text, fault_line, end_line, width_line, answers_text, flat_line, loaded_line};
+ghost use Rattle.psfont_session.specs.Limit.{past_line};
+ghost use Rattle.psfont_session.specs.Session.{AsksRun, LineTold, LineToldWithin};
 ghost use Rattle.psfont_session.specs.Output.{RunTold, FlatTold, FontTold};
 ghost use Rattle.psfont_session.specs.Manner.{reading_of};
 ghost use Rattle.psfont_session.specs.declared.command.Command.TheVariants as commands;
@@ -61,6 +63,69 @@ pub fn answer_line<W: Write>(
         Some(Command::Font(manner)) => font(alloc, manner, argument, writer)?,
         _ => writeln!(writer, "bad command")?,
     }
+    Ok(())
+}
+
+/// Whether a line asks for a run of the code, or for its flat code.
+fn asks_run(line: &[u8]) -> bool
+    ensures { MatchBool result (AsksRun line.now) (AsksRun line.now → ⊥) }
+{
+    let (word, argument) = split(line);
+    match Command::named(word) {
+        Some(Command::Run | Command::Flat) => argument.is_empty(),
+        _ => false,
+    }
+}
+
+/// Answers a line as `answer_line` does. Where there is a limit, a run that takes longer is told in a line that names its code, the
+/// limit and the option.
+pub fn answer_within<W: Write>(
+    alloc: Global,
+    limit: Option<u64>,
+    line: &[u8],
+    routines: &mut Routines,
+    writer: &mut W,
+) -> Result<()>
+    ensures told { OnOk result (LineToldWithin limit line.now routines.old (W.contents writer.old) routines.new (W.contents writer.new)) }
+    ensures listed { IsListed (1 ∷ 2 ∷ 3 ∷ []) result }
+{
+    let Some(limit) = limit else {
+        return answer_all(alloc, line, routines, writer);
+    };
+    if !asks_run(line) {
+        return answer_all(alloc, line, routines, writer);
+    }
+    match routines.fits(alloc, limit) {
+        Ok(true) => answer_all(alloc, line, routines, writer),
+        Ok(false) => write_past(alloc, limit, routines.code(), writer),
+        Err(fault) => write_fault(&fault, writer),
+    }
+}
+
+/// Answers a line, without a limit.
+fn answer_all<W: Write>(
+    alloc: Global,
+    line: &[u8],
+    routines: &mut Routines,
+    writer: &mut W,
+) -> Result<()>
+    ensures told { OnOk result (LineTold line.now routines.old (W.contents writer.old) routines.new (W.contents writer.new)) }
+    ensures listed { IsListed (1 ∷ 2 ∷ 3 ∷ []) result }
+{
+    answer_line(alloc, line, routines, writer)?;
+    Ok(())
+}
+
+/// Writes that the run of a code takes longer than a limit.
+fn write_past<W: Write>(alloc: Global, limit: u64, code: &[u8], writer: &mut W) -> Result<()>
+    ensures told { OnOk result (Appends (W.contents writer.old) (W.contents writer.new) (past_line limit code.now)) }
+    ensures listed { IsListed (1 ∷ 2 ∷ 3 ∷ []) result }
+{
+    let digits = hex::encode(alloc, code)?;
+    writeln!(
+        writer,
+        "too long: code {digits} takes more than --limit {limit}"
+    )?;
     Ok(())
 }
 

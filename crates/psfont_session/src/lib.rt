@@ -2,13 +2,13 @@
 //! font's file holds. The program is `psfont`.
 #![tactic(auto)]
 
-ghost use Rattle.std.specs.Prelude.{◌≡◌, ℕ, List, OnOk, [], ◌≤◌, ◌↔◌, ◌∷◌, map, string_bytes, IfOk, IsOk};
+ghost use Rattle.std.specs.Prelude.{◌≡◌, ℕ, List, Some, OnOk, [], ◌≤◌, ◌↔◌, ◌∷◌, map, string_bytes, IfOk, IsOk};
 ghost use Rattle.postscript.specs.Error.{IsListed};
 ghost use Rattle.std.specs.Io.KnownBytes.{Appends, Consumes, Keeps};
 ghost use Rattle.postscript.specs.FontSet.Value.{font_shown};
 ghost use Rattle.psfont_session.specs.Summary.{font_text};
 ghost use Rattle.psfont_session.specs.Look.{Looked, Goes};
-ghost use Rattle.psfont_session.specs.Session.{LineTold, Session};
+ghost use Rattle.psfont_session.specs.Session.{LineToldWithin, Session, SessionWithin};
 ghost use Rattle.psfont_session.specs.Words.{AreKnown};
 
 use postscript::compact1::FontSet;
@@ -24,7 +24,7 @@ mod lines;
 mod routines;
 mod summary;
 
-use answer::answer_line;
+use answer::answer_within;
 use command::Manner;
 use lines::{Piece, read_piece, without_return};
 use routines::Routines;
@@ -43,7 +43,30 @@ pub fn session<R: BufRead, W: Write>(alloc: Global, reader: &mut R, writer: &mut
         × Session input (W.contents writer.old) (W.contents writer.new)) }
     ensures listed { IsListed (1 ∷ 2 ∷ 3 ∷ []) result }
 {
-    let outcome = answer_lines(alloc, reader, writer);
+    let outcome = answer_lines(alloc, None, reader, writer);
+    let flushed = writer.flush();
+    outcome?;
+    flushed?;
+    Ok(())
+}
+
+/// The same within a limit, in units of `Program::step_within`: a line that asks for the run of a code or for its flat code is answered
+/// only where the run comes to its end, or is refused, within the limit. Else a line tells so, with the code, the limit, and the option
+/// by which `psfont` is given it.
+///
+/// Refused: as `session` is.
+#[tactic(auto, using(crate::proofs::Hearing::flushed))]
+pub fn session_within<R: BufRead, W: Write>(
+    alloc: Global,
+    limit: u64,
+    reader: &mut R,
+    writer: &mut W,
+) -> Result<()>
+    ensures told { OnOk result ((input : List ℕ) × Consumes (R.remaining reader.old) (R.remaining reader.new) input
+        × SessionWithin (Some limit) input (W.contents writer.old) (W.contents writer.new)) }
+    ensures listed { IsListed (1 ∷ 2 ∷ 3 ∷ []) result }
+{
+    let outcome = answer_lines(alloc, Some(limit), reader, writer);
     let flushed = writer.flush();
     outcome?;
     flushed?;
@@ -51,33 +74,39 @@ pub fn session<R: BufRead, W: Write>(alloc: Global, reader: &mut R, writer: &mut
 }
 
 /// Answers each line, up to the end of the input.
-fn answer_lines<R: BufRead, W: Write>(alloc: Global, reader: &mut R, writer: &mut W) -> Result<()>
+fn answer_lines<R: BufRead, W: Write>(
+    alloc: Global,
+    limit: Option<u64>,
+    reader: &mut R,
+    writer: &mut W,
+) -> Result<()>
     ensures told { OnOk result ((input : List ℕ) × Consumes (R.remaining reader.old) (R.remaining reader.new) input
-        × Session input (W.contents writer.old) (W.contents writer.new)) }
+        × SessionWithin limit input (W.contents writer.old) (W.contents writer.new)) }
     ensures listed { IsListed (1 ∷ 2 ∷ 3 ∷ []) result }
 {
     let mut routines = Routines::new(alloc);
     let mut line = Vec::new(alloc);
-    hear(alloc, reader, &mut line, &mut routines, writer)?;
-    tell_line(alloc, line.as_slice(), &mut routines, writer)?;
+    hear(alloc, limit, reader, &mut line, &mut routines, writer)?;
+    tell_line(alloc, limit, line.as_slice(), &mut routines, writer)?;
     Ok(())
 }
 
 /// Looks at the input up to its end, and answers each line that has its own.
 fn hear<R: BufRead, W: Write>(
     alloc: Global,
+    limit: Option<u64>,
     reader: &mut R,
     line: &mut Vec<u8>,
     routines: &mut Routines,
     writer: &mut W,
 ) -> Result<()>
-    ensures told { OnOk result (Goes
+    ensures told { OnOk result (Goes limit
         (record { left = R.remaining reader.old; written = W.contents writer.old; loaded = routines.old; open_line = line.old.items })
         (record { left = R.remaining reader.new; written = W.contents writer.new; loaded = routines.new; open_line = line.new.items })) }
     ensures listed { IsListed (1 ∷ 2 ∷ 3 ∷ []) result }
 {
     for _ in 0..u64::MAX {
-        if look(alloc, reader, line, routines, writer)? {
+        if look(alloc, limit, reader, line, routines, writer)? {
             return Ok(());
         }
     }
@@ -87,26 +116,28 @@ fn hear<R: BufRead, W: Write>(
 /// Answers a line.
 fn tell_line<W: Write>(
     alloc: Global,
+    limit: Option<u64>,
     line: &[u8],
     routines: &mut Routines,
     writer: &mut W,
 ) -> Result<()>
-    ensures told { OnOk result (LineTold line.now routines.old (W.contents writer.old) routines.new (W.contents writer.new)) }
+    ensures told { OnOk result (LineToldWithin limit line.now routines.old (W.contents writer.old) routines.new (W.contents writer.new)) }
     ensures listed { IsListed (1 ∷ 2 ∷ 3 ∷ []) result }
 {
-    answer_line(alloc, line, routines, writer)?;
+    answer_within(alloc, limit, line, routines, writer)?;
     Ok(())
 }
 
 /// Looks at the input once, and answers the line that ends there, if one does. Tells whether the input is at its end.
 fn look<R: BufRead, W: Write>(
     alloc: Global,
+    limit: Option<u64>,
     reader: &mut R,
     line: &mut Vec<u8>,
     routines: &mut Routines,
     writer: &mut W,
 ) -> Result<bool>
-    ensures told { OnOk result (Looked
+    ensures told { OnOk result (Looked limit
         (record { left = R.remaining reader.old; written = W.contents writer.old; loaded = routines.old; open_line = line.old.items })
         (record { left = R.remaining reader.new; written = W.contents writer.new; loaded = routines.new; open_line = line.new.items })) }
     ensures listed { IsListed (1 ∷ 2 ∷ 3 ∷ []) result }
@@ -115,7 +146,7 @@ fn look<R: BufRead, W: Write>(
         Piece::Part => writer.flush()?,
         Piece::Line { more } => {
             let text = without_return(line.as_slice());
-            tell_line(alloc, text, routines, writer)?;
+            tell_line(alloc, limit, text, routines, writer)?;
             line.clear();
             flush_before_waiting(more, writer)?;
         }
@@ -167,6 +198,21 @@ pub fn start<F: Files + AllocGlobal, R: BufRead, W: Write, E: Write>(
         }
         _ => usage(errors),
     }
+}
+
+/// A session of a reader and a writer within a limit, and the status to end with. A fault is told on `errors`.
+pub fn start_within<R: BufRead, W: Write, E: Write>(
+    alloc: Global,
+    limit: u64,
+    reader: &mut R,
+    writer: &mut W,
+    errors: &mut E,
+) -> u8
+    ensures status { result ≤ 1 }
+    ensures answered { result ≡ 0 → (input : List ℕ) × Consumes (R.remaining reader.old) (R.remaining reader.new) input
+        × SessionWithin (Some limit) input (W.contents writer.old) (W.contents writer.new) }
+{
+    status(session_within(alloc, limit, reader, writer), errors)
 }
 
 /// Writes what the font of a file holds.

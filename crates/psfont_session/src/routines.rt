@@ -1,5 +1,5 @@
 //! What a run is given.
-ghost use Rattle.std.specs.Prelude.{◌≡◌, ◌⊎◌, [], OnOk, OnErr, ◌∷◌, map, vec_items, IfOk, IfErr, MatchResult};
+ghost use Rattle.std.specs.Prelude.{◌≡◌, ◌⊎◌, ℕ, [], OnOk, OnErr, ◌∷◌, map, vec_items, IfOk, IfErr, MatchResult};
 ghost use Rattle.postscript.specs.Error.{IsListed};
 ghost use Rattle.postscript.specs.Refusal.{refusal_of};
 ghost use Rattle.postscript.specs.Program.Endings.{flatten_refusals};
@@ -7,7 +7,8 @@ ghost use Rattle.postscript.specs.Program.Evaluation.{run_of};
 ghost use Rattle.postscript.specs.Program.Flat.{flat_text};
 ghost use Rattle.postscript.specs.Program.Inlining.{KeepsMeaning};
 ghost use Rattle.postscript.specs.Program.Meaning.{IsRunOf};
-ghost use Rattle.postscript.specs.Program.Routines.{Lists};
+ghost use Rattle.postscript.specs.Program.Within.{Fits};
+ghost use Rattle.postscript.specs.Program.Routines.{Lists, subroutines};
 ghost use Rattle.postscript.specs.Program.Runs.{Run, fault_of};
 ghost use Rattle.postscript.specs.Program.RunAnswers.{Tells};
 ghost use Rattle.psfont_session.specs.Loaded.{Loaded, put, lists_of};
@@ -34,6 +35,23 @@ impl Model for Routines {
       global = map vec_items routines.global.items;
       local = map vec_items routines.local.items;
     } };
+}
+
+/// Whether the run of a code comes to its end, or is refused, within a limit.
+#[tactic(auto, using(crate::proofs::Limiting::with_left))]
+fn fits(
+    alloc: Global,
+    code: &[u8],
+    global: &[Vec<u8>],
+    local: &[Vec<u8>],
+    limit: u64,
+) -> Result<bool>
+    ensures fits { IfOk result (λ fits. (left : ℕ) × Fits (run_of (subroutines global.now local.now) code.now).trace limit fits left) }
+    ensures memory { IfErr result (λ e. e ≡ Error.Memory) }
+{
+    let mut left = limit;
+    let mut program = Program::new(alloc, code, global, local);
+    program.fits(&mut left)
 }
 
 impl Routines {
@@ -78,6 +96,28 @@ impl Routines {
             self.code.as_slice(),
             self.global.as_slice(),
             self.local.as_slice(),
+        )
+    }
+
+    /// The code.
+    pub fn code(&self) -> &[u8]
+        ensures { result.now ≡ self.now.code }
+    {
+        self.code.as_slice()
+    }
+
+    /// Whether the run of the code comes to its end, or is refused, within a limit, in units of `Program::step_within`. Refused:
+    /// `Memory`.
+    pub fn fits(&self, alloc: Global, limit: u64) -> Result<bool>
+        ensures fits { IfOk result (λ fits. (left : ℕ) × Fits (run_of (lists_of self.now) self.now.code).trace limit fits left) }
+        ensures memory { IfErr result (λ e. e ≡ Error.Memory) }
+    {
+        fits(
+            alloc,
+            self.code.as_slice(),
+            self.global.as_slice(),
+            self.local.as_slice(),
+            limit,
         )
     }
 
