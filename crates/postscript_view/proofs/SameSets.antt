@@ -26,6 +26,7 @@ use Rattle.postscript_view.specs.Select.{offset_of}
 use Rattle.postscript_view.specs.declared.char_set.CharSetView.{CharSetView}
 use Rattle.postscript_view.specs.declared.char_set.Identifiers.{Identifiers}
 use Rattle.postscript_view.specs.declared.char_set.Identifiers.TheVariants.{ISOAdobe, Expert, ExpertSubset, Listed, Ranges1, Ranges2}
+use Rattle.postscript_view.proofs.Marking.{no_marks, unmarked}
 use Rattle.postscript_view.proofs.Wider.{got_if}
 
 -- ---- numbers
@@ -294,4 +295,4 @@ pub tied : (r : Result CharSetView Error) (bytes : Bor (List ℕ)) (map : Dictio
 tied (Ok view) bytes map n glyphs is found none = λ set has. same_set view.identifiers bytes.now map glyphs set (subst (λ k. AreNamedIn view.identifiers bytes.now map k) is found.identifiers) has
 tied (Err e) bytes map n glyphs is found none = λ set has.
     let other = has_view bytes map glyphs set has in
-    none (record { identifiers = other.0; glyphs = n }) (record { identifiers = subst (λ k. AreNamedIn other.0 bytes.now map k) (sym is) other.1; counted = refl })
+    none (record { identifiers = other.0; glyphs = n; marks = no_marks; marked = unmarked other.0 }) (record { identifiers = subst (λ k. AreNamedIn other.0 bytes.now map k) (sym is) other.1; counted = refl })

@@ -1,0 +1,93 @@
+//! Marks before the ranges of a char set, so that a glyph is looked up from the last one on that stands before it.
+ghost use Rattle.std.specs.Prelude.{◌≡◌, ◌≤◌, ◌+◌, ◌<◌};
+
+use postscript_items::number::number_at;
+
+/// How many marks there are at most.
+const MOST: usize = 64;
+
+/// How many glyphs are covered before some ranges, which stand equally far apart.
+#[derive(Clone, Copy)]
+pub(crate) struct Marks {
+    /// The ranges that they stand before.
+    places: [usize; MOST],
+    covers: [usize; MOST],
+    /// How many there are.
+    set: usize,
+    ghost most: { set ≤ 64 },
+}
+
+impl Marks {
+    ghost use Rattle.postscript_view.specs.CharSet.{covered as the_covered};
+    ghost use Rattle.postscript_view.specs.Marks.{AreBefore};
+
+    /// None.
+    pub(crate) fn none() -> Marks
+        ensures { result.set ≡ 0 }
+    {
+        Marks {
+            places: [0; MOST],
+            covers: [0; MOST],
+            set: 0,
+        }
+    }
+
+    /// One more before a range, where it is due and there is room.
+    #[tactic(auto, using(crate::proofs::Marking::marked_more))]
+    fn mark(&mut self, ranges: &[u8], size: usize, place: usize, covered: usize, is_due: bool)
+        requires marked { AreBefore ranges.now size self.old }
+        requires covered { covered ≡ the_covered ranges.now size place }
+        ensures { AreBefore ranges.now size self.new }
+    {
+        if is_due && self.set < MOST {
+            let at = self.set;
+            self.places[at] = place;
+            self.covers[at] = covered;
+            self.set = at + 1;
+        }
+    }
+
+    /// Those before ranges, of which as many are of use as there are glyphs.
+    #[tactic(auto, using(crate::proofs::Covering::covered_more, crate::proofs::Covering::covered_none))]
+    pub(crate) fn before(ranges: &[u8], size: usize, glyphs: usize) -> Marks
+        requires low { 1 ≤ size }
+        requires high { size ≤ 2 }
+        ensures { AreBefore ranges.now size result }
+    {
+        let count = (ranges.len() / (2 + size)).min(glyphs);
+        let step = count / MOST + 1;
+        let mut marks = Marks::none();
+        let mut covered = 0usize;
+        let mut next = 0;
+        for r in 0..count {
+            let is_due = r == next;
+            marks.mark(ranges, size, r, covered, is_due);
+            if is_due {
+                next = r + step;
+            }
+            match covered.checked_add(number_at(ranges, r * (2 + size) + 2, size) + 1) {
+                Some(more) => covered = more,
+                None => break,
+            }
+        }
+        marks
+    }
+
+    /// The range of the last mark before a glyph, and how many glyphs are covered before it; the first range where there is none.
+    #[tactic(auto, using(crate::proofs::Covering::covered_none))]
+    pub(crate) fn last_before(&self, ranges: &[u8], size: usize, glyph: usize) -> (usize, usize)
+        requires { AreBefore ranges.now size self.now }
+        ensures covered { result.1 ≡ the_covered ranges.now size result.0 }
+        ensures there { result.1 ≤ glyph }
+    {
+        let mut place = 0;
+        let mut covered = 0;
+        for m in 0..self.set {
+            if self.covers[m] <= glyph {
+                place = self.places[m];
+                covered = self.covers[m];
+            }
+        }
+        (place, covered)
+    }
+}
