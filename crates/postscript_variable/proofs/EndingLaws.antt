@@ -115,8 +115,8 @@ abbrev StrideListed : Stride → Type 0
 StrideListed (Halts e) = Listed e
 StrideListed s = Unit {0}
 
-moved-listed : (more cost : ℕ) (m : Move) → MoveListed m → StrideListed (moved more cost m)
-moved-listed more cost m h = grind arith
+moved-listed : (stack : List ℤ) (behind : List ℕ) (more cost : ℕ) (m : Move) → MoveListed m → StrideListed (moved stack behind more cost m)
+moved-listed stack behind more cost m h = grind arith
 
 stride-listed : (font : Font) (r : List ℕ) (st : State) (t : Token) → TokenListed t → StrideListed (stride_by font r st t)
 stride-listed font r st t h = grind (arith, moved-listed, effect-listed)

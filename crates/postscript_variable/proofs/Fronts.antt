@@ -24,11 +24,11 @@ number-front font left old new cs st x size h =
 
 pub operator-front : (font : Font) (left : ℕ) (old new : List ℕ) (cs : List (List ℕ)) (st : State) (command : Command) (size : ℕ) →
     ReadsFront old (Ok (Some (tokens.Operator command, size))) new →
-    still font left old cs st ≡ still_moved font left new cs (size + cost_beside command st.stack) (effect font command new st)
+    still font left old cs st ≡ still_moved font left new cs st.stack (size + cost_beside command st.stack) (effect font command new st)
 operator-front font left old new cs st command size h =
     ap (λ rest. still font left rest cs st) h.3 ∙ still-operator font left h.0 h.1 cs st command h.2 h.4
-    ∙ ap (λ rest. still_moved font left rest cs (suc h.2 + cost_beside command st.stack) (effect font command rest st)) (sym h.6)
-    ∙ ap (λ n. still_moved font left new cs (n + cost_beside command st.stack) (effect font command new st)) (sym h.5)
+    ∙ ap (λ rest. still_moved font left rest cs st.stack (suc h.2 + cost_beside command st.stack) (effect font command rest st)) (sym h.6)
+    ∙ ap (λ n. still_moved font left new cs st.stack (n + cost_beside command st.stack) (effect font command new st)) (sym h.5)
 
 -- what is read has a byte
 pub some-read : (read : Token × ℕ) (old new : List ℕ) → ReadsFront old (Ok (Some read)) new → 0 < read.1

@@ -6,6 +6,7 @@ pub mod Remains
 pub mod Fronts
 pub mod TokenLaws
 pub mod MeaningLaws
+pub mod SaysLaws
 pub mod EndingLaws
 pub mod BlendLaws
 pub mod OperatorLaws

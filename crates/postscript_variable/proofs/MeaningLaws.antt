@@ -14,40 +14,41 @@ use Rattle.postscript_variable.specs.Evaluation.{Run, at_end, with_step, with_an
 use Rattle.postscript_variable.specs.Meaning as rules
 use Rattle.postscript_variable.specs.Meaning.{answer, End, UsedUp, Stopped, Means, IsRunOf}
 use Rattle.postscript_variable.specs.Private.Remaining.{still_number, still_moved}
+use Rattle.postscript_variable.specs.Sayings.{said}
 use Rattle.postscript_variable.specs.Tokens as spellings
 use Rattle.postscript_variable.specs.Tokens.{Token, IsOperator, HasNoToken, token}
 use Rattle.postscript_variable.proofs.Remains.{still-number, still-operator, still-unread}
 use Rattle.postscript_variable.proofs.TokenLaws.{number-read, operator-read, nothing-read, Spells, token-spells}
 
 -- what a rest means, by what is spelled at its front
-mean-number : (font : Font) (left : ℕ) (spelling behind : List ℕ) (st : State) (x : ℤ) → IsNumber spelling x →
+pub mean-number : (font : Font) (left : ℕ) (spelling behind : List ℕ) (st : State) (x : ℤ) → IsNumber spelling x →
     mean font left (spelling ++ behind) st ≡ still_number font left behind [] st (length spelling) x
 mean-number font left spelling behind st x is =
     let read = number-read spelling x is in
     ap (λ bytes. mean font left (bytes ++ behind) st) read.2 ∙ still-number font left read.0 (read.1 ++ behind) [] st x (length read.1) (read.3 behind)
     ∙ ap (λ rest. still_number font left rest [] st (suc (length read.1)) x) (drop-append_seam read.1 behind) ∙ ap (λ bytes. still_number font left behind [] st (length bytes) x) (sym read.2)
 
-mean-operator : (font : Font) (left : ℕ) (spelling behind : List ℕ) (st : State) (command : Command) (move : Move) → IsOperator spelling command → effect font command behind st ≡ move →
-    mean font left (spelling ++ behind) st ≡ still_moved font left behind [] (length spelling + cost_beside command st.stack) move
+pub mean-operator : (font : Font) (left : ℕ) (spelling behind : List ℕ) (st : State) (command : Command) (move : Move) → IsOperator spelling command → effect font command behind st ≡ move →
+    mean font left (spelling ++ behind) st ≡ still_moved font left behind [] st.stack (length spelling + cost_beside command st.stack) move
 mean-operator font left spelling behind st command move is does =
     let read = operator-read spelling command is in
     ap (λ bytes. mean font left (bytes ++ behind) st) read.2 ∙ still-operator font left read.0 (read.1 ++ behind) [] st command (length read.1) (read.3 behind)
-    ∙ ap (λ rest. still_moved font left rest [] (suc (length read.1) + cost_beside command st.stack) (effect font command rest st)) (drop-append_seam read.1 behind)
-    ∙ ap (λ bytes. still_moved font left behind [] (length bytes + cost_beside command st.stack) (effect font command behind st)) (sym read.2)
-    ∙ ap (still_moved font left behind [] (length spelling + cost_beside command st.stack)) does
+    ∙ ap (λ rest. still_moved font left rest [] st.stack (suc (length read.1) + cost_beside command st.stack) (effect font command rest st)) (drop-append_seam read.1 behind)
+    ∙ ap (λ bytes. still_moved font left behind [] st.stack (length bytes + cost_beside command st.stack) (effect font command behind st)) (sym read.2)
+    ∙ ap (still_moved font left behind [] st.stack (length spelling + cost_beside command st.stack)) does
 
-mean-unread : (font : Font) (left : ℕ) (rest : List ℕ) (st : State) (e : Refusal) → HasNoToken rest e → mean font left rest st ≡ at_end (Stopped e)
+pub mean-unread : (font : Font) (left : ℕ) (rest : List ℕ) (st : State) (e : Refusal) → HasNoToken rest e → mean font left rest st ≡ at_end (Stopped e)
 mean-unread font left rest st e none =
     let read = nothing-read rest e none in
     ap (λ bytes. mean font left bytes st) read.2 ∙ still-unread font left read.0 read.1 [] st e read.3
 
 -- a number, where the stack has room and where it has none
-with-room : (font : Font) (left : ℕ) (behind : List ℕ) (st : State) (cost : ℕ) (x : ℤ) → length st.stack < stack_limit →
+pub with-room : (font : Font) (left : ℕ) (behind : List ℕ) (st : State) (cost : ℕ) (x : ℤ) → length st.stack < stack_limit →
     still_number font left behind [] st cost x ≡ with_step cost (mean font left behind (pushed x st))
 with-room font left behind st cost x room =
     ap (λ b. cond b (with_step cost (mean font left behind (pushed x st))) (at_end (Stopped overflow))) (lt-ltb (length st.stack) stack_limit room)
 
-without-room : (font : Font) (left : ℕ) (behind : List ℕ) (st : State) (cost : ℕ) (x : ℤ) → stack_limit ≤ length st.stack → still_number font left behind [] st cost x ≡ at_end (Stopped overflow)
+pub without-room : (font : Font) (left : ℕ) (behind : List ℕ) (st : State) (cost : ℕ) (x : ℤ) → stack_limit ≤ length st.stack → still_number font left behind [] st cost x ≡ at_end (Stopped overflow)
 without-room font left behind st cost x full =
     ap (λ b. cond b (with_step cost (mean font left behind (pushed x st))) (at_end (Stopped overflow))) (le-ltb (length st.stack) stack_limit full)
 
@@ -86,7 +87,7 @@ sound font (rules.keeps d spelling behind command st after xs end moves later) l
 sound font (rules.clears d spelling mask behind command op st after taken xs end moves later) left h =
     let then = sound font later left h in
     tells-same (mean-operator font left spelling (mask ++ behind) st command (Clears op taken after (length mask)) moves.spelled moves.does
-    ∙ ap (λ rest. with_step (length spelling + cost_beside command st.stack + length mask) (with_answer (answer op taken) (mean font left rest after))) (drop-append_seam mask behind))
+    ∙ ap (λ rest. with_step (length spelling + cost_beside command st.stack + length mask) (with_answer (said op st.stack taken (take (length mask) (mask ++ behind))) (mean font left rest after))) (drop-append_seam mask behind))
     (ap (λ ys. answer op taken ∷ ys) then.0, then.1)
 sound font (rules.calls_too_deep d spelling behind command st after routine moves deep) zero h =
     tells-same (mean-operator font zero spelling behind st command (Calls routine after) moves.spelled moves.does) (refl, refl)
@@ -138,7 +139,7 @@ called-means font left d spelling behind command st after routine is does room i
 -- an operator, by its move
 moved-means : (font : Font) (left d : ℕ) → left + d ≡ 10 → CalledMean font left d → (spelling behind : List ℕ) (command : Command) (st : State) (cost : ℕ) → IsOperator spelling command →
     ((rest : List ℕ) (st' : State) → length rest ≤ length behind → MeansRun font d rest st' (mean font left rest st')) →
-    (m : Move) → effect font command behind st ≡ m → MeansRun font d (spelling ++ behind) st (still_moved font left behind [] cost m)
+    (m : Move) → effect font command behind st ≡ m → MeansRun font d (spelling ++ behind) st (still_moved font left behind [] st.stack cost m)
 moved-means font left d h subs spelling behind command st cost is ih (Keeps after) does =
     rules.keeps d spelling behind command st after _ _ (record { spelled = is; does = does }) (ih behind after (omega arith))
 moved-means font left d h subs spelling behind command st cost is ih (Clears op taken after mask) does =
@@ -150,7 +151,7 @@ moved-means font left d h subs spelling behind command st cost is ih (Clears op 
     let fewer : length rest ≡ length behind - mask = length-drop mask behind in
     let does' : effect font command (q ++ rest) st ≡ Clears op taken after (length q) =
     ap (λ bytes. effect font command bytes st) whole ∙ does ∙ ap (Clears op taken after) (sym long) in
-    subst (λ bytes. MeansRun font d (spelling ++ bytes) st (with_step (cost + mask) (with_answer (answer op taken) (mean font left rest after)))) whole
+    subst (λ bytes. MeansRun font d (spelling ++ bytes) st (with_step (cost + mask) (with_answer (said op st.stack taken (take mask behind)) (mean font left rest after)))) whole
     (rules.clears d spelling q rest command op st after taken _ _ (record { spelled = is; does = does' }) (ih rest after (omega (arith, fewer))))
 moved-means font zero d h subs spelling behind command st cost is ih (Calls routine after) does =
     rules.calls_too_deep d spelling behind command st after routine (record { spelled = is; does = does }) (omega (arith, h))
@@ -186,7 +187,7 @@ rest-means font (suc n) left d h subs (b ∷ r) st few = by_token (λ rest st' f
         let whole : (b ∷ take more r) ++ behind ≡ b ∷ r = ap (λ bytes. b ∷ bytes) (take-append-drop more r) in
         let all : length behind ≡ length r - more = length-drop more r in
         subst (MeansRun font d (b ∷ r) st) (sym (still-operator font left b r [] st command more is))
-        (subst (λ bytes. MeansRun font d bytes st (still_moved font left behind [] (suc more + cost_beside command st.stack) (effect font command behind st))) whole
+        (subst (λ bytes. MeansRun font d bytes st (still_moved font left behind [] st.stack (suc more + cost_beside command st.stack) (effect font command behind st))) whole
         (moved-means font left d h subs (b ∷ take more r) behind command st (suc more + cost_beside command st.stack) spelled.0 (λ rest st' fewer. ih rest st' (omega (arith, all, fewer))) (effect font command behind st) refl))
 
 called-mean : (font : Font) (left d : ℕ) → left + d ≡ 10 → CalledMean font left d

@@ -1,36 +1,44 @@
 -- The meaning, computed.
-use Rattle.std.specs.Prelude.{ℕ, zero, suc, ◌+◌, nat_lt, List, [], ◌∷◌, ◌++◌, drop, length, Option, Some, None, if◌then◌else◌}
+use Rattle.std.specs.Prelude.{ℕ, zero, suc, ◌+◌, ℤ, nat_lt, List, [], ◌∷◌, ◌++◌, take, drop, length, Option, Some, None, if◌then◌else◌}
 use Rattle.postscript_base.specs.Refusal.{Refusal, too_deep, overflow}
 use Rattle.postscript_type2.specs.Program.Runs.{Answer}
 use Rattle.postscript_variable.specs.Costs.{cost_beside}
 use Rattle.postscript_variable.specs.Effects.{Font, State, start, stack_limit, pushed, Move, Keeps, Clears, Calls, Refuses, effect}
 use Rattle.postscript_variable.specs.Meaning.{End, UsedUp, Stopped, answer}
+use Rattle.postscript_variable.specs.Sayings.{Said, said}
 use Rattle.postscript_variable.specs.Tokens.{Token, Number, Operator, NoToken, token}
 
--- a run: its answers, what each number and operator costs that it reads, and its end
+-- a run: its answers, what is said with them, what each number and operator costs that it reads, and its end
 pub record Run : Type 0 where
   pub answers : List Answer
+  pub says : List Said
   pub costs : List ℕ
   pub end : End
 
 abbrev pub at_end : End → Run
-at_end end = record { answers = []; costs = []; end = end }
+at_end end = record { answers = []; says = []; costs = []; end = end }
 
 -- one more number or operator before a run, and what it answers
 abbrev pub with_step : (cost : ℕ) → Run → Run
-with_step cost run = record { answers = run.answers; costs = cost ∷ run.costs; end = run.end }
+with_step cost run = record { answers = run.answers; says = run.says; costs = cost ∷ run.costs; end = run.end }
 
-abbrev pub with_answer : Answer → Run → Run
-with_answer answer run = record { answers = answer ∷ run.answers; costs = run.costs; end = run.end }
+abbrev pub with_answer : Said → Run → Run
+with_answer x run = record {
+  answers = answer x.operator x.operands ∷ run.answers;
+  says = x ∷ run.says;
+  costs = run.costs;
+  end = run.end;
+}
 
-abbrev pub with_any_answer : Option Answer → Run → Run
+abbrev pub with_any_answer : Option Said → Run → Run
 with_any_answer None run = run
-with_any_answer (Some answer) run = with_answer answer run
+with_any_answer (Some x) run = with_answer x run
 
 -- a run, and what comes of its end
 abbrev pub followed : Run → (End → Run) → Run
 followed run go = record {
   answers = run.answers ++ (go run.end).answers;
+  says = run.says ++ (go run.end).says;
   costs = run.costs ++ (go run.end).costs;
   end = (go run.end).end;
 }
@@ -41,22 +49,23 @@ after_call go (Stopped e) = at_end (Stopped e)
 
 -- what a number or an operator comes to. more: how many bytes are passed behind the first. cost: what it costs
 pub data Stride : Type 0 where
-  On : Option Answer → State → (more : ℕ) → (cost : ℕ) → Stride
+  On : Option Said → State → (more : ℕ) → (cost : ℕ) → Stride
   Into : (routine : List ℕ) → State → (more : ℕ) → (cost : ℕ) → Stride
   Halts : Refusal → Stride
 
--- cost: that of the operator without its mask
-abbrev pub moved : (more : ℕ) → (cost : ℕ) → Move → Stride
-moved more cost (Keeps st) = On None st more cost
-moved more cost (Clears op taken st mask) = On (Some (answer op taken)) st (more + mask) (cost + mask)
-moved more cost (Calls routine st) = Into routine st more cost
-moved more cost (Refuses e) = Halts e
+-- stack, behind: the stack that an operator moves over, and the bytes behind it. cost: that of the operator without its mask
+abbrev pub moved : (stack : List ℤ) → (behind : List ℕ) → (more : ℕ) → (cost : ℕ) → Move → Stride
+moved stack behind more cost (Keeps st) = On None st more cost
+moved stack behind more cost (Clears op taken st mask) =
+    On (Some (said op stack taken (take mask behind))) st (more + mask) (cost + mask)
+moved stack behind more cost (Calls routine st) = Into routine st more cost
+moved stack behind more cost (Refuses e) = Halts e
 
 abbrev pub stride_by : Font → (r : List ℕ) → State → Token → Stride
 stride_by font r st (Number x more) =
     if nat_lt (length st.stack) stack_limit then On None (pushed x st) more (suc more) else Halts overflow
 stride_by font r st (Operator command more) =
-    moved more (suc more + cost_beside command st.stack) (effect font command (drop more r) st)
+    moved st.stack (drop more r) more (suc more + cost_beside command st.stack) (effect font command (drop more r) st)
 stride_by font r st (NoToken e) = Halts e
 
 abbrev pub stride : Font → (first : ℕ) → (r : List ℕ) → State → Stride

@@ -6,6 +6,7 @@ pub mod Effects
 pub mod Tokens
 pub mod Meaning
 pub mod Costs
+pub mod Sayings
 pub mod Evaluation
 pub mod Programs
 pub mod Charstrings
@@ -14,5 +15,6 @@ pub mod Limit
 pub mod Within
 pub mod Computed
 pub mod Endings
+pub mod Told
 pub mod OperatorRules
 pub mod Private

@@ -4,6 +4,7 @@ ghost use Rattle.postscript_variable.specs.Defaults.{DefaultsStay};
 ghost use Rattle.postscript_variable.specs.Endings.{RunsEndSo};
 ghost use Rattle.postscript_variable.specs.Limit.{LimitIsCost, LimitLasts, LimitBoundsSteps};
 ghost use Rattle.postscript_variable.specs.OperatorRules.{OperatorsDoSo};
+ghost use Rattle.postscript_variable.specs.Told.{ToldIsComputed, ToldIsAnswered};
 
 /// A law: a number and an operator are read exactly where one is spelled at the front of bytes, and nothing is read exactly where
 /// neither is, for that reason. It does nothing and is never refused.
@@ -24,6 +25,13 @@ pub fn meaning_is_computed()
 pub fn each_has_one_run()
     ensures has { EachHasARun }
     ensures no_other { NoOtherRun }
+{}
+
+/// A law: what a charstring says all along its run is one thing, whichever way the run follows by the rules, and it is what the run
+/// answers (`specs/Told.antt`). It does nothing and is never refused.
+pub fn sayings_are_told()
+    ensures computed { ToldIsComputed }
+    ensures answered { ToldIsAnswered }
 {}
 
 /// A law: whole runs end in no refusal but those of `run_refusals`. It does nothing and is never refused.

@@ -10,6 +10,7 @@ mod machine;
 mod program;
 mod refused;
 mod routine;
+mod sayings;
 mod state;
 #[cfg(test)]
 mod tests;
@@ -18,3 +19,4 @@ mod within;
 pub use charstring::{Blends, Charstring};
 pub use command::Command;
 pub use program::Program;
+pub use sayings::Saying;

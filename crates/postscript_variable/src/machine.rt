@@ -27,15 +27,16 @@ pub(crate) struct Cost {
 
 /// What the machine does next.
 #[derive(Drop)]
-pub(crate) enum Event {
+pub(crate) enum Event<'l> {
     /// All is used up: the end, without fault.
     UsedUp,
     /// A subroutine is used up: its caller goes on.
     Back,
     /// A number or an operator was read, and the run goes on.
     Went(Cost),
-    /// An operator is answered with the last so many operands, which stand on the stack until that is cleared.
-    Answered(Operator, usize, Cost),
+    /// An operator is answered with the last so many operands, which stand on the stack until that is cleared, and with the bytes of
+    /// its mask.
+    Answered(Operator, usize, &'l [u8], Cost),
 }
 
 /// How far a machine comes within its limit: to an operator that is answered, with so many operands, the last ones on the
@@ -103,7 +104,7 @@ impl<'l> Machine<'l> {
 
     /// Puts a number of so many bytes onto the stack.
     #[inline(always)]
-    fn push(&mut self, number: Operand, size: usize) -> Result<Event>
+    fn push(&mut self, number: Operand, size: usize) -> Result<Event<'l>>
         requires nested { IsNested self.old }
         requires some { 0 < size }
         ensures advances { let before = still_with self.old size number in Advances before (work_of before self.old) result self.new }
@@ -149,7 +150,7 @@ impl<'l> Machine<'l> {
 
     /// Does what an operator of so many bytes does that was read.
     #[inline(always)]
-    fn operate(&mut self, command: Command, size: usize) -> Result<Event>
+    fn operate(&mut self, command: Command, size: usize) -> Result<Event<'l>>
         requires nested { IsNested self.old }
         requires some { 0 < size }
         requires room { size + length self.old.routine < 2 ^ 63 }
@@ -165,9 +166,9 @@ impl<'l> Machine<'l> {
         match self.state.act(&self.font, command, behind)? {
             Effect::Keeps => Ok(Event::Went(cost)),
             Effect::Clears(operator, count, mask) => {
-                self.routine.skip(mask);
                 let bytes = size + mask;
-                Ok(Event::Answered(operator, count, Cost { bytes, beside }))
+                let mask = self.routine.take(mask);
+                Ok(Event::Answered(operator, count, mask, Cost { bytes, beside }))
             }
             Effect::Calls(code) => {
                 if self.left == 0 {
@@ -181,7 +182,7 @@ impl<'l> Machine<'l> {
 
     /// Goes back to the caller of a routine that is used up, if there is one.
     #[inline(always)]
-    fn leave(&mut self) -> Event
+    fn leave(&mut self) -> Event<'l>
         requires used_up { self.old.routine ≡ [] }
         requires nested { IsNested self.old }
         ensures advances { Advances (still_of self.old) (work_of (still_of self.old) self.old) (Ok result) self.new }
@@ -199,7 +200,7 @@ impl<'l> Machine<'l> {
 
     /// Runs one number or operator, or leaves a routine that is used up.
     #[inline(always)]
-    pub(crate) fn advance(&mut self) -> Result<Event>
+    pub(crate) fn advance(&mut self) -> Result<Event<'l>>
         requires nested { IsNested self.old }
         ensures advances { Advances (still_of self.old) (work_of (still_of self.old) self.old) result self.new }
         ensures nested { IfOk result (λ event. IsNested self.new) }
@@ -218,6 +219,7 @@ impl<'l> Machine<'l> {
     pub(crate) fn empty(&mut self)
         requires nested { IsNested self.old }
         ensures still { still_of self.new ≡ still_emptied self.old }
+        ensures work { work_of (still_of self.new) self.new ≡ work_of (still_emptied self.old) self.old }
         ensures nested { IsNested self.new }
     {
         self.state.stack.clear();
@@ -233,7 +235,7 @@ impl<'l> Machine<'l> {
         loop {
             match self.advance() {
                 Ok(Event::Back | Event::Went(_)) => {}
-                Ok(Event::Answered(operator, count, _)) => return Ok(Some((operator, count))),
+                Ok(Event::Answered(operator, count, _, _)) => return Ok(Some((operator, count))),
                 Ok(Event::UsedUp) => return Ok(None),
                 Err(e) => return Err(e),
             }
@@ -254,7 +256,7 @@ impl<'l> Machine<'l> {
             match self.advance() {
                 Ok(Event::Back) => {}
                 Ok(Event::Went(cost)) => spend(limit, cost),
-                Ok(Event::Answered(operator, count, cost)) => {
+                Ok(Event::Answered(operator, count, _, cost)) => {
                     spend(limit, cost);
                     return Ok(Reach::At(operator, count));
                 }

@@ -1,6 +1,6 @@
 //! A routine: code, and the place that is reached in it.
 ghost use Rattle.std.specs.Option.{ok_or};
-ghost use Rattle.std.specs.Prelude.{◌≡◌, ◌∷◌, ◌+◌, ◌<◌, ◌≤◌, ◌^◌, IfOk, IfSome, length, drop, option_map};
+ghost use Rattle.std.specs.Prelude.{◌≡◌, ◌∷◌, ◌+◌, ◌<◌, ◌≤◌, ◌^◌, IfOk, IfSome, length, take, drop, option_map};
 ghost use Rattle.postscript_type2.specs.Program.Parsing.{is_number};
 ghost use Rattle.postscript_variable.specs.declared.refused.Refused.TheVariants as cases;
 ghost use Rattle.postscript_variable.specs.Commands.{command_of};
@@ -107,13 +107,17 @@ impl<'l> Routine<'l> {
         self.code.len() - self.place
     }
 
-    /// Passes so many bytes, which are there.
+    /// Takes so many bytes, which are there.
     #[inline(always)]
-    pub(crate) fn skip(&mut self, count: usize)
+    pub(crate) fn take(&mut self, count: usize) -> &'l [u8]
         requires { count ≤ length self.old }
-        ensures { self.new ≡ drop count self.old }
+        ensures taken { result.now ≡ take count self.old }
+        ensures left { self.new ≡ drop count self.old }
     {
-        self.place += count;
+        let code = self.code;
+        let place = self.place;
+        self.place = place + count;
+        &code[place..place + count]
     }
 
     /// Reads what stands at the front, and how many bytes it has, if bytes are left.

@@ -6,7 +6,7 @@ ghost use Rattle.postscript_type2.specs.Program.StackWork.{whole_operand as the_
 ghost use Rattle.postscript_variable.specs.Effects.{effect, path_move, stem_move, mask_move, answer_move, index_move, blend_over, call_move, stems_after as the_stems_after};
 ghost use Rattle.postscript_type2.specs.Operation.Kinds.{kind};
 ghost use Rattle.postscript_variable.specs.Programs.{tables_of};
-ghost use Rattle.postscript_variable.specs.Private.Working.{font_of, state_of, mask_of, Performs, Does};
+ghost use Rattle.postscript_variable.specs.Private.Working.{font_of, state_of, mask_of, Performs, Does, Leaves};
 
 use crate::blend::blend;
 use crate::command::Command;
@@ -71,6 +71,7 @@ impl<'l> State<'l> {
     fn path(&mut self, operator: Operator) -> Result<Effect<'l>>
         ensures value { Does (path_move operator (state_of self.old)) result self.new }
         ensures room { IfOk result (λ effect. mask_of effect ≡ 0) }
+        ensures stays { IfOk result (λ effect. Leaves effect self.old.stack.items self.new.stack.items) }
     {
         match operator.taken(self.stack.len()) {
             Some(count) => Ok(Effect::Clears(operator, count, 0)),
@@ -83,6 +84,7 @@ impl<'l> State<'l> {
     fn stem(&mut self, operator: Operator) -> Result<Effect<'l>>
         ensures value { Does (stem_move operator (state_of self.old)) result self.new }
         ensures room { IfOk result (λ effect. mask_of effect ≡ 0) }
+        ensures stays { IfOk result (λ effect. Leaves effect self.old.stack.items self.new.stack.items) }
     {
         let stems = self.stems_after()?;
         let Some(count) = operator.taken(self.stack.len()) else {
@@ -97,6 +99,7 @@ impl<'l> State<'l> {
     fn mask(&mut self, operator: Operator, behind: usize) -> Result<Effect<'l>>
         ensures value { (bytes : List ℕ) → length bytes ≡ behind → Does (mask_move operator bytes (state_of self.old)) result self.new }
         ensures room { IfOk result (λ effect. mask_of effect ≤ behind) }
+        ensures stays { IfOk result (λ effect. Leaves effect self.old.stack.items self.new.stack.items) }
     {
         let stems = self.stems_after()?;
         let mask = (stems as usize).div_ceil(8);
@@ -115,6 +118,7 @@ impl<'l> State<'l> {
         ensures value { (bytes : List ℕ) → length bytes ≡ behind →
             Does (answer_move (kind operator) operator bytes (state_of self.old)) result self.new }
         ensures room { IfOk result (λ effect. mask_of effect ≤ behind) }
+        ensures stays { IfOk result (λ effect. Leaves effect self.old.stack.items self.new.stack.items) }
     {
         match operator {
             Operator::HStem | Operator::VStem | Operator::HStemHM | Operator::VStemHM => self.stem(
@@ -129,6 +133,7 @@ impl<'l> State<'l> {
     fn index(&mut self, tables: &'l [Vec<u32>]) -> Result<Effect<'l>>
         ensures value { Does (index_move (tables_of tables.now) (state_of self.old)) result self.new }
         ensures room { IfOk result (λ effect. mask_of effect ≡ 0) }
+        ensures stays { IfOk result (λ effect. Leaves effect self.old.stack.items self.new.stack.items) }
     {
         if self.is_blended {
             return Err(Refused::InvalidOperand);
@@ -151,6 +156,7 @@ impl<'l> State<'l> {
     fn blend(&mut self) -> Result<Effect<'l>>
         ensures value { Does (blend_over (state_of self.old) (state_of self.old).scalars) result self.new }
         ensures room { IfOk result (λ effect. mask_of effect ≡ 0) }
+        ensures stays { IfOk result (λ effect. Leaves effect self.old.stack.items self.new.stack.items) }
     {
         let Some(scalars) = self.scalars else {
             return Err(Refused::InvalidOperand);
@@ -173,6 +179,7 @@ impl<'l> State<'l> {
     fn call_local(&mut self, subroutines: &Subroutines<'l>) -> Result<Effect<'l>>
         ensures value { Does (call_move (state_of self.old) (lists_of subroutines.now).local) result self.new }
         ensures room { IfOk result (λ effect. mask_of effect ≡ 0) }
+        ensures stays { IfOk result (λ effect. Leaves effect self.old.stack.items self.new.stack.items) }
     {
         let number = whole_operand(&mut self.stack)?;
         match subroutines.local(number) {
@@ -186,6 +193,7 @@ impl<'l> State<'l> {
     fn call_global(&mut self, subroutines: &Subroutines<'l>) -> Result<Effect<'l>>
         ensures value { Does (call_move (state_of self.old) (lists_of subroutines.now).global) result self.new }
         ensures room { IfOk result (λ effect. mask_of effect ≡ 0) }
+        ensures stays { IfOk result (λ effect. Leaves effect self.old.stack.items self.new.stack.items) }
     {
         let number = whole_operand(&mut self.stack)?;
         match subroutines.global(number) {
@@ -205,6 +213,7 @@ impl<'l> State<'l> {
         ensures value { (bytes : List ℕ) → length bytes ≡ behind →
             Does (effect (font_of font.now) command bytes (state_of self.old)) result self.new }
         ensures room { IfOk result (λ effect. mask_of effect ≤ behind) }
+        ensures stays { IfOk result (λ effect. Leaves effect self.old.stack.items self.new.stack.items) }
     {
         match command {
             Command::Answered(operator) => self.answer(operator, behind),

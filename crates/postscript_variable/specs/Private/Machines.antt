@@ -16,6 +16,7 @@ use Rattle.postscript_variable.specs.Meaning.{UsedUp, Stopped, answer}
 use Rattle.postscript_variable.specs.Private.Refused.{reason}
 use Rattle.postscript_variable.specs.Private.Remaining.{still, still_number, still_moved}
 use Rattle.postscript_variable.specs.Private.Working.{font_of, state_of, rests}
+use Rattle.postscript_variable.specs.Sayings.{said}
 
 -- ten calls may nest, and those that do are the callers
 abbrev pub IsNested : Machine → Type 0
@@ -37,7 +38,7 @@ still_with machine size x =
 abbrev pub still_by : Machine → (size : ℕ) → Command → Run
 still_by machine size command =
     let st = state_of machine.state in
-    still_moved (font_of machine.font) machine.left machine.routine (rests machine.callers)
+    still_moved (font_of machine.font) machine.left machine.routine (rests machine.callers) st.stack
     (size + cost_beside command st.stack) (effect (font_of machine.font) command machine.routine st)
 
 -- what falls with each event: a call costs something, and adds a caller
@@ -54,9 +55,10 @@ Advances before work (Ok events.UsedUp) new = (st : State) × (before ≡ at_end
 Advances before work (Ok events.Back) new = (before ≡ still_of new) × (work_of (still_of new) new < work)
 Advances before work (Ok (events.Went cost)) new =
     (before ≡ with_step (cost_of cost) (still_of new)) × (0 < cost_of cost) × (work_of (still_of new) new < work)
-Advances before work (Ok (events.Answered operator count cost)) new =
-    (before ≡ with_step (cost_of cost) (with_answer (answer operator (last_of new.state.stack.items count)) (still_emptied new))) ×
-    (0 < cost_of cost)
+Advances before work (Ok (events.Answered operator count mask cost)) new =
+    let stack = new.state.stack.items in
+    (before ≡ with_step (cost_of cost) (with_answer (said operator stack (last_of stack count) mask.now) (still_emptied new))) ×
+    (0 < cost_of cost) × (work_of (still_emptied new) new < work)
 Advances before work (Err e) new = (e ≡ Memory) ⊎ (before ≡ at_end (Stopped (reason e)))
 
 -- Of what was still answered the first operation is reached.

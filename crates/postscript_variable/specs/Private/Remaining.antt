@@ -1,9 +1,10 @@
 -- What a program in the middle of its run still answers.
-use Rattle.std.specs.Prelude.{ℕ, zero, suc, ◌+◌, ℤ, nat_lt, List, [], ◌∷◌, drop, length, if◌then◌else◌}
+use Rattle.std.specs.Prelude.{ℕ, zero, suc, ◌+◌, ℤ, nat_lt, List, [], ◌∷◌, take, drop, length, if◌then◌else◌}
 use Rattle.postscript_base.specs.Refusal.{too_deep, overflow}
 use Rattle.postscript_variable.specs.Effects.{Font, State, stack_limit, pushed, Move, Keeps, Clears, Calls, Refuses}
 use Rattle.postscript_variable.specs.Evaluation.{Run, at_end, with_step, with_answer, followed, after_call, mean}
-use Rattle.postscript_variable.specs.Meaning.{Stopped, answer}
+use Rattle.postscript_variable.specs.Meaning.{Stopped}
+use Rattle.postscript_variable.specs.Sayings.{said}
 
 -- a subroutine's run, gone on with through the rests of its callers, the innermost first. left: how many calls may still nest in
 -- the subroutine
@@ -15,17 +16,17 @@ through font left (rest ∷ callers) run = through font (suc left) callers (foll
 abbrev pub still : Font → (left : ℕ) → (rest : List ℕ) → (callers : List (List ℕ)) → State → Run
 still font left rest callers st = through font left callers (mean font left rest st)
 
--- The same where a number was read, and where an operator that makes a move was, these bytes being behind it. cost: what it costs,
--- without its mask
+-- The same where a number was read, and where an operator that makes a move over a stack was, these bytes being behind it. cost: what it
+-- costs, without its mask
 abbrev pub still_number : Font → (left : ℕ) → (behind : List ℕ) → (callers : List (List ℕ)) → State → (cost : ℕ) → ℤ → Run
 still_number font left behind callers st cost x =
     if nat_lt (length st.stack) stack_limit then with_step cost (still font left behind callers (pushed x st))
     else at_end (Stopped overflow)
 
-abbrev pub still_moved : Font → (left : ℕ) → (behind : List ℕ) → (callers : List (List ℕ)) → (cost : ℕ) → Move → Run
-still_moved font left behind callers cost (Keeps st) = with_step cost (still font left behind callers st)
-still_moved font left behind callers cost (Clears op taken st mask) =
-    with_step (cost + mask) (with_answer (answer op taken) (still font left (drop mask behind) callers st))
-still_moved font zero behind callers cost (Calls routine st) = at_end (Stopped too_deep)
-still_moved font (suc left) behind callers cost (Calls routine st) = with_step cost (still font left routine (behind ∷ callers) st)
-still_moved font left behind callers cost (Refuses e) = at_end (Stopped e)
+abbrev pub still_moved : Font → (left : ℕ) → (behind : List ℕ) → (callers : List (List ℕ)) → (stack : List ℤ) → (cost : ℕ) → Move → Run
+still_moved font left behind callers stack cost (Keeps st) = with_step cost (still font left behind callers st)
+still_moved font left behind callers stack cost (Clears op taken st mask) =
+    with_step (cost + mask) (with_answer (said op stack taken (take mask behind)) (still font left (drop mask behind) callers st))
+still_moved font zero behind callers stack cost (Calls routine st) = at_end (Stopped too_deep)
+still_moved font (suc left) behind callers stack cost (Calls routine st) = with_step cost (still font left routine (behind ∷ callers) st)
+still_moved font left behind callers stack cost (Refuses e) = at_end (Stopped e)

@@ -96,6 +96,11 @@ move_of effects.Keeps st = Keeps st
 move_of (effects.Clears operator count mask) st = Clears operator (last_of st.stack count) (cleared st.stems st) mask
 move_of (effects.Calls routine) st = Calls routine.now st
 
+-- an operator that is answered leaves the stack as it was, for its operands to be lent
+abbrev pub Leaves : Effect → (old new : List ℤ) → Type 0
+Leaves (effects.Clears operator count mask) old new = new ≡ old
+Leaves effect old new = Unit {0}
+
 abbrev pub mask_of : Effect → ℕ
 mask_of (effects.Clears operator count mask) = mask
 mask_of effect = 0

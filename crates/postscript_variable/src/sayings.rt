@@ -1,0 +1,118 @@
+//! What a charstring says, whole.
+ghost use Rattle.std.specs.Prelude.{◌≡◌, ◌⊎◌, ◌∷◌, map, IfOk, IfErr, OnOk};
+ghost use Rattle.postscript_base.specs.declared.error.Error.TheVariants as errors;
+ghost use Rattle.postscript_base.specs.Error.{IsListed};
+ghost use Rattle.postscript_base.specs.Refusal.{refusal_of};
+ghost use Rattle.postscript_type2.specs.Operation.Kinds.{kind};
+ghost use Rattle.postscript_type2.specs.Program.Effects.{last_of};
+ghost use Rattle.postscript_variable.specs.declared.refused.Refused.TheVariants as cases;
+ghost use Rattle.postscript_variable.specs.Effects.{State as ProgramState};
+ghost use Rattle.postscript_variable.specs.Endings.{sayings_refusals};
+ghost use Rattle.postscript_variable.specs.Meaning.{UsedUp, Stopped};
+ghost use Rattle.postscript_variable.specs.Private.Machines.{IsNested, still_of};
+ghost use Rattle.postscript_variable.specs.Private.Refused.{reason};
+ghost use Rattle.postscript_variable.specs.Sayings.{implied_by, said};
+ghost use Rattle.postscript_variable.specs.Told.{Says, StopsWith, said_of};
+
+use crate::charstring::Charstring;
+use crate::machine::{Event, Machine};
+use crate::refused;
+use postscript_base::{Error, Result};
+use postscript_type2::{Operand, Operator};
+use std::alloc::Global;
+
+/// An operator that is answered, with all that it says: its operands, and the hints of a mask.
+#[derive(Drop)]
+pub struct Saying<'l> {
+    /// The operator.
+    pub operator: Operator,
+    /// At a mask, the operands before it: those of the stems that no operator declared. They are none at every other operator.
+    pub stems: Vec<Operand>,
+    /// The operands that it takes, in 16.16 bits, the lowest first.
+    pub operands: Vec<Operand>,
+    /// The bytes of its mask.
+    pub mask: &'l [u8],
+}
+
+impl<'l> Machine<'l> {
+    /// The last so many operands on the stack, copied.
+    fn copied(&self, alloc: Global, count: usize) -> refused::Result<Vec<Operand>>
+        ensures ok { IfOk result (λ operands. operands.items ≡ last_of self.now.state.stack.items count) }
+        ensures err { IfErr result (λ e. e ≡ cases.Memory) }
+    {
+        let operands = Vec::from_slice(alloc, self.operands(count))?;
+        Ok(operands)
+    }
+
+    /// The operands of the stems that an operator implies.
+    fn stems(&self, alloc: Global, operator: Operator) -> refused::Result<Vec<Operand>>
+        ensures ok { IfOk result (λ stems. stems.items ≡ implied_by (kind operator) self.now.state.stack.items) }
+        ensures err { IfErr result (λ e. e ≡ cases.Memory) }
+    {
+        let count = self.state.stack.len();
+        match operator {
+            Operator::HintMask | Operator::CntrMask => self.copied(alloc, count - count % 2),
+            _ => Ok(Vec::new(alloc)),
+        }
+    }
+
+    /// What an operator says that was answered.
+    fn saying(
+        &self,
+        alloc: Global,
+        operator: Operator,
+        count: usize,
+        mask: &'l [u8],
+    ) -> refused::Result<Saying<'l>>
+        ensures ok { let stack = self.now.state.stack.items in
+            IfOk result (λ saying. said_of saying ≡ said operator stack (last_of stack count) mask.now) }
+        ensures err { IfErr result (λ e. e ≡ cases.Memory) }
+    {
+        Ok(Saying {
+            operator,
+            stems: self.stems(alloc, operator)?,
+            operands: self.copied(alloc, count)?,
+            mask,
+        })
+    }
+}
+
+/// All that a machine still says.
+fn all_sayings<'l>(alloc: Global, machine: &mut Machine<'l>) -> refused::Result<Vec<Saying<'l>>>
+    requires { IsNested machine.old }
+    ensures told { IfOk result (λ sayings. map said_of sayings.items ≡ (still_of machine.old).says) }
+    ensures faultless { OnOk result ((last : ProgramState) × ((still_of machine.old).end ≡ UsedUp last)) }
+    ensures refused { IfErr result (λ e. (e ≡ cases.Memory) ⊎ ((still_of machine.old).end ≡ Stopped (reason e))) }
+{
+    let mut sayings = Vec::new(alloc);
+    loop {
+        match machine.advance()? {
+            Event::UsedUp => return Ok(sayings),
+            Event::Back | Event::Went(_) => {}
+            Event::Answered(operator, count, mask, _) => {
+                sayings.push(machine.saying(alloc, operator, count, mask)?)?;
+                machine.empty();
+            }
+        }
+    }
+}
+
+impl<'l> Charstring<'l> {
+    /// All that the charstring says, up to its end: each operator that draws, declares stems or masks, with its operands, the stems that
+    /// a mask implies, and the bytes of a mask (`specs/Told.antt`). The operators and their operands are those that `Program::step`
+    /// answers. It keeps to no limit.
+    ///
+    /// Refused: with what the run is refused with, as `Program::step` is; `Memory`.
+    pub fn sayings(self, alloc: Global) -> Result<Vec<Saying<'l>>>
+        ensures said { IfOk result (λ sayings. Says self.entry (map said_of sayings.items)) }
+        ensures refused { IfErr result (λ e. (e ≡ errors.Memory) ⊎ StopsWith self.entry (refusal_of e)) }
+        ensures listed { IsListed sayings_refusals result }
+    {
+        let mut machine = Machine::over(alloc, self);
+        machine.empty();
+        match all_sayings(alloc, &mut machine) {
+            Ok(sayings) => Ok(sayings),
+            Err(e) => Err(Error::from(e)),
+        }
+    }
+}
