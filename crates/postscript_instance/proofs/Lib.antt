@@ -1,0 +1,6 @@
+pub mod Rests
+pub mod Sayable
+pub mod Spelling
+pub mod Runs
+pub mod Shortest
+pub mod Operations

@@ -1,0 +1,71 @@
+-- A charstring of Type 2 that does what a charstring of CFF2 does (Technical Note 5177, "Type 2 Charstring Organization", Appendix B;
+-- OpenType 1.9, "CFF2 CharString Format").
+use Rattle.std.specs.Prelude.{◌≡◌, ℕ, ◌≤◌, ℤ, Bool, true, false, List, [], ◌∷◌, ◌++◌, length, map, Option, Some, None}
+use Rattle.postscript_type2.specs.declared.operation.Operator.{Operator}
+use Rattle.postscript_type2.specs.declared.operation.Operator.TheVariants.{EndChar, HStem, VStem, VMoveTo, HStemHM, HintMask, CntrMask, RMoveTo, HMoveTo, VStemHM}
+use Rattle.postscript_type2.specs.Program.Meaning.{IsRunOf, answer}
+use Rattle.postscript_type2.specs.Program.Phrases.{IsPhrase}
+use Rattle.postscript_type2.specs.Program.Routines.{Lists}
+use Rattle.postscript_type2.specs.Program.Runs as runs
+use Rattle.postscript_type2.specs.Program.Runs.{Answer, Finished, by}
+use Rattle.postscript_variable.specs.declared.charstring.Charstring.{Charstring}
+use Rattle.postscript_variable.specs.Sayings.{Said}
+use Rattle.postscript_variable.specs.Told.{Says}
+use Rattle.postscript_instance.specs.Texts.{width_numbers, numbers_of}
+
+-- The phrases of a run: each has the numbers and the operator of what is said, and the bytes of its mask behind them; the width is before
+-- the first of them; and endchar is the last.
+pub data AreSpelled : (width : Option ℤ) → List Said → List runs.Said → Type 0 where
+  finish : (width : Option ℤ) (phrase : List ℕ) → IsPhrase phrase (width_numbers width) EndChar →
+      AreSpelled width [] (by EndChar phrase ∷ [])
+  one_more : (width : Option ℤ) (x : Said) (xs : List Said) (phrase : List ℕ) (trace : List runs.Said) →
+      IsPhrase phrase (numbers_of width x) x.operator → AreSpelled None xs trace →
+      AreSpelled width (x ∷ xs) (by x.operator (phrase ++ x.mask) ∷ trace)
+
+-- what is said, as an answer beside this width
+abbrev pub answer_with : Option ℤ → Said → Answer
+answer_with width x = answer x.operator x.operands width
+
+-- Over these subroutines a code answers all that is said, operand by operand, with this width; its phrases are those of what is said; and
+-- endchar, which takes nothing, finishes it.
+pub record SaysSo (lists : Lists) (code : List ℕ) (width : Option ℤ) (says : List Said) : Type 0 where
+  pub run : runs.Run
+  pub is : IsRunOf lists code run
+  pub answers : run.answers ≡ map (answer_with width) says
+  pub phrases : AreSpelled width says run.trace
+  pub end : run.end ≡ Finished [] width
+
+-- how many operands a stack holds (Appendix B, "Type 2 Charstring Implementation Limits")
+abbrev pub stack_limit : ℕ
+stack_limit = 48
+
+-- each operator has at most so many numbers before it, the width with them
+abbrev pub Fits : Option ℤ → List Said → Type 0
+Fits width [] = Unit {0}
+Fits width (x ∷ xs) = (length (numbers_of width x) ≤ stack_limit) × Fits None xs
+
+-- the operators that may have the width before their operands, endchar apart ("Type 2 Charstring Organization")
+abbrev pub bears_width : Operator → Bool
+bears_width HStem = true
+bears_width HStemHM = true
+bears_width VStem = true
+bears_width VStemHM = true
+bears_width HintMask = true
+bears_width CntrMask = true
+bears_width HMoveTo = true
+bears_width VMoveTo = true
+bears_width RMoveTo = true
+bears_width op = false
+
+-- the first operator may have the width before its operands, where there is one
+abbrev pub BearsWidth : Option ℤ → List Said → Type 0
+BearsWidth (Some width) (x ∷ xs) = bears_width x.operator ≡ true
+BearsWidth width xs = Unit {0}
+
+-- A charstring of CFF2, a width, and a code of Type 2 that does the same with this width, whatever its subroutines are: it calls none.
+pub record IsStaticOf (charstring : Charstring) (width : Option ℤ) (code : List ℕ) : Type 0 where
+  pub says : List Said
+  pub said : Says charstring says
+  pub does : (lists : Lists) → SaysSo lists code width says
+  pub fits : Fits width says
+  pub bears : BearsWidth width says

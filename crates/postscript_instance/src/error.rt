@@ -1,0 +1,53 @@
+//! Why nothing is written.
+ghost use Rattle.std.specs.Prelude.{◌≡◌};
+ghost use Rattle.postscript_base.specs.declared.error.Error.TheVariants as causes;
+ghost use Rattle.postscript_instance.specs.declared.error.Error.TheVariants as errors;
+
+use postscript_base::Error as Cause;
+use std::alloc::{AllocError, AllocFailed};
+use thiserror::Error;
+
+/// What a call answers, or what it is refused with.
+pub type Result<T> = std::result::Result<T, Error>;
+
+/// A refusal.
+#[derive(Debug, Drop, Error)]
+pub enum Error {
+    /// The run of the charstring is refused; or memory was asked for and refused (`Memory`).
+    #[error("{0}")]
+    Font(Cause),
+    /// An operator has more than 48 numbers before it, the width with them (Technical Note 5177, Appendix B).
+    #[error("an operator has more operands than a stack of 48 holds")]
+    TooManyOperands,
+    /// A width is wanted, and the first operator is a line or a curve, which may not have one before its operands (Technical Note
+    /// 5177, "Type 2 Charstring Organization").
+    #[error("the first path does not begin with a move")]
+    NoMove,
+}
+
+/// A refusal of the run: `Font`. Never refused.
+impl From<Cause> for Error {
+    ghost from_gives = { λ fault e. e ≡ errors.Font fault };
+
+    fn from(fault: Cause) -> Error {
+        Error::Font(fault)
+    }
+}
+
+/// Memory that was refused: `Font`. Never refused.
+impl From<AllocError> for Error {
+    ghost from_gives = { λ _ e. e ≡ errors.Font causes.Memory };
+
+    fn from(_fault: AllocError) -> Error {
+        Error::Font(Cause::Memory)
+    }
+}
+
+/// Memory that was refused: `Font`. Never refused.
+impl<T: Drop> From<AllocFailed<T>> for Error {
+    ghost from_gives = { λ _ e. e ≡ errors.Font causes.Memory };
+
+    fn from(_fault: AllocFailed<T>) -> Error {
+        Error::Font(Cause::Memory)
+    }
+}

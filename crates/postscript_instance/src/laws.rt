@@ -1,0 +1,13 @@
+//! Laws of the definitions.
+ghost use Rattle.postscript_instance.specs.Laws.{NumbersAreShortest, OperationsStay};
+
+/// A law: what is written of a number that 32 bits hold spells it, and nothing shorter does. It does nothing and is never refused.
+pub fn numbers_are_shortest()
+    ensures { NumbersAreShortest }
+{}
+
+/// A law: the run of a code that is static of a charstring (`specs/Statics.antt`) has the operations of the charstring's run by the rules
+/// of CFF2, operator by operator and operand by operand, and its width. It does nothing and is never refused.
+pub fn operations_stay()
+    ensures { OperationsStay }
+{}
