@@ -4,3 +4,4 @@ pub mod Spelling
 pub mod Runs
 pub mod Shortest
 pub mod Operations
+pub mod Codes

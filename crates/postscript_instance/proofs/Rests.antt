@@ -1,5 +1,5 @@
 -- What a loop still goes over.
-use Rattle.std.proofs.Common.{◌≡◌, sym, ap, subst, ◌∙◌, ℕ, ◌+◌, ◌≤◌, ◌<◌, ℤ, Bool, true, false, nat_le, List, [], ◌∷◌, ◌++◌, length, drop, map, get_or, add-one, append_assoc, Option, None, arith}
+use Rattle.std.proofs.Common.{refl, IsTrue, ◌≡◌, sym, ap, subst, ◌∙◌, ℕ, ◌+◌, ◌≤◌, ◌<◌, ℤ, Bool, true, false, nat_le, List, [], ◌∷◌, ◌++◌, length, drop, map, get_or, add-one, append_assoc, Option, None, arith}
 use Rattle.std.proofs.Math.Seq.{drop-cons}
 use Rattle.std.proofs.Math.ListN.{drop_of_length-le}
 use Rattle.std.proofs.lemmas.Bool.Decides.{nat_tests}
@@ -70,3 +70,18 @@ numbers-held xs i x e h held rest = subst AreHeld (sym (numbers-rest xs i x e h)
 pub joined-held : (xs ys : List ℤ) → AreHeld xs → AreHeld ys → AreHeld (xs ++ ys)
 joined-held [] ys h i = i
 joined-held (x ∷ xs) ys h i = (h.0, joined-held xs ys h.1 i)
+
+-- the same of any list
+pub rest-of : {X Y : Type 0} (f : X → Y) (xs : List X) (i : ℕ) (x : X) → x ≡ get_or xs i x → i < length xs → map f (drop i xs) ≡ f x ∷ map f (drop (i + 1) xs)
+rest-of f xs i x e h =
+    ap (map f) (drop-cons xs i x h) ∙ ap (λ k. f (get_or xs i x) ∷ map f (drop k xs)) (sym (add-one i)) ∙ ap (λ y. f y ∷ map f (drop (i + 1) xs)) (sym e)
+
+pub rest-none : {X Y : Type 0} (f : X → Y) (xs : List X) (i : ℕ) → length xs ≤ i → map f (drop i xs) ≡ []
+rest-none f xs i h = ap (map f) (drop_of_length-le xs h)
+
+pub no-items : {X : Type 0} (xs : List X) → length xs ≡ 0 → xs ≡ []
+no-items [] h = refl
+no-items (x ∷ xs) h = absurd (omega (arith, h))
+
+pub is-true : (b : Bool) → b ≡ true → IsTrue b
+is-true b h = grind arith

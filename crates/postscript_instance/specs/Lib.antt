@@ -4,4 +4,6 @@ pub mod Texts
 pub mod Statics
 pub mod Refusals
 pub mod Laws
+pub mod Glyphs
+pub mod Tables
 pub mod Private

@@ -25,6 +25,7 @@ abbrev pub IsUnwritten : (width : Option ℤ) → List Said → Error → Type 0
 IsUnwritten width says (errors.Font e) = e ≡ causes.Memory
 IsUnwritten width says errors.TooManyOperands = HasMore width says
 IsUnwritten width says errors.NoMove = LacksMove width says
+IsUnwritten width says e = ⊥
 
 -- The run is refused, an operator has too many operands, or the first may not have a width before its own; or memory is wanting.
 abbrev pub NotWritten : Charstring → (width : Option ℤ) → Error → Type 0
@@ -32,3 +33,4 @@ NotWritten charstring width (errors.Font causes.Memory) = Unit {0}
 NotWritten charstring width (errors.Font e) = StopsWith charstring (refusal_of e)
 NotWritten charstring width errors.TooManyOperands = (says : List Said) × Says charstring says × HasMore width says
 NotWritten charstring width errors.NoMove = (says : List Said) × Says charstring says × LacksMove width says
+NotWritten charstring width e = ⊥

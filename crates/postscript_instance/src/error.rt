@@ -23,6 +23,18 @@ pub enum Error {
     /// 5177, "Type 2 Charstring Organization").
     #[error("the first path does not begin with a move")]
     NoMove,
+    /// There is no glyph of this number, or the font has no Font DICT for it that stands.
+    #[error("there is no glyph {0}")]
+    NoGlyph(usize),
+    /// There are not as many advances as glyphs.
+    #[error("there are not as many advances as glyphs")]
+    OtherCount,
+    /// What is to be written is too large for the format.
+    #[error("the font is too large")]
+    TooLarge,
+    /// What was written is not read back as the font that it is to be.
+    #[error("what was written is not read back")]
+    NotReadBack,
 }
 
 /// A refusal of the run: `Font`. Never refused.

@@ -3,12 +3,15 @@
 #![tactic(auto)]
 
 mod error;
-mod glyph;
 pub mod laws;
+mod layout;
 mod numbers;
+mod statics;
+mod tables;
 #[cfg(test)]
 mod tests;
 mod texts;
 
 pub use error::{Error, Result};
-pub use glyph::charstring;
+pub use statics::charstring;
+pub use tables::{glyph, table};

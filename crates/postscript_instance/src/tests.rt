@@ -1,8 +1,11 @@
 //! Charstrings by hand, by the specifications' rules.
-use crate::{Error, charstring};
+use crate::{Error, charstring, glyph, table};
 use postscript_base::Error as Cause;
+use postscript_cff2::Font;
 use postscript_type2::{Operand, Subroutines};
 use postscript_variable::{Blends, Charstring};
+use postscript_variable_font::Place;
+use postscript_view::FontView;
 use std::alloc::Global;
 use std::process::Abort;
 
@@ -100,5 +103,54 @@ fn refusals(rt: HostRuntime) {
             !is_written,
             "of {count}"
         );
+    }
+}
+
+/// A table of two glyphs, written by hand by the specification: the Top DICT at 5, a global subroutine at 24, the charstrings at
+/// 34, a Font DICT at 53, its Private DICT at 67 with a local subroutine and `vsindex` 1, and the variation store at 82, of two
+/// item variation data of one and of two regions. fontTools 4.38 reads it so.
+const TABLE: &[u8] = &[
+    0x02, 0x00, 0x05, 0x00, 0x13, 0x1d, 0x00, 0x00, 0x00, 0x22, 0x11, 0x1d, 0x00, 0x00, 0x00, 0x35,
+    0x0c, 0x24, 0x1d, 0x00, 0x00, 0x00, 0x50, 0x18, 0x00, 0x00, 0x00, 0x01, 0x01, 0x01, 0x04, 0x95,
+    0x9f, 0x05, 0x00, 0x00, 0x00, 0x02, 0x01, 0x01, 0x01, 0x0c, 0xef, 0x95, 0x77, 0x8c, 0x10, 0xbd,
+    0x15, 0x20, 0x1d, 0x20, 0x0a, 0x00, 0x00, 0x00, 0x01, 0x01, 0x01, 0x08, 0x8f, 0x1d, 0x00, 0x00,
+    0x00, 0x43, 0x12, 0x8c, 0x16, 0x8f, 0x13, 0x00, 0x00, 0x00, 0x01, 0x01, 0x01, 0x03, 0x6d, 0x06,
+    0x00, 0x32, 0x00, 0x01, 0x00, 0x00, 0x00, 0x10, 0x00, 0x02, 0x00, 0x00, 0x00, 0x20, 0x00, 0x00,
+    0x00, 0x28, 0x00, 0x01, 0x00, 0x02, 0x00, 0x00, 0x40, 0x00, 0x40, 0x00, 0xc0, 0x00, 0xc0, 0x00,
+    0x00, 0x00, 0x00, 0x00, 0x00, 0x00, 0x00, 0x01, 0x00, 0x00, 0x00, 0x00, 0x00, 0x00, 0x00, 0x02,
+    0x00, 0x00, 0x00, 0x01,
+];
+
+/// The table at places of its axis: the second glyph, by hand, is 100 10 -20 1 blend 50 rmoveto 10 20 rlineto -30 hlineto, where the
+/// regions rise from 0 to 1 and from 0 to -1.
+#[test]
+fn a_table_at_places(rt: HostRuntime) {
+    let font = Font::read(TABLE).expect(&rt, "the font");
+    let advances = [Operand::from_int(600), Operand::from_int(500)];
+    for (coordinate, x) in [(0i16, 0xefu8), (8192, 0xf4), (-16384, 0xdb)] {
+        let place = Place::of(rt.alloc(), font.store.as_ref(), &[coordinate]).expect(
+            &rt, "a place",
+        );
+        let bytes = table(rt.alloc(), &font, &place, b"Small", &advances).expect(&rt, "a table");
+        let view = FontView::read(rt.alloc(), &bytes).expect(&rt, "a font");
+        assert_eq!(rt; view.names.get(0), Some(b"Small".as_slice()), "the name");
+        assert_eq!(rt;
+            view.char_strings.get(0),
+            Some([0xf8, 0xec, 0x0e].as_slice()),
+            "the first"
+        );
+        let wanted = [
+            0xf8, 0x88, x, 0xbd, 0x15, 0x95, 0x9f, 0x05, 0x6d, 0x06, 0x0e,
+        ];
+        assert_eq!(rt;
+            view.char_strings.get(1),
+            Some(wanted.as_slice()),
+            "at {coordinate}"
+        );
+        assert!(rt; view.is_cid_keyed(), "by CIDs");
+        let few = table(rt.alloc(), &font, &place, b"Small", &advances[..1]);
+        assert!(rt; matches!(few, Err(Error::OtherCount)), "one advance");
+        let past = glyph(rt.alloc(), &font, 2, &place, None);
+        assert!(rt; matches!(past, Err(Error::NoGlyph(2))), "no third glyph");
     }
 }

@@ -4,7 +4,7 @@ use Rattle.postscript_instance.specs.Private.{AreHeldIn}
 use Rattle.postscript_instance.specs.Statics.{Fits, BearsWidth}
 use Rattle.postscript_instance.specs.Texts.{code_text}
 use Rattle.postscript_instance.proofs.Runs.{static-of}
-use Rattle.postscript_instance.proofs.glyph.charstring.Goals as goal
+use Rattle.postscript_instance.proofs.statics.charstring.Goals as goal
 
 pub returns-clause-written : goal.returns-clause-written
 returns-clause-written c =

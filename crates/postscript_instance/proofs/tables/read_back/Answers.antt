@@ -1,0 +1,17 @@
+use Rattle.std.proofs.Common.{◌∙◌, sym, subst}
+use Rattle.postscript_items.specs.Lent.{items_of}
+use Rattle.postscript_view.specs.Value.{parts_shown, view_shown}
+use Rattle.postscript_instance.specs.Tables.{HaveNoWidths}
+use Rattle.postscript_instance.proofs.Rests.{no-items, is-true}
+use Rattle.postscript_instance.proofs.tables.read_back.Goals as goal
+
+pub returns-then-are_codes : goal.returns-then-are_codes
+returns-then-are_codes c = (
+  view_shown c.in-Ok.font,
+  c.in-Ok.ensures.found,
+  record {
+    items = c.are_codes.ensures (is-true c.are_codes.result c.if-are_codes.true);
+    none = no-items (items_of c.in-Ok.font.global_subroutines) (sym c.len.ensures ∙ c.if-len-ne0.false);
+    widths = subst (λ parts. HaveNoWidths (parts_shown parts)) c.deref.ensures.value (c.have_no_widths.ensures (is-true c.have_no_widths.result c.if-not-have_no_widths.false));
+  },
+)

@@ -1,0 +1,32 @@
+-- Glyphs of variable fonts at a place, as static ones.
+use Rattle.std.specs.Prelude.{◌≡◌, ℕ, ℤ, ◌<◌, List, Option, Some, Vec, length, slice_get}
+use Rattle.std.specs.declared.alloc.Global.{Global}
+use Rattle.postscript_cff2.specs.Parts as parts
+use Rattle.postscript_cff2.specs.Parts.{HasPart}
+use Rattle.postscript_cff2.specs.Shown.{view_shown}
+use Rattle.postscript_cff2.specs.declared.font.Font.{Font}
+use Rattle.postscript_variable.specs.declared.charstring.Charstring.{Charstring}
+use Rattle.postscript_variable_font.specs.Glyphs.{IsCharstringOf}
+use Rattle.postscript_variable_font.specs.declared.place.Place.{Place}
+use Rattle.postscript_instance.specs.declared.error.Error.{Error}
+use Rattle.postscript_instance.specs.declared.error.Error.TheVariants as errors
+use Rattle.postscript_instance.specs.Refusals.{NotWritten}
+use Rattle.postscript_instance.specs.Statics.{IsStaticOf}
+
+-- a code that does what the charstring of a glyph does at a place, with a width
+pub record IsStaticGlyph (font : Font) (glyph : ℕ) (place : Place) (width : Option ℤ) (code : List ℕ) : Type 0 where
+  pub charstring : Charstring
+  pub is : IsCharstringOf font glyph place charstring
+  pub static : IsStaticOf charstring width code
+
+-- there is none: no such glyph, or no Font DICT for it that stands; or none is written of its charstring
+abbrev pub NoStaticGlyph : Font → (glyph : ℕ) → Place → (width : Option ℤ) → Error → Type 0
+NoStaticGlyph font glyph place width (errors.NoGlyph number) =
+    (number ≡ glyph) × ((part : parts.Part) → HasPart font.bytes.now (view_shown font) glyph part → ⊥)
+NoStaticGlyph font glyph place width e = (charstring : Charstring) × IsCharstringOf font glyph place charstring × NotWritten charstring width e
+
+-- the codes of the first so many glyphs, each with its width
+pub record AreStatics (font : Font) (place : Place) (widths : List ℤ) (count : ℕ) (codes : List (Vec ℕ Global)) : Type 0 where
+  pub counted : length codes ≡ count
+  pub each : (glyph : ℕ) → glyph < count → (width : ℤ) × (code : Vec ℕ Global) × (slice_get widths glyph ≡ Some width) ×
+      (slice_get codes glyph ≡ Some code) × IsStaticGlyph font glyph place (Some width) code.items

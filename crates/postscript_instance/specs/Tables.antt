@@ -1,0 +1,42 @@
+-- The table `CFF ` of a place of a variable font (Technical Note 5176).
+use Rattle.std.specs.Prelude.{◌≡◌, ℕ, ℤ, pos, ◌<◌, List, [], ◌∷◌, Option, Some, Vec, length, slice_get}
+use Rattle.std.specs.declared.alloc.Global.{Global}
+use Rattle.postscript_base.specs.Compact1.Decimal.{Decimal, to_i32}
+use Rattle.postscript_base.specs.Compact1.Defaults.{look, first_of}
+use Rattle.postscript_base.specs.declared.compact1.operator.Operator.TheVariants.{NominalWidthX}
+use Rattle.postscript_cff2.specs.declared.font.Font.{Font}
+use Rattle.postscript_variable_font.specs.declared.place.Place.{Place}
+use Rattle.postscript_view.specs.Layout.{IsLaidOut}
+use Rattle.postscript_view.specs.Order.{Part, View}
+use Rattle.postscript_instance.specs.Glyphs.{IsStaticGlyph}
+
+-- the first so many items are codes
+pub record AreItems (items : List (List ℕ)) (codes : List (Vec ℕ Global)) (count : ℕ) : Type 0 where
+  pub counted : length items ≡ length codes
+  pub each : (number : ℕ) → number < count → (code : Vec ℕ Global) × (slice_get codes number ≡ Some code) ×
+      (slice_get items number ≡ Some code.items)
+
+-- a Private DICT whose nominal width is 0, so that a charstring tells the width itself
+abbrev pub HasNoWidths : Part → Type 0
+HasNoWidths part = (width : Decimal) × (first_of (look part.dictionary NominalWidthX) ≡ Some width) × (to_i32 width ≡ Some (pos 0))
+
+abbrev pub HaveNoWidths : List Part → Type 0
+HaveNoWidths [] = Unit {0}
+HaveNoWidths (part ∷ parts) = HasNoWidths part × HaveNoWidths parts
+
+-- a font of these codes without subroutines, whose charstrings tell their widths themselves
+pub record IsPlainFont (view : View) (codes : List (Vec ℕ Global)) : Type 0 where
+  pub items : AreItems view.char_strings codes (length codes)
+  pub none : view.tables.subroutines ≡ []
+  pub widths : HaveNoWidths view.parts
+
+-- A font stands in the bytes (Technical Note 5176, "CFF Data Layout"), which has no subroutines that its glyphs share. Each of its glyphs
+-- has a code that does what the glyph does at the place, with its advance as its width, and nothing is added to that.
+pub record IsTableOf (font : Font) (place : Place) (advances : List ℤ) (bytes : List ℕ) : Type 0 where
+  pub view : View
+  pub stands : IsLaidOut bytes 0 view
+  pub counted : length view.char_strings ≡ length advances
+  pub glyphs : (glyph : ℕ) → glyph < length advances → (advance : ℤ) × (code : List ℕ) × (slice_get advances glyph ≡ Some advance) ×
+      (slice_get view.char_strings glyph ≡ Some code) × IsStaticGlyph font glyph place (Some advance) code
+  pub none : view.tables.subroutines ≡ []
+  pub widths : HaveNoWidths view.parts

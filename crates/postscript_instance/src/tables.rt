@@ -1,0 +1,148 @@
+//! The table `CFF ` of a place.
+ghost use Rattle.std.specs.Prelude.{◌≡◌, Some, length, slice_get, IsTrue, IfOk, IfErr, OnOk};
+ghost use Rattle.postscript_cff2.specs.Shown.{view_shown as varying_shown};
+ghost use Rattle.postscript_instance.specs.Glyphs.{AreStatics, IsStaticGlyph, NoStaticGlyph};
+ghost use Rattle.postscript_instance.specs.Tables.{AreItems, HasNoWidths, HaveNoWidths, IsPlainFont, IsTableOf};
+ghost use Rattle.postscript_items.specs.Lent.{items_of};
+ghost use Rattle.postscript_view.specs.Layout.{IsLaidOut};
+ghost use Rattle.postscript_view.specs.Order.{View};
+ghost use Rattle.postscript_view.specs.Value.{part_shown, parts_shown};
+
+use crate::error::{Error, Result};
+use crate::layout::laid_out;
+use crate::statics::charstring;
+use postscript_base::Error as Cause;
+use postscript_cff2::Font;
+use postscript_items::Items;
+use postscript_type2::Operand;
+use postscript_variable_font::{Place, charstring as varying};
+use postscript_view::{FontView, Part};
+use std::alloc::Global;
+
+/// The charstring of Type 2 of a glyph of a variable font at a place, with a width, as `charstring` writes it.
+///
+/// Refused: `NoGlyph` where there is no such glyph, or where the font has no Font DICT for it that stands; else as `charstring` is.
+pub fn glyph(
+    alloc: Global,
+    font: &Font<'_>,
+    glyph: usize,
+    place: &Place,
+    width: Option<Operand>,
+) -> Result<Vec<u8>>
+    ensures written { IfOk result (λ code. IsStaticGlyph font.now glyph place.now width code.items) }
+    ensures refused { IfErr result (λ e. NoStaticGlyph font.now glyph place.now width e) }
+{
+    match varying(font, glyph, place) {
+        Some(varied) => charstring(alloc, varied, width),
+        None => Err(Error::NoGlyph(glyph)),
+    }
+}
+
+/// The charstrings of the glyphs that have widths.
+fn codes_of(
+    alloc: Global,
+    font: &Font<'_>,
+    place: &Place,
+    widths: &[Operand],
+) -> Result<Vec<Vec<u8>>>
+    ensures are { IfOk result (λ codes. AreStatics font.now place.now widths.now (length widths.now) codes.items) }
+{
+    let mut codes = Vec::with_capacity(alloc, widths.len())?;
+    for number in 0..widths.len() {
+        codes.push(glyph(alloc, font, number, place, Some(widths[number]))?)?;
+    }
+    Ok(codes)
+}
+
+/// Whether an item is this code.
+fn is_code(items: &Items<'_>, number: usize, code: &[u8]) -> bool
+    ensures { IsTrue result → slice_get (items_of items.now) number ≡ Some code.now }
+{
+    match items.get(number) {
+        Some(item) => item == code,
+        None => false,
+    }
+}
+
+/// Whether the items are these codes.
+fn are_codes(items: &Items<'_>, codes: &[Vec<u8>]) -> bool
+    ensures { IsTrue result → AreItems (items_of items.now) codes.now (length codes.now) }
+{
+    if items.len() != codes.len() {
+        return false;
+    }
+    for number in 0..codes.len() {
+        if !is_code(items, number, &codes[number]) {
+            return false;
+        }
+    }
+    true
+}
+
+/// Whether a Private DICT tells no nominal width.
+fn has_no_width(part: &Part<'_>) -> bool
+    ensures { IsTrue result → HasNoWidths (part_shown part.now) }
+{
+    match part.nominal_width() {
+        Some(width) => width.to_i32() == Some(0),
+        None => false,
+    }
+}
+
+/// Whether no Private DICT tells a nominal width.
+fn have_no_widths(parts: &[Part<'_>]) -> bool
+    ensures { IsTrue result → HaveNoWidths (parts_shown parts.now) }
+{
+    for part in parts {
+        if !has_no_width(part) {
+            return false;
+        }
+    }
+    true
+}
+
+/// Reads back what was written. Refused: `NotReadBack` where it is not the font of these codes; `Font` with `Memory`.
+fn read_back(alloc: Global, bytes: &[u8], codes: &[Vec<u8>]) -> Result<()>
+    ensures { OnOk result ((view : View) × IsLaidOut bytes.now 0 view × IsPlainFont view codes.now) }
+{
+    let font = match FontView::read(alloc, bytes) {
+        Ok(font) => font,
+        Err(Cause::Memory) => return Err(Error::Font(Cause::Memory)),
+        Err(_) => return Err(Error::NotReadBack),
+    };
+    if font.global_subroutines.len() != 0 || !have_no_widths(&font.parts) {
+        return Err(Error::NotReadBack);
+    }
+    if are_codes(&font.char_strings, codes) {
+        Ok(())
+    } else {
+        Err(Error::NotReadBack)
+    }
+}
+
+/// The table `CFF ` of a place of a variable font, with the advance of each glyph in 16.16 bits: a CID-keyed font, whose CIDs are the
+/// numbers of its glyphs (ROS Adobe, Identity, 0), with this name. It has the Font DICTs of the table CFF2 and its FontMatrix, and no
+/// subroutines. Each glyph's charstring is that of `glyph`, with its advance as its width; `nominalWidthX` is 0. The Private DICTs have
+/// nothing else: the zones and the widths of stems by which glyphs are hinted are left out. What is written is read back.
+///
+/// Refused: `OtherCount` where there are not as many advances as glyphs; as `glyph` is, for the first glyph that is; `TooLarge` where
+/// there are more than 65,535 glyphs or 256 Font DICTs, or offsets that 31 bits do not hold; `NotReadBack` where what was written
+/// is not read as the font that it is to be.
+pub fn table(
+    alloc: Global,
+    font: &Font<'_>,
+    place: &Place,
+    name: &[u8],
+    advances: &[Operand],
+) -> Result<Vec<u8>>
+    ensures written { IfOk result (λ bytes. IsTableOf font.now place.now advances.now bytes.items) }
+    ensures counted { OnOk result (length advances.now ≡ length (varying_shown font.now).char_strings) }
+{
+    if advances.len() != font.char_strings.len() {
+        return Err(Error::OtherCount);
+    }
+    let codes = codes_of(alloc, font, place, advances)?;
+    let bytes = laid_out(alloc, font, name, &codes)?;
+    read_back(alloc, &bytes, &codes)?;
+    Ok(bytes)
+}
