@@ -94,11 +94,10 @@ def plain_font(glyphs, routines=(), char_set=b"", strings=(), tops=1):
     return front + index([top(place)] * tops) + behind + codes + char_set + private
 
 
-def keyed_font(glyphs, select, parts=2, routines=()):
-    """A CID-keyed table CFF, whose font dictionaries have the same local subroutines."""
+def keyed_font(glyphs, select, parts=2, routines=(), private=number(6) + SUBRS):
+    """A CID-keyed table CFF, whose font dictionaries have the same private dictionary, and so the same local subroutines."""
     front = HEADER + index([b"A"])
     codes, locals_ = index(glyphs), index(list(routines))
-    private = number(6) + SUBRS
 
     def dictionary(at):
         return number(len(private)) + number(at) + PRIVATE
@@ -216,6 +215,10 @@ def searched():
     yield "20,000 dictionaries over 60,000 glyphs", file_of(plain_font([END] * 60_000, tops=20_000), 60_000)
     yield "10,000 font dictionaries over 60,000 subroutines", file_of(
         keyed_font([END] * 2, b"\x00\x00\x00", 10_000, [RETURN] * 60_000), 2,
+    )  # fmt: skip
+    widths = (b"\x8b\x14") * 300_000
+    yield "20,000 font dictionaries over one private dictionary of 600,000 bytes", file_of(
+        keyed_font([END] * 2, b"\x00\x00\x00", 20_000, private=widths), 2,
     )  # fmt: skip
     tags = [b"a" + bytes([65 + i // 676, 65 + i // 26 % 26, 65 + i % 26]) for i in range(10_000)]
     yield "10,000 tables over the same bytes", file_of(plain_font([END] * 60_000), 60_000, more=tags)

@@ -114,7 +114,8 @@ typedef struct psf_part {
     int64_t nominal_width;      /* what is added to the width that a program tells */
 } psf_part;
 
-/* The limit that psf_font_open tells. */
+/* The limit that psf_font_open tells, in units of psf_font_fits. Runs of glyphs keep to it. Outside of runs a call takes steps that are
+ * bounded by the bytes that it is given, times its font dictionaries at most; docs/BOUNDS.md tells which. */
 #define PSF_LIMIT 20000000u
 
 /* A font: where its parts stand in the bytes. It may be copied, kept and sent, and any numbers in it are safe: a call over

@@ -1,5 +1,5 @@
 //! Which glyphs of a face are kept, and which of its characters.
-use crate::characters::{Mapped, by_glyph, glyph_of, missing, of_glyph};
+use crate::characters::{Mapped, all_of, by_glyph, glyph_of, missing, of_glyph};
 use crate::face::Face;
 use crate::failure::Failure;
 use clap::ArgMatches;
@@ -38,33 +38,42 @@ impl Choice {
     }
 
     /// Adds the characters of a range that have a glyph.
-    fn put_range(&mut self, face: &Face<'_>, first: u32, last: u32) -> Result<(), Failure> {
-        let Some(map) = &face.map else {
-            return Ok(());
-        };
-        for char in first..last.saturating_add(1).min(0x110000) {
-            if map.glyph_of(char) != 0 {
-                self.put_char(face, char)?;
+    fn put_range(&mut self, all: &[(u32, u16)], first: u32, last: u32) -> Result<(), AllocError> {
+        let from = all.partition_point(|mapped| mapped.0 < first);
+        for (char, glyph) in &all[from..] {
+            if *char > last {
+                break;
             }
+            self.glyphs.push(usize::from(*glyph))?;
+            self.pairs.push(Mapping {
+                char: *char,
+                glyph: *glyph,
+            })?;
         }
         Ok(())
     }
 
     /// Adds the characters of a list: numbers in hex, with `U+` or without, or ranges of two of these.
-    fn put_unicodes(&mut self, face: &Face<'_>, list: &str) -> Result<(), Failure> {
+    fn put_unicodes(&mut self, alloc: Global, face: &Face<'_>, list: &str) -> Result<(), Failure> {
         if list.is_empty() {
             return Ok(());
         }
+        let all = all_of(alloc, &face.map)?;
         for word in list.split(',') {
-            self.put_unicode(face, word)?;
+            self.put_unicode(face, all.as_slice(), word)?;
         }
         Ok(())
     }
 
     /// Adds the characters of a word of such a list.
-    fn put_unicode(&mut self, face: &Face<'_>, word: &str) -> Result<(), Failure> {
+    fn put_unicode(
+        &mut self,
+        face: &Face<'_>,
+        all: &[(u32, u16)],
+        word: &str,
+    ) -> Result<(), Failure> {
         match word.split_once('-') {
-            Some((first, last)) => self.put_range(face, char_of(first)?, char_of(last)?),
+            Some((first, last)) => Ok(self.put_range(all, char_of(first)?, char_of(last)?)?),
             None => self.put_char(face, char_of(word)?),
         }
     }
@@ -108,7 +117,7 @@ impl Choice {
             return self.put_text(alloc, face, text);
         }
         if let Some(list) = words.get_str("unicodes") {
-            return self.put_unicodes(face, list);
+            return self.put_unicodes(alloc, face, list);
         }
         let list = words.get_str("gids").unwrap_or("");
         self.put_gids(list, face.font.char_strings.len())?;

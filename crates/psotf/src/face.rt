@@ -1,6 +1,7 @@
 //! Faces of files.
 use crate::failure::Failure;
 use crate::refused::{rule_of, spot_of};
+use crate::weight::is_too_much;
 use postscript_sfnt::{Advances, CharacterMap, FontFile, Names, faces, glyphs, units_per_em};
 use postscript_view::{CharSetView, FontView};
 use std::alloc::Global;
@@ -57,6 +58,9 @@ fn advances_of<'l>(file: &FontFile<'l>) -> Result<Advances<'l>, Failure> {
 
 /// The font of a table `CFF `; where it is refused, in which part and by which rule.
 fn opened<'l>(alloc: Global, cff: &'l [u8]) -> Result<FontView<'l>, Failure> {
+    if is_too_much(alloc, cff) {
+        return Err(Failure::Dictionaries);
+    }
     match FontView::read(alloc, cff) {
         Ok(font) => Ok(font),
         Err(error) => Err(Failure::Table {

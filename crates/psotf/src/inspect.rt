@@ -11,7 +11,7 @@ use postscript_base::Error;
 use postscript_base::compact1::Operator;
 use postscript_compact1::font_set::FontSet;
 use postscript_sfnt::Name;
-use postscript_view::Identifiers;
+use postscript_view::{FontView, Identifiers};
 use std::alloc::{AllocError, Global};
 use std::io::{Cursor, Write};
 
@@ -105,6 +105,19 @@ struct Refusals {
     lenient: Option<Error>,
 }
 
+/// How many bytes both readings may pass over: each passes over the table once at most for each of its dictionaries.
+const PASSED: u64 = 1_000_000_000;
+
+/// How many dictionaries a table has, where it has too many for its readings to pass over it for each.
+fn too_many(cff: &[u8]) -> Option<u64> {
+    let fonts = FontView::fonts(cff).unwrap_or(0) as u64;
+    if fonts > 1 && fonts.saturating_mul(cff.len() as u64) > PASSED {
+        Some(fonts)
+    } else {
+        None
+    }
+}
+
 /// Passes over the whole font once by each reading. Nothing of it is kept.
 fn refusals_of(alloc: Global, cff: &[u8]) -> Refusals {
     Refusals {
@@ -173,8 +186,11 @@ fn keys(alloc: Global, sheet: &mut Sheet, face: &Face<'_>) -> Result<(), AllocEr
     }
 }
 
-/// Writes why each reading of the whole font refuses it.
+/// Writes why each reading of the whole font refuses it; or how many dictionaries there are, where the readings are not asked.
 fn readings(alloc: Global, sheet: &mut Sheet, cff: &[u8]) -> Result<(), AllocError> {
+    if let Some(fonts) = too_many(cff) {
+        return sheet.number("dictionaries_not_read", fonts);
+    }
     let refusals = refusals_of(alloc, cff);
     refusal(sheet, "strict", &refusals.strict)?;
     refusal(sheet, "lenient", &refusals.lenient)
@@ -195,7 +211,7 @@ fn font(alloc: Global, sheet: &mut Sheet, face: &Face<'_>, hinted: u64) -> Resul
 }
 
 /// Writes the names and the numbers.
-fn head(sheet: &mut Sheet, face: &Face<'_>) -> Result<(), AllocError> {
+fn head(alloc: Global, sheet: &mut Sheet, face: &Face<'_>) -> Result<(), AllocError> {
     let (family, style) = names(face);
     sheet.name("family", family)?;
     sheet.name("style", style)?;
@@ -204,7 +220,7 @@ fn head(sheet: &mut Sheet, face: &Face<'_>) -> Result<(), AllocError> {
         ("faces", face.faces as u64),
         ("units_per_em", u64::from(face.units)),
         ("glyphs", u64::from(face.glyphs)),
-        ("characters", count(&face.map)),
+        ("characters", count(alloc, &face.map)?),
     ];
     for (key, count) in &counts {
         sheet.number(*key, *count)?;
@@ -215,7 +231,7 @@ fn head(sheet: &mut Sheet, face: &Face<'_>) -> Result<(), AllocError> {
 /// Writes all that is told, as an object on a sheet.
 pub fn put(alloc: Global, sheet: &mut Sheet, face: &Face<'_>, hinted: u64) -> Result<(), Failure> {
     sheet.json.begin_object()?;
-    head(sheet, face)?;
+    head(alloc, sheet, face)?;
     font(alloc, sheet, face, hinted)?;
     sheet.json.end_object()?;
     Ok(())
@@ -268,13 +284,18 @@ fn name_lines<W: Write>(alloc: Global, face: &Face<'_>, out: &mut W) -> Result<(
 }
 
 /// Writes lines of the numbers.
-fn count_lines<W: Write>(face: &Face<'_>, hinted: u64, out: &mut W) -> Result<(), Failure> {
+fn count_lines<W: Write>(
+    alloc: Global,
+    face: &Face<'_>,
+    hinted: u64,
+    out: &mut W,
+) -> Result<(), Failure> {
     let counts = [
         ("faces", face.faces as u64),
         ("units per em", u64::from(face.units)),
         ("glyphs", u64::from(face.glyphs)),
         ("glyphs with hints", hinted),
-        ("characters", count(&face.map)),
+        ("characters", count(alloc, &face.map)?),
     ];
     for (label, count) in &counts {
         writeln!(out, "{label}: {count}")?;
@@ -290,7 +311,7 @@ fn lines<W: Write>(
     out: &mut W,
 ) -> Result<(), Failure> {
     name_lines(alloc, face, out)?;
-    count_lines(face, hinted, out)?;
+    count_lines(alloc, face, hinted, out)?;
     font_lines(alloc, face, out)?;
     part_lines(alloc, face, out)?;
     refusal_lines(alloc, face, out)
@@ -319,8 +340,15 @@ fn part_lines<W: Write>(alloc: Global, face: &Face<'_>, out: &mut W) -> Result<(
     Ok(())
 }
 
-/// Writes a line for each reading that refuses the font.
+/// Writes a line for each reading that refuses the font; or that the readings are not asked.
 fn refusal_lines<W: Write>(alloc: Global, face: &Face<'_>, out: &mut W) -> Result<(), Failure> {
+    if let Some(fonts) = too_many(face.cff) {
+        writeln!(
+            out,
+            "not read strictly or leniently: it has {fonts} dictionaries"
+        )?;
+        return Ok(());
+    }
     let refusals = refusals_of(alloc, face.cff);
     refusal_line("strict", &refusals.strict, out)?;
     refusal_line("lenient", &refusals.lenient, out)

@@ -29,6 +29,7 @@ mod stopped;
 mod subset;
 mod svg;
 mod variable;
+mod weight;
 
 use clap::ArgMatches;
 use commands::psotf;

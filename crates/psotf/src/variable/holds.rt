@@ -19,15 +19,16 @@ fn names<'l>(face: &VariableFace<'l>) -> (Option<Name<'l>>, Option<Name<'l>>) {
 }
 
 /// What is counted, under its name.
-fn counts(face: &VariableFace<'_>) -> [(&'static str, u64); 7] {
+fn counts(alloc: Global, face: &VariableFace<'_>) -> Result<[(&'static str, u64); 7], AllocError> {
     let data = match face.font.store {
         Some(store) => store.len(),
         None => 0,
     };
-    [
+    let characters = count(alloc, &face.common.map)?;
+    Ok([
         ("units_per_em", u64::from(face.common.units)),
         ("glyphs", u64::from(face.common.glyphs)),
-        ("characters", count(&face.common.map)),
+        ("characters", characters),
         ("char_strings", face.font.char_strings.len() as u64),
         (
             "global_subroutines",
@@ -38,7 +39,7 @@ fn counts(face: &VariableFace<'_>) -> [(&'static str, u64); 7] {
             face.font.font_dictionaries.len() as u64,
         ),
         ("variation_data", data as u64),
-    ]
+    ])
 }
 
 /// Writes an axis as an object.
@@ -116,7 +117,7 @@ fn object<W: Write>(alloc: Global, face: &VariableFace<'_>, out: &mut W) -> Resu
     let (family, style) = names(face);
     sheet.name("family", family)?;
     sheet.name("style", style)?;
-    for (key, count) in &counts(face) {
+    for (key, count) in &counts(alloc, face)? {
         sheet.number(*key, *count)?;
     }
     space(alloc, &mut sheet, face)?;
@@ -183,7 +184,7 @@ fn lines<W: Write>(alloc: Global, face: &VariableFace<'_>, out: &mut W) -> Resul
     writeln!(out, "family: {}", text_of(alloc, family)?)?;
     writeln!(out, "style: {}", text_of(alloc, style)?)?;
     writeln!(out, "a variable font: its outlines stand in the table CFF2")?;
-    for (key, count) in &counts(face) {
+    for (key, count) in &counts(alloc, face)? {
         writeln!(out, "{key}: {count}")?;
     }
     if let Some(axes) = face.axes {
