@@ -142,11 +142,14 @@ def psfont_page(program):
     for word in words[1].split(" | "):
         name, value = word.split()
         page += f".br\n.B psfont {name}\n\\fI{value}\\fR\n"
+    page += f".br\n.B psfont {quoted('--limit')}\n\\fIN\\fR\n"
     page += ".SH DESCRIPTION\n" + quoted(PSFONT) + ".SH LINES\n"
     faults = (TOP / "docs" / "FAULTS.md").read_text()
     rows = faults.split("# The lines of `psfont`", 1)[1].split("\n#", 1)[0]
     for line, answer in re.findall(r"^\| (`.*?) \| (.*) \|$", rows, flags=re.M):
         page += f".TP\n{bold(line.replace('`', ''))}\n{quoted(answer.replace('`', ''))}.\n"
+    page += ".SH OPTIONS\n.TP\n" + f".B {quoted('--limit')} \\fIN\\fR\n"
+    page += quoted("Holds each run to N units: a run or flat code that takes longer is told in a line that names the code, N and the option.") + "\n"
     page += ".SH FAULTS\n"
     for number, name, cause in re.findall(r"^\| (\d+) \| `(\w+)` \| (.*) \|$", faults, flags=re.M):
         page += f".TP\n.B {number} {name}\n{quoted(cause.replace('`', ''))}.\n"
