@@ -5,14 +5,17 @@
     tools/report.py [--shots FOLDER] [FONT..]
     tools/report.py --sums
 
-FONTs are OpenType files; without any they are some of Debian's fonts-ebgaramond and fonts-freefont-otf, where these are installed. Hostile ones are
-made besides: texts that would leave their place in the page, and 65,535 glyphs that are refused. Of each page it is seen that it opens
-with no message on the console, that it asks the network for nothing, that as many glyphs are found as the page holds, that the
-glyph of `A` is found, opened and stepped through to its end, and that it shows as many points then as `psotf glyph --json` tells of. A
-screenshot of each at 1280 and 400 pixels goes into FOLDER. With --sums it prints the sums of the script and the style instead, which stand in
-the policy of the page (crates/psotf/src/report/page.rt): where one differs, the browser runs no script, and says so. Needs Debian's chromium, chromium-driver and python3-selenium. A line is
-printed for each page: bytes of the font and of the page, seconds of psotf, and seconds until the page is ready. The status is 1 where
-something is otherwise.
+FONTs are OpenType files; without any they are some of Debian's fonts-ebgaramond and fonts-freefont-otf, and the CID-keyed one of fonts-noto-cjk, where
+these are installed. Hostile ones are made besides: texts that would leave their place in the page, and 65,535 glyphs that are refused. Of each page it
+is seen that it opens with no message on the console, that it asks the network for nothing, that as many glyphs are found as the page holds and that
+more cells are made as the grid is scrolled, that the glyph of `A` is found, opened and stepped through to its end by the keys, and that it shows as many
+points then as `psotf glyph --json` tells of. The page's calls and masks of glyphs, all of them or some 500, are compared with those that fontTools
+meets when it runs the glyphs, how often each subroutine is called with the sum of these, and the parts of the table CFF with its size: together they
+cover it without a gap. Where a report has several pages, each is opened, they hold each glyph once, and a character of another page is found
+there by the link. A screenshot of each first page at 1280 and 400 pixels goes into FOLDER. With --sums it prints the sums of the script and the style
+instead, which stand in the policy of the page (crates/psotf/src/report/page.rt): where one differs, the browser runs no script, and says so. Needs
+Debian's chromium, chromium-driver, python3-selenium and python3-fonttools. A line is printed for each report: bytes of the font, of the first page and
+of all, seconds of psotf, and seconds until the first page is loaded. The status is 1 where something is otherwise.
 """
 
 import argparse
@@ -27,6 +30,8 @@ import time
 
 sys.dont_write_bytecode = True
 
+from fontTools.misc.psCharStrings import SimpleT2Decompiler
+from fontTools.ttLib import TTFont
 from selenium import webdriver
 from selenium.webdriver.chrome.service import Service
 from selenium.webdriver.common.by import By
@@ -39,6 +44,8 @@ FONTS = [
     "freefont/FreeSerif.otf", "freefont/FreeSans.otf", "freefont/FreeMono.otf", "freefont/FreeSansBold.otf",
     "freefont/FreeSerifItalic.otf", "freefont/FreeMonoBold.otf", "freefont/FreeSerifBold.otf",
 ]
+KEYED = "noto/NotoSansCJK-Regular.ttc"
+MOST = 500
 EVIL = ["</script><script>document.title='taken'</script>", "<img src=x onerror=\"document.title='taken'\">", "\"'`&<>", "\x00\x01\x1b[31m\u2028\u2029", "x" * 30_000]
 
 
@@ -101,72 +108,200 @@ def points_told(path, gid):
     return None if segments is None else sum(len(segment) - 1 for segment in segments) // 2
 
 
-def look(driver, path, page, data, faults):
+class Calls(SimpleT2Decompiler):
+    """Runs a charstring, and keeps the calls and the masks that it meets."""
+
+    def __init__(self, char_string, part):
+        super().__init__(getattr(char_string.private, "Subrs", []), char_string.globalSubrs, char_string.private)
+        self.part, self.calls, self.masks = part, [], []
+
+    def op_callsubr(self, index):
+        self.calls.append(f"local {self.part} {self.operandStack[-1] + self.localBias}")
+        super().op_callsubr(index)
+
+    def op_callgsubr(self, index):
+        self.calls.append(f"global {self.operandStack[-1] + self.globalBias}")
+        super().op_callgsubr(index)
+
+    def op_hintmask(self, index):
+        mask, index = super().op_hintmask(index)
+        named = [n for n in range(self.hintCount) if mask[n // 8] & 128 >> n % 8]
+        self.masks.append([self.hintCount, named])
+        return mask, index
+
+    op_cntrmask = op_hintmask
+
+
+def met(path, gids):
+    """The calls and the masks of glyphs, as fontTools meets them."""
+    font = TTFont(path, fontNumber=0, lazy=True)
+    strings = font["CFF "].cff.topDictIndex[0].CharStrings
+    order = font.getGlyphOrder()
+    for gid in gids:
+        part = strings.fdSelect[gid] if hasattr(strings, "fdSelect") else 0
+        run = Calls(strings[order[gid]], part)
+        run.execute(strings[order[gid]])
+        yield [run.calls, run.masks]
+
+
+WALKS = """
+return arguments[0].map((gid) => {
+  const walk = new Walk(byNumber(gid));
+  return walk.why ?? [walk.calls, walk.rows.filter((row) => row.named).map((row) => [row.stems, row.named])];
+});
+"""
+
+
+def compare_walks(driver, path, told, faults):
+    """Compares calls and masks with what fontTools meets, and the sums of the calls where all glyphs are compared."""
+    first, rows = told["head"]["from"], told["glyphs"]
+    drawn = [first + i for i, row in enumerate(rows) if len(row) != 5]
+    gids = drawn if len(rows) < 4000 else drawn[:: max(1, len(drawn) // MOST)]
+    theirs, own = list(met(path, gids)), driver.execute_script(WALKS, gids)
+    different = [(gid, a, b) for gid, a, b in zip(gids, own, theirs) if a != b]
+    if different:
+        faults.append(f"{len(different)} walks differ: glyph {different[0][0]}: {str(different[0][1:])[:200]}")
+    if len(gids) < len(drawn):
+        return
+    driver.set_script_timeout(120)
+    times = driver.execute_async_script("const done = arguments[0]; subroutines.open = true; countOnce().then(() => done([...callers].map(([key, it]) => [key, it.times, it.gids.length])));")
+    tally = {}
+    for calls, _ in theirs:
+        for key in calls:
+            tally.setdefault(key, [0, 0])[0] += 1
+        for key in set(calls):
+            tally[key][1] += 1
+    if {key: [all_, glyphs] for key, all_, glyphs in times} != tally:
+        faults.append("the subroutines are not called as often as told")
+
+
+def look_at_parts(told, faults):
+    """The parts of the table CFF cover it, each byte once."""
+    size = next(size for tag, _, size in told["head"]["tables"] if tag == "CFF ")
+    at = 0
+    for name, place, bytes_ in sorted(told["head"]["parts"], key=lambda part: part[1:]):
+        if place != at:
+            faults.append(f"{name} stands at {place} and not at {at}")
+            return
+        at = place + bytes_
+    if at != size:
+        faults.append(f"the parts end at {at}, and the table at {size}")
+
+
+def look_at_cells(driver, told, faults):
+    many = len(told["glyphs"])
+    kept, cells = driver.execute_script("return [kept.length, document.querySelectorAll('.cell').length]")
+    if kept != many:
+        faults.append(f"{kept} glyphs are found of {many}")
+    driver.execute_script("grid.scrollTop = grid.scrollHeight")
+    time.sleep(0.5)
+    if cells < many and driver.execute_script("return document.querySelectorAll('.cell').length") <= cells:
+        faults.append("no more cells as the grid is scrolled")
+
+
+def look(driver, path, data, is_ours, faults):
     """Looks at a page that is open."""
     told = json.loads(data)
-    number = lambda script: driver.execute_script(f"return {script}")
     if driver.title == "taken":
         faults.append("a text of the font became a script")
-    cells = number("document.querySelectorAll('.cell').length")
-    if cells != len(told["glyphs"]):
-        faults.append(f"{cells} cells for {len(told['glyphs'])} glyphs")
-    search = driver.find_element(By.ID, "search")
-    if any("U+0041" in glyph["chars"] for glyph in told["glyphs"]):
-        search.send_keys("A")
-        glyph = next(glyph for glyph in told["glyphs"] if "U+0041" in glyph["chars"])
-        driver.find_element(By.CSS_SELECTOR, f'.cell[data-gid="{glyph["gid"]}"]').click()
-        if "path" in glyph:
-            step_through(driver, path, glyph, faults)
-    elif "refused" in told["glyphs"][-1] and "refused" not in number("document.querySelector('.cell .why').textContent + document.querySelector('.cell .why').className + 'refused'"):
+    look_at_cells(driver, told, faults)
+    first, rows = told["head"]["from"], told["glyphs"]
+    if is_ours:
+        compare_walks(driver, path, told, faults)
+        look_at_parts(told, faults)
+    gid = next((first + i for i, row in enumerate(rows) if 0x41 in row[1]), None)
+    if gid is not None:
+        driver.find_element(By.ID, "search").send_keys("A")
+        driver.find_element(By.CSS_SELECTOR, f'.cell[data-gid="{gid}"]').click()
+        if len(rows[gid - first]) != 5:
+            step_through(driver, path, gid, faults)
+    elif len(rows[-1]) == 5 and not driver.execute_script("return document.querySelector('.cell .why')?.textContent"):
         faults.append("no reason in the cell of a refused glyph")
 
 
-def step_through(driver, path, glyph, faults):
-    range_ = driver.find_element(By.ID, "step")
+def step_through(driver, path, gid, faults):
     driver.execute_script("const r = document.getElementById('step'); r.value = 0; r.dispatchEvent(new Event('input'));")
     if driver.execute_script("return document.querySelectorAll('circle.on').length") != 0:
         faults.append("points before the first operation")
-    for _ in glyph["operations"]:
+    driver.execute_script("document.activeElement.blur()")
+    for _ in range(driver.execute_script("return shown.steps.length")):
         driver.find_element(By.TAG_NAME, "body").send_keys("\ue014")
-    done = driver.execute_script("return [...document.querySelectorAll('#operations li')].every((row) => row.className === 'done')")
+    done = driver.execute_script("return [...document.querySelectorAll('#operations li')].every((row) => row.classList.contains('done'))")
     shown = driver.execute_script("return document.querySelectorAll('.view circle').length")
-    told = points_told(path, glyph["gid"])
+    told = points_told(path, gid)
     if not done:
         faults.append("the arrow keys did not come to the last operation")
     if shown != told:
         faults.append(f"{shown} points are shown, and {told} are told")
 
 
+def look_at_others(driver, folder, told, faults):
+    """Opens the other pages of a report, and finds a character of the last one from the first one."""
+    pages = told["head"]["pages"]
+    if len(pages) == 1:
+        return
+    gids, char = [], None
+    for name, first, _ in pages:
+        page = folder / name
+        rows = json.loads(page.read_text(encoding="utf-8").split(BLOCK)[1].split("</script>")[0])["glyphs"]
+        gids += range(first, first + len(rows))
+        if first != pages[0][1]:
+            char = next((row[1][0] for row in reversed(rows) if row[1]), char)
+        driver.get(page.as_uri())
+        if driver.execute_script("return kept.length") != len(rows):
+            faults.append(f"{name} does not show its glyphs")
+    if gids != list(range(told["head"]["font"]["cff"]["glyphs"])):
+        faults.append("the pages do not hold each glyph once")
+    if char is None:
+        return
+    driver.get((folder / pages[0][0]).as_uri())
+    driver.find_element(By.ID, "search").send_keys(f"U+{char:04X}")
+    driver.find_element(By.CSS_SELECTOR, "#found a").click()
+    time.sleep(1)
+    if not driver.execute_script("return shown.glyph.chars.includes(arguments[0])", char):
+        faults.append(f"the link does not lead to U+{char:04X}")
+
+
 def shots(driver, folder, name):
+    """The page from its top to its end, as far as a picture goes."""
     for width in (1280, 400):
-        driver.set_window_size(width, 900 if width == 1280 else 800)
+        driver.set_window_size(width, 900)
         time.sleep(0.3)
+        driver.set_window_size(width, min(driver.execute_script("return document.documentElement.scrollHeight") + 150, 6000))
+        time.sleep(0.5)
         driver.save_screenshot(str(folder / f"{name}-{width}.png"))
 
 
-def try_page(driver, name, path, folder, shot_folder):
+BLOCK = '<script type="application/json" id="data">'
+
+
+def try_page(driver, name, path, folder, shot_folder, is_ours=True):
     faults = []
+    for page in folder.glob("report*.html"):
+        page.unlink()
     page = folder / "report.html"
     begun = time.monotonic()
     done = subprocess.run([str(PSOTF), "report", path, "-o", str(page)], capture_output=True, text=True, check=False)
     made = time.monotonic() - begun
     if done.returncode not in (0, 1):
         faults.append(f"psotf ended with {done.returncode}: {done.stderr[:200]}")
-    text = page.read_text(encoding="utf-8")
-    data = text.split('<script type="application/json" id="data">')[1].split("</script>")[0]
+    data = page.read_text(encoding="utf-8").split(BLOCK)[1].split("</script>")[0]
     driver.set_window_size(1280, 900)
     driver.get_log("browser"), driver.get_log("performance")
-    begun = time.monotonic()
     driver.get(page.as_uri())
-    ready = time.monotonic() - begun
-    look(driver, path, page, data, faults)
+    ready = driver.execute_script("return performance.getEntriesByType('navigation')[0].loadEventEnd") / 1000
+    look(driver, path, data, is_ours, faults)
+    if shot_folder:
+        driver.get(page.as_uri())
+        shots(driver, shot_folder, name.replace(" ", "-").replace(",", ""))
+    pages = [folder / it[0] for it in json.loads(data)["head"]["pages"]]
+    if asked := [url for url in asked_of(driver, page.as_uri()) if url.split("#")[0] not in [it.as_uri() for it in pages]]:
+        faults.append(f"it asks for {asked[0]}")
+    look_at_others(driver, folder, json.loads(data), faults)
     if messages := driver.get_log("browser"):
         faults.append(f"the console says: {messages[0]['message'][:300]}")
-    if asked := asked_of(driver, page.as_uri()):
-        faults.append(f"it asks for {asked[0]}")
-    if shot_folder:
-        shots(driver, shot_folder, name.replace(" ", "-").replace(",", ""))
-    print(f"| {name} | {pathlib.Path(path).stat().st_size} | {page.stat().st_size} | {made:.2f} | {ready:.2f} | {'; '.join(faults) or 'as told'} |", flush=True)
+    sizes = f"{page.stat().st_size} | {sum(it.stat().st_size for it in pages)}"
+    print(f"| {name} | {pathlib.Path(path).stat().st_size} | {sizes} | {made:.2f} | {ready:.2f} | {'; '.join(faults) or 'as told'} |", flush=True)
     return bool(faults)
 
 
@@ -187,11 +322,11 @@ def main():
     if words.sums:
         return print_sums()
     root = pathlib.Path("/usr/share/fonts/opentype")
-    fonts = words.fonts or [str(root / name) for name in FONTS if (root / name).is_file()]
+    fonts = words.fonts or [str(root / name) for name in [*FONTS, KEYED] if (root / name).is_file()]
     shot_folder = pathlib.Path(words.shots) if words.shots else None
     if shot_folder:
         shot_folder.mkdir(parents=True, exist_ok=True)
-    print("| font | bytes | page | psotf, s | ready, s | |\n|---|---|---|---|---|---|")
+    print("| font | bytes | page | all pages | psotf, s | ready, s | |\n|---|---|---|---|---|---|---|")
     bad = False
     driver = browser()
     with tempfile.TemporaryDirectory() as folder:
@@ -200,7 +335,7 @@ def main():
             bad = try_page(driver, pathlib.Path(path).stem, path, folder, shot_folder) or bad
         for name, font in hostile():
             (folder / "font.otf").write_bytes(font)
-            bad = try_page(driver, name, str(folder / "font.otf"), folder, shot_folder) or bad
+            bad = try_page(driver, name, str(folder / "font.otf"), folder, shot_folder, is_ours=False) or bad
     driver.quit()
     return 1 if bad else 0
 

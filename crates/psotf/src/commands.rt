@@ -124,8 +124,11 @@ const SUBCOMMANDS: &[Subcommand] = &[
         one_of: &[],
         others: &[
             Word::Given("from", "0", "The first glyph"),
-            Word::Given("count", "10000", "How many glyphs at most"),
-            Word::Out(true, "Where to write it"),
+            Word::Given("count", "65535", "How many glyphs at most"),
+            Word::Out(
+                true,
+                "Where to write it; more than 10000 glyphs make further pages beside it",
+            ),
         ],
         takes_place: false,
     },
@@ -139,7 +142,7 @@ const SUBCOMMANDS: &[Subcommand] = &[
     },
     Subcommand {
         name: "subset",
-        about: "A file of some glyphs: tables of layout and signatures are left out",
+        about: "A file of some glyphs: without kerning and ligatures, with the names that systems read",
         group: "kept",
         one_of: &[
             Word::Text("text", "TEXT", "The glyphs of these characters"),
@@ -159,6 +162,11 @@ const SUBCOMMANDS: &[Subcommand] = &[
                 "retain-gids",
                 "Keep the numbers of glyphs; others are empty",
             ),
+            Word::Flag(
+                "keep-names",
+                "Keep copyright, trademark and licence in the table name too",
+            ),
+            Word::Flag("quiet", "Do not tell what is left out or comes along"),
             Word::Out(true, "Where to write it"),
         ],
         takes_place: false,

@@ -18,7 +18,10 @@ mod flat;
 mod glyph;
 mod hints;
 mod inspect;
+mod labels;
+mod leaving;
 mod limit;
+mod naming;
 mod progress;
 mod refused;
 mod report;
@@ -37,9 +40,10 @@ use face::{Face, file_of};
 use failure::Failure;
 use limit::Budget;
 use postscript_drawing::LIMIT;
-use std::io::{BufWriter, Write};
+use std::fs::File;
+use std::io::{BufWriter, Read, Write};
 use std::process::ExitCode;
-use std::{env, fs, io};
+use std::{env, io};
 use variable::VariableFace;
 
 /// How much a unit of a run may come to in a subcommand.
@@ -56,6 +60,22 @@ fn weight_of(name: &str, words: &ArgMatches<'_>) -> u64
     }
 }
 
+/// The most bytes that room is asked for at once.
+const MOST: u64 = 1 << 30;
+
+/// The bytes of a file. Room for them is asked for once, with one byte more, at which the end is met, as far as the system tells how
+/// many they are: room that grows as they are read takes up to three times as much for a while.
+fn bytes_of(rt: &HostRuntime, path: &str) -> Result<Vec<u8>, Failure> {
+    let mut file = File::open(rt, path)?;
+    let size = match file.metadata() {
+        Ok(metadata) => metadata.len().min(MOST),
+        Err(_) => 0,
+    };
+    let mut bytes = Vec::with_capacity(rt.alloc(), (size as usize).saturating_add(1))?;
+    file.read_to_end(&mut bytes)?;
+    Ok(bytes)
+}
+
 /// The face that the words of a subcommand name, and what is asked of it.
 fn answer<W: Write>(
     rt: &HostRuntime,
@@ -65,7 +85,7 @@ fn answer<W: Write>(
 ) -> Result<(), Failure> {
     let path = words.get_str("FILE").unwrap_or("");
     let number = words.get_one::<u16>("face").unwrap_or(0);
-    let bytes = fs::read(rt, path)?;
+    let bytes = bytes_of(rt, path)?;
     let file = file_of(bytes.as_slice(), number)?;
     let limit = words.get_one::<u64>("limit").unwrap_or(LIMIT);
     let mut budget = Budget::new(limit, weight_of(name, words));
@@ -96,7 +116,7 @@ fn write<W: Write>(
         "svg" => svg::write(rt, face, words, budget, out),
         "flat" => flat::write(rt, face, words, budget, out),
         "subset" => subset::write(rt, face, words, budget, out),
-        "report" => report::write(rt, face, words, budget, out),
+        "report" => report::write(rt, face, words, budget),
         _ => specimen::write(rt, face, words, budget, out),
     }
 }
@@ -131,14 +151,24 @@ fn words_of(rt: &HostRuntime) -> anyhow::Result<Vec<String>> {
     Ok(words)
 }
 
+/// Writes what the words come to in place of a subcommand: help, or what is wrong with them. A closed pipe is no failure.
+fn told_by(rt: &HostRuntime, error: &clap::Error) -> io::Result<ExitCode> {
+    match error.print(rt) {
+        Ok(()) => Ok(ExitCode::from(error.exit_code() as u8)),
+        Err(fault) if fault.kind() == io::ErrorKind::BrokenPipe => {
+            Ok(ExitCode::from(error.exit_code() as u8))
+        }
+        Err(fault) => Err(fault),
+    }
+}
+
 fn main(rt: HostRuntime) -> anyhow::Result<ExitCode> {
     let words = words_of(&rt)?;
     let command = psotf(rt.alloc())?;
     let matches = match command.try_get_matches_from(words.as_slice()) {
         Ok(matches) => matches,
         Err(error) => {
-            error.print(&rt)?;
-            return Ok(ExitCode::from(error.exit_code() as u8));
+            return Ok(told_by(&rt, &error)?);
         }
     };
     match matches.subcommand() {

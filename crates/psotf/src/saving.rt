@@ -12,7 +12,7 @@ fn write_beside(rt: &HostRuntime, path: &str, bytes: &[u8]) -> io::Result<()> {
 }
 
 /// Writes a file beside its place and moves it there.
-fn save(rt: &HostRuntime, path: &str, bytes: &[u8]) -> Result<(), Failure> {
+pub fn save(rt: &HostRuntime, path: &str, bytes: &[u8]) -> Result<(), Failure> {
     let beside = format!(in rt.alloc(); "{path}.part")?;
     let written = match write_beside(rt, beside.as_str(), bytes) {
         Ok(()) => fs::rename(rt, beside.as_str(), path),

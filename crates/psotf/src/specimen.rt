@@ -2,11 +2,13 @@
 use crate::drawing::{count, draw};
 use crate::face::Face;
 use crate::failure::{Failure, Refusal};
+use crate::labels::Labels;
 use crate::limit::Budget;
 use crate::progress::Progress;
 use crate::saving;
 use crate::stopped::Stopped;
 use clap::ArgMatches;
+use postscript_outline::Outline;
 use std::alloc::{AllocError, Global};
 use std::io::Write;
 use std::ops::Range;
@@ -14,17 +16,32 @@ use std::ops::Range;
 /// How many cells stand in a row.
 const COLUMNS: u64 = 16;
 
-/// Adds the name of a glyph; what is neither a letter, a digit, a point nor a line is left out.
-fn put_name(picture: &mut String, face: &Face<'_>, gid: u16) -> Result<(), AllocError> {
-    for byte in face.name(gid).unwrap_or(&[]) {
-        if byte.is_ascii_alphanumeric() || *byte == b'.' || *byte == b'_' {
-            picture.push(*byte as char)?;
-        }
-    }
-    Ok(())
+/// How wide and high a cell is where a picture has its own size, in pixels.
+const PIXELS: u64 = 128;
+
+/// The size of labels in so many units to the em: 12 pixels, of which a cell of two ems has 128.
+fn label_size(units: u64) -> u64 {
+    units.saturating_mul(3) / 16
 }
 
-/// Draws a glyph in the cell of this number, so many units high; or why it is refused, in a cell without an outline.
+/// The name of a glyph, or its CID.
+fn name_of(alloc: Global, face: &Face<'_>, gid: u16) -> Result<String, AllocError> {
+    match face.cid(gid) {
+        Some(cid) => format!(in alloc; "cid{cid:05}"),
+        None => String::from_utf8_lossy(alloc, face.name(gid).unwrap_or(&[])),
+    }
+}
+
+/// Adds the outline of a glyph in a cell of so many units to the em.
+fn put_outline(picture: &mut String, units: u64, outline: &Outline) -> Result<(), AllocError> {
+    let (left, base) = (units / 4, units.saturating_add(units / 2));
+    write!(
+        picture,
+        "<path transform=\"translate({left} {base}) scale(1 -1)\" d=\"{outline}\"/>"
+    )
+}
+
+/// Draws a glyph in the cell of this number, with its number and its name above it; or in the place of its outline why it is refused.
 fn put_cell(
     alloc: Global,
     face: &Face<'_>,
@@ -36,23 +53,29 @@ fn put_cell(
     let units = u64::from(face.units);
     let x = (cell % COLUMNS).saturating_mul(units).saturating_mul(2);
     let y = (cell / COLUMNS).saturating_mul(units).saturating_mul(2);
-    let (base, small) = (units.saturating_add(units / 4), units / 8);
     write!(picture, "<g transform=\"translate({x} {y})\">")?;
-    write!(picture, "<text y=\"{small}\" font-size=\"{small}\">{gid} ")?;
-    put_name(picture, face, gid)?;
-    write!(picture, "</text>")?;
+    let mut line = String::new(alloc);
+    let size = label_size(units);
+    let mut labels = Labels {
+        picture,
+        size,
+        y: size,
+    };
+    let number = format!(in alloc; "{gid}")?;
+    labels.cut(number.as_str(), &mut line)?;
+    labels.cut(name_of(alloc, face, gid)?.as_str(), &mut line)?;
     let refusal = match draw(alloc, face, gid, budget) {
         Ok((_, outline)) => {
-            let left = units / 4;
-            write!(
-                picture,
-                "<path transform=\"translate({left} {base}) scale(1 -1)\" d=\"{outline}\"/>"
-            )?;
+            put_outline(labels.picture, units, &outline)?;
             None
         }
-        Err(refusal) => Some(refusal),
+        Err(refusal) => {
+            let why = format!(in alloc; "{refusal}")?;
+            labels.wrapped(why.as_str(), &mut line)?;
+            Some(refusal)
+        }
     };
-    writeln!(picture, "</g>")?;
+    writeln!(labels.picture, "</g>")?;
     Ok(refusal)
 }
 
@@ -79,7 +102,7 @@ fn put_cells(
     Ok(())
 }
 
-/// Writes a picture of the glyphs that words name; those that are refused have a cell without an outline. It is refused behind that
+/// Writes a picture of the glyphs that words name; those that are refused have the reason in their cells. It is refused behind that
 /// where the runs of some take longer than the limit, with how many do.
 pub fn write<W: Write>(
     rt: &HostRuntime,
@@ -94,9 +117,12 @@ pub fn write<W: Write>(
     let cells = u64::from(to.saturating_sub(from));
     let side = u64::from(face.units).saturating_mul(2);
     let width = side.saturating_mul(COLUMNS);
-    let height = (cells.saturating_add(COLUMNS - 1) / COLUMNS).saturating_mul(side);
+    let rows = cells.saturating_add(COLUMNS - 1) / COLUMNS;
+    let height = rows.saturating_mul(side);
+    let (wide, high) = (COLUMNS.saturating_mul(PIXELS), rows.saturating_mul(PIXELS));
+    let size = label_size(u64::from(face.units));
     let mut picture = format!(in rt.alloc();
-        "<svg xmlns=\"http://www.w3.org/2000/svg\" viewBox=\"0 0 {width} {height}\">\n"
+        "<svg xmlns=\"http://www.w3.org/2000/svg\" width=\"{wide}\" height=\"{high}\" viewBox=\"0 0 {width} {height}\" font-family=\"monospace\" font-size=\"{size}\">\n"
     )?;
     let mut stopped = Stopped::new(rt);
     put_cells(rt, face, from..to, budget, &mut stopped, &mut picture)?;

@@ -3,7 +3,7 @@ use crate::choice::Choice;
 use crate::face::{Face, needed};
 use crate::failure::Failure;
 use crate::limit::Budget;
-use crate::{along, saving};
+use crate::{along, leaving, naming, saving};
 use clap::ArgMatches;
 use postscript_items::number::number_within;
 use postscript_sfnt_write::{
@@ -75,6 +75,12 @@ struct Written {
     post: Vec<u8>,
 }
 
+/// The tables that stay as they are: `OS/2` and `head`.
+const SAME: [u32; 2] = [0x4f532f32, 0x68656164];
+
+/// The table `name`.
+const NAME: u32 = 0x6e616d65;
+
 /// The tables of a face, by their number of glyphs.
 fn with_counts(
     alloc: Global,
@@ -133,8 +139,28 @@ fn own<'t>(face: &Face<'t>, tag: u32) -> Option<Table<'t>> {
     Some(Table { tag, bytes })
 }
 
-/// The file of tables that were made, and of those that stay as they are: `OS/2`, `head` and `name`.
-fn file_with(alloc: Global, face: &Face<'_>, made: &Written) -> Result<Vec<u8>, Failure> {
+/// The table `name` with what a subset keeps of it, as it is where it is of another form; or none where the face has none.
+fn names_of(
+    alloc: Global,
+    face: &Face<'_>,
+    words: &ArgMatches<'_>,
+) -> Result<Option<Vec<u8>>, AllocError> {
+    let Some(table) = face.file.table(NAME.to_be_bytes()) else {
+        return Ok(None);
+    };
+    match naming::trimmed(alloc, table, words.get_flag("keep-names"))? {
+        Some(names) => Ok(Some(names)),
+        None => Ok(Some(Vec::from_slice(alloc, table)?)),
+    }
+}
+
+/// The file of tables that were made, of the names, and of those that stay as they are.
+fn file_with(
+    alloc: Global,
+    face: &Face<'_>,
+    made: &Written,
+    names: &Option<Vec<u8>>,
+) -> Result<Vec<u8>, Failure> {
     let mut tables: Vec<Table<'_>> = Vec::new(alloc);
     for (tag, bytes) in [
         (0x43464620, &made.font),
@@ -149,7 +175,13 @@ fn file_with(alloc: Global, face: &Face<'_>, made: &Written) -> Result<Vec<u8>, 
             bytes: bytes.as_slice(),
         })?;
     }
-    for tag in [0x4f532f32, 0x68656164, 0x6e616d65] {
+    if let Some(names) = names {
+        tables.push(Table {
+            tag: NAME,
+            bytes: names.as_slice(),
+        })?;
+    }
+    for tag in SAME {
         if let Some(table) = own(face, tag) {
             tables.push(table)?;
         }
@@ -158,8 +190,8 @@ fn file_with(alloc: Global, face: &Face<'_>, made: &Written) -> Result<Vec<u8>, 
     Ok(file_of(alloc, tables.as_slice())?)
 }
 
-/// Writes a file of the glyphs that words name and of those that these are drawn with, where the run of each keeps to the limit, and
-/// tells of the latter.
+/// Writes a file of the glyphs that words name and of those that these are drawn with, where the run of each keeps to the limit. It
+/// tells of the latter, and of the tables that are left out, unless it is to be quiet.
 pub fn write<W: Write>(
     rt: &HostRuntime,
     face: &Face<'_>,
@@ -176,7 +208,11 @@ pub fn write<W: Write>(
     } else {
         renumbered(alloc, face, &choice, &kept)?
     };
-    along::tell(rt, &components)?;
-    let file = file_with(alloc, face, &made)?;
+    let names = names_of(alloc, face, words)?;
+    let file = file_with(alloc, face, &made, &names)?;
+    if !words.get_flag("quiet") {
+        along::tell(rt, &components)?;
+        leaving::tell(rt, &face.file)?;
+    }
     saving::put(rt, words, &file, out)
 }

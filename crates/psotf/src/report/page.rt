@@ -6,7 +6,7 @@ pub const BEFORE_STYLE: &str = r##"<!DOCTYPE html>
 <head>
 <meta charset="utf-8">
 <meta name="viewport" content="width=device-width">
-<meta http-equiv="Content-Security-Policy" content="default-src 'none'; script-src 'sha256-wKQN1ogspJDNgAnmNwV1WbAdGIyPiA391KK+xUxi8tQ='; style-src 'sha256-gVxjbfCFXHsDM6vG+Z2IS2hefW3cd0Bu1mlP/VAVs4U='; base-uri 'none'; form-action 'none'">
+<meta http-equiv="Content-Security-Policy" content="default-src 'none'; script-src 'sha256-q8P8kNAKLENQDOsz59jXx9YFzbxo1xNh0NUf6GiIFFQ='; style-src 'sha256-rkHomx2Qagi/clAcHni1CHbziXFE7ZKdLxWVO7nPBoM='; base-uri 'none'; form-action 'none'">
 <title>psotf report</title>
 <style>"##;
 
@@ -16,10 +16,10 @@ pub const BEFORE_DATA: &str = r##"</style>
 <body>
 <header>
 <h1 id="title">Font</h1>
-<p>Made by psotf. What it tells of the font are the answers of calls that are proved; the page itself is not.</p>
+<p>Made by psotf. What it tells of the font are the answers of calls that are proved. The page itself is not: calls, stems and where a width comes from it finds in the bytes, and holds them against the operations that the proved run told.</p>
 </header>
 <main id="page"></main>
-<footer><p>Keys: arrows go from operation to operation, / goes to the search.</p></footer>
+<footer><p>Keys: the left and right arrows go from operation to operation, Home and End to the first and the last; n and p to the next and the previous glyph; / to the search.</p></footer>
 <noscript><p>This page shows nothing without its script, which stands in it and loads nothing.</p></noscript>
 <script type="application/json" id="data">
 "##;

@@ -1,0 +1,47 @@
+//! What a subset leaves out.
+use crate::failure::Failure;
+use postscript_sfnt::FontFile;
+use std::alloc::{AllocError, Global};
+
+/// The tags of the tables that a subset has.
+const KEPT: [[u8; 4]; 9] = [
+    *b"CFF ", *b"OS/2", *b"cmap", *b"head", *b"hhea", *b"hmtx", *b"maxp", *b"name", *b"post",
+];
+
+/// The tags of tables of kerning and ligatures.
+const LAYOUT: [[u8; 4]; 3] = [*b"GPOS", *b"GSUB", *b"kern"];
+
+/// The tags of the tables that are left out, each behind a space; a byte that is no letter, digit or sign of ASCII is a question
+/// mark.
+fn tags(alloc: Global, file: &FontFile<'_>) -> Result<String, AllocError> {
+    let mut text = String::new(alloc);
+    for i in 0..file.tables() {
+        let tag = file.tag(i).unwrap_or(0).to_be_bytes();
+        if !KEPT.contains(&tag) {
+            text.push(' ')?;
+            for byte in &tag {
+                text.push(if byte.is_ascii_graphic() || *byte == b' ' {
+                    *byte as char
+                } else {
+                    '?'
+                })?;
+            }
+        }
+    }
+    Ok(text)
+}
+
+/// Tells on standard error, in one line, which tables are left out, and what is lost with them.
+pub fn tell(rt: &HostRuntime, file: &FontFile<'_>) -> Result<(), Failure> {
+    let tags = tags(rt.alloc(), file)?;
+    if tags.is_empty() {
+        return Ok(());
+    }
+    let lost = if LAYOUT.iter().any(|tag| file.table(*tag).is_some()) {
+        "; kerning and ligatures are lost"
+    } else {
+        ""
+    };
+    eprintln!(rt; "psotf: tables left out:{tags}{lost}")?;
+    Ok(())
+}

@@ -1,0 +1,188 @@
+//! The table `name` of a subset (ISO/IEC 14496-22, 5.2.7).
+use postscript_items::number::number_within;
+use postscript_sfnt::{Name, Names};
+use std::alloc::{AllocError, Global};
+
+/// The texts that systems and browsers read: family, style, unique and full name, version, PostScript name, the typographic and the
+/// WWS family and style, and the prefix of variations.
+const READ: [usize; 11] = [1, 2, 3, 4, 5, 6, 16, 17, 21, 22, 25];
+
+/// Copyright, trademark, and the licence and its address.
+const LICENCE: [usize; 4] = [0, 7, 13, 14];
+
+/// The most records of a table that is gone through.
+const MOST: usize = 1000;
+
+/// The language of the United States, as Windows numbers it.
+const ENGLISH: usize = 0x409;
+
+/// A record of the table, and its text.
+#[derive(Clone, Copy)]
+struct Record<'l> {
+    platform: usize,
+    encoding: usize,
+    language: usize,
+    identifier: usize,
+    start: usize,
+    text: &'l [u8],
+}
+
+/// A field of two bytes of a record.
+fn field(table: &[u8], i: usize, field: usize) -> usize {
+    let place = i
+        .saturating_mul(12)
+        .saturating_add(6)
+        .saturating_add(field.saturating_mul(2));
+    number_within(table, place, 2).unwrap_or(0)
+}
+
+/// A record. None where its text is cut.
+fn record(table: &[u8], i: usize) -> Option<Record<'_>> {
+    let start = number_within(table, 4, 2)
+        .unwrap_or(0)
+        .saturating_add(field(table, i, 5));
+    let end = start.saturating_add(field(table, i, 4));
+    if end > table.len() {
+        return None;
+    }
+    Some(Record {
+        platform: field(table, i, 0),
+        encoding: field(table, i, 1),
+        language: field(table, i, 2),
+        identifier: field(table, i, 3),
+        start,
+        text: &table[start..end],
+    })
+}
+
+/// Whether two texts are of the same characters.
+fn says_the_same(one: Name<'_>, other: Name<'_>) -> bool {
+    let mut others = other.chars();
+    for char in one.chars() {
+        if others.next() != Some(char) {
+            return false;
+        }
+    }
+    others.next().is_none()
+}
+
+/// Whether Windows tells the text of an identifier in the English of the United States.
+fn is_of_windows(table: &[u8], count: usize, identifier: usize) -> bool {
+    for i in 0..count {
+        if field(table, i, 0) == 3
+            && field(table, i, 2) == ENGLISH
+            && field(table, i, 3) == identifier
+            && record(table, i).is_some()
+        {
+            return true;
+        }
+    }
+    false
+}
+
+/// Whether the text that is read of an identifier says the same as a record of Unicode or of Macintosh in Roman, and is told by
+/// another one.
+fn is_told_twice(names: &Names<'_>, table: &[u8], count: usize, record: &Record<'_>) -> bool {
+    let Some(best) = names.get(record.identifier as u16) else {
+        return false;
+    };
+    match (record.platform, record.encoding, best) {
+        (0, _, Name::Utf16(_)) => {
+            is_of_windows(table, count, record.identifier)
+                && says_the_same(Name::Utf16(record.text), best)
+        }
+        (1, 0, Name::Utf16(_)) => says_the_same(Name::MacRoman(record.text), best),
+        _ => false,
+    }
+}
+
+/// The records that are kept, and their texts.
+#[derive(Drop)]
+struct Kept {
+    count: usize,
+    records: Vec<u8>,
+    texts: Vec<u8>,
+    /// Where each text that is kept stood, and where it stands.
+    places: Vec<(usize, usize, usize)>,
+}
+
+impl Kept {
+    /// Where a text stands that was kept before, or comes to stand.
+    fn place_of(&mut self, record: &Record<'_>) -> Result<usize, AllocError> {
+        let len = record.text.len();
+        for (start, size, place) in &self.places {
+            if *start == record.start && *size == len {
+                return Ok(*place);
+            }
+        }
+        let place = self.texts.len();
+        self.texts.extend_from_slice(record.text)?;
+        self.places.push((record.start, len, place))?;
+        Ok(place)
+    }
+
+    /// Adds a record.
+    fn put(&mut self, record: &Record<'_>) -> Result<(), AllocError> {
+        let place = self.place_of(record)?;
+        for number in [
+            record.platform,
+            record.encoding,
+            record.language,
+            record.identifier,
+            record.text.len(),
+            place,
+        ] {
+            self.records
+                .extend_from_slice(&(number as u16).to_be_bytes())?;
+        }
+        self.count = self.count.saturating_add(1);
+        Ok(())
+    }
+
+    /// The table. None where places have no room in two bytes.
+    fn table(&self, alloc: Global) -> Result<Option<Vec<u8>>, AllocError> {
+        let begin = self.records.len().saturating_add(6);
+        if begin > 65535 || self.texts.len() > 65535 {
+            return Ok(None);
+        }
+        let mut table = Vec::new(alloc);
+        for number in [0, self.count, begin] {
+            table.extend_from_slice(&(number as u16).to_be_bytes())?;
+        }
+        table.extend_from_slice(&self.records)?;
+        table.extend_from_slice(&self.texts)?;
+        Ok(Some(table))
+    }
+}
+
+/// Whether a subset keeps a record: one of a text that is read, where asked for of the licence too, in a language that is told by a
+/// number.
+fn is_kept(record: &Record<'_>, licence: bool) -> bool {
+    if record.language >= 0x8000 {
+        return false;
+    }
+    READ.contains(&record.identifier) || (licence && LICENCE.contains(&record.identifier))
+}
+
+/// The table of the records that a subset keeps, in their order, of each text one encoding where others say the same. None where the
+/// table is not of that form, or of very many records.
+pub fn trimmed(alloc: Global, table: &[u8], licence: bool) -> Result<Option<Vec<u8>>, AllocError> {
+    let count = number_within(table, 2, 2).unwrap_or(0);
+    let (Some(names), true) = (Names::read(table), count <= MOST) else {
+        return Ok(None);
+    };
+    let mut kept = Kept {
+        count: 0,
+        records: Vec::new(alloc),
+        texts: Vec::new(alloc),
+        places: Vec::new(alloc),
+    };
+    for i in 0..count {
+        if let Some(record) = record(table, i) {
+            if is_kept(&record, licence) && !is_told_twice(&names, table, count, &record) {
+                kept.put(&record)?;
+            }
+        }
+    }
+    kept.table(alloc)
+}

@@ -1,0 +1,139 @@
+//! The pages of a report: which glyphs each one has, and what it is called.
+use super::short;
+use crate::sheet::Sheet;
+use postscript_sfnt::CharacterMap;
+use std::alloc::{AllocError, Global};
+use std::ops::Range;
+
+/// The most glyphs of a page: a browser opens so many within a second or two.
+pub const MOST: u16 = 10_000;
+
+/// The most pages.
+const PAGES: u32 = 7;
+
+/// The pages of a report of glyphs that stand one behind the other.
+#[derive(Clone, Copy)]
+pub struct Pages<'w> {
+    /// Where the first one is written to.
+    pub path: &'w str,
+    pub first: u16,
+    /// Behind the last glyph.
+    pub end: u16,
+}
+
+impl<'w> Pages<'w> {
+    /// The glyphs of the page that begins with a glyph.
+    pub fn glyphs(&self, first: u16) -> Range<u16> {
+        first..self.end.min(first.saturating_add(MOST))
+    }
+
+    /// The first glyph of each page.
+    pub fn firsts(&self, alloc: Global) -> Result<Vec<u16>, AllocError> {
+        let mut firsts = Vec::new(alloc);
+        let mut first = self.first;
+        for _ in 0..PAGES {
+            firsts.push(first)?;
+            first = first.saturating_add(MOST);
+            if first >= self.end {
+                break;
+            }
+        }
+        Ok(firsts)
+    }
+
+    /// Where the page is written to that begins with a glyph: the first one where the words say, and the others beside it.
+    pub fn path_of(&self, alloc: Global, first: u16) -> Result<String, AllocError> {
+        if first == self.first {
+            return String::from_str(alloc, self.path);
+        }
+        match self.path.strip_suffix(".html") {
+            Some(stem) => format!(in alloc; "{stem}-{first}.html"),
+            None => format!(in alloc; "{}-{first}", self.path),
+        }
+    }
+
+    /// Writes of each page its name without the folder, its first glyph and the one behind its last.
+    pub fn put(&self, alloc: Global, sheet: &mut Sheet) -> Result<(), AllocError> {
+        sheet.json.key("pages")?;
+        sheet.json.begin_array()?;
+        for first in &self.firsts(alloc)? {
+            let path = self.path_of(alloc, *first)?;
+            let name = match path.rsplit_once('/') {
+                Some((_, name)) => name,
+                None => path.as_str(),
+            };
+            sheet.json.begin_array()?;
+            sheet.json.string(name)?;
+            sheet.json.u64(u64::from(*first))?;
+            sheet.json.u64(u64::from(self.glyphs(*first).end))?;
+            sheet.json.end_array()?;
+        }
+        sheet.json.end_array()
+    }
+}
+
+/// Characters one behind the other, whose glyphs are one behind the other too.
+#[derive(Clone, Copy)]
+struct Run {
+    char: u32,
+    glyph: u16,
+    count: u32,
+}
+
+impl Run {
+    /// Whether a character goes on where the run ends.
+    fn goes_on(&self, char: u32, glyph: u16) -> bool {
+        u64::from(char) == u64::from(self.char) + u64::from(self.count)
+            && u64::from(glyph) == u64::from(self.glyph) + u64::from(self.count)
+    }
+
+    /// Adds the run, if there is one: its first character, the glyph of it, and how many there are.
+    fn put(&self, text: &mut String) -> Result<(), AllocError> {
+        if self.count == 0 {
+            return Ok(());
+        }
+        short::put(text, i64::from(self.char))?;
+        short::put(text, i64::from(self.glyph))?;
+        short::put(text, i64::from(self.count))
+    }
+}
+
+/// Writes which glyph each character has, as one text of runs.
+pub fn put_index(
+    alloc: Global,
+    sheet: &mut Sheet,
+    map: &Option<CharacterMap<'_>>,
+) -> Result<(), AllocError> {
+    let mut text = String::new(alloc);
+    if let Some(map) = map {
+        put_runs(&mut text, map)?;
+    }
+    sheet.json.key("index")?;
+    sheet.json.string(text.as_str())
+}
+
+/// Adds the runs of a character map.
+fn put_runs(text: &mut String, map: &CharacterMap<'_>) -> Result<(), AllocError> {
+    let mut run = Run {
+        char: 0,
+        glyph: 0,
+        count: 0,
+    };
+    let mut from = 0u32;
+    for _ in 0..0x110000u32 {
+        let Some((char, glyph)) = map.next_char(from) else {
+            break;
+        };
+        if !run.goes_on(char, glyph) {
+            run.put(text)?;
+            run = Run {
+                char,
+                glyph,
+                count: 0,
+            };
+        }
+        run.count = run.count.saturating_add(1);
+        from = char.saturating_add(1);
+    }
+    run.put(text)
+}

@@ -1,0 +1,179 @@
+//! The parts of the table `CFF `, by their places and sizes (Technical Note 5176, Table 1).
+use crate::face::Face;
+use crate::sheet::Sheet;
+use postscript_base::compact1::{Operations, Operator};
+use postscript_items::Items;
+use postscript_items::number::number_within;
+use postscript_view::{Codes, Identifiers};
+use std::alloc::AllocError;
+
+/// Writes a part: its name, its place and its size in bytes.
+fn part(sheet: &mut Sheet, name: &str, place: usize, size: usize) -> Result<(), AllocError> {
+    sheet.json.begin_array()?;
+    sheet.json.string(name)?;
+    sheet.json.u64(place as u64)?;
+    sheet.json.u64(size as u64)?;
+    sheet.json.end_array()
+}
+
+/// Writes the INDEX at a place, and tells the place behind it.
+fn index(
+    sheet: &mut Sheet,
+    face: &Face<'_>,
+    name: &str,
+    place: usize,
+) -> Result<usize, AllocError> {
+    let Ok((_, end)) = Items::open(face.cff, place) else {
+        return Ok(place);
+    };
+    part(sheet, name, place, end.saturating_sub(place))?;
+    Ok(end)
+}
+
+/// The operand of an operator that is a place or a size: the last one, or the one so many before it.
+fn operand(dictionary: &Operations, operator: Operator, before: usize) -> Option<usize> {
+    let operands = dictionary.get(operator)?;
+    let list = operands.as_slice();
+    let i = list.len().checked_sub(1)?.checked_sub(before)?;
+    usize::try_from(list.get(i)?.to_i32()?).ok()
+}
+
+/// Writes the parts that stand one behind the other from the beginning on.
+fn first(sheet: &mut Sheet, face: &Face<'_>) -> Result<(), AllocError> {
+    let header = number_within(face.cff, 2, 1).unwrap_or(0);
+    part(sheet, "header", 0, header)?;
+    let dictionaries = index(sheet, face, "Name INDEX", header)?;
+    let strings = index(sheet, face, "Top DICT INDEX", dictionaries)?;
+    let subroutines = index(sheet, face, "String INDEX", strings)?;
+    let _ = index(sheet, face, "Global Subr INDEX", subroutines)?;
+    Ok(())
+}
+
+/// How many bytes ranges have that cover so many glyphs, where as many bytes tell how many follow the first one of each.
+fn ranges(bytes: &[u8], wide: bool, glyphs: usize) -> usize {
+    let size = if wide { 2 } else { 1 };
+    let mut left = glyphs;
+    let mut place = 0usize;
+    for _ in 0..glyphs {
+        if left == 0 {
+            break;
+        }
+        let Ok(more) = number_within(bytes, place.saturating_add(2), size) else {
+            break;
+        };
+        left = left.saturating_sub(more.saturating_add(1));
+        place = place.saturating_add(if wide { 4 } else { 3 });
+    }
+    place
+}
+
+/// Writes the char set, where it is the font's own.
+fn char_set(sheet: &mut Sheet, face: &Face<'_>) -> Result<(), AllocError> {
+    let (Some(set), Some(place)) = (
+        &face.set,
+        operand(&face.font.dictionary, Operator::CharSet, 0),
+    ) else {
+        return Ok(());
+    };
+    let behind = face.font.char_strings.len().saturating_sub(1);
+    let size = match set.identifiers {
+        Identifiers::Listed(_) => behind.saturating_mul(2),
+        Identifiers::Ranges1(bytes) => ranges(bytes, false, behind),
+        Identifiers::Ranges2(bytes) => ranges(bytes, true, behind),
+        _ => return Ok(()),
+    };
+    part(sheet, "Charsets", place, size.saturating_add(1))
+}
+
+/// Writes the encoding, where it is the font's own.
+fn encoding(sheet: &mut Sheet, face: &Face<'_>) -> Result<(), AllocError> {
+    let (Ok(encoding), Some(place)) = (
+        face.font.encoding(),
+        operand(&face.font.dictionary, Operator::Encoding, 0),
+    ) else {
+        return Ok(());
+    };
+    let codes = match encoding.codes {
+        Codes::Listed(codes) => codes.len(),
+        Codes::Ranges(codes) => codes.len(),
+        Codes::Predefined(_) => return Ok(()),
+    };
+    let supplements = match encoding.supplements.len() {
+        0 => 0,
+        len => len.saturating_add(1),
+    };
+    let size = codes.saturating_add(2).saturating_add(supplements);
+    part(sheet, "Encodings", place, size)
+}
+
+/// Writes FDSelect (section 19).
+fn select(sheet: &mut Sheet, face: &Face<'_>) -> Result<(), AllocError> {
+    let Some(place) = operand(&face.font.dictionary, Operator::FDSelect, 0) else {
+        return Ok(());
+    };
+    let size = match number_within(face.cff, place, 1) {
+        Ok(0) => face.font.char_strings.len().saturating_add(1),
+        Ok(3) => number_within(face.cff, place.saturating_add(1), 2)
+            .unwrap_or(0)
+            .saturating_mul(3)
+            .saturating_add(5),
+        _ => return Ok(()),
+    };
+    part(sheet, "FDSelect", place, size)
+}
+
+/// Writes the private dictionary that a dictionary names, and its local subroutines.
+fn private(
+    sheet: &mut Sheet,
+    face: &Face<'_>,
+    dictionary: &Operations,
+    own: &Operations,
+) -> Result<(), AllocError> {
+    let (Some(size), Some(place)) = (
+        operand(dictionary, Operator::Private, 1),
+        operand(dictionary, Operator::Private, 0),
+    ) else {
+        return Ok(());
+    };
+    part(sheet, "Private DICT", place, size)?;
+    if let Some(behind) = operand(own, Operator::Subrs, 0) {
+        let _ = index(
+            sheet,
+            face,
+            "Local Subr INDEX",
+            place.saturating_add(behind),
+        )?;
+    }
+    Ok(())
+}
+
+/// Writes the private dictionaries, and their local subroutines.
+fn privates(sheet: &mut Sheet, face: &Face<'_>) -> Result<(), AllocError> {
+    for one in &face.font.parts {
+        match &one.font_dictionary {
+            Some(dictionary) => private(sheet, face, dictionary, &one.dictionary)?,
+            None => private(sheet, face, &face.font.dictionary, &one.dictionary)?,
+        }
+    }
+    Ok(())
+}
+
+/// Writes each part with its place and its size.
+pub fn put(sheet: &mut Sheet, face: &Face<'_>) -> Result<(), AllocError> {
+    sheet.json.key("parts")?;
+    sheet.json.begin_array()?;
+    first(sheet, face)?;
+    encoding(sheet, face)?;
+    char_set(sheet, face)?;
+    select(sheet, face)?;
+    for (name, operator) in [
+        ("CharStrings INDEX", Operator::CharStrings),
+        ("Font DICT INDEX", Operator::FDArray),
+    ] {
+        if let Some(place) = operand(&face.font.dictionary, operator, 0) {
+            let _ = index(sheet, face, name, place)?;
+        }
+    }
+    privates(sheet, face)?;
+    sheet.json.end_array()
+}

@@ -1,0 +1,145 @@
+//! What a page tells of a glyph: a row, whose columns `head` names (docs/REPORT.md).
+use super::{hex, operations, outlines, short};
+use crate::characters::{Mapped, of_glyph};
+use crate::drawing::{draw, width_of};
+use crate::face::Face;
+use crate::failure::{Failure, Refusal};
+use crate::limit::Budget;
+use crate::sheet::Sheet;
+use postscript_drawing::Accent;
+use postscript_outline::Outline;
+use postscript_type2::{Charstring, Subroutines};
+use postscript_view::Glyph;
+use std::alloc::{AllocError, Global};
+
+/// Writes the name of a glyph, in a CID-keyed font its CID, or null.
+fn name(alloc: Global, sheet: &mut Sheet, face: &Face<'_>, gid: u16) -> Result<(), AllocError> {
+    if let Some(cid) = face.cid(gid) {
+        return sheet.json.u64(u64::from(cid));
+    }
+    match face.name(gid) {
+        Some(name) => sheet.bytes(alloc, name),
+        None => sheet.json.null(),
+    }
+}
+
+/// Writes the characters of a glyph.
+fn chars(sheet: &mut Sheet, chars: &[Mapped]) -> Result<(), AllocError> {
+    sheet.json.begin_array()?;
+    for mapped in chars {
+        sheet.json.u64(u64::from(mapped.char))?;
+    }
+    sheet.json.end_array()
+}
+
+/// Writes which part a glyph has, or null.
+fn part(sheet: &mut Sheet, face: &Face<'_>, gid: u16) -> Result<(), AllocError> {
+    match face.font.part_of(usize::from(gid)) {
+        Some(part) => sheet.json.u64(part as u64),
+        None => sheet.json.null(),
+    }
+}
+
+/// Writes the width of a glyph by its code, or null.
+fn width(
+    alloc: Global,
+    sheet: &mut Sheet,
+    glyph: &Glyph<'_, '_>,
+    outline: &Outline,
+) -> Result<(), AllocError> {
+    let Some(bits) = width_of(glyph, outline) else {
+        return sheet.json.null();
+    };
+    let mut text = String::new(alloc);
+    short::put_bits(&mut text, bits)?;
+    sheet.json.string(text.as_str())
+}
+
+/// How many units a run takes that comes to its end, and the base and the accent of an accented glyph.
+fn cost_of(
+    alloc: Global,
+    glyph: &Glyph<'_, '_>,
+    budget: &mut Budget,
+) -> Result<(u64, Option<Accent>), Failure> {
+    let share = budget.share();
+    let mut left = share;
+    let mut program = glyph.program(alloc);
+    let _ = program.fits(&mut left)?;
+    let cost = share.saturating_sub(left);
+    budget.spend(cost.saturating_mul(3));
+    let accent = Accent::named_by(program.operands_at_end());
+    Ok((cost, accent.unwrap_or(None)))
+}
+
+/// Writes what the run of a glyph costs, and how many bytes its code has without calls; tells the base and the accent.
+fn costs(
+    alloc: Global,
+    sheet: &mut Sheet,
+    glyph: &Glyph<'_, '_>,
+    budget: &mut Budget,
+) -> Result<Option<Accent>, Failure> {
+    let (cost, accent) = cost_of(alloc, glyph, budget)?;
+    let subroutines = Subroutines::indexes(glyph.global_subroutines, glyph.part.subroutines);
+    let code = glyph.code;
+    let charstring = Charstring { code, subroutines };
+    sheet.json.u64(cost)?;
+    sheet.json.u64(charstring.flat_len(alloc)? as u64)?;
+    sheet.json.u64(charstring.inlined_len(alloc)? as u64)?;
+    Ok(accent)
+}
+
+/// Writes the codes of a base and an accent.
+fn both(sheet: &mut Sheet, accent: &Accent) -> Result<(), AllocError> {
+    sheet.json.begin_array()?;
+    sheet.json.u64(u64::from(accent.base))?;
+    sheet.json.u64(u64::from(accent.accent))?;
+    sheet.json.end_array()
+}
+
+/// Writes what a glyph draws, by its run.
+fn drawn(
+    alloc: Global,
+    sheet: &mut Sheet,
+    glyph: &Glyph<'_, '_>,
+    outline: &Outline,
+    budget: &mut Budget,
+) -> Result<(), Failure> {
+    width(alloc, sheet, glyph, outline)?;
+    outlines::put_bounds(alloc, sheet, outline)?;
+    let accent = costs(alloc, sheet, glyph, budget)?;
+    outlines::put(alloc, sheet, outline)?;
+    operations::put(alloc, sheet, glyph, budget)?;
+    sheet.json.string(hex(alloc, glyph.code)?.as_str())?;
+    if let Some(accent) = accent {
+        both(sheet, &accent)?;
+    }
+    Ok(())
+}
+
+/// Writes a glyph as a row; why it is refused, if it is.
+pub fn put(
+    alloc: Global,
+    sheet: &mut Sheet,
+    face: &Face<'_>,
+    mapped: &[Mapped],
+    gid: u16,
+    budget: &mut Budget,
+) -> Result<Option<Refusal>, Failure> {
+    sheet.json.begin_array()?;
+    name(alloc, sheet, face, gid)?;
+    chars(sheet, of_glyph(mapped, gid))?;
+    sheet.json.u64(u64::from(face.advances.of(gid)))?;
+    part(sheet, face, gid)?;
+    let refusal = match draw(alloc, face, gid, budget) {
+        Ok((glyph, outline)) => {
+            drawn(alloc, sheet, &glyph, &outline, budget)?;
+            None
+        }
+        Err(refusal) => {
+            sheet.shown(&refusal)?;
+            Some(refusal)
+        }
+    };
+    sheet.json.end_array()?;
+    Ok(refusal)
+}

@@ -1,0 +1,202 @@
+#!/usr/bin/python3
+"""Tries what people ask of psotf at the command line, and what it says then.
+
+    (cd crates/psotf && rt run -- --help)
+    tools/command_line.py
+
+crates/psotf/out/psotf is run, or the program that the variable PSOTF names. Each case is a line: what is tried, and `as told` or what is otherwise. Of
+`subset` the size of a file of `Hello` beside what hb-subset 6.0.0 makes of it with its layout kept, 3,044 bytes; the records of its
+table `name`, which fontTools reads, beside those of the font: which are there, and that Macintosh tells none that Windows tells; what is said on
+standard error, once, and nothing with --quiet. Of `sheet` the size of its labels where the picture has its own size, that they are no wider than
+their cells, and why a glyph is refused, in its cell. Of words that are no subcommand the nearest one, and the status. Of `report` the pages of
+more glyphs than one holds. Needs Debian's python3-fonttools and fonts-ebgaramond. The status is 1 where something is otherwise.
+"""
+
+import pathlib
+import subprocess
+import sys
+import tempfile
+import xml.etree.ElementTree
+
+sys.dont_write_bytecode = True
+
+from fontTools.ttLib import TTFont
+
+from hostile_files import END, ONE, PSOTF, call, file_of, plain_font
+
+FONT = "/usr/share/fonts/opentype/ebgaramond/EBGaramond12-Regular.otf"
+READ, LICENCE = {1, 2, 3, 4, 5, 6, 16, 17, 21, 22, 25}, {0, 7, 13, 14}
+SVG = "{http://www.w3.org/2000/svg}"
+CASES = []
+
+
+def case(what):
+    def kept(test):
+        CASES.append((what, test))
+        return test
+
+    return kept
+
+
+def run(*words, status=0):
+    done = subprocess.run([str(PSOTF), *map(str, words)], capture_output=True, check=False)
+    assert done.returncode == status, f"status {done.returncode}: {done.stderr.decode()[:200]}"
+    return done.stdout.decode(), done.stderr.decode()
+
+
+def subset(folder, *words, font=FONT):
+    out = folder / "out.otf"
+    _, said = run("subset", font, "--text", "Hello", *words, "-o", out)
+    return out, said
+
+
+def names(path):
+    return [(r.platformID, r.platEncID, r.langID, r.nameID, r.toUnicode()) for r in TTFont(path)["name"].names]
+
+
+def wanted(records, kept):
+    """The records of these identifiers, without those of Macintosh in Roman whose text Windows tells too."""
+    windows = {(record[3], record[4]) for record in records if record[0] == 3}
+    return [record for record in records if record[3] in kept and (record[0] != 1 or (record[3], record[4]) not in windows)]
+
+
+def with_names(records, folder):
+    """EB Garamond with another table name."""
+    font = TTFont(FONT)
+    font["name"].names = []
+    for platform, encoding, language, identifier, text in records:
+        font["name"].setName(text, identifier, platform, encoding, language)
+    path = folder / "named.otf"
+    font.save(path)
+    return path
+
+
+@case("subset: Hello is smaller than hb-subset's file")
+def _(folder):
+    out, _ = subset(folder)
+    size = out.stat().st_size
+    assert size < 3044, f"{size} bytes"
+
+
+@case("subset: the names that systems read, in one encoding")
+def _(folder):
+    out, _ = subset(folder)
+    assert names(out) == wanted(names(FONT), READ), names(out)
+
+
+@case("subset: --keep-names keeps the licence too")
+def _(folder):
+    out, _ = subset(folder, "--keep-names")
+    assert names(out) == wanted(names(FONT), READ | LICENCE), names(out)
+
+
+@case("subset: texts that differ by platform stay, and other languages too")
+def _(folder):
+    records = [
+        (0, 3, 0, 1, "Family"), (0, 3, 0, 2, "Plain"), (1, 0, 0, 1, "Family"), (1, 0, 0, 2, "Regular"), (1, 0, 0, 4, "Only Macintosh é"), (1, 1, 11, 1, "家族"),
+        (3, 1, 0x409, 1, "Family"), (3, 1, 0x409, 2, "Roman"), (3, 1, 0x407, 1, "Familie"), (3, 1, 0x411, 1, "Family"), (3, 1, 0x409, 19, "Sample"),
+    ]  # fmt: skip
+    out, _ = subset(folder, font=with_names(records, folder))
+    left = [(0, 3, 0, 1, "Family"), (1, 0, 0, 1, "Family"), (3, 1, 0x409, 19, "Sample")]
+    assert sorted(names(out)) == sorted(record for record in records if record not in left), names(out)
+
+
+@case("subset: names of Unicode alone stay")
+def _(folder):
+    records = [(0, 3, 0, 1, "Family"), (0, 3, 0, 2, "Regular"), (1, 0, 0, 1, "Family")]
+    out, _ = subset(folder, font=with_names(records, folder))
+    assert names(out) == records[:2], names(out)
+
+
+@case("subset: what is left out is said once")
+def _(folder):
+    _, said = subset(folder)
+    assert said == "psotf: tables left out: FFTM GDEF GPOS GSUB; kerning and ligatures are lost\n", said
+
+
+@case("subset: without layout nothing is lost")
+def _(folder):
+    path, out = folder / "plain.otf", folder / "out.otf"
+    font = TTFont(FONT)
+    for tag in ("GDEF", "GPOS", "GSUB"):
+        del font[tag]
+    font.save(path)
+    assert subset(folder, font=path)[1] == "psotf: tables left out: FFTM\n"
+    run("subset", path, "--text", "Hello", "-o", out)
+    assert run("subset", out, "--text", "He", "-o", folder / "again.otf")[1] == ""
+
+
+@case("subset: --quiet says nothing")
+def _(folder):
+    out, said = subset(folder, "--quiet")
+    assert said == "", said
+    assert out.read_bytes() == subset(folder)[0].read_bytes()
+
+
+def picture(folder, font, *words):
+    out = folder / "sheet.svg"
+    run("sheet", font, *words, "-o", out)
+    return xml.etree.ElementTree.parse(out).getroot()
+
+
+@case("sheet: labels of 12 pixels, no wider than their cells")
+def _(folder):
+    root = picture(folder, FONT)
+    width, units = float(root.get("width")), float(root.get("viewBox").split()[2])
+    pixels = float(root.get("font-size")) * width / units
+    assert 11.5 <= pixels <= 13, pixels
+    letters = max(len(text.text or "") for text in root.iter(f"{SVG}text"))
+    assert letters * 0.61 * pixels <= width / 16, letters
+    assert [text.text for text in root.iter(f"{SVG}text")][:6] == ["0", ".notdef", "1", "space", "2", "exclam"]
+
+
+@case("sheet: a cell names what refuses its glyph")
+def _(folder):
+    path = folder / "refused.otf"
+    path.write_bytes(file_of(plain_font([END, END, call(0, 1) + END], [ONE * 30]), 3)[0])
+    told = run("glyph", path, "--gid", "2", status=1)[0].split("refused: ", 1)[1].strip()
+    cells = [[text.text or "" for text in cell.iter(f"{SVG}text")] for cell in picture(folder, path).iter(f"{SVG}g")]
+    assert " ".join(cells[2][2:]) == told, cells[2]
+    assert not cells[1][2:], cells[1]
+
+
+@case("words: the nearest subcommand is named")
+def _(folder):
+    for word, nearest in (("inspct", "inspect"), ("glyphs", "glyph"), ("svgs", "svg"), ("sheets", "sheet"), ("rapport", "report"), ("flatt", "flat"), ("subsett", "subset")):
+        said = run(word, FONT, status=2)[1]
+        assert f"'{word}'" in said and f"'{nearest}'" in said, said
+
+
+@case("words: a pipe that nobody reads is no failure")
+def _(folder):
+    for words in ("--help", f"inspect {FONT} --json"):
+        done = subprocess.run(f"'{PSOTF}' {words} | head -c 1", shell=True, capture_output=True, check=False)
+        assert done.stderr == b"", done.stderr
+
+
+@case("report: more glyphs than a page holds make further pages")
+def _(folder):
+    path, out = folder / "many.otf", folder / "report.html"
+    path.write_bytes(file_of(plain_font([END] * 20_001), 20_001)[0])
+    run("report", path, "-o", out)
+    pages = {page.name: page.read_text() for page in folder.glob("report*.html")}
+    assert sorted(pages) == ["report-10000.html", "report-20000.html", "report.html"], sorted(pages)
+    assert '"pages":[["report.html",0,10000],["report-10000.html",10000,20000],["report-20000.html",20000,20001]]' in pages["report-10000.html"]
+
+
+def main():
+    bad = 0
+    for what, test in CASES:
+        with tempfile.TemporaryDirectory() as folder:
+            try:
+                test(pathlib.Path(folder))
+                print(f"{what}: as told", flush=True)
+            except AssertionError as fault:
+                bad += 1
+                print(f"{what}: OTHERWISE: {fault}", flush=True)
+    print(f"{len(CASES)} cases, {bad} otherwise")
+    return 1 if bad else 0
+
+
+if __name__ == "__main__":
+    sys.exit(main())
