@@ -4,12 +4,13 @@
     (cd crates/psotf && rt run -- --help)
     tools/command_line.py
 
-crates/psotf/out/psotf is run, or the program that the variable PSOTF names. Each case is a line: what is tried, and `as told` or what is otherwise. Of
-`subset` the size of a file of `Hello` beside what hb-subset 6.0.0 makes of it with its layout kept, 3,044 bytes; the records of its
-table `name`, which fontTools reads, beside those of the font: which are there, and that Macintosh tells none that Windows tells; what is said on
-standard error, once, and nothing with --quiet. Of `sheet` the size of its labels where the picture has its own size, that they are no wider than
-their cells, and why a glyph is refused, in its cell. Of words that are no subcommand the nearest one, and the status. Of `report` the pages of
-more glyphs than one holds. Needs Debian's python3-fonttools and fonts-ebgaramond. The status is 1 where something is otherwise.
+crates/psotf/out/psotf is run, or the program that the variable PSOTF names. Each case is a line: what is tried, and `as told` or what is
+otherwise. Of `subset` the size of a file of `Hello` beside what hb-subset 6.0.0 makes of it with its layout kept, 3,044 bytes; the
+records of its table `name`, which fontTools reads, beside those of the font: which are there, and that Macintosh tells none that Windows
+tells; what is said on standard error, once, and nothing with --quiet. Of `sheet` the size of its labels where the picture has its own
+size, that they are no wider than their cells, and why a glyph is refused, in its cell. Of words that are no subcommand the nearest one,
+and the status. Of `report` the pages of more glyphs than one holds. Needs Debian's python3-fonttools and fonts-ebgaramond. The status is
+1 where something is otherwise.
 """
 
 import pathlib

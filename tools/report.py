@@ -5,17 +5,18 @@
     tools/report.py [--shots FOLDER] [FONT..]
     tools/report.py --sums
 
-FONTs are OpenType files; without any they are some of Debian's fonts-ebgaramond and fonts-freefont-otf, and the CID-keyed one of fonts-noto-cjk, where
-these are installed. Hostile ones are made besides: texts that would leave their place in the page, and 65,535 glyphs that are refused. Of each page it
-is seen that it opens with no message on the console, that it asks the network for nothing, that as many glyphs are found as the page holds and that
-more cells are made as the grid is scrolled, that the glyph of `A` is found, opened and stepped through to its end by the keys, and that it shows as many
-points then as `psotf glyph --json` tells of. The page's calls and masks of glyphs, all of them or some 500, are compared with those that fontTools
-meets when it runs the glyphs, how often each subroutine is called with the sum of these, and the parts of the table CFF with its size: together they
-cover it without a gap. Where a report has several pages, each is opened, they hold each glyph once, and a character of another page is found
-there by the link. A screenshot of each first page at 1280 and 400 pixels goes into FOLDER. With --sums it prints the sums of the script and the style
-instead, which stand in the policy of the page (crates/psotf/src/report/page.rt): where one differs, the browser runs no script, and says so. Needs
-Debian's chromium, chromium-driver, python3-selenium and python3-fonttools. A line is printed for each report: bytes of the font, of the first page and
-of all, seconds of psotf, and seconds until the first page is loaded. The status is 1 where something is otherwise.
+FONTs are OpenType files; without any they are some of Debian's fonts-ebgaramond and fonts-freefont-otf, and the CID-keyed one of
+fonts-noto-cjk, where these are installed. Hostile ones are made besides: texts that would leave their place in the page, and 65,535
+glyphs that are refused. Of each page it is seen that it opens with no message on the console, that it asks the network for nothing, that
+as many glyphs are found as the page holds and that more cells are made as the grid is scrolled, that the glyph of `A` is found, opened
+and stepped through to its end by the keys, and that it shows as many points then as `psotf glyph --json` tells of. The page's calls and
+masks of glyphs, all of them or some 500, are compared with those that fontTools meets when it runs the glyphs, how often each subroutine
+is called with the sum of these, and the parts of the table CFF with its size: together they cover it without a gap. Where a report has
+several pages, each is opened, they hold each glyph once, and a character of another page is found there by the link. A screenshot of each
+first page at 1280 and 400 pixels goes into FOLDER. With --sums it prints the sums of the script and the style instead, which stand in the
+policy of the page (crates/psotf/src/report/page.rt): where one differs, the browser runs no script, and says so. Needs Debian's chromium,
+chromium-driver, python3-selenium and python3-fonttools. A line is printed for each report: bytes of the font, of the first page and of
+all, seconds of psotf, and seconds until the first page is loaded. The status is 1 where something is otherwise.
 """
 
 import argparse
@@ -135,10 +136,11 @@ class Calls(SimpleT2Decompiler):
 def met(path, gids):
     """The calls and the masks of glyphs, as fontTools meets them."""
     font = TTFont(path, fontNumber=0, lazy=True)
-    strings = font["CFF "].cff.topDictIndex[0].CharStrings
+    top = font["CFF "].cff.topDictIndex[0]
+    strings = top.CharStrings
     order = font.getGlyphOrder()
     for gid in gids:
-        part = strings.fdSelect[gid] if hasattr(strings, "fdSelect") else 0
+        part = top.FDSelect[gid] if hasattr(top, "FDSelect") else 0
         run = Calls(strings[order[gid]], part)
         run.execute(strings[order[gid]])
         yield [run.calls, run.masks]

@@ -208,12 +208,12 @@ def header_page():
 
 
 PSOTF = """\
-psotf tells what OpenType files with a table CFF hold, draws their glyphs in exact numbers, and writes files without subroutines or of
-some glyphs. Numbers of glyphs and faces count from 0. Coordinates are in units of the font.
+psotf tells what OpenType files with a table CFF hold, draws their glyphs in exact numbers, writes pages to look at, and writes files without
+subroutines or of some glyphs. Numbers of glyphs and faces count from 0. Coordinates are in units of the font.
 """
 PSOTF_FILES = """\
 FILE is an OpenType file (.otf) or a collection (.otc, .ttc), and it is only read. OUT is written beside its place, as OUT.part, and then
-moved there.
+moved there. Further pages of report stand beside OUT: of report.html the one that begins with glyph 10000 is report-10000.html.
 """
 PSFONT = """\
 Without words psfont reads lines and answers each of them, until the input ends. Bytes are spelled as hexadecimal digits. With words it

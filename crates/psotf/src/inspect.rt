@@ -118,12 +118,15 @@ fn too_many(cff: &[u8]) -> Option<u64> {
     }
 }
 
-/// Passes over the whole font once by each reading. Nothing of it is kept.
+/// Passes over the whole font by each reading. Nothing of it is kept. What the strict reading takes the lenient one takes too, which
+/// asks for less, and it is not asked then.
 fn refusals_of(alloc: Global, cff: &[u8]) -> Refusals {
-    Refusals {
-        strict: FontSet::check(alloc, &mut Cursor::new(cff)).err(),
-        lenient: FontSet::check_lenient(alloc, &mut Cursor::new(cff)).err(),
-    }
+    let strict = FontSet::check(alloc, &mut Cursor::new(cff)).err();
+    let lenient = match &strict {
+        None => None,
+        Some(_) => FontSet::check_lenient(alloc, &mut Cursor::new(cff)).err(),
+    };
+    Refusals { strict, lenient }
 }
 
 /// Writes why a reading refuses the font, or null.

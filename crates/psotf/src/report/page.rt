@@ -6,7 +6,7 @@ pub const BEFORE_STYLE: &str = r##"<!DOCTYPE html>
 <head>
 <meta charset="utf-8">
 <meta name="viewport" content="width=device-width">
-<meta http-equiv="Content-Security-Policy" content="default-src 'none'; script-src 'sha256-q8P8kNAKLENQDOsz59jXx9YFzbxo1xNh0NUf6GiIFFQ='; style-src 'sha256-rkHomx2Qagi/clAcHni1CHbziXFE7ZKdLxWVO7nPBoM='; base-uri 'none'; form-action 'none'">
+<meta http-equiv="Content-Security-Policy" content="default-src 'none'; script-src 'sha256-GlW4FX5Ktz+f7O723xGoVvvwwq6DRclppS4EAg+SHww='; style-src 'sha256-9N8TzmLDSPle5VOlg9wItQMybCPoG/nxemqrPgbQ7Gc='; base-uri 'none'; form-action 'none'">
 <title>psotf report</title>
 <style>"##;
 

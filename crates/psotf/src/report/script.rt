@@ -121,13 +121,13 @@ const biasOf = (list) => (list.length < 1240 ? 107 : list.length < 33900 ? 1131 
 // Goes along the bytes of a glyph's code and of the subroutines that it calls. What is found is held against the operations that the
 // proved run told: each operator has to be the next one of these, with its operands. Where one is not, `why` says so, and no call or
 // stem is told. Operators that reckon are not followed.
-const MOST_BYTES = 1000000;
+const MOST = 200000;
 class Walk {
   constructor(glyph) {
     this.told = glyph.operations;
     this.part = glyph.part;
     this.rows = []; this.stack = []; this.bands = []; this.edge = { H: 0, V: 0 };
-    this.at = 0; this.left = MOST_BYTES; this.active = null; this.within = []; this.why = null; this.widthAt = null; this.isOver = false;
+    this.at = 0; this.left = MOST; this.active = null; this.within = []; this.why = null; this.widthAt = null; this.isOver = false;
     this.run(bytesOf(glyph.row[12]), 0);
     if (this.why === null && this.at !== this.told.length) this.fail("its code ends before the run does");
   }
@@ -278,13 +278,20 @@ function dictionary(entries) {
 
 function parts() {
   const size = head.tables.find(([tag]) => tag === "CFF ")?.[2] ?? 0;
-  const [bar, rows] = strip("the parts of the table CFF, each as wide as it is large", size, head.parts);
   const privates = font.cff.privates ?? (font.cff.private ? [font.cff.private] : []);
+  let own = -1;
+  const named = head.parts.map(([name, ...rest]) => {
+    if (name === "Private DICT") own += 1;
+    return [privates.length > 1 && own >= 0 ? `${name} ${own}` : name, ...rest];
+  });
+  const [bar, rows] = strip("the parts of the table CFF, each as wide as it is large", size, named);
+  const shownAs = (title, list) => list.map((entries, i) => folded(list.length > 1 ? `${title} ${i}` : title, dictionary(entries)));
+  const gathered = (title, list) => (list.length > 1 ? [folded(title, ...list)] : list);
   const codes = head.codes.map(([code, gid]) => make("li", {}, `${code}: ${byNumber(gid)?.label || gid}`));
   return section("cff", "The table CFF", bar, table(["part", "place", "bytes", "of the table"], rows, [1, 2, 3]),
     make("h3", {}, "Dictionary of the font"), dictionary(font.cff.top),
-    ...head.font_dictionaries.map((entries, i) => folded(`Font dictionary ${i}`, dictionary(entries))),
-    ...privates.map((entries, i) => folded(privates.length > 1 ? `Private dictionary ${i}` : "Private dictionary", dictionary(entries))),
+    ...gathered(`${head.font_dictionaries.length} font dictionaries`, shownAs("Font dictionary", head.font_dictionaries)),
+    ...gathered(`${privates.length} private dictionaries`, shownAs("Private dictionary", privates)),
     ...(codes.length === 0 ? [] : [folded(`Encoding: ${many(codes.length, "code")}`, make("ul", { class: "codes" }, ...codes))]));
 }
 

@@ -30,6 +30,7 @@ input[type=range], input[type=checkbox] { padding: 0; }
 input#text { flex: 1; }
 button.plain { border: 0; padding: 0; color: var(--mark); text-decoration: underline; background: none; cursor: pointer; overflow-wrap: anywhere; }
 summary { cursor: pointer; padding: .2rem 0; }
+details details { margin-left: 1rem; }
 :focus-visible { outline: 2px solid var(--mark); outline-offset: 1px; }
 .row { display: flex; flex-wrap: wrap; gap: .6rem; align-items: center; margin: .5rem 0; }
 .strip { width: 100%; height: 2.2rem; display: block; border: 1px solid var(--line); }
