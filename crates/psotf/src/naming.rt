@@ -41,17 +41,14 @@ fn record(table: &[u8], i: usize) -> Option<Record<'_>> {
     let start = number_within(table, 4, 2)
         .unwrap_or(0)
         .saturating_add(field(table, i, 5));
-    let end = start.saturating_add(field(table, i, 4));
-    if end > table.len() {
-        return None;
-    }
+    let text = table.get(start..start.saturating_add(field(table, i, 4)))?;
     Some(Record {
         platform: field(table, i, 0),
         encoding: field(table, i, 1),
         language: field(table, i, 2),
         identifier: field(table, i, 3),
         start,
-        text: &table[start..end],
+        text,
     })
 }
 

@@ -15,8 +15,10 @@ struct Pen {
 impl Pen {
     /// Adds a point.
     fn point(&mut self, to: Point) -> Result<(), AllocError> {
-        short::put_bits(&mut self.points, i64::from(to.x) - i64::from(self.at.x))?;
-        short::put_bits(&mut self.points, i64::from(to.y) - i64::from(self.at.y))?;
+        let x = i64::from(to.x).saturating_sub(i64::from(self.at.x));
+        let y = i64::from(to.y).saturating_sub(i64::from(self.at.y));
+        short::put_bits(&mut self.points, x)?;
+        short::put_bits(&mut self.points, y)?;
         self.at = to;
         Ok(())
     }

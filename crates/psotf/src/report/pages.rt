@@ -83,8 +83,9 @@ struct Run {
 impl Run {
     /// Whether a character goes on where the run ends.
     fn goes_on(&self, char: u32, glyph: u16) -> bool {
-        u64::from(char) == u64::from(self.char) + u64::from(self.count)
-            && u64::from(glyph) == u64::from(self.glyph) + u64::from(self.count)
+        let count = u64::from(self.count);
+        u64::from(char) == u64::from(self.char).saturating_add(count)
+            && u64::from(glyph) == u64::from(self.glyph).saturating_add(count)
     }
 
     /// Adds the run, if there is one: its first character, the glyph of it, and how many there are.

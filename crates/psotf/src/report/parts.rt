@@ -49,20 +49,29 @@ fn first(sheet: &mut Sheet, face: &Face<'_>) -> Result<(), AllocError> {
     Ok(())
 }
 
-/// How many bytes ranges have that cover so many glyphs, where as many bytes tell how many follow the first one of each.
-fn ranges(bytes: &[u8], wide: bool, glyphs: usize) -> usize {
-    let size = if wide { 2 } else { 1 };
+/// How many glyphs follow the first one of the range at a place, told by two bytes or by one.
+fn following(bytes: &[u8], place: usize, is_wide: bool) -> postscript_base::Result<usize> {
+    let behind = place.saturating_add(2);
+    if is_wide {
+        number_within(bytes, behind, 2)
+    } else {
+        number_within(bytes, behind, 1)
+    }
+}
+
+/// How many bytes ranges have that cover so many glyphs, of four bytes or of three.
+fn ranges(bytes: &[u8], is_wide: bool, glyphs: usize) -> usize {
     let mut left = glyphs;
     let mut place = 0usize;
     for _ in 0..glyphs {
         if left == 0 {
             break;
         }
-        let Ok(more) = number_within(bytes, place.saturating_add(2), size) else {
+        let Ok(more) = following(bytes, place, is_wide) else {
             break;
         };
         left = left.saturating_sub(more.saturating_add(1));
-        place = place.saturating_add(if wide { 4 } else { 3 });
+        place = place.saturating_add(if is_wide { 4 } else { 3 });
     }
     place
 }

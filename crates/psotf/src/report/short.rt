@@ -4,6 +4,12 @@ use std::alloc::AllocError;
 /// The digits of numbers: a number ends with one of the first half.
 const DIGITS: &[u8; 64] = b"ABCDEFGHIJKLMNOPQRSTUVWXYZabcdefghijklmnopqrstuvwxyz0123456789+/";
 
+/// Adds a digit.
+fn put_digit(text: &mut String, digit: u64) -> Result<(), AllocError> {
+    let letter = DIGITS.get(digit as usize).copied().unwrap_or(b'A');
+    text.push(letter as char)
+}
+
 /// Adds a whole number: its sign in the lowest bit, and digits of five bits, the lowest first.
 pub fn put(text: &mut String, number: i64) -> Result<(), AllocError> {
     let mut left = number.unsigned_abs().saturating_mul(2);
@@ -11,12 +17,12 @@ pub fn put(text: &mut String, number: i64) -> Result<(), AllocError> {
         left = left.saturating_add(1);
     }
     for _ in 0..13 {
-        let digit = (left % 32) as usize;
+        let digit = left % 32;
         left /= 32;
         if left == 0 {
-            return text.push(DIGITS[digit] as char);
+            return put_digit(text, digit);
         }
-        text.push(DIGITS[digit + 32] as char)?;
+        put_digit(text, digit.saturating_add(32))?;
     }
     Ok(())
 }
