@@ -27,6 +27,11 @@ struct Record<'l> {
     text: &'l [u8],
 }
 
+/// A number as two bytes have it, where they have room.
+fn word_of(number: usize) -> u16 {
+    u16::try_from(number).unwrap_or(u16::MAX)
+}
+
 /// A field of two bytes of a record.
 fn field(table: &[u8], i: usize, field: usize) -> usize {
     let place = i
@@ -37,7 +42,7 @@ fn field(table: &[u8], i: usize, field: usize) -> usize {
 }
 
 /// A record. None where its text is cut.
-fn record(table: &[u8], i: usize) -> Option<Record<'_>> {
+fn record_at(table: &[u8], i: usize) -> Option<Record<'_>> {
     let start = number_within(table, 4, 2)
         .unwrap_or(0)
         .saturating_add(field(table, i, 5));
@@ -69,7 +74,7 @@ fn is_of_windows(table: &[u8], count: usize, identifier: usize) -> bool {
         if field(table, i, 0) == 3
             && field(table, i, 2) == ENGLISH
             && field(table, i, 3) == identifier
-            && record(table, i).is_some()
+            && record_at(table, i).is_some()
         {
             return true;
         }
@@ -80,7 +85,7 @@ fn is_of_windows(table: &[u8], count: usize, identifier: usize) -> bool {
 /// Whether the text that is read of an identifier says the same as a record of Unicode or of Macintosh in Roman, and is told by
 /// another one.
 fn is_told_twice(names: &Names<'_>, table: &[u8], count: usize, record: &Record<'_>) -> bool {
-    let Some(best) = names.get(record.identifier as u16) else {
+    let Some(best) = names.get(word_of(record.identifier)) else {
         return false;
     };
     match (record.platform, record.encoding, best) {
@@ -130,7 +135,7 @@ impl Kept {
             place,
         ] {
             self.records
-                .extend_from_slice(&(number as u16).to_be_bytes())?;
+                .extend_from_slice(&word_of(number).to_be_bytes())?;
         }
         self.count = self.count.saturating_add(1);
         Ok(())
@@ -144,7 +149,7 @@ impl Kept {
         }
         let mut table = Vec::new(alloc);
         for number in [0, self.count, begin] {
-            table.extend_from_slice(&(number as u16).to_be_bytes())?;
+            table.extend_from_slice(&word_of(number).to_be_bytes())?;
         }
         table.extend_from_slice(&self.records)?;
         table.extend_from_slice(&self.texts)?;
@@ -175,7 +180,7 @@ pub fn trimmed(alloc: Global, table: &[u8], licence: bool) -> Result<Option<Vec<
         places: Vec::new(alloc),
     };
     for i in 0..count {
-        if let Some(record) = record(table, i) {
+        if let Some(record) = record_at(table, i) {
             if is_kept(&record, licence) && !is_told_twice(&names, table, count, &record) {
                 kept.put(&record)?;
             }

@@ -46,7 +46,7 @@ fn put_operation(
     operands: &[Operand],
 ) -> Result<(), AllocError> {
     short::put(text, code_of(operator))?;
-    short::put(text, operands.len() as i64)?;
+    short::put(text, i64::try_from(operands.len()).unwrap_or(0))?;
     for operand in operands {
         short::put_bits(text, i64::from(operand.bits()))?;
     }

@@ -52,23 +52,33 @@ impl<'w> Pages<'w> {
         }
     }
 
-    /// Writes of each page its name without the folder, its first glyph and the one behind its last.
+    /// Writes of a page its name without the folder, its first glyph and the one behind its last.
+    fn put_page(&self, alloc: Global, sheet: &mut Sheet, first: u16) -> Result<(), AllocError> {
+        let path = self.path_of(alloc, first)?;
+        sheet.json.begin_array()?;
+        sheet.json.string(name_of(path.as_str()))?;
+        sheet.json.u64(u64::from(first))?;
+        sheet.json.u64(u64::from(self.glyphs(first).end))?;
+        sheet.json.end_array()
+    }
+
+    /// Writes of each page its name, its first glyph and the one behind its last.
     pub fn put(&self, alloc: Global, sheet: &mut Sheet) -> Result<(), AllocError> {
+        let firsts = self.firsts(alloc)?;
         sheet.json.key("pages")?;
         sheet.json.begin_array()?;
-        for first in &self.firsts(alloc)? {
-            let path = self.path_of(alloc, *first)?;
-            let name = match path.rsplit_once('/') {
-                Some((_, name)) => name,
-                None => path.as_str(),
-            };
-            sheet.json.begin_array()?;
-            sheet.json.string(name)?;
-            sheet.json.u64(u64::from(*first))?;
-            sheet.json.u64(u64::from(self.glyphs(*first).end))?;
-            sheet.json.end_array()?;
+        for first in &firsts {
+            self.put_page(alloc, sheet, *first)?;
         }
         sheet.json.end_array()
+    }
+}
+
+/// The name of a file without its folder.
+fn name_of(path: &str) -> &str {
+    match path.rsplit_once('/') {
+        Some((_, name)) => name,
+        None => path,
     }
 }
 
