@@ -127,8 +127,12 @@ fn page_of(
 fn pages_of<'w>(face: &Face<'_>, words: &'w ArgMatches<'_>) -> Pages<'w> {
     let first = words.get_one::<u16>("from").unwrap_or(0);
     let most = words.get_one::<u16>("count").unwrap_or(65535);
+    let path = match words.get_str("out") {
+        Some(path) => path,
+        None => "report.html",
+    };
     Pages {
-        path: words.get_str("out").unwrap_or("report.html"),
+        path,
         first,
         end: count(face).min(first.saturating_add(most)),
     }
