@@ -26,3 +26,4 @@ pub use operations::outline_of_operations;
 pub use pen::Pen;
 pub use program::{LIMIT, draw_program};
 pub use stroke::{Axis, Stroke, Strokes, Vector};
+pub use undrawn::{Stroked, Undrawn};

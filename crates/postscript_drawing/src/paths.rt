@@ -13,9 +13,14 @@ use postscript_outline::Sink;
 use postscript_type2::{Operand, Operator};
 
 impl Pen {
-    /// What an operator with these operands draws: those that are too few for one more stroke draw nothing.
+    /// Draws what an operator with these operands draws, into a sink, from where the pen stands: each operation of a run so, and then
+    /// `end`, draw what the run draws. Stems, masks and operators that do not draw give the sink nothing. Operands that are too few
+    /// for one more stroke draw nothing; no run tells of them (`laws::runs_fit`).
+    ///
+    /// Refused: `Undrawn::Overflow` where a coordinate leaves the range, `Undrawn::Full` where the sink takes no more. The sink has been
+    /// given a front of the segments.
     #[inline(always)]
-    pub(crate) fn draw_path<S: Sink>(
+    pub fn draw_path<S: Sink>(
         &mut self,
         operator: Operator,
         operands: &[Operand],

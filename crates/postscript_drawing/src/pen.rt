@@ -47,9 +47,11 @@ impl Pen {
         Ok(())
     }
 
-    /// Ends the contour, if one is open.
+    /// Ends the contour, if one is open: gives it to a sink.
+    ///
+    /// Refused: where the sink takes no more. It holds what it held before.
     #[inline(always)]
-    pub(crate) fn end<S: Sink>(&mut self, sink: &mut S) -> Given
+    pub fn end<S: Sink>(&mut self, sink: &mut S) -> Given
         ensures ended { OnOk result (S.state sink.new ≡ fold S.after (S.state sink.old) (closing self.old)) }
         ensures full { OnErr result (S.state sink.new ≡ S.state sink.old) }
         ensures refuses { OnErr result (S.refuses (S.state sink.new)) }

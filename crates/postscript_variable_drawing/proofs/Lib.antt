@@ -1,3 +1,3 @@
 pub mod FittingLaws
-pub mod Applied
+pub mod Steps
 pub mod Spending

@@ -4,6 +4,7 @@ use Rattle.postscript_cff2.specs.Parts as parts
 use Rattle.postscript_cff2.specs.Parts.{HasPart}
 use Rattle.postscript_cff2.specs.Shown.{view_shown}
 use Rattle.postscript_cff2.specs.declared.font.Font as fonts
+use Rattle.postscript_drawing.specs.DrawnProgram.{DrawsFront}
 use Rattle.postscript_drawing.specs.declared.error.Error.{Error}
 use Rattle.postscript_drawing.specs.declared.error.Error.TheVariants.{NoSuchGlyph}
 use Rattle.postscript_outline.specs.declared.segment.Segment.{Segment}
@@ -13,18 +14,24 @@ use Rattle.postscript_variable.specs.Programs.{begun}
 use Rattle.postscript_variable.specs.declared.charstring.Charstring.{Charstring}
 use Rattle.postscript_variable_font.specs.Glyphs.{IsCharstringOf}
 use Rattle.postscript_variable_font.specs.declared.place.Place.{Place}
-use Rattle.postscript_variable_drawing.specs.Drawn.{IsOutlineOf, IsSpent, IsUndrawn}
+use Rattle.postscript_variable_drawing.specs.Drawn.{IsOutlineOf, IsRefused, IsSpent, origin}
 
 -- these are the segments that the charstring of a glyph draws at a place
 abbrev pub DrawsGlyph : fonts.Font → (glyph : ℕ) → Place → List Segment → Type 0
 DrawsGlyph font glyph place segments =
-    (charstring : Charstring) × IsCharstringOf font glyph place charstring × IsOutlineOf (begun (run_from charstring)) segments
+    (charstring : Charstring) × IsCharstringOf font glyph place charstring × IsOutlineOf origin (begun (run_from charstring)) segments
+
+-- a sink has taken a front of what the charstring of a glyph draws, or nothing where it has none
+abbrev pub DrawsGlyphFront : {T : Type 0} → (after : T → Segment → T) → (old new : T) → fonts.Font → (glyph : ℕ) → Place → Type 0
+DrawsGlyphFront after old new font glyph place =
+    (((part : parts.Part) → HasPart font.bytes.now (view_shown font) glyph part → ⊥) × (new ≡ old)) ⊎
+    ((charstring : Charstring) × IsCharstringOf font glyph place charstring × DrawsFront after origin old new (run_from charstring).answers)
 
 -- Why a glyph is not drawn: it has no part that stands, or its charstring is not drawn.
 abbrev pub IsGlyphUndrawn : fonts.Font → (glyph : ℕ) → Place → (left : ℕ) → Error → Type 0
 IsGlyphUndrawn font glyph place left e =
     ((e ≡ NoSuchGlyph glyph) × ((part : parts.Part) → HasPart font.bytes.now (view_shown font) glyph part → ⊥)) ⊎
-    ((charstring : Charstring) × IsCharstringOf font glyph place charstring × IsUndrawn (begun (run_from charstring)) left e)
+    ((charstring : Charstring) × IsCharstringOf font glyph place charstring × IsRefused origin (begun (run_from charstring)) left e)
 
 -- What was read of the glyph's charstring is paid, all of it where it is drawn; nothing is taken where it has none.
 abbrev pub SpendsOnGlyph : {A : Type 0} → fonts.Font → (glyph : ℕ) → Place → (limit left : ℕ) → Result A Error → Type 0

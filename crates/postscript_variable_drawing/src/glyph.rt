@@ -2,7 +2,7 @@
 ghost use Rattle.std.specs.Prelude.{◌≡◌, ◌≢◌, Err, OnOk, OnErr, IfErr};
 ghost use Rattle.postscript_drawing.specs.declared.error.Error.TheVariants as errors;
 ghost use Rattle.postscript_variable_drawing.specs.Drawn.{Gives};
-ghost use Rattle.postscript_variable_drawing.specs.Glyphs.{DrawsGlyph, IsGlyphUndrawn, SpendsOnGlyph, SufficesFor};
+ghost use Rattle.postscript_variable_drawing.specs.Glyphs.{DrawsGlyph, DrawsGlyphFront, IsGlyphUndrawn, SpendsOnGlyph, SufficesFor};
 
 use crate::drawing::draw;
 use postscript_cff2::Font;
@@ -15,7 +15,8 @@ use std::alloc::Global;
 /// Gives the outline of a glyph of a font at a place of its design space to a sink, as `draw` gives that of its charstring. The
 /// limit bounds how long it takes, and what is left of it is told; a glyph whose run costs less than the limit is never stopped.
 ///
-/// Refused: `NoSuchGlyph` where the font has no such glyph, or no Font DICT for it that stands (`Font::part`); else as `draw` is.
+/// Refused: `NoSuchGlyph` where the font has no such glyph, or no Font DICT for it that stands (`Font::part`); else as `draw` is. The sink
+/// has been given a front of the segments.
 pub fn draw_glyph<S: Sink>(
     alloc: Global,
     font: &Font<'_>,
@@ -26,7 +27,7 @@ pub fn draw_glyph<S: Sink>(
 ) -> Result<()>
     ensures drawn { OnOk result (Gives S.after (S.state sink.old) (S.state sink.new) (DrawsGlyph font.now glyph place.now)) }
     ensures why { IfErr result (λ e. IsGlyphUndrawn font.now glyph place.now limit.new e) }
-    ensures nothing { OnErr result (result ≢ Err errors.Full → S.state sink.new ≡ S.state sink.old) }
+    ensures front { OnErr result (DrawsGlyphFront S.after (S.state sink.old) (S.state sink.new) font.now glyph place.now) }
     ensures full { result ≡ Err errors.Full → S.refuses (S.state sink.new) }
     ensures spends { SpendsOnGlyph font.now glyph place.now limit.old limit.new result }
     ensures suffices { SufficesFor font.now glyph place.now limit.old → result ≢ Err errors.TooLong }

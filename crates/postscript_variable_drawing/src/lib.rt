@@ -8,5 +8,5 @@ pub mod laws;
 #[cfg(test)]
 mod tests;
 
-pub use drawing::{draw, outline_of};
+pub use drawing::{draw, draw_program, outline_of};
 pub use glyph::draw_glyph;

@@ -1,16 +1,20 @@
-use Rattle.std.proofs.Common.{IfOk, IfErr, subst}
-use Rattle.postscript_drawing.specs.Fitting.{AllFit}
-use Rattle.postscript_variable.specs.Charstrings.{font_from}
-use Rattle.postscript_variable.specs.Programs.{Pending}
-use Rattle.postscript_variable_drawing.specs.Drawn.{IsOutlineOf, IsRefused}
+use Rattle.std.proofs.lemmas.Result.{err_from_is_err_and}
+use Rattle.std.proofs.Common.{◌≡◌, [], ◌++◌, ap, subst, sym, ◌∙◌, rules}
+use Rattle.postscript_drawing.proofs.ListLaws.{all-appended}
+use Rattle.postscript_variable.specs.Charstrings.{run_from}
+use Rattle.postscript_variable.specs.Limit.{nothing}
+use Rattle.postscript_variable.specs.Programs.{begun}
+use Rattle.postscript_variable_drawing.specs.Drawn.{IsOutlineOf, origin}
 use Rattle.postscript_variable_drawing.proofs.drawing.outline_of.Goals as goal
 
-pub returns-clause-drawn : goal.returns-clause-drawn
-returns-clause-drawn c =
-    let fits = c.runs_fit.ensures (font_from c.args.charstring) c.args.charstring.blends.index c.args.charstring.code.now in
-    subst (λ (p : Pending). AllFit p.answers → IfOk c.drawn.result (λ segments. IsOutlineOf p segments.items)) c.program.ensures.value c.drawn.ensures.drawn fits
+pub returns-in_err-segments-clause-spends : goal.returns-in_err-segments-clause-spends
+returns-in_err-segments-clause-spends c =
+    let error = err_from_is_err_and c.from_residual.result c.from_residual.ensures.1 in
+    rw error.1 ((run_from c.args.charstring).costs, nothing)
 
-pub returns-clause-why : goal.returns-clause-why
-returns-clause-why c =
-    let fits = c.runs_fit.ensures (font_from c.args.charstring) c.args.charstring.blends.index c.args.charstring.code.now in
-    subst (λ (p : Pending). AllFit p.answers → IfErr c.drawn.result (λ e. IsRefused p c.drawn.new.limit e)) c.program.ensures.value c.drawn.ensures.why fits
+pub returns-in-Ok-clause-drawn : goal.returns-in-Ok-clause-drawn
+returns-in-Ok-clause-drawn c =
+    let drawn = c.in-Ok.ensures.drawn in
+    let empty : c.in_ok-segments.segments.items ≡ [] = search rules in
+    let same : c.draw.new.sink.items ≡ drawn.segments = drawn.taken ∙ all-appended _ drawn.segments ∙ ap (λ xs. xs ++ drawn.segments) empty in
+    subst (λ xs. IsOutlineOf origin (begun (run_from c.args.charstring)) xs) (sym same) drawn.drawn
