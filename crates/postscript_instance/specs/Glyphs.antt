@@ -23,7 +23,8 @@ pub record IsStaticGlyph (font : Font) (glyph : ℕ) (place : Place) (width : Op
 abbrev pub NoStaticGlyph : Font → (glyph : ℕ) → Place → (width : Option ℤ) → Error → Type 0
 NoStaticGlyph font glyph place width (errors.NoGlyph number) =
     (number ≡ glyph) × ((part : parts.Part) → HasPart font.bytes.now (view_shown font) glyph part → ⊥)
-NoStaticGlyph font glyph place width e = (charstring : Charstring) × IsCharstringOf font glyph place charstring × NotWritten charstring width e
+NoStaticGlyph font glyph place width e =
+    (charstring : Charstring) × IsCharstringOf font glyph place charstring × NotWritten charstring width e
 
 -- the codes of the first so many glyphs, each with its width
 pub record AreStatics (font : Font) (place : Place) (widths : List ℤ) (count : ℕ) (codes : List (Vec ℕ Global)) : Type 0 where

@@ -20,4 +20,5 @@ abbrev pub OperationsStay : Type 0
 OperationsStay = (charstring : Charstring) (width : Option ℤ) (code : List ℕ) → IsStaticOf charstring width code →
     (answers : List Answer) (end : End) → IsRunFrom charstring answers end →
     (lists : Lists) (run : Run) → IsRunOf lists code run →
-    (map operation run.answers ≡ map operation answers) × All (λ answer. answer.width ≡ width) run.answers × (run.end ≡ Finished [] width)
+    (map operation run.answers ≡ map operation answers) × All (λ answer. answer.width ≡ width) run.answers ×
+    (run.end ≡ Finished [] width)

@@ -36,7 +36,8 @@ pub record IsTableOf (font : Font) (place : Place) (advances : List ℤ) (bytes 
   pub view : View
   pub stands : IsLaidOut bytes 0 view
   pub counted : length view.char_strings ≡ length advances
-  pub glyphs : (glyph : ℕ) → glyph < length advances → (advance : ℤ) × (code : List ℕ) × (slice_get advances glyph ≡ Some advance) ×
+  pub glyphs : (glyph : ℕ) → glyph < length advances →
+      (advance : ℤ) × (code : List ℕ) × (slice_get advances glyph ≡ Some advance) ×
       (slice_get view.char_strings glyph ≡ Some code) × IsStaticGlyph font glyph place (Some advance) code
   pub none : view.tables.subroutines ≡ []
   pub widths : HaveNoWidths view.parts
