@@ -1,11 +1,13 @@
 -- The codes of glyphs, one more at a time.
-use Rattle.std.proofs.Common.{◌≡◌, refl, ap, sym, subst, ◌∙◌, ℕ, zero, suc, ◌+◌, ◌<◌, ◌≤◌, ◌⊎◌, inl, inr, ℤ, List, [], ◌∷◌, ◌++◌, length, length-append, Option, Some, slice_get, get_or, Vec, arith}
+use Rattle.std.proofs.Common.{◌≡◌, refl, ap, sym, subst, ◌∙◌, ℕ, zero, suc, ◌+◌, ◌<◌, ◌⊎◌, inl, inr, ℤ, List, [], ◌∷◌, ◌++◌, length, length-append, Some, slice_get, get_or, Vec, arith}
 use Rattle.std.specs.declared.alloc.Global.{Global}
 use Rattle.postscript_cff2.specs.declared.font.Font.{Font}
 use Rattle.postscript_variable_font.specs.declared.place.Place.{Place}
 use Rattle.postscript_view.specs.Layout.{IsLaidOut}
 use Rattle.postscript_view.specs.Order.{View}
-use Rattle.postscript_instance.specs.Glyphs.{AreStatics, IsStaticGlyph}
+use Rattle.postscript_instance.specs.declared.error.Error.{Error}
+use Rattle.postscript_instance.specs.declared.error.Error.TheVariants as errors
+use Rattle.postscript_instance.specs.Glyphs.{AreStatics, IsStaticGlyph, LacksCode, NoTable}
 use Rattle.postscript_instance.specs.Tables.{AreItems, IsPlainFont, IsTableOf}
 
 -- what stands there already stays, and the new one is the last
@@ -79,3 +81,14 @@ table-of font place advances bytes codes view are stands plain =
       none = plain.none;
       widths = plain.widths;
     }
+
+-- where a glyph has no code, there is no table
+pub no-table : (font : Font) (place : Place) (widths : List ℤ) (e : Error) → LacksCode font place widths e → NoTable font place widths e
+no-table font place widths errors.OtherCount (inl late) = absurd late
+no-table font place widths errors.OtherCount (inr lacks) = absurd (lacks.3.2)
+no-table font place widths (errors.Font e) lacks = lacks
+no-table font place widths errors.TooManyOperands lacks = lacks
+no-table font place widths errors.NoMove lacks = lacks
+no-table font place widths (errors.NoGlyph glyph) lacks = lacks
+no-table font place widths errors.TooLarge lacks = lacks
+no-table font place widths errors.NotReadBack lacks = lacks

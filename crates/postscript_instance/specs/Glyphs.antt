@@ -1,5 +1,5 @@
 -- Glyphs of variable fonts at a place, as static ones.
-use Rattle.std.specs.Prelude.{◌≡◌, ℕ, ℤ, ◌<◌, List, Option, Some, Vec, length, slice_get}
+use Rattle.std.specs.Prelude.{◌≡◌, ◌≢◌, ◌⊎◌, ℕ, ℤ, ◌<◌, List, Option, Some, Vec, length, slice_get}
 use Rattle.std.specs.declared.alloc.Global.{Global}
 use Rattle.postscript_cff2.specs.Parts as parts
 use Rattle.postscript_cff2.specs.Parts.{HasPart}
@@ -10,7 +10,7 @@ use Rattle.postscript_variable_font.specs.Glyphs.{IsCharstringOf}
 use Rattle.postscript_variable_font.specs.declared.place.Place.{Place}
 use Rattle.postscript_instance.specs.declared.error.Error.{Error}
 use Rattle.postscript_instance.specs.declared.error.Error.TheVariants as errors
-use Rattle.postscript_instance.specs.Refusals.{NotWritten}
+use Rattle.postscript_instance.specs.Refusals.{IsLate, NotWritten}
 use Rattle.postscript_instance.specs.Statics.{IsStaticOf}
 
 -- a code that does what the charstring of a glyph does at a place, with a width
@@ -25,6 +25,16 @@ NoStaticGlyph font glyph place width (errors.NoGlyph number) =
     (number ≡ glyph) × ((part : parts.Part) → HasPart font.bytes.now (view_shown font) glyph part → ⊥)
 NoStaticGlyph font glyph place width e =
     (charstring : Charstring) × IsCharstringOf font glyph place charstring × NotWritten charstring width e
+
+-- a glyph of which no code is written, with its width; or memory is wanting
+abbrev pub LacksCode : Font → Place → (widths : List ℤ) → Error → Type 0
+LacksCode font place widths e = IsLate e ⊎
+    ((glyph : ℕ) × (width : ℤ) × (slice_get widths glyph ≡ Some width) × NoStaticGlyph font glyph place (Some width) e)
+
+-- there are not as many widths as glyphs, or a glyph has no code, or what is written is too large or not read back; or memory is wanting
+abbrev pub NoTable : Font → Place → (widths : List ℤ) → Error → Type 0
+NoTable font place widths errors.OtherCount = length widths ≢ length (view_shown font).char_strings
+NoTable font place widths e = LacksCode font place widths e
 
 -- the codes of the first so many glyphs, each with its width
 pub record AreStatics (font : Font) (place : Place) (widths : List ℤ) (count : ℕ) (codes : List (Vec ℕ Global)) : Type 0 where

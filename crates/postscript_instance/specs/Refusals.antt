@@ -34,3 +34,10 @@ NotWritten charstring width (errors.Font e) = StopsWith charstring (refusal_of e
 NotWritten charstring width errors.TooManyOperands = (says : List Said) × Says charstring says × HasMore width says
 NotWritten charstring width errors.NoMove = (says : List Said) × Says charstring says × LacksMove width says
 NotWritten charstring width e = ⊥
+
+-- of laying out what is written, and of reading it back
+abbrev pub IsLate : Error → Type 0
+IsLate (errors.Font e) = e ≡ causes.Memory
+IsLate errors.TooLarge = Unit {0}
+IsLate errors.NotReadBack = Unit {0}
+IsLate e = ⊥

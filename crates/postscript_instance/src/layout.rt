@@ -1,5 +1,6 @@
 //! A table `CFF `, laid out (Technical Note 5176, "CFF Data Layout", "CID-keyed Fonts"). What is written is read back by its callers.
-ghost use Rattle.std.specs.Prelude.{◌≤◌};
+ghost use Rattle.std.specs.Prelude.{◌≤◌, IfErr};
+ghost use Rattle.postscript_instance.specs.Refusals.{IsLate};
 
 use crate::error::{Error, Result};
 use postscript_cff2::Font;
@@ -12,15 +13,23 @@ const FONT_MATRIX: usize = 0x0c07;
 const PRIVATE: [u8; 4] = [0x8b, 0x14, 0x8b, 0x15];
 
 /// Appends a number in two bytes.
-fn put_short(out: &mut Vec<u8>, number: usize) -> Result<()> {
-    let number = u16::try_from(number).map_err(|_| Error::TooLarge)?;
+fn put_short(out: &mut Vec<u8>, number: usize) -> Result<()>
+    ensures late { IfErr result (λ e. IsLate e) }
+{
+    let Ok(number) = u16::try_from(number) else {
+        return Err(Error::TooLarge);
+    };
     out.extend_from_slice(&number.to_be_bytes())?;
     Ok(())
 }
 
 /// The four bytes of a number.
-fn four(number: usize) -> Result<[u8; 4]> {
-    let number = u32::try_from(number).map_err(|_| Error::TooLarge)?;
+fn four(number: usize) -> Result<[u8; 4]>
+    ensures late { IfErr result (λ e. IsLate e) }
+{
+    let Ok(number) = u32::try_from(number) else {
+        return Err(Error::TooLarge);
+    };
     Ok(number.to_be_bytes())
 }
 
@@ -49,7 +58,9 @@ fn offset_behind(items: &[Vec<u8>]) -> usize {
 }
 
 /// Appends an offset in so many bytes.
-fn put_offset(out: &mut Vec<u8>, size: usize, offset: usize) -> Result<()> {
+fn put_offset(out: &mut Vec<u8>, size: usize, offset: usize) -> Result<()>
+    ensures late { IfErr result (λ e. IsLate e) }
+{
     let bytes = four(offset)?;
     let from = bytes.len().saturating_sub(size);
     out.extend_from_slice(&bytes[from..])?;
@@ -57,7 +68,9 @@ fn put_offset(out: &mut Vec<u8>, size: usize, offset: usize) -> Result<()> {
 }
 
 /// Appends the offsets of items, and the one behind them.
-fn put_offsets(out: &mut Vec<u8>, items: &[Vec<u8>]) -> Result<()> {
+fn put_offsets(out: &mut Vec<u8>, items: &[Vec<u8>]) -> Result<()>
+    ensures late { IfErr result (λ e. IsLate e) }
+{
     let size = size_of(offset_behind(items));
     out.push(size as u8)?;
     let mut offset = 1usize;
@@ -69,7 +82,9 @@ fn put_offsets(out: &mut Vec<u8>, items: &[Vec<u8>]) -> Result<()> {
 }
 
 /// Appends an INDEX (Technical Note 5176, "INDEX Data").
-fn put_index(out: &mut Vec<u8>, items: &[Vec<u8>]) -> Result<()> {
+fn put_index(out: &mut Vec<u8>, items: &[Vec<u8>]) -> Result<()>
+    ensures late { IfErr result (λ e. IsLate e) }
+{
     put_short(out, items.len())?;
     if items.len() == 0 {
         return Ok(());
@@ -82,14 +97,18 @@ fn put_index(out: &mut Vec<u8>, items: &[Vec<u8>]) -> Result<()> {
 }
 
 /// Appends an INDEX of one item.
-fn put_single(alloc: Global, out: &mut Vec<u8>, item: &[u8]) -> Result<()> {
+fn put_single(alloc: Global, out: &mut Vec<u8>, item: &[u8]) -> Result<()>
+    ensures late { IfErr result (λ e. IsLate e) }
+{
     let mut items = Vec::new(alloc);
     items.push(Vec::from_slice(alloc, item)?)?;
     put_index(out, &items)
 }
 
 /// Appends an integer operand of five bytes (Technical Note 5176, "DICT Data").
-fn put_integer(out: &mut Vec<u8>, number: usize) -> Result<()> {
+fn put_integer(out: &mut Vec<u8>, number: usize) -> Result<()>
+    ensures late { IfErr result (λ e. IsLate e) }
+{
     if number > 0x7fff_ffff {
         return Err(Error::TooLarge);
     }
@@ -99,7 +118,9 @@ fn put_integer(out: &mut Vec<u8>, number: usize) -> Result<()> {
 }
 
 /// Appends an operation of a DICT with one integer operand.
-fn put_operation(out: &mut Vec<u8>, number: usize, operator: &[u8]) -> Result<()> {
+fn put_operation(out: &mut Vec<u8>, number: usize, operator: &[u8]) -> Result<()>
+    ensures late { IfErr result (λ e. IsLate e) }
+{
     put_integer(out, number)?;
     out.extend_from_slice(operator)?;
     Ok(())
@@ -115,7 +136,9 @@ struct Places {
 }
 
 /// Appends the operands of FontMatrix as the Top DICT of CFF2 has them, and the operator, where it has one.
-fn put_matrix(out: &mut Vec<u8>, font: &Font<'_>) -> Result<()> {
+fn put_matrix(out: &mut Vec<u8>, font: &Font<'_>) -> Result<()>
+    ensures late { IfErr result (λ e. IsLate e) }
+{
     if let Some(entry) = font.dictionary.last(FONT_MATRIX) {
         let operands = font
             .dictionary
@@ -129,12 +152,9 @@ fn put_matrix(out: &mut Vec<u8>, font: &Font<'_>) -> Result<()> {
 }
 
 /// The Top DICT of a CID-keyed font of so many glyphs: its first two strings, Adobe and Identity, are its registry and its ordering.
-fn top_dictionary(
-    alloc: Global,
-    font: &Font<'_>,
-    glyphs: usize,
-    places: Places,
-) -> Result<Vec<u8>> {
+fn top_dictionary(alloc: Global, font: &Font<'_>, glyphs: usize, places: Places) -> Result<Vec<u8>>
+    ensures late { IfErr result (λ e. IsLate e) }
+{
     let mut top = Vec::new(alloc);
     top.extend_from_slice(&[0x1c, 0x01, 0x87, 0x1c, 0x01, 0x88, 0x8b, 0x0c, 0x1e])?;
     put_matrix(&mut top, font)?;
@@ -147,7 +167,9 @@ fn top_dictionary(
 }
 
 /// The char set of a CID-keyed font whose CIDs are the numbers of its glyphs.
-fn char_set(alloc: Global, glyphs: usize) -> Result<Vec<u8>> {
+fn char_set(alloc: Global, glyphs: usize) -> Result<Vec<u8>>
+    ensures late { IfErr result (λ e. IsLate e) }
+{
     let mut set = Vec::new(alloc);
     if glyphs < 2 {
         set.push(0)?;
@@ -160,21 +182,27 @@ fn char_set(alloc: Global, glyphs: usize) -> Result<Vec<u8>> {
 }
 
 /// FDSelect, with the Font DICT of each glyph.
-fn select(alloc: Global, font: &Font<'_>, glyphs: usize) -> Result<Vec<u8>> {
+fn select(alloc: Global, font: &Font<'_>, glyphs: usize) -> Result<Vec<u8>>
+    ensures late { IfErr result (λ e. IsLate e) }
+{
     let mut select = Vec::new(alloc);
     select.push(0)?;
     for glyph in 0..glyphs {
         let Some(number) = font.number(glyph) else {
-            return Err(Error::NoGlyph(glyph));
+            return Err(Error::NotReadBack);
         };
-        let number = u8::try_from(number).map_err(|_| Error::TooLarge)?;
+        let Ok(number) = u8::try_from(number) else {
+            return Err(Error::TooLarge);
+        };
         select.push(number)?;
     }
     Ok(select)
 }
 
 /// Font DICTs that name Private DICTs, which stand from a place on.
-fn dictionaries(alloc: Global, count: usize, place: usize) -> Result<Vec<Vec<u8>>> {
+fn dictionaries(alloc: Global, count: usize, place: usize) -> Result<Vec<Vec<u8>>>
+    ensures late { IfErr result (λ e. IsLate e) }
+{
     let mut all = Vec::new(alloc);
     let mut offset = place;
     for _ in 0..count {
@@ -188,7 +216,9 @@ fn dictionaries(alloc: Global, count: usize, place: usize) -> Result<Vec<Vec<u8>
 }
 
 /// Appends the header, the names, the Top DICT, the strings, and an INDEX without subroutines.
-fn put_head(alloc: Global, out: &mut Vec<u8>, name: &[u8], top: &[u8]) -> Result<()> {
+fn put_head(alloc: Global, out: &mut Vec<u8>, name: &[u8], top: &[u8]) -> Result<()>
+    ensures late { IfErr result (λ e. IsLate e) }
+{
     out.extend_from_slice(&[1, 0, 4, 4])?;
     put_single(alloc, out, name)?;
     put_single(alloc, out, top)?;
@@ -206,7 +236,9 @@ fn head(
     name: &[u8],
     glyphs: usize,
     places: Places,
-) -> Result<Vec<u8>> {
+) -> Result<Vec<u8>>
+    ensures late { IfErr result (λ e. IsLate e) }
+{
     let top = top_dictionary(alloc, font, glyphs, places)?;
     let mut out = Vec::new(alloc);
     put_head(alloc, &mut out, name, &top)?;
@@ -219,7 +251,9 @@ pub(crate) fn laid_out(
     font: &Font<'_>,
     name: &[u8],
     codes: &[Vec<u8>],
-) -> Result<Vec<u8>> {
+) -> Result<Vec<u8>>
+    ensures late { IfErr result (λ e. IsLate e) }
+{
     let nowhere = Places {
         char_set: 0,
         select: 0,

@@ -1,7 +1,8 @@
 //! The table `CFF ` of a place.
 ghost use Rattle.std.specs.Prelude.{◌≡◌, Some, length, slice_get, IsTrue, IfOk, IfErr, OnOk};
 ghost use Rattle.postscript_cff2.specs.Shown.{view_shown as varying_shown};
-ghost use Rattle.postscript_instance.specs.Glyphs.{AreStatics, IsStaticGlyph, NoStaticGlyph};
+ghost use Rattle.postscript_instance.specs.Glyphs.{AreStatics, IsStaticGlyph, LacksCode, NoStaticGlyph, NoTable};
+ghost use Rattle.postscript_instance.specs.Refusals.{IsLate};
 ghost use Rattle.postscript_instance.specs.Tables.{AreItems, HasNoWidths, HaveNoWidths, IsPlainFont, IsTableOf};
 ghost use Rattle.postscript_items.specs.Lent.{items_of};
 ghost use Rattle.postscript_view.specs.Layout.{IsLaidOut};
@@ -46,6 +47,7 @@ fn codes_of(
     widths: &[Operand],
 ) -> Result<Vec<Vec<u8>>>
     ensures are { IfOk result (λ codes. AreStatics font.now place.now widths.now (length widths.now) codes.items) }
+    ensures refused { IfErr result (λ e. LacksCode font.now place.now widths.now e) }
 {
     let mut codes = Vec::with_capacity(alloc, widths.len())?;
     for number in 0..widths.len() {
@@ -103,7 +105,8 @@ fn have_no_widths(parts: &[Part<'_>]) -> bool
 
 /// Reads back what was written. Refused: `NotReadBack` where it is not the font of these codes; `Font` with `Memory`.
 fn read_back(alloc: Global, bytes: &[u8], codes: &[Vec<u8>]) -> Result<()>
-    ensures { OnOk result ((view : View) × IsLaidOut bytes.now 0 view × IsPlainFont view codes.now) }
+    ensures font { OnOk result ((view : View) × IsLaidOut bytes.now 0 view × IsPlainFont view codes.now) }
+    ensures late { IfErr result (λ e. IsLate e) }
 {
     let font = match FontView::read(alloc, bytes) {
         Ok(font) => font,
@@ -136,6 +139,7 @@ pub fn table(
     advances: &[Operand],
 ) -> Result<Vec<u8>>
     ensures written { IfOk result (λ bytes. IsTableOf font.now place.now advances.now bytes.items) }
+    ensures refused { IfErr result (λ e. NoTable font.now place.now advances.now e) }
     ensures counted { OnOk result (length advances.now ≡ length (varying_shown font.now).char_strings) }
 {
     if advances.len() != font.char_strings.len() {

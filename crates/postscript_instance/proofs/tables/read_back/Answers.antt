@@ -5,8 +5,8 @@ use Rattle.postscript_instance.specs.Tables.{HaveNoWidths}
 use Rattle.postscript_instance.proofs.Rests.{no-items, is-true}
 use Rattle.postscript_instance.proofs.tables.read_back.Goals as goal
 
-pub returns-then-are_codes : goal.returns-then-are_codes
-returns-then-are_codes c = (
+pub returns-then-are_codes-clause-font : goal.returns-then-are_codes-clause-font
+returns-then-are_codes-clause-font c = (
   view_shown c.in-Ok.font,
   c.in-Ok.ensures.found,
   record {
