@@ -126,7 +126,9 @@ fn read_back(alloc: Global, bytes: &[u8], codes: &[Vec<u8>]) -> Result<()>
 /// The table `CFF ` of a place of a variable font, with the advance of each glyph in 16.16 bits: a CID-keyed font, whose CIDs are the
 /// numbers of its glyphs (ROS Adobe, Identity, 0), with this name. It has the Font DICTs of the table CFF2 and its FontMatrix, and no
 /// subroutines. Each glyph's charstring is that of `glyph`, with its advance as its width; `nominalWidthX` is 0. The Private DICTs have
-/// nothing else: the zones and the widths of stems by which glyphs are hinted are left out. What is written is read back.
+/// nothing else: the zones and the widths of stems by which glyphs are hinted are left out. What is written is read back: the contract says
+/// that it is read, and what its glyphs and its nominal widths are. The name and that it is CID-keyed are tested (`a_table_at_places`);
+/// of FontMatrix, FDSelect and the char set there is no clause.
 ///
 /// Refused: `OtherCount` where there are not as many advances as glyphs; as `glyph` is, for the first glyph that is; `TooLarge` where
 /// there are more than 65,535 glyphs or 256 Font DICTs, or offsets that 31 bits do not hold; `NotReadBack` where what was written
