@@ -36,6 +36,7 @@ CRATES = (
     "postscript_variable",
     "postscript_variable_font",
     "postscript_variable_drawing",
+    "postscript_instance",
     "postscript_write",
 )
 QUOTING = ("README.md", "docs/RECIPES.md")
