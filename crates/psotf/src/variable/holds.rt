@@ -18,14 +18,13 @@ fn names<'l>(face: &VariableFace<'l>) -> (Option<Name<'l>>, Option<Name<'l>>) {
     }
 }
 
-/// What is counted, under its name.
-fn counts(alloc: Global, face: &VariableFace<'_>) -> Result<[(&'static str, u64); 7], AllocError> {
+/// What is counted, under its name, with the number of characters.
+fn counts(face: &VariableFace<'_>, characters: u64) -> [(&'static str, u64); 7] {
     let data = match face.font.store {
         Some(store) => store.len(),
         None => 0,
     };
-    let characters = count(alloc, &face.common.map)?;
-    Ok([
+    [
         ("units_per_em", u64::from(face.common.units)),
         ("glyphs", u64::from(face.common.glyphs)),
         ("characters", characters),
@@ -39,7 +38,7 @@ fn counts(alloc: Global, face: &VariableFace<'_>) -> Result<[(&'static str, u64)
             face.font.font_dictionaries.len() as u64,
         ),
         ("variation_data", data as u64),
-    ])
+    ]
 }
 
 /// Writes an axis as an object.
@@ -117,7 +116,8 @@ fn object<W: Write>(alloc: Global, face: &VariableFace<'_>, out: &mut W) -> Resu
     let (family, style) = names(face);
     sheet.name("family", family)?;
     sheet.name("style", style)?;
-    for (key, count) in &counts(alloc, face)? {
+    let characters = count(alloc, &face.common.map)?;
+    for (key, count) in &counts(face, characters) {
         sheet.number(*key, *count)?;
     }
     space(alloc, &mut sheet, face)?;
@@ -184,7 +184,8 @@ fn lines<W: Write>(alloc: Global, face: &VariableFace<'_>, out: &mut W) -> Resul
     writeln!(out, "family: {}", text_of(alloc, family)?)?;
     writeln!(out, "style: {}", text_of(alloc, style)?)?;
     writeln!(out, "a variable font: its outlines stand in the table CFF2")?;
-    for (key, count) in &counts(alloc, face)? {
+    let characters = count(alloc, &face.common.map)?;
+    for (key, count) in &counts(face, characters) {
         writeln!(out, "{key}: {count}")?;
     }
     if let Some(axes) = face.axes {
