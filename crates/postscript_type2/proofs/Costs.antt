@@ -7,7 +7,12 @@ use Rattle.postscript_type2.specs.Program.Limit.{cost_of}
 use Rattle.postscript_type2.specs.Program.Parsing.{Phrase, Complete, NoPhrase, phrase}
 use Rattle.postscript_type2.specs.Program.Routines.{Lists}
 use Rattle.postscript_type2.specs.Program.Runs.{Said, Run}
+use Rattle.postscript_type2.specs.declared.program.machine.Machine.{Machine}
+use Rattle.postscript_type2.specs.Private.Callers.{rests}
+use Rattle.postscript_type2.specs.Private.Machines.{still_of}
 use Rattle.postscript_type2.specs.Private.Remaining.{still, next_still}
+use Rattle.postscript_type2.specs.Private.Working.{state_of}
+use Rattle.postscript_type2.specs.Program.Charstrings.{lists_of}
 use Rattle.postscript_type2.proofs.Remains.{still_step, still_end}
 
 -- the first phrase, if there is one, has a byte
@@ -52,6 +57,9 @@ pub has-byte : (lists : Lists) (left : ℕ) (bytes : List ℕ) (cs : List (List 
 has-byte lists left [] cs st = subst (λ (run : Run). HasByte run.trace) (sym (still_end lists left cs st)) tt
 has-byte lists left (b ∷ r) cs st =
     subst (λ (run : Run). HasByte run.trace) (sym (still_step lists left b r cs st)) (next-has lists left (λ more. drop more r) cs (stride lists (b ∷ r) st) (stride-by-has lists b r st (phrase (b ∷ r))))
+
+pub has : (machine : Machine) → HasByte (still_of machine).trace
+has machine = has-byte (lists_of machine.lists) machine.left machine.routine (rests machine.callers) (state_of machine.state)
 
 -- so it costs something
 pub costs-some : {before rest : Run} {said : Said} → HasByte before.trace → before ≡ with_phrase said rest → 0 < cost_of said

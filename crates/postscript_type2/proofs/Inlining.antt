@@ -1,7 +1,7 @@
 -- Flat code means what the run meant.
 use Rattle.std.proofs.lemmas.Grind.{common_steps}
 use Rattle.std.proofs.lemmas.Bool.Decides.{nat_tests}
-use Rattle.std.proofs.Common.{arith, ◌≡◌, refl, ap, sym, subst, ◌∙◌, ℕ, zero, suc, Bool, true, false, List, [], ◌∷◌, ◌++◌, map, Some, None, Result, Ok, Err, IfOk, OnOk}
+use Rattle.std.proofs.Common.{arith, ◌≡◌, refl, ap, sym, subst, ◌∙◌, ℕ, zero, suc, Bool, true, false, List, [], ◌∷◌, ◌++◌, map, Some, None, Result, Ok, Err, IfOk, IfSome, Option, OnOk}
 use Rattle.std.proofs.lemmas.List.{map-append, append-nil}
 use Rattle.std.proofs.lemmas.List.Concat.{flat_map-append}
 use Rattle.std.proofs.lemmas.List.Elements.{All-nil, All-cons}
@@ -148,3 +148,10 @@ pub keeps-result : {V E : Type 0} (items : V → List ℕ) (lists : Lists) (code
     IfOk r (λ flat. (other : Lists) → KeepsMeaning other (items flat) (run_of lists code))
 keeps-result items lists code (Ok flat) none text = λ other. subst (λ bytes. KeepsMeaning other bytes (run_of lists code)) (sym text) (keeps_meaning lists code none other)
 keeps-result items lists code (Err e) none text = tt
+
+pub keeps-told : {V E : Type 0} (items : V → List ℕ) (lists : Lists) (code : List ℕ) (r : Result (Option V) E) →
+    IfOk r (λ told. IfSome told (λ _. fault_of (run_of lists code).end ≡ None)) → IfOk r (λ told. IfSome told (λ flat. items flat ≡ flat_text (run_of lists code).trace)) →
+    IfOk r (λ told. IfSome told (λ flat. (other : Lists) → KeepsMeaning other (items flat) (run_of lists code)))
+keeps-told {V} {E} items lists code (Ok (Some flat)) none text = keeps-result {V = V} {E = E} items lists code (Ok flat) none text
+keeps-told items lists code (Ok None) none text = tt
+keeps-told items lists code (Err e) none text = tt

@@ -1,5 +1,5 @@
 -- The mask of a phrase stands behind its operator.
-use Rattle.std.proofs.Common.{◌≡◌, ◌≢◌, refl, ap, sym, subst, ◌∙◌, ℕ, ◌+◌, ◌-◌, ◌<◌, ◌≤◌, ℤ, false, List, [], ◌∷◌, ◌++◌, length, length-drop, take, drop, append_assoc, arith, cond}
+use Rattle.std.proofs.Common.{◌≡◌, ◌≢◌, refl, ap, sym, subst, ◌∙◌, ℕ, ◌-◌, ◌<◌, ◌≤◌, ℤ, false, List, ◌∷◌, ◌++◌, length, length-drop, take, drop, append_assoc, arith, cond}
 use Rattle.std.proofs.Math.Seq.{drop-append_seam, take-append_seam, take-length}
 use Rattle.postscript_base.specs.Tape.Outcome.{Got, Fault}
 use Rattle.postscript_base.specs.Refusal.{malformed_number}
@@ -7,7 +7,7 @@ use Rattle.postscript_type2.specs.declared.operation.Operator.{Operator}
 use Rattle.postscript_type2.specs.Number.{number}
 use Rattle.postscript_type2.specs.Private.Spelled.{behind_operator}
 use Rattle.postscript_type2.specs.Program.Parsing.{is_number}
-use Rattle.postscript_type2.specs.Program.Phrases.{IsPhrase, operator, escaped_operator, after_number, IsNumber, ReadsNumbers}
+use Rattle.postscript_type2.specs.Program.Phrases.{IsPhrase, operator, escaped_operator, after_number, IsNumber}
 use Rattle.postscript_type2.specs.Program.Told.{IsMaskOf}
 use Rattle.postscript_type2.proofs.NumberLaws.{at-first, no-number as fault-at, reads_numbers}
 use Rattle.postscript_type2.proofs.PhraseLaws.{no-number, reads-number, same-next}

@@ -2,7 +2,7 @@
 use crate::checks::{bytes_of, code_of, holds};
 use crate::programs::{DOUBLING, routines_of, told};
 use postscript::Result;
-use postscript::type2::Program;
+use postscript::type2::{Charstring, Program, Subroutines};
 use std::alloc::Global;
 use std::process::Abort;
 
@@ -80,6 +80,18 @@ const FAULTY: &[Faulty] = &[
     ("8cab0c14", "", 21),
 ];
 
+/// A code in hex, its local subroutines in hex, and the least limit within which its flat code is told.
+const LEAST: &[(&str, &str, u64)] = &[
+    // Each byte of a phrase costs a unit, and the last phrase is begun while one is left.
+    ("200a0e", "8c8d150b", 7),
+    // That the code is used up is seen while one is left.
+    ("8c16", "", 3),
+    ("", "", 1),
+    // A roll costs 4096 more, and a square root 8 more.
+    ("8c8d8d8c0c1e150e", "", 4104),
+    ("8c0c1a160e", "", 13),
+];
+
 /// The code without calls.
 fn written(alloc: Global, form: Form, code: &[u8], local: &[Vec<u8>]) -> Result<Vec<u8>> {
     match form {
@@ -132,6 +144,24 @@ fn check_faulty<R: Abort>(rt: &R, alloc: Global, form: Form, row: &Faulty) {
     holds(rt, code == row.2, row.0);
 }
 
+/// Whether the flat code is told within a limit, by the charstring and by its program. Where it is told it is that of `flatten`.
+fn is_told_within<R: Abort>(rt: &R, alloc: Global, row: &(&str, &str, u64), limit: u64) -> bool {
+    let code = bytes_of(rt, alloc, row.0);
+    let local = routines_of(rt, alloc, row.1);
+    let charstring = Charstring {
+        code: code.as_slice(),
+        subroutines: Subroutines::lists(&[], local.as_slice()),
+    };
+    let (mut left, mut again) = (limit, limit);
+    let told = charstring.flatten_within(alloc, &mut left).expect(rt, "a run");
+    let program = charstring.program(alloc);
+    let same = program.flat_within(&mut again).expect(rt, "a run again");
+    holds(rt, told == same && left == again, row.0);
+    let whole = charstring.flatten(alloc).expect(rt, "a flat code");
+    holds(rt, told.is_none() || told == Some(whole), row.0);
+    same.is_some()
+}
+
 /// Writes and measures 512 moves and a thousand calls.
 fn check_moves<R: Abort>(rt: &R, alloc: Global, form: Form, wanted: usize) {
     let local = routines_of(rt, alloc, DOUBLING);
@@ -159,6 +189,16 @@ fn inlined_codes(rt: HostRuntime) {
         check(&rt, alloc, Form::Inlined, row);
     }
     check_moves(&rt, alloc, Form::Inlined, 1025);
+}
+
+#[test]
+fn flat_codes_within_limits(rt: HostRuntime) {
+    let alloc = rt.alloc();
+    for row in LEAST {
+        holds(&rt, is_told_within(&rt, alloc, row, row.2), row.0);
+        let less = row.2.saturating_sub(1);
+        holds(&rt, !is_told_within(&rt, alloc, row, less), row.0);
+    }
 }
 
 #[test]

@@ -1,5 +1,5 @@
 -- What a program tells of an operation within a limit: as `step_within`, and how it is spelled.
-use Rattle.std.specs.Prelude.{◌≡◌, ◌<◌, ℕ, ℤ, List, [], ◌∷◌, ◌++◌, Result, Ok, Err}
+use Rattle.std.specs.Prelude.{◌≡◌, ℕ, ℤ, List, [], ◌∷◌, ◌++◌, Result, Ok, Err}
 use Rattle.std.specs.Borrow.{Fml, MutBor}
 use Rattle.std.specs.Io.BufRead.{Rests}
 use mir.Syntax.{named}
@@ -13,7 +13,7 @@ use Rattle.postscript_type2.specs.declared.program.within.Within.TheVariants as 
 use Rattle.postscript_type2.specs.Program.Phrases.{IsPhrase}
 use Rattle.postscript_type2.specs.Program.Programs.{Pending}
 use Rattle.postscript_type2.specs.Program.Runs.{Said, by}
-use Rattle.postscript_type2.specs.Program.Within.{StepsWithin, IsHeadWithin}
+use Rattle.postscript_type2.specs.Program.Within.{StepsWithin}
 
 -- these phrases come to this one, behind those that are passed, and go on with the rest
 abbrev pub ComesTo : List Said → Said → (rest : List Said) → Type 0

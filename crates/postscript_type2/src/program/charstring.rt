@@ -1,5 +1,5 @@
 //! Charstrings.
-ghost use Rattle.std.specs.Prelude.{◌≡◌, ◌⊎◌, ◌≤◌, length, OnOk, IfOk, IfErr, IfSome, MatchResult};
+ghost use Rattle.std.specs.Prelude.{◌≡◌, ◌≢◌, ◌⊎◌, ◌<◌, ◌≤◌, length, OnOk, IfOk, IfErr, IfSome, MatchResult};
 ghost use Rattle.postscript_base.specs.declared.error.Error.TheVariants as errors;
 ghost use Rattle.postscript_base.specs.Error.{code as number, IsOneOf, IsListed};
 ghost use Rattle.postscript_base.specs.Refusal.{refusal_of};
@@ -8,12 +8,14 @@ ghost use Rattle.postscript_type2.specs.Program.Endings.{run_refusals, flatten_r
 ghost use Rattle.postscript_type2.specs.Program.Flat.{flat_text, flat_len as the_flat_len};
 ghost use Rattle.postscript_type2.specs.Program.Inlined.{inlined_text, inlined_len as the_inlined_len, AddsNoOperator};
 ghost use Rattle.postscript_type2.specs.Program.Inlining.{KeepsMeaning, FlatTextKeepsMeaning};
+ghost use Rattle.postscript_type2.specs.Program.Limit.{cost};
 ghost use Rattle.postscript_type2.specs.Program.Programs.{begun};
 ghost use Rattle.postscript_type2.specs.Program.Routines.{Lists};
 ghost use Rattle.postscript_type2.specs.Program.Runs.{Run, fault_of};
 ghost use Rattle.postscript_type2.specs.Program.RunAnswers.{Tells};
+ghost use Rattle.postscript_type2.specs.Program.Within.{AnswersWithin};
 
-use super::flat::{flat_code, measured};
+use super::flat::{flat_code, flat_code_within, measured};
 use super::inlined::{inlined_code, inlined_measured};
 use super::machine::Machine;
 use super::subroutines::Subroutines;
@@ -90,6 +92,30 @@ impl<'l> Charstring<'l> {
     {
         let len = self.flat_len(alloc)?;
         flat_code(alloc, len, &mut Machine::over(alloc, self))
+    }
+
+    /// The code of `flatten`, where the run comes to its end while the limit lasts; None where the limit is used up before.
+    /// `Program::step_within` says what it is spent on. The charstring is run once.
+    ///
+    /// Refused: with what the run is refused with, as `Program::next` is; `Memory`.
+    ///
+    /// ```rust
+    /// pub fn flat_or_long(alloc: Global, code: &[u8], subroutines: Subroutines<'_>) -> Result<Option<Vec<u8>>> {
+    ///     let mut limit = 1_000_000;
+    ///     Charstring { code, subroutines }.flatten_within(alloc, &mut limit)
+    /// }
+    /// ```
+    pub fn flatten_within(self, alloc: Global, limit: &mut u64) -> Result<Option<Vec<u8>>>
+        ensures fits { AnswersWithin (run_from self.entry).trace limit.old result limit.new }
+        ensures suffices { cost (run_from self.entry).trace < limit.old → result ≢ Ok None }
+        ensures faultless { IfOk result (λ told. IfSome told (λ _. fault_of (run_from self.entry).end ≡ None)) }
+        ensures text { IfOk result (λ told. IfSome told (λ flat. flat.items ≡ flat_text (run_from self.entry).trace)) }
+        ensures meant { IfOk result (λ told. IfSome told (λ flat. (run : Run) × IsRunFrom self.entry run × (flat.items ≡ flat_text run.trace))) }
+        ensures keeps { IfOk result (λ told. IfSome told (λ flat. (other : Lists) → KeepsMeaning other flat.items (run_from self.entry))) }
+        ensures refused { IfErr result (λ e. (e ≡ errors.Memory) ⊎ (fault_of (run_from self.entry).end ≡ Some (refusal_of e))) }
+        ensures listed { IsListed flatten_refusals result }
+    {
+        flat_code_within(alloc, &mut Machine::over(alloc, self), limit)
     }
 
     /// How many bytes the code of `inlined` has; `usize::MAX` where it has more.

@@ -1,4 +1,3 @@
-use Rattle.std.proofs.Common.{◌≡◌}
 use Rattle.postscript_type2.proofs.Masks.{leaves-behind, shorter, is-mask}
 use Rattle.postscript_type2.proofs.program.told.mask_of.Goals as goal
 

@@ -1,6 +1,4 @@
-use Rattle.std.proofs.Common.{ℕ, ℤ, List, ◌++◌, ◌≡◌, length}
-use Rattle.postscript_type2.specs.Program.Phrases.{IsPhrase}
-use Rattle.postscript_type2.specs.declared.operation.Operator.{Operator}
+use Rattle.std.proofs.Common.{length}
 use Rattle.postscript_type2.proofs.Masks.{Leaves}
 use Rattle.postscript_type2.proofs.program.told.mask_of.Given as goal
 
