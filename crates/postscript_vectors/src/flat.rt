@@ -153,7 +153,9 @@ fn is_told_within<R: Abort>(rt: &R, alloc: Global, row: &(&str, &str, u64), limi
         subroutines: Subroutines::lists(&[], local.as_slice()),
     };
     let (mut left, mut again) = (limit, limit);
-    let told = charstring.flatten_within(alloc, &mut left).expect(rt, "a run");
+    let told = charstring
+        .flatten_within(alloc, &mut left)
+        .expect(rt, "a run");
     let program = charstring.program(alloc);
     let same = program.flat_within(&mut again).expect(rt, "a run again");
     holds(rt, told == same && left == again, row.0);

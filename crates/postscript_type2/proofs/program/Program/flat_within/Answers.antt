@@ -27,6 +27,6 @@ returns-clause-suffices c =
 
 pub returns-clause-listed : goal.returns-clause-listed
 returns-clause-listed c = elim c.match-self.branch [
-    in-Running w ↦ wider c.flat_code_within.result (flatten-listed c.flat_code_within.result (still_of w.empty.new.self).end (machine-ends w.empty.new.self) (search rules))
-    | in-Paused w ↦ wider c.flat_code_within.result (flatten-listed c.flat_code_within.result (still_of c.self.inside.machine).end (machine-ends c.self.inside.machine) (search rules))
-  ]
+  | in-Running w ↦ wider c.flat_code_within.result (flatten-listed c.flat_code_within.result (still_of w.empty.new.self).end (machine-ends w.empty.new.self) (search rules))
+  | in-Paused w ↦ wider c.flat_code_within.result (flatten-listed c.flat_code_within.result (still_of c.self.inside.machine).end (machine-ends c.self.inside.machine) (search rules))
+]

@@ -1,0 +1,53 @@
+-- A limit that a program spends while its operations are told.
+use Rattle.std.proofs.Common.{◌≡◌, ◌⊎◌, inl, inr, refl, ap, ◌∙◌, subst, true, false, ℕ, ℤ, List, [], ◌∷◌, Option, Some, None, Result, Ok, Err, arith}
+use denote.Ref.{Bor}
+use Rattle.postscript_base.specs.Refusal.{refusal_of}
+use Rattle.postscript_base.specs.declared.error.Error.{Error}
+use Rattle.postscript_base.specs.declared.error.Error.TheVariants.{Memory}
+use Rattle.postscript_type2.specs.declared.operation.Operator.{Operator}
+use Rattle.postscript_type2.specs.declared.program.within.Within.{Within}
+use Rattle.postscript_type2.specs.declared.program.within.Within.TheVariants.{Operation, End, Paused}
+use Rattle.postscript_type2.specs.Program.Limit.{Spends, nothing, one_more}
+use Rattle.postscript_type2.specs.Program.Programs.{Pending, IsLastWidth}
+use Rattle.postscript_type2.specs.Program.Runs.{Said, End as TheEnd, UsedUp, Returned, Finished, Fault, fault_of}
+use Rattle.postscript_type2.specs.Program.Within.{StepsWithin, Fits}
+
+-- what is left is spent on
+goes-on : (limit : ℕ) (phrases : List Said) (left : ℕ) (rest : List Said) (last : ℕ) (end : List Said) → Spends limit phrases left rest → Spends left rest last end → Spends limit phrases last end
+goes-on limit phrases left rest last end first nothing = first
+goes-on limit phrases left rest last end first (one_more before said behind spends is_left costs) =
+    one_more before said end (goes-on limit phrases left rest before (said ∷ end) first spends) is_left costs
+
+-- an end that is told is without fault
+faultless : (end : TheEnd) (width new : Option ℤ) → IsLastWidth end width new → fault_of end ≡ None
+faultless UsedUp width new h = refl
+faultless (Finished taken last) width new h = refl
+faultless (Returned st) width new h = absurd h
+faultless (Fault e) width new h = absurd h
+
+-- what a program has come to, by how its last step was answered
+pub on-operation : {first : ℕ} {phrases : List Said} (old new : Pending) {limit left : ℕ} {answer : Result Within Error} {op : Operator} {operands : Bor (List ℤ)} →
+    answer ≡ Ok (Operation op operands) → StepsWithin old limit answer new left → Spends first phrases limit old.trace → Spends first phrases left new.trace
+on-operation {first} {phrases} old new {limit} {left} {answer} {op} {operands} is steps paid =
+    let step = subst (λ (r : Result Within Error). StepsWithin old limit r new left) is steps in goes-on first phrases limit old.trace left new.trace paid step.1
+
+pub on-end : {first : ℕ} {phrases : List Said} (old new : Pending) {limit left : ℕ} {answer : Result Within Error} →
+    answer ≡ Ok End → StepsWithin old limit answer new left → Spends first phrases limit old.trace → (old.answers ≡ []) × (fault_of old.end ≡ None) × Fits phrases first true left
+on-end {first} {phrases} old new {limit} {left} {answer} is steps paid =
+    let step = subst (λ (r : Result Within Error). StepsWithin old limit r new left) is steps in
+    (step.0.0, faultless old.end old.width new.width step.0.1, ([], goes-on first phrases limit old.trace left [] paid step.1, omega arith))
+
+pub on-pause : {first : ℕ} {phrases : List Said} (old new : Pending) {limit left : ℕ} {answer : Result Within Error} →
+    answer ≡ Ok Paused → StepsWithin old limit answer new left → Spends first phrases limit old.trace → Fits phrases first false left
+on-pause {first} {phrases} old new {limit} {left} {answer} is steps paid =
+    let step = subst (λ (r : Result Within Error). StepsWithin old limit r new left) is steps in
+    (step.4, (new.trace, goes-on first phrases limit old.trace left new.trace paid step.5))
+
+pub on-refusal : {first : ℕ} {phrases : List Said} (old new : Pending) {limit left : ℕ} {answer : Result Within Error} {e : Error} →
+    answer ≡ Err e → StepsWithin old limit answer new left → Spends first phrases limit old.trace →
+    ((e ≡ Memory) ⊎ (fault_of old.end ≡ Some (refusal_of e))) × ((e ≡ Memory) ⊎ Fits phrases first true left)
+on-refusal {first} {phrases} old new {limit} {left} {answer} {e} is steps paid =
+    let step = subst (λ (r : Result Within Error). StepsWithin old limit r new left) is steps in (
+      elim step.0.0 [ inl memory ↦ inl memory | inr ends ↦ inr (ap fault_of ends.1) ],
+      elim step.1.2 [ inl memory ↦ inl memory | inr last ↦ inr (step.1.0, goes-on first phrases limit old.trace left step.1.0 paid step.1.1, last) ],
+    )
