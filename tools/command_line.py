@@ -9,10 +9,13 @@ otherwise. Of `subset` the size of a file of `Hello` beside what hb-subset 6.0.0
 records of its table `name`, which fontTools reads, beside those of the font: which are there, and that Macintosh tells none that Windows
 tells; what is said on standard error, once, and nothing with --quiet. Of `sheet` the size of its labels where the picture has its own
 size, that they are no wider than their cells, and why a glyph is refused, in its cell. Of words that are no subcommand the nearest one,
-and the status. Of `report` the pages of more glyphs than one holds. Needs Debian's python3-fonttools and fonts-ebgaramond. The status is
-1 where something is otherwise.
+and the status; of no words the help, and of a file alone what it holds. Of characters that the font has no glyph for which they are, by
+`svg` and by `subset`. Of files of other kinds the line that says what each is. Of `inspect` the memory that it takes of Noto Sans CJK.
+Of `report` the pages of more glyphs than one holds. Needs Debian's python3-fonttools and fonts-ebgaramond, and, where it is there, takes
+fonts-noto-cjk. The status is 1 where something is otherwise.
 """
 
+import os
 import pathlib
 import subprocess
 import sys
@@ -26,6 +29,7 @@ from fontTools.ttLib import TTFont
 from hostile_files import END, ONE, PSOTF, call, file_of, plain_font
 
 FONT = "/usr/share/fonts/opentype/ebgaramond/EBGaramond12-Regular.otf"
+LARGE = pathlib.Path("/usr/share/fonts/opentype/noto/NotoSansCJK-Regular.ttc")
 READ, LICENCE = {1, 2, 3, 4, 5, 6, 16, 17, 21, 22, 25}, {0, 7, 13, 14}
 SVG = "{http://www.w3.org/2000/svg}"
 CASES = []
@@ -134,6 +138,26 @@ def _(folder):
     assert out.read_bytes() == subset(folder)[0].read_bytes()
 
 
+@case("svg: characters without a glyph are named, and nothing is drawn")
+def _(folder):
+    out = folder / "text.svg"
+    told = f"psotf: {FONT}: the face has no glyph for: U+6F22 U+1F600\n"
+    assert run("svg", FONT, "--text", "A漢B😀漢", "-o", out, status=1)[1] == told
+    assert not out.exists()
+    assert run("subset", FONT, "--text", "A漢B😀漢", "-o", out, status=1)[1] == told
+    assert not out.exists()
+
+
+@case("svg: --missing draw draws them all the same, and names them")
+def _(folder):
+    out = folder / "text.svg"
+    assert run("svg", FONT, "--text", "A漢", "--missing", "draw", "-o", out)[1] == "psotf: the face has no glyph for: U+6F22\n"
+    paths = lambda: [path.get("d") for path in xml.etree.ElementTree.parse(out).getroot().iter(f"{SVG}path")]
+    both = paths()
+    run("svg", FONT, "--text", "A", "-o", out)
+    assert len(both) == 2 and both[0] == paths()[0] and both[1], both
+
+
 def picture(folder, font, *words):
     out = folder / "sheet.svg"
     run("sheet", font, *words, "-o", out)
@@ -168,11 +192,66 @@ def _(folder):
         assert f"'{word}'" in said and f"'{nearest}'" in said, said
 
 
+@case("words: none print the help, and a file alone is inspected")
+def _(folder):
+    out, said = run(status=2)
+    assert out == "" and "Usage:" in said and "Examples:" in said and "psotf report Font.otf" in said, said
+    assert run(FONT) == run("inspect", FONT)
+
+
+@case("files: of another kind, one line that says which and what is read")
+def _(folder):
+    path = folder / "font"
+    sound = file_of(plain_font([END, END]), 2)[0]
+    kinds = {
+        b"wOFF" + sound[4:]: "a WOFF file, which is packed", b"wOF2" + sound[4:]: "a WOFF2 file, which is packed",
+        b"%!PS-AdobeFont-1.0: A": "a Type 1 font", b"\x80\x01" + bytes(20): "a Type 1 font",
+        b"\x00\x01\x00\x00" + sound[4:].replace(b"CFF ", b"glyf", 1): "a TrueType font, whose outlines stand in the table glyf",
+    }  # fmt: skip
+    for data, kind in kinds.items():
+        path.write_bytes(data)
+        for words in (["inspect", path], ["report", path, "-o", folder / "report.html"]):
+            said = run(*words, status=1)[1]
+            assert said == f"psotf: {path}: {kind}: this program reads OpenType files with a table CFF or CFF2\n", said
+
+
+@case("inspect: of Noto Sans CJK no more memory than 1.5 times the file")
+def _(folder):
+    if not LARGE.is_file():
+        return
+    process = subprocess.Popen([str(PSOTF), "inspect", str(LARGE), "--json"], stdout=subprocess.DEVNULL)
+    _, status, usage = os.wait4(process.pid, 0)
+    assert status == 0 and usage.ru_maxrss * 1024 <= 1.5 * LARGE.stat().st_size, f"{usage.ru_maxrss} KB"
+
+
 @case("words: a pipe that nobody reads is no failure")
 def _(folder):
     for words in ("--help", f"inspect {FONT} --json"):
         done = subprocess.run(f"'{PSOTF}' {words} | head -c 1", shell=True, capture_output=True, check=False)
         assert done.stderr == b"", done.stderr
+
+
+@case("report: a table that is refused has a page that says why")
+def _(folder):
+    path, out = folder / "cut.otf", folder / "report.html"
+    path.write_bytes(file_of(plain_font([END, END])[:5], 2)[0])
+    said = run("report", path, "-o", out, status=1)[1]
+    assert "the table CFF, the names at byte 4: failed to fill whole buffer (refusal 1): " in said, said
+    page = out.read_text()
+    assert '"in_place":{"code":1,"message":"failed to fill whole buffer","part":"the names","place":4,"rule":' in page
+    assert '"strict":{"code":1,' in page and '"lenient":{"code":1,' in page
+
+
+@case("inspect: what a reading refuses, where and by which rule")
+def _(folder):
+    path = folder / "font.otf"
+    path.write_bytes(file_of(plain_font([END, END], char_set=b"\x07\x01\x87"), 2)[0])
+    lines = [line for line in run("inspect", path)[0].splitlines() if line.startswith("refused by")]
+    told = "reading: the char set at byte {}: found an unknown char-set format (refusal 11): a char set has the format 0, 1 or 2 "
+    place = TTFont(path).reader["CFF "].index(b"\x07\x01\x87") + 1
+    assert len(lines) == 2, lines
+    for line, reading in zip(lines, ("strict", "lenient"), strict=True):
+        assert line.startswith(f"refused by the {reading} {told.format(place)}"), line
 
 
 @case("report: more glyphs than a page holds make further pages")
