@@ -6,10 +6,11 @@
     tools/report.py --sums
 
 FONTs are OpenType files; without any they are some of Debian's fonts-ebgaramond and fonts-freefont-otf, and the CID-keyed one of
-fonts-noto-cjk, where these are installed. Hostile ones are made besides: texts that would leave their place in the page, and 65,535
-glyphs that are refused. Of each page it is seen that it opens with no message on the console, that it asks the network for nothing, that
-as many glyphs are found as the page holds and that more cells are made as the grid is scrolled, that the glyph of `A` is found, opened
-and stepped through to its end by the keys, and that it shows as many points then as `psotf glyph --json` tells of. The page's calls and
+fonts-noto-cjk, where these are installed. Hostile ones are made besides: texts that would leave their place in the page, 65,535 glyphs
+that are refused, and tables that some reading refuses. Of each page it is seen that it opens with no message on the console, that it asks
+the network for nothing, that as many glyphs are found as the page holds and that more cells are made as the grid is scrolled, that all are
+made and drawn when it is printed, that the glyph of `A` is found, opened and stepped through to its end by the keys, that it shows as
+many points then as `psotf glyph --json` tells of, and that it says of each reading what `psotf inspect --json` says. The page's calls and
 masks of glyphs, all of them or some 500, are compared with those that fontTools meets when it runs the glyphs, how often each subroutine
 is called with the sum of these, and the parts of the table CFF with its size: together they cover it without a gap. Where a report has
 several pages, each is opened, they hold each glyph once, and a character of another page is found there by the link. A screenshot of each
@@ -46,7 +47,7 @@ FONTS = [
     "freefont/FreeSerifItalic.otf", "freefont/FreeMonoBold.otf", "freefont/FreeSerifBold.otf",
 ]
 KEYED = "noto/NotoSansCJK-Regular.ttc"
-MOST = 500
+MOST, LONG = 500, 4000
 EVIL = ["</script><script>document.title='taken'</script>", "<img src=x onerror=\"document.title='taken'\">", "\"'`&<>", "\x00\x01\x1b[31m\u2028\u2029", "x" * 30_000]
 
 
@@ -81,6 +82,18 @@ def hostile():
     yield "a family of 60 KB in UTF-16", with_names(font, [EVIL[4], "</style>", "-->", "]]>"])
     font, count = file_of(plain_font([END, *[call(0, 1) + END] * 65_534], [ONE * 30]), 65_535)
     yield "65,535 glyphs, refused", font
+    yield from refused()
+
+
+def refused():
+    """Fonts that a reading refuses: all three the first two, the strict and the lenient one the third, the strict one alone the last."""
+    square = BEGIN + b"\x8c\x06" * 2 + END
+    sound = plain_font([END, square])
+    place = sound.index(b"\x1d", 12)
+    yield "char strings beyond the end", file_of(sound[: place + 1] + long(1_000_000) + sound[place + 5 :], 2)[0]
+    yield "a table that is cut off", file_of(sound[:5], 2)[0]
+    yield "a char set of an unknown format", file_of(plain_font([END, square], char_set=b"\x07\x01\x87"), 2)[0]
+    yield "no local subroutines", file_of(sound, 2)[0]
 
 
 def browser():
@@ -102,10 +115,13 @@ def asked_of(driver, page):
     return [url for url in asked if not url.startswith("data:")]
 
 
+def ran(*words):
+    return subprocess.run([str(PSOTF), *words], capture_output=True, text=True, check=False)
+
+
 def points_told(path, gid):
     """How many points `psotf glyph --json` tells of a glyph."""
-    done = subprocess.run([str(PSOTF), "glyph", path, "--gid", str(gid), "--json"], capture_output=True, text=True, check=False)
-    segments = json.loads(done.stdout)["segments"]
+    segments = json.loads(ran("glyph", path, "--gid", str(gid), "--json").stdout)["segments"]
     return None if segments is None else sum(len(segment) - 1 for segment in segments) // 2
 
 
@@ -158,7 +174,7 @@ def compare_walks(driver, path, told, faults):
     """Compares calls and masks with what fontTools meets, and the sums of the calls where all glyphs are compared."""
     first, rows = told["head"]["from"], told["glyphs"]
     drawn = [first + i for i, row in enumerate(rows) if len(row) != 5]
-    gids = drawn if len(rows) < 4000 else drawn[:: max(1, len(drawn) // MOST)]
+    gids = drawn if len(rows) < LONG else drawn[:: max(1, len(drawn) // MOST)]
     theirs, own = list(met(path, gids)), driver.execute_script(WALKS, gids)
     different = [(gid, a, b) for gid, a, b in zip(gids, own, theirs) if a != b]
     if different:
@@ -190,6 +206,50 @@ def look_at_parts(told, faults):
         faults.append(f"the parts end at {at}, and the table at {size}")
 
 
+def refusal_told(refusal):
+    """A refusal, as the page and the command line spell it."""
+    if refusal is None:
+        return ["reads it"]
+    spot = refusal["part"] if refusal["place"] is None else f"{refusal['part']} at byte {refusal['place']:,}"
+    return [f"refuses it: {refusal['message']} (refusal {refusal['code']})", spot, refusal["rule"]]
+
+
+def look_at_answers(driver, path, told, failure, faults):
+    """The page shows of each reading what `psotf` says of it: `inspect --json`, or of a table that is refused in place the page's block,
+    and the command with it."""
+    if refused := told["head"].get("readings"):
+        readings = [refused["in_place"], refused["strict"], refused["lenient"]]
+        says, spot, rule = refusal_told(readings[0])
+        if f": the table CFF, {spot.replace(',', '')}: {says.removeprefix('refuses it: ')}: {rule}\n" not in failure:
+            faults.append(f"the page says {spot}, {says}, and the command {failure}")
+    else:
+        font = json.loads(ran("inspect", path, "--json").stdout)["cff"]
+        readings = [None, font["strict"], font["lenient"]]
+    shown = "return [...document.querySelectorAll('#readings td:last-child')].map((cell) => [...cell.firstChild.children].map((it) => it.textContent))"
+    if (shown := driver.execute_script(shown)) != [refusal_told(reading) for reading in readings]:
+        faults.append(f"the readings say {readings}, and the page {shown}")
+
+
+UNDRAWN = """
+const cells = [...grid.querySelectorAll(".cell")];
+return [cells.length, cells.filter((cell) => cell.querySelector("path, .why") === null).length];
+"""
+
+
+def look_at_print(driver, page, told, faults):
+    """On paper each glyph has its cell, and each cell its picture or its reason, the last ones too: by the event before printing, and by
+    the change of the medium alone. The driver waits for ten seconds, too short for the paper of more glyphs."""
+    many = len(told["glyphs"])
+    media = lambda: driver.execute_cdp_cmd("Emulation.setEmulatedMedia", {"media": "print"})
+    for how in (driver.print_page, media) if many <= LONG else (media,):
+        driver.get(page.as_uri())
+        how()
+        cells, undrawn = driver.execute_script(UNDRAWN)
+        if (cells, undrawn) != (many, 0):
+            faults.append(f"{cells} cells are printed of {many}, {undrawn} of them empty")
+        driver.execute_cdp_cmd("Emulation.setEmulatedMedia", {"media": ""})
+
+
 def look_at_cells(driver, told, faults):
     many = len(told["glyphs"])
     kept, cells = driver.execute_script("return [kept.length, document.querySelectorAll('.cell').length]")
@@ -217,7 +277,7 @@ def look(driver, path, data, is_ours, faults):
         driver.find_element(By.CSS_SELECTOR, f'.cell[data-gid="{gid}"]').click()
         if len(rows[gid - first]) != 5:
             step_through(driver, path, gid, faults)
-    elif len(rows[-1]) == 5 and not driver.execute_script("return document.querySelector('.cell .why')?.textContent"):
+    elif rows and len(rows[-1]) == 5 and not driver.execute_script("return document.querySelector('.cell .why')?.textContent"):
         faults.append("no reason in the cell of a refused glyph")
 
 
@@ -283,7 +343,7 @@ def try_page(driver, name, path, folder, shot_folder, is_ours=True):
         page.unlink()
     page = folder / "report.html"
     begun = time.monotonic()
-    done = subprocess.run([str(PSOTF), "report", path, "-o", str(page)], capture_output=True, text=True, check=False)
+    done = ran("report", path, "-o", str(page))
     made = time.monotonic() - begun
     if done.returncode not in (0, 1):
         faults.append(f"psotf ended with {done.returncode}: {done.stderr[:200]}")
@@ -293,6 +353,8 @@ def try_page(driver, name, path, folder, shot_folder, is_ours=True):
     driver.get(page.as_uri())
     ready = driver.execute_script("return performance.getEntriesByType('navigation')[0].loadEventEnd") / 1000
     look(driver, path, data, is_ours, faults)
+    look_at_answers(driver, path, json.loads(data), done.stderr, faults)
+    look_at_print(driver, page, json.loads(data), faults)
     if shot_folder:
         driver.get(page.as_uri())
         shots(driver, shot_folder, name.replace(" ", "-").replace(",", ""))
@@ -307,12 +369,18 @@ def try_page(driver, name, path, folder, shot_folder, is_ours=True):
     return bool(faults)
 
 
+def inner(path):
+    """What stands in the text of a source file."""
+    return path.read_text(encoding="utf-8").split('r##"', 1)[1].rsplit('"##', 1)[0]
+
+
 def print_sums():
-    """The sums of the script and the style, as the policy spells them."""
-    for name in ("script", "style"):
-        text = (pathlib.Path(__file__).resolve().parent.parent / "crates/psotf/src/report" / f"{name}.rt").read_text(encoding="utf-8")
-        inner = text.split('r##"', 1)[1].rsplit('"##', 1)[0]
-        print(f"{name}-src 'sha256-{base64.b64encode(hashlib.sha256(inner.encode()).digest()).decode()}'")
+    """The sums of the script and the style, as the policy spells them. The parts of the script are one text."""
+    folder = pathlib.Path(__file__).resolve().parent.parent / "crates/psotf/src/report"
+    parts = (folder / "script.rt").read_text(encoding="utf-8").rsplit("[", 1)[1].split("]")[0].split(", ")
+    script = "".join(inner(folder / "script" / f"{part.lower()}.rt") for part in parts)
+    for name, text in (("script", script), ("style", inner(folder / "style.rt"))):
+        print(f"{name}-src 'sha256-{base64.b64encode(hashlib.sha256(text.encode()).digest()).decode()}'")
 
 
 def main():

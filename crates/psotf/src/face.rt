@@ -152,12 +152,13 @@ impl<'l> Face<'l> {
             map,
             names,
         } = Common::open(&file)?;
+        let faces = faces(bytes)?;
         let font = opened(alloc, cff)?;
         let set = font.char_set().ok();
         Ok(Face {
             file,
             size: bytes.len(),
-            faces: faces(bytes)?,
+            faces,
             units,
             glyphs,
             advances,

@@ -31,8 +31,7 @@ pub fn name(alloc: Global, sheet: &mut Sheet, face: &Face<'_>, gid: u16) -> Resu
 
 /// Writes the characters of a glyph.
 pub fn chars(alloc: Global, sheet: &mut Sheet, chars: &[Mapped]) -> Result<(), AllocError> {
-    sheet.json.key("chars")?;
-    sheet.json.begin_array()?;
+    sheet.begin_list("chars")?;
     for mapped in chars {
         let char = mapped.char;
         let text = format!(in alloc; "U+{char:04X}")?;
@@ -52,17 +51,14 @@ pub fn measures(
         Some(bits) => sheet.bits(bits)?,
         None => sheet.json.null()?,
     }
-    sheet.json.key("bounds")?;
-    sheet.bounds(outline.bounds())?;
-    sheet.json.key("tight_bounds")?;
-    sheet.bounds(outline.tight_bounds())
+    sheet.bounds("bounds", outline.bounds())?;
+    sheet.bounds("tight_bounds", outline.tight_bounds())
 }
 
 /// Writes what a glyph draws.
 fn drawn(sheet: &mut Sheet, glyph: &Glyph<'_, '_>, outline: &Outline) -> Result<(), AllocError> {
     measures(sheet, glyph, outline)?;
-    sheet.json.key("segments")?;
-    sheet.json.begin_array()?;
+    sheet.begin_list("segments")?;
     for segment in &outline.segments {
         sheet.segment(*segment)?;
     }
@@ -75,8 +71,7 @@ fn refused(sheet: &mut Sheet, refusal: &Refusal) -> Result<(), AllocError> {
         sheet.json.key(key)?;
         sheet.json.null()?;
     }
-    sheet.json.key("refused")?;
-    sheet.shown(refusal)
+    sheet.tell("refused", refusal)
 }
 
 /// Writes the operations of a glyph that was drawn, each as a text.
@@ -87,8 +82,7 @@ pub fn operations(
     budget: &mut Budget,
 ) -> Result<(), Failure> {
     let mut program = glyph.program(alloc);
-    sheet.json.key("operations")?;
-    sheet.json.begin_array()?;
+    sheet.begin_list("operations")?;
     for _ in 0..u64::MAX {
         let Some((operator, operands)) = program.next()? else {
             break;

@@ -5,15 +5,14 @@ use crate::face::Face;
 use crate::failure::Failure;
 use crate::hints::hinted;
 use crate::limit::Budget;
+use crate::readings;
 use crate::sheet::Sheet;
 use crate::stopped::Stopped;
-use postscript_base::Error;
 use postscript_base::compact1::Operator;
-use postscript_compact1::font_set::FontSet;
 use postscript_sfnt::Name;
-use postscript_view::{FontView, Identifiers};
+use postscript_view::Identifiers;
 use std::alloc::{AllocError, Global};
-use std::io::{Cursor, Write};
+use std::io::Write;
 
 /// The family and the style.
 fn names<'l>(face: &Face<'l>) -> (Option<Name<'l>>, Option<Name<'l>>) {
@@ -72,8 +71,7 @@ fn top_codes(face: &Face<'_>) -> &'static [u16] {
 
 /// Writes the private dictionaries, and how many local subroutines each has.
 fn parts(sheet: &mut Sheet, face: &Face<'_>) -> Result<(), AllocError> {
-    sheet.json.key("local_subroutines")?;
-    sheet.json.begin_array()?;
+    sheet.begin_list("local_subroutines")?;
     for part in &face.font.parts {
         sheet.json.u64(part.subroutines.len() as u64)?;
     }
@@ -96,52 +94,6 @@ fn privates(sheet: &mut Sheet, face: &Face<'_>) -> Result<(), AllocError> {
         dictionaries::write(sheet, &part.dictionary, &PRIVATE)?;
     }
     sheet.json.end_array()
-}
-
-/// Why the two readings of a whole font refuse the font, where they do.
-#[derive(Drop)]
-struct Refusals {
-    strict: Option<Error>,
-    lenient: Option<Error>,
-}
-
-/// How many bytes both readings may pass over: each passes over the table once at most for each of its dictionaries.
-const PASSED: u64 = 1_000_000_000;
-
-/// How many dictionaries a table has, where it has too many for its readings to pass over it for each.
-fn too_many(cff: &[u8]) -> Option<u64> {
-    let fonts = FontView::fonts(cff).unwrap_or(0) as u64;
-    if fonts > 1 && fonts.saturating_mul(cff.len() as u64) > PASSED {
-        Some(fonts)
-    } else {
-        None
-    }
-}
-
-/// Passes over the whole font by each reading. Nothing of it is kept. What the strict reading takes the lenient one takes too, which
-/// asks for less, and it is not asked then.
-fn refusals_of(alloc: Global, cff: &[u8]) -> Refusals {
-    let strict = FontSet::check(alloc, &mut Cursor::new(cff)).err();
-    let lenient = match &strict {
-        None => None,
-        Some(_) => FontSet::check_lenient(alloc, &mut Cursor::new(cff)).err(),
-    };
-    Refusals { strict, lenient }
-}
-
-/// Writes why a reading refuses the font, or null.
-fn refusal(sheet: &mut Sheet, key: &str, refusal: &Option<Error>) -> Result<(), AllocError> {
-    sheet.json.key(key)?;
-    match refusal {
-        None => sheet.json.null(),
-        Some(error) => {
-            sheet.json.begin_object()?;
-            sheet.number("code", u64::from(error.code()))?;
-            sheet.json.key("message")?;
-            sheet.shown(error)?;
-            sheet.json.end_object()
-        }
-    }
 }
 
 /// How many font dictionaries a CID-keyed font has; 0 of another.
@@ -178,10 +130,8 @@ fn keys(alloc: Global, sheet: &mut Sheet, face: &Face<'_>) -> Result<(), AllocEr
         Some(name) => sheet.bytes(alloc, name)?,
         None => sheet.json.null()?,
     }
-    sheet.json.key("is_cid")?;
-    sheet.json.boolean(face.font.is_cid_keyed())?;
-    sheet.json.key("encoding")?;
-    sheet.json.string(encoding(face))?;
+    sheet.flag("is_cid", face.font.is_cid_keyed())?;
+    sheet.text("encoding", encoding(face))?;
     sheet.json.key("char_set")?;
     match char_set(face) {
         Some(name) => sheet.json.string(name),
@@ -189,18 +139,8 @@ fn keys(alloc: Global, sheet: &mut Sheet, face: &Face<'_>) -> Result<(), AllocEr
     }
 }
 
-/// Writes why each reading of the whole font refuses it; or how many dictionaries there are, where the readings are not asked.
-fn readings(alloc: Global, sheet: &mut Sheet, cff: &[u8]) -> Result<(), AllocError> {
-    if let Some(fonts) = too_many(cff) {
-        return sheet.number("dictionaries_not_read", fonts);
-    }
-    let refusals = refusals_of(alloc, cff);
-    refusal(sheet, "strict", &refusals.strict)?;
-    refusal(sheet, "lenient", &refusals.lenient)
-}
-
 /// Writes what the table `CFF ` holds.
-fn font(alloc: Global, sheet: &mut Sheet, face: &Face<'_>, hinted: u64) -> Result<(), Failure> {
+fn font(alloc: Global, sheet: &mut Sheet, face: &Face<'_>, hinted: u64) -> Result<(), AllocError> {
     sheet.json.key("cff")?;
     sheet.json.begin_object()?;
     keys(alloc, sheet, face)?;
@@ -208,9 +148,8 @@ fn font(alloc: Global, sheet: &mut Sheet, face: &Face<'_>, hinted: u64) -> Resul
     sheet.json.key("top")?;
     dictionaries::write(sheet, &face.font.dictionary, top_codes(face))?;
     parts(sheet, face)?;
-    readings(alloc, sheet, face.cff)?;
-    sheet.json.end_object()?;
-    Ok(())
+    readings::put(alloc, sheet, face.cff)?;
+    sheet.json.end_object()
 }
 
 /// Writes the names and the numbers.
@@ -232,12 +171,16 @@ fn head(alloc: Global, sheet: &mut Sheet, face: &Face<'_>) -> Result<(), AllocEr
 }
 
 /// Writes all that is told, as an object on a sheet.
-pub fn put(alloc: Global, sheet: &mut Sheet, face: &Face<'_>, hinted: u64) -> Result<(), Failure> {
+pub fn put(
+    alloc: Global,
+    sheet: &mut Sheet,
+    face: &Face<'_>,
+    hinted: u64,
+) -> Result<(), AllocError> {
     sheet.json.begin_object()?;
     head(alloc, sheet, face)?;
     font(alloc, sheet, face, hinted)?;
-    sheet.json.end_object()?;
-    Ok(())
+    sheet.json.end_object()
 }
 
 /// Writes an object of all that is told.
@@ -317,7 +260,7 @@ fn lines<W: Write>(
     count_lines(alloc, face, hinted, out)?;
     font_lines(alloc, face, out)?;
     part_lines(alloc, face, out)?;
-    refusal_lines(alloc, face, out)
+    readings::lines(alloc, face.cff, out)
 }
 
 /// Writes lines of what the table `CFF ` holds once.
@@ -339,36 +282,6 @@ fn part_lines<W: Write>(alloc: Global, face: &Face<'_>, out: &mut W) -> Result<(
         let locals = part.subroutines.len();
         writeln!(out, "local subroutines: {locals}")?;
         dictionaries::list(alloc, "private", &part.dictionary, &PRIVATE, out)?;
-    }
-    Ok(())
-}
-
-/// Writes a line for each reading that refuses the font; or that the readings are not asked.
-fn refusal_lines<W: Write>(alloc: Global, face: &Face<'_>, out: &mut W) -> Result<(), Failure> {
-    if let Some(fonts) = too_many(face.cff) {
-        writeln!(
-            out,
-            "not read strictly or leniently: it has {fonts} dictionaries"
-        )?;
-        return Ok(());
-    }
-    let refusals = refusals_of(alloc, face.cff);
-    refusal_line("strict", &refusals.strict, out)?;
-    refusal_line("lenient", &refusals.lenient, out)
-}
-
-/// Writes a line for a reading that refuses the font.
-fn refusal_line<W: Write>(
-    reading: &str,
-    refusal: &Option<Error>,
-    out: &mut W,
-) -> Result<(), Failure> {
-    if let Some(error) = refusal {
-        let code = error.code();
-        writeln!(
-            out,
-            "refused by the {reading} reading: {error} (refusal {code})"
-        )?;
     }
     Ok(())
 }

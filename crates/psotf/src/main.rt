@@ -23,6 +23,7 @@ mod leaving;
 mod limit;
 mod naming;
 mod progress;
+mod readings;
 mod refused;
 mod report;
 mod saving;
@@ -40,6 +41,7 @@ use face::{Face, file_of};
 use failure::Failure;
 use limit::Budget;
 use postscript_drawing::LIMIT;
+use postscript_sfnt::FontFile;
 use std::fs::File;
 use std::io::{BufWriter, Read, Write};
 use std::process::ExitCode;
@@ -91,13 +93,31 @@ fn answer<W: Write>(
     let mut budget = Budget::new(limit, weight_of(name, words));
     let told = match VariableFace::open(&file)? {
         Some(face) => variable::write(rt, &face, name, words, &mut budget, out),
-        None => {
-            let face = Face::open(rt.alloc(), bytes.as_slice(), file)?;
-            write(rt, &face, name, words, &mut budget, out)
-        }
+        None => of_face(rt, bytes.as_slice(), file, name, words, &mut budget, out),
     };
     out.flush()?;
     told
+}
+
+/// Writes what is asked of a face with a table `CFF `. Where that table is refused, a page is made that tells why.
+fn of_face<W: Write>(
+    rt: &HostRuntime,
+    bytes: &[u8],
+    file: FontFile<'_>,
+    name: &str,
+    words: &ArgMatches<'_>,
+    budget: &mut Budget,
+    out: &mut W,
+) -> Result<(), Failure> {
+    match Face::open(rt.alloc(), bytes, file) {
+        Ok(face) => write(rt, &face, name, words, budget, out),
+        Err(failure) => {
+            if name == "report" {
+                report::write_refused(rt, &file, bytes.len(), words, &failure)?;
+            }
+            Err(failure)
+        }
+    }
 }
 
 /// Writes what is asked of a face.

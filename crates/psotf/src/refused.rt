@@ -1,4 +1,6 @@
 //! Where and by which rule a table `CFF ` is refused.
+use crate::weight::dictionary_of;
+use postscript_base::Error;
 use postscript_base::compact1::{Operations, Operator};
 use postscript_items::Items;
 use postscript_view::operands::{bounds, place_at};
@@ -10,8 +12,8 @@ use std::fmt;
 /// its dictionary names one.
 #[derive(Clone, Copy, Debug)]
 pub struct Spot {
-    part: &'static str,
-    place: Option<u64>,
+    pub part: &'static str,
+    pub place: Option<u64>,
 }
 
 impl fmt::Display for Spot {
@@ -107,23 +109,136 @@ fn in_private(alloc: Global, place: u64, text: &[u8]) -> Spot {
     }
 }
 
+/// The part that begins last, of those that begin at a place or before it.
+#[derive(Clone, Copy)]
+struct Last {
+    place: u64,
+    part: &'static str,
+    start: u64,
+}
+
+impl Last {
+    /// Another part begins there. A part whose place is below that of the names is none: so char sets and encodings are called that stand
+    /// nowhere.
+    fn see(&mut self, part: &'static str, start: u64) {
+        if start > 3 && self.start < start && start <= self.place {
+            self.part = part;
+            self.start = start;
+        }
+    }
+
+    /// The INDEXes behind the header begin, as far as they stand.
+    fn see_indexes(&mut self, cff: &[u8]) {
+        let mut place = header_size(cff).unwrap_or(0);
+        for part in BEHIND_THE_HEADER {
+            self.see(part, place as u64);
+            let Ok((_items, next)) = Items::open(cff, place) else {
+                break;
+            };
+            place = next;
+        }
+    }
+
+    /// The parts begin that a dictionary names.
+    fn see_named(&mut self, dictionary: &Operations) {
+        for (part, operator) in [
+            ("the char set", Operator::CharSet),
+            ("the encoding", Operator::Encoding),
+            ("the char strings", Operator::CharStrings),
+            ("FDSelect", Operator::FDSelect),
+            ("the font dictionaries", Operator::FDArray),
+        ] {
+            if let Ok(place) = place_at(0, 0, dictionary, operator) {
+                self.see(part, place);
+            }
+        }
+    }
+
+    /// The private dictionary begins that a dictionary names, and its local subroutines.
+    fn see_private(&mut self, alloc: Global, cff: &[u8], dictionary: &Operations) {
+        let Ok((size, offset, place)) = bounds(0, dictionary) else {
+            return;
+        };
+        self.see("the private dictionary", place);
+        let Ok(text) = slice_at(cff, place, size) else {
+            return;
+        };
+        if let Some(place) = subroutines_at(alloc, text, offset) {
+            self.see("the local subroutines", place);
+        }
+    }
+}
+
+/// Where the local subroutines stand of a private dictionary with these bytes.
+fn subroutines_at(alloc: Global, text: &[u8], offset: u32) -> Option<u64> {
+    let dictionary = operations_of(alloc, text).ok()?;
+    place_at(0, offset, &dictionary, Operator::Subrs).ok()
+}
+
+/// The part of the first font in which a place lies, as far as its parts are known: the one that begins last.
+fn part_at(alloc: Global, cff: &[u8], place: u64) -> &'static str {
+    let mut last = Last {
+        place,
+        part: "the header",
+        start: 0,
+    };
+    last.see_indexes(cff);
+    if let Some(dictionary) = dictionary_of(alloc, cff) {
+        last.see_named(&dictionary);
+        last.see_private(alloc, cff, &dictionary);
+    }
+    last.part
+}
+
+/// The dictionary that an error tells an operator of, or what an operator of it says.
+fn dictionary_at(error: &Error) -> Option<&'static str> {
+    match error {
+        Error::MissingOperation(Operator::Subrs) | Error::MalformedOperation(Operator::Subrs) => {
+            Some("the private dictionary")
+        }
+        Error::MissingOperation(_) | Error::MalformedOperation(_) => {
+            Some("the dictionary of the font")
+        }
+        Error::UnknownCharStringFormat | Error::OutOfRangeOffset | Error::Unsupported(_) => {
+            Some("the dictionary of the font")
+        }
+        _ => None,
+    }
+}
+
+/// Where a reading of the whole table is refused whose tape stands at a place then: in the part that begins last before it, or in
+/// a dictionary, where the error tells of an operator.
+pub fn spot_by(alloc: Global, cff: &[u8], error: &Error, place: u64) -> Spot {
+    match dictionary_at(error) {
+        Some(part) => named(part),
+        None => at(part_at(alloc, cff, place), place),
+    }
+}
+
 /// The rule that a refusal is by, in words, with its section of Adobe's Technical Notes.
 pub fn rule_of(code: u8) -> &'static str {
     match code {
         1 =>
             "what stands here has to end within the table (Technical Note 5176, section 2); the file may be cut off",
         5 => "offsets of an INDEX have 1 to 4 bytes (Technical Note 5176, section 5)",
+        6 =>
+            "offsets of an INDEX begin with 1 and rise (Technical Note 5176, section 5), here by one byte at least for each item",
         7 =>
             "a number begins with one of the bytes 28 to 30 and 32 to 254, and a real ends (Technical Note 5176, section 4)",
         8 =>
             "a real has up to 18 digits that count, and exponents from -1000 to 1000 (a limit of this library)",
         9 =>
             "an operator is one of those in Technical Note 5176, Tables 9, 10 and 23, or of a charstring in 5177, appendix A",
+        10 =>
+            "a char set has each glyph but the first, and no more (Technical Note 5176, section 13)",
+        11 => "a char set has the format 0, 1 or 2 (Technical Note 5176, section 13)",
         12 => "CharstringType is 2 (Technical Note 5176, Table 9)",
         13 => "an offset and a size are whole numbers (Technical Note 5176, Tables 9 and 23)",
         14 =>
             "the operator has to be there, with its operands (Technical Note 5176, Tables 9 and 23)",
         15 => "an offset and a size are not negative (Technical Note 5176, section 3)",
+        16 =>
+            "encodings of a font's own and the operator random are not followed (a limit of this library)",
         17 | 18 | 19 | 20 | 21 =>
             "each operator takes its operands off the stack (Technical Note 5177, sections 4.1 to 4.6)",
         22 =>

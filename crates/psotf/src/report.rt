@@ -9,6 +9,7 @@ mod row;
 mod script;
 mod short;
 mod style;
+mod unread;
 
 use crate::characters::{Mapped, by_glyph};
 use crate::drawing::{OBJECT, count};
@@ -27,6 +28,7 @@ use script::SCRIPT;
 use std::alloc::{AllocError, Global};
 use std::ops::Range;
 use style::STYLE;
+pub use unread::write_refused;
 
 /// What a unit of a run may come to: it is drawn and told, looked at for hints, asked for its cost, and measured twice without calls.
 pub const RUNS: u64 = OBJECT + 4;
@@ -104,6 +106,23 @@ fn put_data(
     Ok(())
 }
 
+/// Adds what stands before the block of JSON.
+fn begin(page: &mut Vec<u8>) -> Result<(), AllocError> {
+    for text in [BEFORE_STYLE, STYLE, BEFORE_DATA] {
+        page.extend_from_slice(text.as_bytes())?;
+    }
+    Ok(())
+}
+
+/// Adds what stands behind it.
+fn end(page: &mut Vec<u8>) -> Result<(), AllocError> {
+    page.extend_from_slice(BEFORE_SCRIPT.as_bytes())?;
+    for part in SCRIPT {
+        page.extend_from_slice(part.as_bytes())?;
+    }
+    page.extend_from_slice(END.as_bytes())
+}
+
 /// The page that begins with a glyph.
 fn page_of(
     rt: &HostRuntime,
@@ -113,26 +132,26 @@ fn page_of(
     stopped: &mut Stopped<'_>,
 ) -> Result<Vec<u8>, Failure> {
     let mut page = Vec::new(rt.alloc());
-    for text in [BEFORE_STYLE, STYLE, BEFORE_DATA] {
-        page.extend_from_slice(text.as_bytes())?;
-    }
+    begin(&mut page)?;
     put_data(rt, common, first, budget, stopped, &mut page)?;
-    for text in [BEFORE_SCRIPT, SCRIPT, END] {
-        page.extend_from_slice(text.as_bytes())?;
-    }
+    end(&mut page)?;
     Ok(page)
+}
+
+/// Where words say that the first page is written to.
+fn path_of<'w>(words: &'w ArgMatches<'_>) -> &'w str {
+    match words.get_str("out") {
+        Some(path) => path,
+        None => "report.html",
+    }
 }
 
 /// The glyphs that words name, on pages.
 fn pages_of<'w>(face: &Face<'_>, words: &'w ArgMatches<'_>) -> Pages<'w> {
     let first = words.get_one::<u16>("from").unwrap_or(0);
     let most = words.get_one::<u16>("count").unwrap_or(65535);
-    let path = match words.get_str("out") {
-        Some(path) => path,
-        None => "report.html",
-    };
     Pages {
-        path,
+        path: path_of(words),
         first,
         end: count(face).min(first.saturating_add(most)),
     }

@@ -32,6 +32,48 @@ impl Sheet {
         self.json.u64(n)
     }
 
+    /// A member with a text.
+    pub fn text(&mut self, key: &str, text: &str) -> Result<(), AllocError> {
+        self.json.key(key)?;
+        self.json.string(text)
+    }
+
+    /// A member that is true or false.
+    pub fn flag(&mut self, key: &str, is_so: bool) -> Result<(), AllocError> {
+        self.json.key(key)?;
+        self.json.boolean(is_so)
+    }
+
+    /// A member with a value as text.
+    pub fn tell<T: Display>(&mut self, key: &str, value: &T) -> Result<(), AllocError> {
+        self.json.key(key)?;
+        self.shown(value)
+    }
+
+    /// The key of a member, and the beginning of its list.
+    pub fn begin_list(&mut self, key: &str) -> Result<(), AllocError> {
+        self.json.key(key)?;
+        self.json.begin_array()
+    }
+
+    /// A list of numbers.
+    pub fn numbers(&mut self, numbers: &[u64]) -> Result<(), AllocError> {
+        self.json.begin_array()?;
+        for number in numbers {
+            self.json.u64(*number)?;
+        }
+        self.json.end_array()
+    }
+
+    /// A list of a text and two numbers.
+    pub fn named(&mut self, name: &str, first: u64, second: u64) -> Result<(), AllocError> {
+        self.json.begin_array()?;
+        self.json.string(name)?;
+        self.json.u64(first)?;
+        self.json.u64(second)?;
+        self.json.end_array()
+    }
+
     /// A value as text.
     pub fn shown<T: Display>(&mut self, value: &T) -> Result<(), AllocError> {
         self.text.clear();
@@ -92,8 +134,9 @@ impl Sheet {
         self.shown(&Operand::from_bits(at.y))
     }
 
-    /// The corners of bounds, as a list of four texts, or null.
-    pub fn bounds(&mut self, bounds: Option<Bounds>) -> Result<(), AllocError> {
+    /// A member with the corners of bounds, as a list of four texts, or null.
+    pub fn bounds(&mut self, key: &str, bounds: Option<Bounds>) -> Result<(), AllocError> {
+        self.json.key(key)?;
         let Some(Bounds { low, high }) = bounds else {
             return self.json.null();
         };
@@ -103,27 +146,24 @@ impl Sheet {
         self.json.end_array()
     }
 
-    /// A segment: its letter, and its coordinates.
-    pub fn segment(&mut self, segment: Segment) -> Result<(), AllocError> {
+    /// A letter, and points.
+    fn points(&mut self, letter: &str, points: &[Point]) -> Result<(), AllocError> {
         self.json.begin_array()?;
-        match segment {
-            Segment::MoveTo(at) => {
-                self.json.string("M")?;
-                self.point(at)?;
-            }
-            Segment::LineTo(at) => {
-                self.json.string("L")?;
-                self.point(at)?;
-            }
-            Segment::CurveTo(first, second, at) => {
-                self.json.string("C")?;
-                self.point(first)?;
-                self.point(second)?;
-                self.point(at)?;
-            }
-            Segment::Close => self.json.string("Z")?,
+        self.json.string(letter)?;
+        for point in points {
+            self.point(*point)?;
         }
         self.json.end_array()
+    }
+
+    /// A segment: its letter, and its coordinates.
+    pub fn segment(&mut self, segment: Segment) -> Result<(), AllocError> {
+        match segment {
+            Segment::MoveTo(at) => self.points("M", &[at]),
+            Segment::LineTo(at) => self.points("L", &[at]),
+            Segment::CurveTo(first, second, at) => self.points("C", &[first, second, at]),
+            Segment::Close => self.points("Z", &[]),
+        }
     }
 
     /// Adds the line to a page, and gives an empty one on the same memory. A `<` would end the block that it stands in, and is spelled

@@ -41,6 +41,50 @@ fn put_outline(picture: &mut String, units: u64, outline: &Outline) -> Result<()
     )
 }
 
+/// Adds the number and the name of a glyph.
+fn put_names(
+    alloc: Global,
+    face: &Face<'_>,
+    gid: u16,
+    labels: &mut Labels<'_>,
+) -> Result<(), AllocError> {
+    let mut line = String::new(alloc);
+    let number = format!(in alloc; "{gid}")?;
+    labels.cut(number.as_str(), &mut line)?;
+    let name = name_of(alloc, face, gid)?;
+    labels.cut(name.as_str(), &mut line)
+}
+
+/// Adds why a glyph is refused.
+fn put_refusal(
+    alloc: Global,
+    refusal: &Refusal,
+    labels: &mut Labels<'_>,
+) -> Result<(), AllocError> {
+    let why = format!(in alloc; "{refusal}")?;
+    labels.wrapped(why.as_str(), &mut String::new(alloc))
+}
+
+/// Draws a glyph below its labels; or tells why it is refused in the place of its outline.
+fn put_glyph(
+    alloc: Global,
+    face: &Face<'_>,
+    gid: u16,
+    budget: &mut Budget,
+    labels: &mut Labels<'_>,
+) -> Result<Option<Refusal>, AllocError> {
+    match draw(alloc, face, gid, budget) {
+        Ok((_, outline)) => {
+            put_outline(labels.picture, u64::from(face.units), &outline)?;
+            Ok(None)
+        }
+        Err(refusal) => {
+            put_refusal(alloc, &refusal, labels)?;
+            Ok(Some(refusal))
+        }
+    }
+}
+
 /// Draws a glyph in the cell of this number, with its number and its name above it; or in the place of its outline why it is refused.
 fn put_cell(
     alloc: Global,
@@ -49,33 +93,20 @@ fn put_cell(
     cell: u64,
     budget: &mut Budget,
     picture: &mut String,
-) -> Result<Option<Refusal>, Failure> {
+) -> Result<Option<Refusal>, AllocError> {
     let units = u64::from(face.units);
     let x = (cell % COLUMNS).saturating_mul(units).saturating_mul(2);
     let y = (cell / COLUMNS).saturating_mul(units).saturating_mul(2);
     write!(picture, "<g transform=\"translate({x} {y})\">")?;
-    let mut line = String::new(alloc);
     let size = label_size(units);
     let mut labels = Labels {
         picture,
         size,
         y: size,
     };
-    let number = format!(in alloc; "{gid}")?;
-    labels.cut(number.as_str(), &mut line)?;
-    labels.cut(name_of(alloc, face, gid)?.as_str(), &mut line)?;
-    let refusal = match draw(alloc, face, gid, budget) {
-        Ok((_, outline)) => {
-            put_outline(labels.picture, units, &outline)?;
-            None
-        }
-        Err(refusal) => {
-            let why = format!(in alloc; "{refusal}")?;
-            labels.wrapped(why.as_str(), &mut line)?;
-            Some(refusal)
-        }
-    };
-    writeln!(labels.picture, "</g>")?;
+    put_names(alloc, face, gid, &mut labels)?;
+    let refusal = put_glyph(alloc, face, gid, budget, &mut labels)?;
+    labels.picture.push_str("</g>\n")?;
     Ok(refusal)
 }
 

@@ -190,6 +190,33 @@ fn file_with(
     Ok(file_of(alloc, tables.as_slice())?)
 }
 
+/// The tables that are made for a choice.
+fn made_for(
+    alloc: Global,
+    face: &Face<'_>,
+    words: &ArgMatches<'_>,
+    choice: &Choice,
+) -> Result<Written, Failure> {
+    let kept = kept_glyphs(alloc, face.cff, &choice.glyphs)?;
+    if words.get_flag("retain-gids") {
+        keeping(alloc, face, choice)
+    } else {
+        renumbered(alloc, face, choice, &kept)
+    }
+}
+
+/// The file of a choice.
+fn file_of_choice(
+    alloc: Global,
+    face: &Face<'_>,
+    words: &ArgMatches<'_>,
+    choice: &Choice,
+) -> Result<Vec<u8>, Failure> {
+    let made = made_for(alloc, face, words, choice)?;
+    let names = names_of(alloc, face, words)?;
+    file_with(alloc, face, &made, &names)
+}
+
 /// Writes a file of the glyphs that words name and of those that these are drawn with, where the run of each keeps to the limit. It
 /// tells of the latter, and of the tables that are left out, unless it is to be quiet.
 pub fn write<W: Write>(
@@ -199,17 +226,9 @@ pub fn write<W: Write>(
     budget: &mut Budget,
     out: &mut W,
 ) -> Result<(), Failure> {
-    let alloc = rt.alloc();
-    let choice = Choice::read(alloc, face, words)?;
-    let components = along::asked(alloc, &face.font, &choice.glyphs, budget)?;
-    let kept = kept_glyphs(alloc, face.cff, &choice.glyphs)?;
-    let made = if words.get_flag("retain-gids") {
-        keeping(alloc, face, &choice)?
-    } else {
-        renumbered(alloc, face, &choice, &kept)?
-    };
-    let names = names_of(alloc, face, words)?;
-    let file = file_with(alloc, face, &made, &names)?;
+    let choice = Choice::read(rt.alloc(), face, words)?;
+    let components = along::asked(rt.alloc(), &face.font, &choice.glyphs, budget)?;
+    let file = file_of_choice(rt.alloc(), face, words, &choice)?;
     if !words.get_flag("quiet") {
         along::tell(rt, &components)?;
         leaving::tell(rt, &face.file)?;

@@ -10,7 +10,7 @@ use std::alloc::Global;
 const MOST: u64 = 20_000_000;
 
 /// The dictionary of the first font.
-fn dictionary_of(alloc: Global, cff: &[u8]) -> Option<Operations> {
+pub fn dictionary_of(alloc: Global, cff: &[u8]) -> Option<Operations> {
     let size = header_size(cff).ok()?;
     let (_names, place) = Items::open(cff, size).ok()?;
     let (dictionaries, _next) = Items::open(cff, place).ok()?;

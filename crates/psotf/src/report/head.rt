@@ -3,11 +3,11 @@ use super::pages::{Pages, put_index};
 use super::{hex, parts};
 use crate::dictionaries::{self, CID_TOP};
 use crate::face::Face;
-use crate::failure::Failure;
 use crate::inspect;
 use crate::sheet::Sheet;
 use clap::ArgMatches;
 use postscript_items::Items;
+use postscript_sfnt::FontFile;
 use std::alloc::{AllocError, Global};
 
 /// What the items of a glyph's row are.
@@ -30,8 +30,7 @@ const COLUMNS: [&str; 14] = [
 
 /// Writes the names of the columns.
 fn columns(sheet: &mut Sheet) -> Result<(), AllocError> {
-    sheet.json.key("columns")?;
-    sheet.json.begin_array()?;
+    sheet.begin_list("columns")?;
     for column in &COLUMNS {
         sheet.json.string(column)?;
     }
@@ -39,17 +38,13 @@ fn columns(sheet: &mut Sheet) -> Result<(), AllocError> {
 }
 
 /// Writes of each table its tag, its place and its size in bytes.
-fn tables(alloc: Global, sheet: &mut Sheet, face: &Face<'_>) -> Result<(), AllocError> {
-    sheet.json.key("tables")?;
-    sheet.json.begin_array()?;
-    for i in 0..face.file.tables() {
-        let tag = face.file.tag(i).unwrap_or(0);
-        if let Some((place, size)) = face.file.span(tag) {
-            sheet.json.begin_array()?;
-            sheet.bytes(alloc, &tag.to_be_bytes())?;
-            sheet.json.u64(place as u64)?;
-            sheet.json.u64(size as u64)?;
-            sheet.json.end_array()?;
+pub fn tables(alloc: Global, sheet: &mut Sheet, file: &FontFile<'_>) -> Result<(), AllocError> {
+    sheet.begin_list("tables")?;
+    for i in 0..file.tables() {
+        let tag = file.tag(i).unwrap_or(0);
+        if let Some((place, size)) = file.span(tag) {
+            let name = String::from_utf8_lossy(alloc, &tag.to_be_bytes())?;
+            sheet.named(name.as_str(), place as u64, size as u64)?;
         }
     }
     sheet.json.end_array()
@@ -57,8 +52,7 @@ fn tables(alloc: Global, sheet: &mut Sheet, face: &Face<'_>) -> Result<(), Alloc
 
 /// Writes the font dictionaries of a CID-keyed font.
 fn font_dictionaries(sheet: &mut Sheet, face: &Face<'_>) -> Result<(), AllocError> {
-    sheet.json.key("font_dictionaries")?;
-    sheet.json.begin_array()?;
+    sheet.begin_list("font_dictionaries")?;
     for part in &face.font.parts {
         if let Some(dictionary) = &part.font_dictionary {
             dictionaries::write(sheet, dictionary, &CID_TOP)?;
@@ -69,15 +63,11 @@ fn font_dictionaries(sheet: &mut Sheet, face: &Face<'_>) -> Result<(), AllocErro
 
 /// Writes the codes of the encoding, each with its glyph.
 fn codes(sheet: &mut Sheet, face: &Face<'_>) -> Result<(), AllocError> {
-    sheet.json.key("codes")?;
-    sheet.json.begin_array()?;
+    sheet.begin_list("codes")?;
     if let (Ok(encoding), Some(set)) = (face.font.encoding(), &face.set) {
         for code in 0..=255u8 {
             if let Some(glyph) = face.font.glyph_of_code(&encoding, set, code) {
-                sheet.json.begin_array()?;
-                sheet.json.u64(u64::from(code))?;
-                sheet.json.u64(glyph as u64)?;
-                sheet.json.end_array()?;
+                sheet.numbers(&[u64::from(code), glyph as u64])?;
             }
         }
     }
@@ -97,12 +87,25 @@ fn list(alloc: Global, sheet: &mut Sheet, items: &Items<'_>) -> Result<(), Alloc
 fn subroutines(alloc: Global, sheet: &mut Sheet, face: &Face<'_>) -> Result<(), AllocError> {
     sheet.json.key("global")?;
     list(alloc, sheet, &face.font.global_subroutines)?;
-    sheet.json.key("local")?;
-    sheet.json.begin_array()?;
+    sheet.begin_list("local")?;
     for part in &face.font.parts {
         list(alloc, sheet, &part.subroutines)?;
     }
     sheet.json.end_array()
+}
+
+/// Writes what the block is, how many bytes the file has, which face is shown, and with which glyph the page begins.
+pub fn begin(
+    sheet: &mut Sheet,
+    size: usize,
+    words: &ArgMatches<'_>,
+    first: u16,
+) -> Result<(), AllocError> {
+    sheet.text("format", "psotf report 3")?;
+    sheet.number("bytes", size as u64)?;
+    let number = words.get_one::<u16>("face").unwrap_or(0);
+    sheet.number("face", u64::from(number))?;
+    sheet.number("from", u64::from(first))
 }
 
 /// Writes what is told of the file and of the face, on the page that begins with a glyph.
@@ -114,26 +117,20 @@ pub fn put(
     pages: &Pages<'_>,
     first: u16,
     hinted: u64,
-) -> Result<(), Failure> {
+) -> Result<(), AllocError> {
     sheet.json.begin_object()?;
-    sheet.json.key("format")?;
-    sheet.json.string("psotf report 2")?;
-    sheet.number("bytes", face.size as u64)?;
-    let number = words.get_one::<u16>("face").unwrap_or(0);
-    sheet.number("face", u64::from(number))?;
-    sheet.number("from", u64::from(first))?;
+    begin(sheet, face.size, words, first)?;
     pages.put(alloc, sheet)?;
     if pages.glyphs(pages.first).end < pages.end {
         put_index(alloc, sheet, &face.map)?;
     }
     columns(sheet)?;
-    tables(alloc, sheet, face)?;
+    tables(alloc, sheet, &face.file)?;
     parts::put(sheet, face)?;
     sheet.json.key("font")?;
     inspect::put(alloc, sheet, face, hinted)?;
     font_dictionaries(sheet, face)?;
     codes(sheet, face)?;
     subroutines(alloc, sheet, face)?;
-    sheet.json.end_object()?;
-    Ok(())
+    sheet.json.end_object()
 }

@@ -4,7 +4,7 @@ use crate::drawing::OPERAND;
 use crate::failure::Failure;
 use crate::limit::Budget;
 use crate::sheet::Sheet;
-use postscript_type2::{Operand, Operator};
+use postscript_type2::{Operand, Operator, Told, mask_of};
 use postscript_view::Glyph;
 use std::alloc::{AllocError, Global};
 
@@ -39,18 +39,43 @@ fn code_of(operator: Operator) -> i64 {
     }
 }
 
-/// Adds an operation: the code of its operator, how many operands it has, and these.
+/// Whether a mask stands behind an operator.
+fn has_mask(operator: Operator) -> bool {
+    match operator {
+        Operator::HintMask | Operator::CntrMask => true,
+        _ => false,
+    }
+}
+
+/// Adds the code of an operator, how many operands it has, and these.
 fn put_operation(
     text: &mut String,
     operator: Operator,
     operands: &[Operand],
 ) -> Result<(), AllocError> {
     short::put(text, code_of(operator))?;
-    short::put(text, i64::try_from(operands.len()).unwrap_or(0))?;
+    short::put_count(text, operands.len())?;
     for operand in operands {
         short::put_bits(text, i64::from(operand.bits()))?;
     }
     Ok(())
+}
+
+/// Adds how many bytes a mask has, and these.
+fn put_mask(text: &mut String, mask: &[u8]) -> Result<(), AllocError> {
+    short::put_count(text, mask.len())?;
+    for byte in mask {
+        short::put(text, i64::from(*byte))?;
+    }
+    Ok(())
+}
+
+/// What it takes to write so many operands and bytes of a mask, and their operator.
+fn price(operands: usize, mask: usize) -> u64 {
+    (operands as u64)
+        .saturating_add(mask as u64)
+        .saturating_add(1)
+        .saturating_mul(OPERAND)
 }
 
 /// Writes the operations of a glyph that was drawn as one text.
@@ -61,17 +86,18 @@ pub fn put(
     budget: &mut Budget,
 ) -> Result<(), Failure> {
     let mut program = glyph.program(alloc);
+    let mut left = u64::MAX;
     let mut text = String::new(alloc);
     for _ in 0..u64::MAX {
-        let Some((operator, operands)) = program.step()? else {
+        let Told::Operation(operator, operands, phrase) = program.tell_within(&mut left)? else {
             break;
         };
-        budget.spend(
-            (operands.len() as u64)
-                .saturating_add(1)
-                .saturating_mul(OPERAND),
-        );
+        let mask = mask_of(phrase);
+        budget.spend(price(operands.len(), mask.len()));
         put_operation(&mut text, operator, operands)?;
+        if has_mask(operator) {
+            put_mask(&mut text, mask)?;
+        }
     }
     sheet.json.string(text.as_str())?;
     Ok(())

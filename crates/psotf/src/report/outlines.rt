@@ -23,24 +23,22 @@ impl Pen {
         Ok(())
     }
 
+    /// Adds a letter and points.
+    fn put(&mut self, letter: char, points: &[Point]) -> Result<(), AllocError> {
+        self.letters.push(letter)?;
+        for point in points {
+            self.point(*point)?;
+        }
+        Ok(())
+    }
+
     /// Adds a segment.
     fn segment(&mut self, segment: Segment) -> Result<(), AllocError> {
         match segment {
-            Segment::MoveTo(at) => {
-                self.letters.push('M')?;
-                self.point(at)
-            }
-            Segment::LineTo(at) => {
-                self.letters.push('L')?;
-                self.point(at)
-            }
-            Segment::CurveTo(first, second, at) => {
-                self.letters.push('C')?;
-                self.point(first)?;
-                self.point(second)?;
-                self.point(at)
-            }
-            Segment::Close => self.letters.push('Z'),
+            Segment::MoveTo(at) => self.put('M', &[at]),
+            Segment::LineTo(at) => self.put('L', &[at]),
+            Segment::CurveTo(first, second, at) => self.put('C', &[first, second, at]),
+            Segment::Close => self.put('Z', &[]),
         }
     }
 }

@@ -6,7 +6,9 @@ pub const BEFORE_STYLE: &str = r##"<!DOCTYPE html>
 <head>
 <meta charset="utf-8">
 <meta name="viewport" content="width=device-width">
-<meta http-equiv="Content-Security-Policy" content="default-src 'none'; script-src 'sha256-GlW4FX5Ktz+f7O723xGoVvvwwq6DRclppS4EAg+SHww='; style-src 'sha256-9N8TzmLDSPle5VOlg9wItQMybCPoG/nxemqrPgbQ7Gc='; base-uri 'none'; form-action 'none'">
+<meta http-equiv="Content-Security-Policy" content="default-src 'none';
+  script-src 'sha256-7iwfaUa+wnwBa9rCBtN3HKBw7L54CoBinrb7W/D6Bds=';
+  style-src 'sha256-oJgDk5ldYqbIqCPZyrtg/HBgBa7qJQzoz11XxmdOwIQ='; base-uri 'none'; form-action 'none'">
 <title>psotf report</title>
 <style>"##;
 
@@ -16,10 +18,12 @@ pub const BEFORE_DATA: &str = r##"</style>
 <body>
 <header>
 <h1 id="title">Font</h1>
-<p>Made by psotf. What it tells of the font are the answers of calls that are proved. The page itself is not: calls, stems and where a width comes from it finds in the bytes, and holds them against the operations that the proved run told.</p>
+<p>Made by psotf. What it tells of the font are the answers of calls that are proved. The page itself is not: which subroutines a glyph
+calls, and which stems it declares, it finds in the bytes, and holds them against the operations and masks that the proved run told.</p>
 </header>
 <main id="page"></main>
-<footer><p>Keys: the left and right arrows go from operation to operation, Home and End to the first and the last; n and p to the next and the previous glyph; / to the search.</p></footer>
+<footer><p>Keys: the left and right arrows go from operation to operation, Home and End to the first and the last; n and p to the next and
+the previous glyph; / to the search.</p></footer>
 <noscript><p>This page shows nothing without its script, which stands in it and loads nothing.</p></noscript>
 <script type="application/json" id="data">
 "##;

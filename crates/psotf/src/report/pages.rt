@@ -55,18 +55,14 @@ impl<'w> Pages<'w> {
     /// Writes of a page its name without the folder, its first glyph and the one behind its last.
     fn put_page(&self, alloc: Global, sheet: &mut Sheet, first: u16) -> Result<(), AllocError> {
         let path = self.path_of(alloc, first)?;
-        sheet.json.begin_array()?;
-        sheet.json.string(name_of(path.as_str()))?;
-        sheet.json.u64(u64::from(first))?;
-        sheet.json.u64(u64::from(self.glyphs(first).end))?;
-        sheet.json.end_array()
+        let end = self.glyphs(first).end;
+        sheet.named(name_of(path.as_str()), u64::from(first), u64::from(end))
     }
 
     /// Writes of each page its name, its first glyph and the one behind its last.
     pub fn put(&self, alloc: Global, sheet: &mut Sheet) -> Result<(), AllocError> {
         let firsts = self.firsts(alloc)?;
-        sheet.json.key("pages")?;
-        sheet.json.begin_array()?;
+        sheet.begin_list("pages")?;
         for first in &firsts {
             self.put_page(alloc, sheet, *first)?;
         }
@@ -119,8 +115,7 @@ pub fn put_index(
     if let Some(map) = map {
         put_runs(&mut text, map)?;
     }
-    sheet.json.key("index")?;
-    sheet.json.string(text.as_str())
+    sheet.text("index", text.as_str())
 }
 
 /// Adds the runs of a character map.

@@ -9,21 +9,12 @@ use std::alloc::AllocError;
 
 /// Writes a part: its name, its place and its size in bytes.
 fn part(sheet: &mut Sheet, name: &str, place: usize, size: usize) -> Result<(), AllocError> {
-    sheet.json.begin_array()?;
-    sheet.json.string(name)?;
-    sheet.json.u64(place as u64)?;
-    sheet.json.u64(size as u64)?;
-    sheet.json.end_array()
+    sheet.named(name, place as u64, size as u64)
 }
 
 /// Writes the INDEX at a place, and tells the place behind it.
-fn index(
-    sheet: &mut Sheet,
-    face: &Face<'_>,
-    name: &str,
-    place: usize,
-) -> Result<usize, AllocError> {
-    let Ok((_, end)) = Items::open(face.cff, place) else {
+fn index(sheet: &mut Sheet, cff: &[u8], name: &str, place: usize) -> Result<usize, AllocError> {
+    let Ok((_, end)) = Items::open(cff, place) else {
         return Ok(place);
     };
     part(sheet, name, place, end.saturating_sub(place))?;
@@ -38,14 +29,26 @@ fn operand(dictionary: &Operations, operator: Operator, before: usize) -> Option
     usize::try_from(list.get(i)?.to_i32()?).ok()
 }
 
-/// Writes the parts that stand one behind the other from the beginning on.
-fn first(sheet: &mut Sheet, face: &Face<'_>) -> Result<(), AllocError> {
-    let header = number_within(face.cff, 2, 1).unwrap_or(0);
+/// The INDEXes that stand one behind the other behind the header.
+const BEHIND_THE_HEADER: [&str; 4] = [
+    "Name INDEX",
+    "Top DICT INDEX",
+    "String INDEX",
+    "Global Subr INDEX",
+];
+
+/// Writes the parts that stand one behind the other from the beginning on, up to one that does not stand.
+pub fn first(sheet: &mut Sheet, cff: &[u8]) -> Result<(), AllocError> {
+    let header = number_within(cff, 2, 1).unwrap_or(0);
     part(sheet, "header", 0, header)?;
-    let dictionaries = index(sheet, face, "Name INDEX", header)?;
-    let strings = index(sheet, face, "Top DICT INDEX", dictionaries)?;
-    let subroutines = index(sheet, face, "String INDEX", strings)?;
-    let _ = index(sheet, face, "Global Subr INDEX", subroutines)?;
+    let mut place = header;
+    for name in BEHIND_THE_HEADER {
+        let end = index(sheet, cff, name, place)?;
+        if end == place {
+            break;
+        }
+        place = end;
+    }
     Ok(())
 }
 
@@ -148,7 +151,7 @@ fn private(
     if let Some(behind) = operand(own, Operator::Subrs, 0) {
         let _ = index(
             sheet,
-            face,
+            face.cff,
             "Local Subr INDEX",
             place.saturating_add(behind),
         )?;
@@ -169,9 +172,8 @@ fn privates(sheet: &mut Sheet, face: &Face<'_>) -> Result<(), AllocError> {
 
 /// Writes each part with its place and its size.
 pub fn put(sheet: &mut Sheet, face: &Face<'_>) -> Result<(), AllocError> {
-    sheet.json.key("parts")?;
-    sheet.json.begin_array()?;
-    first(sheet, face)?;
+    sheet.begin_list("parts")?;
+    first(sheet, face.cff)?;
     encoding(sheet, face)?;
     char_set(sheet, face)?;
     select(sheet, face)?;
@@ -180,7 +182,7 @@ pub fn put(sheet: &mut Sheet, face: &Face<'_>) -> Result<(), AllocError> {
         ("Font DICT INDEX", Operator::FDArray),
     ] {
         if let Some(place) = operand(&face.font.dictionary, operator, 0) {
-            let _ = index(sheet, face, name, place)?;
+            let _ = index(sheet, face.cff, name, place)?;
         }
     }
     privates(sheet, face)?;

@@ -40,7 +40,7 @@ fn part(sheet: &mut Sheet, face: &Face<'_>, gid: u16) -> Result<(), AllocError> 
     }
 }
 
-/// Writes the width of a glyph by its code, or null.
+/// Writes the width of a glyph by its code, and the operand there that it comes from, if it has one; or null.
 fn width(
     alloc: Global,
     sheet: &mut Sheet,
@@ -52,6 +52,9 @@ fn width(
     };
     let mut text = String::new(alloc);
     short::put_bits(&mut text, bits)?;
+    if let Some(operand) = outline.width {
+        short::put_bits(&mut text, i64::from(operand.bits()))?;
+    }
     sheet.json.string(text.as_str())
 }
 
@@ -90,10 +93,7 @@ fn costs(
 
 /// Writes the codes of a base and an accent.
 fn both(sheet: &mut Sheet, accent: &Accent) -> Result<(), AllocError> {
-    sheet.json.begin_array()?;
-    sheet.json.u64(u64::from(accent.base))?;
-    sheet.json.u64(u64::from(accent.accent))?;
-    sheet.json.end_array()
+    sheet.numbers(&[u64::from(accent.base), u64::from(accent.accent)])
 }
 
 /// Writes what a glyph draws, by its run.

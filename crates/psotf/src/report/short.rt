@@ -35,3 +35,8 @@ pub fn put_bits(text: &mut String, bits: i64) -> Result<(), AllocError> {
     text.push('.')?;
     put(text, bits)
 }
+
+/// Adds how many there are of something.
+pub fn put_count(text: &mut String, count: usize) -> Result<(), AllocError> {
+    put(text, i64::try_from(count).unwrap_or(0))
+}

@@ -83,12 +83,9 @@ fn outline_of(
 fn drawn(sheet: &mut Sheet, outline: &Result<Outline, Refusal>) -> Result<bool, AllocError> {
     match outline {
         Ok(outline) => {
-            sheet.json.key("bounds")?;
-            sheet.bounds(outline.bounds())?;
-            sheet.json.key("tight_bounds")?;
-            sheet.bounds(outline.tight_bounds())?;
-            sheet.json.key("segments")?;
-            sheet.json.begin_array()?;
+            sheet.bounds("bounds", outline.bounds())?;
+            sheet.bounds("tight_bounds", outline.tight_bounds())?;
+            sheet.begin_list("segments")?;
             for segment in &outline.segments {
                 sheet.segment(*segment)?;
             }
@@ -96,8 +93,7 @@ fn drawn(sheet: &mut Sheet, outline: &Result<Outline, Refusal>) -> Result<bool, 
             Ok(true)
         }
         Err(refusal) => {
-            sheet.json.key("refused")?;
-            sheet.shown(refusal)?;
+            sheet.tell("refused", refusal)?;
             Ok(false)
         }
     }

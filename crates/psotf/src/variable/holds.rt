@@ -61,8 +61,7 @@ fn axis(
         sheet.json.key(*key)?;
         sheet.bits(i64::from(*value))?;
     }
-    sheet.json.key("hidden")?;
-    sheet.json.boolean(axis.flags % 2 == 1)?;
+    sheet.flag("hidden", axis.flags % 2 == 1)?;
     sheet.json.end_object()
 }
 
@@ -78,8 +77,7 @@ fn instance(
     };
     sheet.json.begin_object()?;
     sheet.name("name", name_of(face, instance.name))?;
-    sheet.json.key("coordinates")?;
-    sheet.json.begin_array()?;
+    sheet.begin_list("coordinates")?;
     for axis in 0..axes.len() {
         sheet.bits(i64::from(axes.coordinate(i, axis).unwrap_or(0)))?;
     }
@@ -89,8 +87,7 @@ fn instance(
 
 /// Writes the axes and the instances.
 fn space(alloc: Global, sheet: &mut Sheet, face: &VariableFace<'_>) -> Result<(), AllocError> {
-    sheet.json.key("axes")?;
-    sheet.json.begin_array()?;
+    sheet.begin_list("axes")?;
     if let Some(axes) = face.axes {
         for i in 0..axes.len() {
             if let Some(found) = axes.get(i) {
@@ -99,8 +96,7 @@ fn space(alloc: Global, sheet: &mut Sheet, face: &VariableFace<'_>) -> Result<()
         }
     }
     sheet.json.end_array()?;
-    sheet.json.key("instances")?;
-    sheet.json.begin_array()?;
+    sheet.begin_list("instances")?;
     if let Some(axes) = face.axes {
         for i in 0..axes.instances() {
             instance(sheet, face, &axes, i)?;
@@ -109,9 +105,8 @@ fn space(alloc: Global, sheet: &mut Sheet, face: &VariableFace<'_>) -> Result<()
     sheet.json.end_array()
 }
 
-/// Writes an object of all that is told.
-fn object<W: Write>(alloc: Global, face: &VariableFace<'_>, out: &mut W) -> Result<(), Failure> {
-    let mut sheet = Sheet::new(alloc);
+/// Writes all that is told, as an object on a sheet.
+fn put(alloc: Global, sheet: &mut Sheet, face: &VariableFace<'_>) -> Result<(), AllocError> {
     sheet.json.begin_object()?;
     let (family, style) = names(face);
     sheet.name("family", family)?;
@@ -120,8 +115,14 @@ fn object<W: Write>(alloc: Global, face: &VariableFace<'_>, out: &mut W) -> Resu
     for (key, count) in &counts(face, characters) {
         sheet.number(*key, *count)?;
     }
-    space(alloc, &mut sheet, face)?;
-    sheet.json.end_object()?;
+    space(alloc, sheet, face)?;
+    sheet.json.end_object()
+}
+
+/// Writes an object of all that is told.
+fn object<W: Write>(alloc: Global, face: &VariableFace<'_>, out: &mut W) -> Result<(), Failure> {
+    let mut sheet = Sheet::new(alloc);
+    put(alloc, &mut sheet, face)?;
     let _ = sheet.end(out)?;
     Ok(())
 }
@@ -130,6 +131,17 @@ fn object<W: Write>(alloc: Global, face: &VariableFace<'_>, out: &mut W) -> Resu
 fn shown(alloc: Global, bits: i32) -> Result<String, AllocError> {
     let mut text = String::new(alloc);
     put_bits(&mut text, i64::from(bits))?;
+    Ok(text)
+}
+
+/// From where to where an axis goes, and where its default is.
+fn range_of(alloc: Global, axis: &Axis) -> Result<String, AllocError> {
+    let mut text = String::new(alloc);
+    put_bits(&mut text, i64::from(axis.minimum))?;
+    text.push_str(" to ")?;
+    put_bits(&mut text, i64::from(axis.maximum))?;
+    text.push_str(", by default ")?;
+    put_bits(&mut text, i64::from(axis.default))?;
     Ok(text)
 }
 
@@ -142,16 +154,11 @@ fn axis_lines<W: Write>(
 ) -> Result<(), Failure> {
     for i in 0..axes.len() {
         if let Some(axis) = axes.get(i) {
-            let tag = String::from_utf8_lossy(alloc, &axis.tag.to_be_bytes())?;
             let name = text_of(alloc, name_of(face, axis.name))?;
-            let low = shown(alloc, axis.minimum)?;
-            let middle = shown(alloc, axis.default)?;
-            let high = shown(alloc, axis.maximum)?;
+            let range = range_of(alloc, &axis)?;
             let hidden = if axis.flags % 2 == 1 { ", hidden" } else { "" };
-            writeln!(
-                out,
-                "axis {tag}: {name}, {low} to {high}, by default {middle}{hidden}"
-            )?;
+            let tag = String::from_utf8_lossy(alloc, &axis.tag.to_be_bytes())?;
+            writeln!(out, "axis {tag}: {name}, {range}{hidden}")?;
         }
     }
     Ok(())

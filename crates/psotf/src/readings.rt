@@ -1,0 +1,115 @@
+//! What the readings of a whole font answer to a table `CFF `.
+use crate::failure::Failure;
+use crate::refused::{Spot, rule_of, spot_by};
+use crate::sheet::Sheet;
+use postscript_base::Error;
+use postscript_compact1::font_set::FontSet;
+use postscript_view::FontView;
+use std::alloc::{AllocError, Global};
+use std::io::{Cursor, Write};
+
+/// How many bytes both readings may pass over: each passes over the table once at most for each of its dictionaries.
+const PASSED: u64 = 1_000_000_000;
+
+/// How many dictionaries a table has, where it has too many for its readings to pass over it for each.
+fn too_many(cff: &[u8]) -> Option<u64> {
+    let fonts = FontView::fonts(cff).unwrap_or(0) as u64;
+    if fonts > 1 && fonts.saturating_mul(cff.len() as u64) > PASSED {
+        Some(fonts)
+    } else {
+        None
+    }
+}
+
+/// Why and where a reading refuses a table.
+#[derive(Drop)]
+struct Refused {
+    error: Error,
+    spot: Spot,
+}
+
+/// Why the strict reading refuses a table, where it does. Nothing of the font is kept.
+fn strict(alloc: Global, cff: &[u8]) -> Option<Refused> {
+    let mut tape = Cursor::new(cff);
+    let error = FontSet::check(alloc, &mut tape).err()?;
+    let spot = spot_by(alloc, cff, &error, tape.position());
+    Some(Refused { error, spot })
+}
+
+/// The same of the lenient reading.
+fn lenient(alloc: Global, cff: &[u8]) -> Option<Refused> {
+    let mut tape = Cursor::new(cff);
+    let error = FontSet::check_lenient(alloc, &mut tape).err()?;
+    let spot = spot_by(alloc, cff, &error, tape.position());
+    Some(Refused { error, spot })
+}
+
+/// Why the strict reading and the lenient one refuse a table, where they do. What the strict reading takes the lenient one takes too,
+/// which asks for less, and it is not asked then.
+fn both(alloc: Global, cff: &[u8]) -> (Option<Refused>, Option<Refused>) {
+    match strict(alloc, cff) {
+        None => (None, None),
+        refused => (refused, lenient(alloc, cff)),
+    }
+}
+
+/// Writes why a table is refused: the number of the refusal, what it says, the part, its place or null, and the rule.
+pub fn put_refusal(sheet: &mut Sheet, error: &Error, spot: &Spot) -> Result<(), AllocError> {
+    sheet.json.begin_object()?;
+    sheet.number("code", u64::from(error.code()))?;
+    sheet.tell("message", error)?;
+    sheet.text("part", spot.part)?;
+    sheet.json.key("place")?;
+    match spot.place {
+        Some(place) => sheet.json.u64(place)?,
+        None => sheet.json.null()?,
+    }
+    sheet.text("rule", rule_of(error.code()))?;
+    sheet.json.end_object()
+}
+
+/// Writes why a reading refuses a table, or null.
+fn put_reading(sheet: &mut Sheet, key: &str, refused: &Option<Refused>) -> Result<(), AllocError> {
+    sheet.json.key(key)?;
+    match refused {
+        None => sheet.json.null(),
+        Some(Refused { error, spot }) => put_refusal(sheet, error, spot),
+    }
+}
+
+/// Writes why each reading of the whole font refuses a table; or how many dictionaries there are, where the readings are not asked.
+pub fn put(alloc: Global, sheet: &mut Sheet, cff: &[u8]) -> Result<(), AllocError> {
+    if let Some(fonts) = too_many(cff) {
+        return sheet.number("dictionaries_not_read", fonts);
+    }
+    let (strict, lenient) = both(alloc, cff);
+    put_reading(sheet, "strict", &strict)?;
+    put_reading(sheet, "lenient", &lenient)
+}
+
+/// Writes a line for a reading that refuses a table.
+fn line<W: Write>(reading: &str, refused: &Option<Refused>, out: &mut W) -> Result<(), Failure> {
+    if let Some(Refused { error, spot }) = refused {
+        let code = error.code();
+        let rule = rule_of(code);
+        writeln!(
+            out,
+            "refused by the {reading} reading: {spot}: {error} (refusal {code}): {rule}"
+        )?;
+    }
+    Ok(())
+}
+
+/// Writes a line for each reading that refuses a table; or that the readings are not asked.
+pub fn lines<W: Write>(alloc: Global, cff: &[u8], out: &mut W) -> Result<(), Failure> {
+    if let Some(fonts) = too_many(cff) {
+        writeln!(
+            out,
+            "not read strictly or leniently: it has {fonts} dictionaries"
+        )?;
+        return Ok(());
+    }
+    let (strict, lenient) = both(alloc, cff);
+    line("strict", &strict, out)?;
+    line("lenient", &lenient, out)
+}
