@@ -13,6 +13,7 @@ const EXAMPLES: &str = "Examples:
   psotf report Font.otf -o report.html
   psotf flat Font.otf -o Flat.otf
   psotf subset Font.otf --text Hello -o Hello.otf
+  psotf instance Variable.otf --instance Bold -o Bold.otf
   psotf subset Font.otf --unicodes 20-7e,U+20AC --retain-gids -o Small.otf";
 
 /// A word behind a subcommand.
@@ -63,6 +64,12 @@ const PLACE: &[Word] = &[
         "The place of a variable font, as wght=650,opsz=12; by default that of its defaults",
     ),
     Word::Text("instance", "NAME", "A named instance of a variable font"),
+];
+
+/// The place that a static file is of.
+const ONE_PLACE: &[Word] = &[
+    Word::Text("variations", "LIST", "The place, as wght=650,opsz=12"),
+    Word::Text("instance", "NAME", "The named instance"),
 ];
 
 const SUBCOMMANDS: &[Subcommand] = &[
@@ -138,6 +145,17 @@ const SUBCOMMANDS: &[Subcommand] = &[
         group: "",
         one_of: &[],
         others: &[Word::Out(true, "Where to write it")],
+        takes_place: false,
+    },
+    Subcommand {
+        name: "instance",
+        about: "A static file of one place of a variable font, with its outlines in the table CFF",
+        group: "place",
+        one_of: ONE_PLACE,
+        others: &[
+            Word::Flag("quiet", "Do not tell what is left out"),
+            Word::Out(true, "Where to write it"),
+        ],
         takes_place: false,
     },
     Subcommand {

@@ -11,21 +11,26 @@ const KEPT: [[u8; 4]; 9] = [
 /// The tags of tables of kerning and ligatures.
 const LAYOUT: [[u8; 4]; 3] = [*b"GPOS", *b"GSUB", *b"kern"];
 
-/// The tags of the tables that are left out, each behind a space; a byte that is no letter, digit or sign of ASCII is a question
-/// mark.
+/// Adds a tag; a byte that is no letter, digit or sign of ASCII is a question mark.
+pub fn put_tag(text: &mut String, tag: &[u8; 4]) -> Result<(), AllocError> {
+    for byte in tag {
+        text.push(if byte.is_ascii_graphic() || *byte == b' ' {
+            *byte as char
+        } else {
+            '?'
+        })?;
+    }
+    Ok(())
+}
+
+/// The tags of the tables that are left out, each behind a space.
 fn tags(alloc: Global, file: &FontFile<'_>) -> Result<String, AllocError> {
     let mut text = String::new(alloc);
     for i in 0..file.tables() {
         let tag = file.tag(i).unwrap_or(0).to_be_bytes();
         if !KEPT.contains(&tag) {
             text.push(' ')?;
-            for byte in &tag {
-                text.push(if byte.is_ascii_graphic() || *byte == b' ' {
-                    *byte as char
-                } else {
-                    '?'
-                })?;
-            }
+            put_tag(&mut text, &tag)?;
         }
     }
     Ok(text)

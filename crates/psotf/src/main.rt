@@ -18,6 +18,7 @@ mod flat;
 mod glyph;
 mod hints;
 mod inspect;
+mod instance;
 mod labels;
 mod leaving;
 mod limit;
@@ -57,6 +58,7 @@ fn weight_of(name: &str, words: &ArgMatches<'_>) -> u64
         "flat" => flat::RUNS,
         "subset" => subset::RUNS,
         "report" => report::RUNS,
+        "instance" => instance::RUNS,
         "glyph" if words.get_flag("json") => drawing::OBJECT,
         _ => drawing::PATH,
     }
@@ -129,7 +131,7 @@ fn write<W: Write>(
     budget: &mut Budget,
     out: &mut W,
 ) -> Result<(), Failure> {
-    variable::refuse(words)?;
+    variable::refuse(name, words)?;
     match name {
         "inspect" => inspect::write(rt, face, words.get_flag("json"), budget, out),
         "glyph" => glyph::write(rt, face, words, budget, out),

@@ -11,20 +11,21 @@ const READ: [usize; 11] = [1, 2, 3, 4, 5, 6, 16, 17, 21, 22, 25];
 const LICENCE: [usize; 4] = [0, 7, 13, 14];
 
 /// The most records of a table that is gone through.
-const MOST: usize = 1000;
+pub const MOST: usize = 1000;
 
 /// The language of the United States, as Windows numbers it.
 const ENGLISH: usize = 0x409;
 
 /// A record of the table, and its text.
 #[derive(Clone, Copy)]
-struct Record<'l> {
-    platform: usize,
-    encoding: usize,
-    language: usize,
-    identifier: usize,
-    start: usize,
-    text: &'l [u8],
+pub struct Record<'l> {
+    pub platform: usize,
+    pub encoding: usize,
+    pub language: usize,
+    pub identifier: usize,
+    /// Where its text stands, which is written once.
+    pub start: usize,
+    pub text: &'l [u8],
 }
 
 /// A number as two bytes have it, where they have room.
@@ -42,7 +43,7 @@ fn field(table: &[u8], i: usize, field: usize) -> usize {
 }
 
 /// A record. None where its text is cut.
-fn record_at(table: &[u8], i: usize) -> Option<Record<'_>> {
+pub fn record_at(table: &[u8], i: usize) -> Option<Record<'_>> {
     let start = number_within(table, 4, 2)
         .unwrap_or(0)
         .saturating_add(field(table, i, 5));
@@ -100,7 +101,7 @@ fn is_told_twice(names: &Names<'_>, table: &[u8], count: usize, record: &Record<
 
 /// The records that are kept, and their texts.
 #[derive(Drop)]
-struct Kept {
+pub struct Kept {
     count: usize,
     records: Vec<u8>,
     texts: Vec<u8>,
@@ -109,6 +110,16 @@ struct Kept {
 }
 
 impl Kept {
+    /// None.
+    pub fn new(alloc: Global) -> Kept {
+        Kept {
+            count: 0,
+            records: Vec::new(alloc),
+            texts: Vec::new(alloc),
+            places: Vec::new(alloc),
+        }
+    }
+
     /// Where a text stands that was kept before, or comes to stand.
     fn place_of(&mut self, record: &Record<'_>) -> Result<usize, AllocError> {
         let len = record.text.len();
@@ -124,7 +135,7 @@ impl Kept {
     }
 
     /// Adds a record.
-    fn put(&mut self, record: &Record<'_>) -> Result<(), AllocError> {
+    pub fn put(&mut self, record: &Record<'_>) -> Result<(), AllocError> {
         let place = self.place_of(record)?;
         for number in [
             record.platform,
@@ -142,7 +153,7 @@ impl Kept {
     }
 
     /// The table. None where places have no room in two bytes.
-    fn table(&self, alloc: Global) -> Result<Option<Vec<u8>>, AllocError> {
+    pub fn table(&self, alloc: Global) -> Result<Option<Vec<u8>>, AllocError> {
         let begin = self.records.len().saturating_add(6);
         if begin > 65535 || self.texts.len() > 65535 {
             return Ok(None);
@@ -173,12 +184,7 @@ pub fn trimmed(alloc: Global, table: &[u8], licence: bool) -> Result<Option<Vec<
     let (Some(names), true) = (Names::read(table), count <= MOST) else {
         return Ok(None);
     };
-    let mut kept = Kept {
-        count: 0,
-        records: Vec::new(alloc),
-        texts: Vec::new(alloc),
-        places: Vec::new(alloc),
-    };
+    let mut kept = Kept::new(alloc);
     for i in 0..count {
         if let Some(record) = record_at(table, i) {
             if is_kept(&record, licence) && !is_told_twice(&names, table, count, &record) {

@@ -6,8 +6,11 @@ mod place;
 
 use crate::face::Common;
 use crate::failure::Failure;
+use crate::instance;
 use crate::limit::Budget;
 use clap::ArgMatches;
+pub use glyphs::advance_of;
+pub use place::{Chosen, name_of, text_of};
 use postscript_cff2::Font;
 use postscript_sfnt::FontFile;
 use postscript_variation::{AdvanceVariations, Axes, Maps};
@@ -16,6 +19,7 @@ use std::io::Write;
 /// A face of a file with a table `CFF2`.
 #[derive(Clone, Copy)]
 pub struct VariableFace<'l> {
+    pub file: FontFile<'l>,
     pub common: Common<'l>,
     pub font: Font<'l>,
     /// What `fvar` tells. A face without it has no axes.
@@ -27,7 +31,7 @@ pub struct VariableFace<'l> {
 }
 
 /// What a table of variations is read as, or that it is refused.
-fn read_as<T>(name: &'static str, read: postscript_variation::Result<T>) -> Result<T, Failure> {
+pub fn read_as<T>(name: &'static str, read: postscript_variation::Result<T>) -> Result<T, Failure> {
     match read {
         Ok(read) => Ok(read),
         Err(error) => Err(Failure::Variations(name, error)),
@@ -56,6 +60,7 @@ impl<'l> VariableFace<'l> {
             None => None,
         };
         Ok(Some(VariableFace {
+            file: *file,
             common: Common::open(file)?,
             font: Font::read(cff2)?,
             axes,
@@ -65,8 +70,11 @@ impl<'l> VariableFace<'l> {
     }
 }
 
-/// Refuses words that name a place, where the face is of no variable font.
-pub fn refuse(words: &ArgMatches<'_>) -> Result<(), Failure> {
+/// Refuses an instance, and words that name a place, where the face is of no variable font.
+pub fn refuse(name: &str, words: &ArgMatches<'_>) -> Result<(), Failure> {
+    if name == "instance" {
+        return Err(Failure::NotVariable);
+    }
     if words.get_str("variations").is_some() || words.get_str("instance").is_some() {
         return Err(Failure::Usage("--variations and --instance want a variable font"));
     }
@@ -86,6 +94,7 @@ pub fn write<W: Write>(
         "inspect" => holds::write(rt.alloc(), face, words.get_flag("json"), out),
         "glyph" => glyphs::write(rt, face, words, budget, out),
         "svg" => glyphs::write_picture(rt, face, words, budget, out),
+        "instance" => instance::write(rt, face, words, budget, out),
         "flat" => Err(Failure::Variable("flat")),
         "subset" => Err(Failure::Variable("subset")),
         "report" => Err(Failure::Variable("report")),

@@ -25,7 +25,7 @@ fn count(face: &VariableFace<'_>) -> u16 {
 }
 
 /// The advance of a glyph at a place: that of `hmtx`, and what `HVAR` adds, to the nearest unit.
-fn advance_of(face: &VariableFace<'_>, gid: u16, chosen: &Chosen) -> i64 {
+pub fn advance_of(face: &VariableFace<'_>, gid: u16, chosen: &Chosen) -> i64 {
     let advance = i64::from(face.common.advances.of(gid));
     let Some(variations) = face.advances else {
         return advance;

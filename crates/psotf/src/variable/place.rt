@@ -8,11 +8,16 @@ use postscript_variable_font::Place;
 use postscript_variation::{Axes, Axis, Setting};
 use std::alloc::{AllocError, Global};
 
-/// A place, and its normalized coordinates.
+/// A place, and how it is asked for.
 #[derive(Drop)]
 pub struct Chosen {
     pub place: Place,
+    /// Its normalized coordinates.
     pub coordinates: Vec<i16>,
+    /// What is asked for along axes.
+    pub settings: Vec<Setting>,
+    /// The number of the instance whose name is asked for.
+    pub instance: Option<usize>,
 }
 
 /// The number of a tag of one to four bytes; spaces fill it.
@@ -131,20 +136,21 @@ fn settings_of_instance(
     Ok(settings)
 }
 
-/// The settings that words ask for; none where they name no place.
+/// The settings that words ask for, and the instance that they name; none where they name no place.
 fn asked(
     rt: &HostRuntime,
     face: &VariableFace<'_>,
     words: &ArgMatches<'_>,
-) -> Result<Vec<Setting>, Failure> {
+) -> Result<(Vec<Setting>, Option<usize>), Failure> {
     if let Some(name) = words.get_str("instance") {
         let axes = axes_of(face)?;
         let instance = instance_of(rt.alloc(), face, &axes, name)?;
-        return Ok(settings_of_instance(rt.alloc(), &axes, instance)?);
+        let settings = settings_of_instance(rt.alloc(), &axes, instance)?;
+        return Ok((settings, Some(instance)));
     }
     match words.get_str("variations") {
-        Some(list) => settings_of(rt, &axes_of(face)?, list),
-        None => Ok(Vec::new(rt.alloc())),
+        Some(list) => Ok((settings_of(rt, &axes_of(face)?, list)?, None)),
+        None => Ok((Vec::new(rt.alloc()), None)),
     }
 }
 
@@ -155,13 +161,29 @@ impl Chosen {
         face: &VariableFace<'_>,
         words: &ArgMatches<'_>,
     ) -> Result<Chosen, Failure> {
-        let settings = asked(rt, face, words)?;
+        let (settings, instance) = asked(rt, face, words)?;
         let mut coordinates: Vec<i16> = Vec::new(rt.alloc());
         if let Some(axes) = face.axes {
             coordinates.resize(axes.len(), 0)?;
             axes.normalize(face.maps, settings.as_slice(), &mut coordinates);
         }
         let place = Place::of(rt.alloc(), face.font.store.as_ref(), coordinates.as_slice())?;
-        Ok(Chosen { place, coordinates })
+        Ok(Chosen {
+            place,
+            coordinates,
+            settings,
+            instance,
+        })
+    }
+
+    /// Where the place stands along an axis, in 65536ths: at the last setting of its tag, or else at its default.
+    pub fn value(&self, axis: &Axis) -> i32 {
+        let mut value = axis.default;
+        for setting in &self.settings {
+            if setting.tag == axis.tag {
+                value = setting.value;
+            }
+        }
+        value.max(axis.minimum).min(axis.maximum)
     }
 }

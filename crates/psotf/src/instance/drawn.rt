@@ -1,0 +1,176 @@
+//! The glyphs of a place, drawn within the limit and measured.
+use crate::failure::{Failure, Refusal};
+use crate::limit::Budget;
+use crate::progress::Progress;
+use crate::variable::{Chosen, VariableFace, advance_of};
+use postscript_drawing::Error as Undrawn;
+use postscript_outline::{Bounds, Outline};
+use postscript_sfnt_write::Metric;
+use postscript_type2::Operand;
+use postscript_variable_drawing::draw_glyph;
+use std::alloc::Global;
+
+/// A rectangle in whole units of the em.
+#[derive(Clone, Copy)]
+pub struct Frame {
+    pub left: i64,
+    pub bottom: i64,
+    pub right: i64,
+    pub top: i64,
+}
+
+impl Frame {
+    /// That of nothing.
+    pub const NONE: Frame = Frame {
+        left: 0,
+        bottom: 0,
+        right: 0,
+        top: 0,
+    };
+
+    /// The smallest one round bounds in 65536ths.
+    fn round(bounds: Bounds) -> Frame {
+        Frame {
+            left: i64::from(bounds.low.x).div_euclid(65536),
+            bottom: i64::from(bounds.low.y).div_euclid(65536),
+            right: i64::from(bounds.high.x)
+                .saturating_add(65535)
+                .div_euclid(65536),
+            top: i64::from(bounds.high.y)
+                .saturating_add(65535)
+                .div_euclid(65536),
+        }
+    }
+
+    /// The smallest one round both.
+    fn with(self, other: Frame) -> Frame {
+        Frame {
+            left: self.left.min(other.left),
+            bottom: self.bottom.min(other.bottom),
+            right: self.right.max(other.right),
+            top: self.top.max(other.top),
+        }
+    }
+}
+
+/// What the glyphs of a place measure.
+#[derive(Drop)]
+pub struct Drawn {
+    /// The advance and the left side bearing of each glyph.
+    pub metrics: Vec<Metric>,
+    /// The advance of each glyph.
+    pub widths: Vec<Operand>,
+    /// Round all glyphs. None where none has a contour.
+    pub frame: Option<Frame>,
+    /// The least of the right side bearings of glyphs with contours.
+    pub least_right: i64,
+}
+
+/// Why a glyph is refused that was given a share.
+fn refusal_of(error: Undrawn, face: &VariableFace<'_>, share: u64, budget: &mut Budget) -> Refusal {
+    match error {
+        Undrawn::Font(fault) => {
+            budget.spend_whole(face.font.bytes.len() as u64);
+            Refusal::Run(fault)
+        }
+        Undrawn::NoSuchGlyph(_) => Refusal::NoPart,
+        Undrawn::TooLong => budget.stop(share),
+        error => Refusal::Accent(error),
+    }
+}
+
+/// Round what a glyph draws, within its share. None where it draws nothing.
+fn frame_of(
+    alloc: Global,
+    face: &VariableFace<'_>,
+    gid: u16,
+    chosen: &Chosen,
+    budget: &mut Budget,
+) -> Result<Option<Frame>, Failure> {
+    let share = budget.share();
+    let mut left = share;
+    let mut segments = Vec::new(alloc);
+    let glyph = usize::from(gid);
+    let drawn = draw_glyph(
+        alloc,
+        &face.font,
+        glyph,
+        &chosen.place,
+        &mut left,
+        &mut segments,
+    );
+    budget.spend_whole(share.saturating_sub(left));
+    match drawn {
+        Ok(()) => {
+            let outline = Outline {
+                segments,
+                width: None,
+            };
+            Ok(outline.tight_bounds().map(Frame::round))
+        }
+        Err(error) => Err(Failure::Glyph {
+            gid,
+            refusal: refusal_of(error, face, share, budget),
+        }),
+    }
+}
+
+/// The advance of a glyph, where a charstring has room for it.
+fn width_of(face: &VariableFace<'_>, gid: u16, chosen: &Chosen) -> Result<u16, Failure> {
+    let advance = advance_of(face, gid, chosen);
+    match u16::try_from(advance) {
+        Ok(width) if width < 32768 => Ok(width),
+        _ => Err(Failure::Advance { gid, advance }),
+    }
+}
+
+impl Drawn {
+    /// Adds a glyph.
+    fn put(&mut self, width: u16, frame: Option<Frame>) -> Result<(), Failure> {
+        let bearing = match frame {
+            Some(frame) => frame.left.max(-32768).min(32767) as i16,
+            None => 0,
+        };
+        self.metrics.push(Metric {
+            advance: width,
+            bearing,
+        })?;
+        self.widths
+            .push(Operand::from_int(i16::try_from(width).unwrap_or(0)))?;
+        if let Some(frame) = frame {
+            let right = i64::from(width).saturating_sub(frame.right);
+            self.least_right = self.least_right.min(right);
+            self.frame = match self.frame {
+                Some(other) => Some(frame.with(other)),
+                None => Some(frame),
+            };
+        }
+        Ok(())
+    }
+
+    /// Draws each glyph at a place, and measures it. The first one is refused that takes more than its share, whose run is refused, or
+    /// whose advance a charstring has no room for.
+    pub fn of(
+        rt: &HostRuntime,
+        face: &VariableFace<'_>,
+        chosen: &Chosen,
+        budget: &mut Budget,
+    ) -> Result<Drawn, Failure> {
+        let glyphs = u16::try_from(face.font.char_strings.len()).unwrap_or(u16::MAX);
+        let mut progress = Progress::new(rt, glyphs);
+        let mut drawn = Drawn {
+            metrics: Vec::new(rt.alloc()),
+            widths: Vec::new(rt.alloc()),
+            frame: None,
+            least_right: 32767,
+        };
+        for gid in 0..glyphs {
+            progress.at(gid);
+            let width = width_of(face, gid, chosen)?;
+            let frame = frame_of(rt.alloc(), face, gid, chosen, budget)?;
+            drawn.put(width, frame)?;
+        }
+        progress.end();
+        Ok(drawn)
+    }
+}

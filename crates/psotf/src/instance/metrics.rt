@@ -1,0 +1,223 @@
+//! The tables that are made of those of the face, for a place.
+use super::drawn::{Drawn, Frame};
+use super::records::names_of;
+use super::style::Style;
+use super::values::{Entry, HHEA, OS2, POST, VHEA, set_signed, set_unsigned, set_word, vary, word};
+use crate::face::needed;
+use crate::failure::Failure;
+use crate::variable::{Chosen, VariableFace, read_as};
+use postscript_sfnt_write::{
+    Metric, hmtx, with_number_of_glyphs, with_number_of_metrics, without_names,
+};
+use postscript_variation::MetricVariations;
+use std::alloc::{AllocError, Global};
+
+/// A table `maxp` of version 0.5, of no glyphs.
+const MAXP: [u8; 6] = [0, 0, 0x50, 0, 0, 0];
+
+/// From which widths on, in quarters of a percent, the next width class is nearer.
+const WIDTHS: [i64; 8] = [225, 275, 325, 375, 425, 475, 550, 700];
+
+/// A table that was made.
+#[derive(Drop)]
+pub struct MadeTable {
+    pub tag: u32,
+    pub bytes: Vec<u8>,
+}
+
+/// The tables that were made, but for the outlines.
+#[derive(Drop)]
+pub struct Made {
+    pub tables: Vec<MadeTable>,
+}
+
+/// Where the place stands along the axis of a tag, in 65536ths. None where the face has no such axis.
+fn value_along(face: &VariableFace<'_>, chosen: &Chosen, tag: [u8; 4]) -> Option<i64> {
+    let axes = face.axes?;
+    for i in 0..axes.len() {
+        if let Some(axis) = axes.get(i) {
+            if axis.tag == u32::from_be_bytes(tag) {
+                return Some(i64::from(chosen.value(&axis)));
+            }
+        }
+    }
+    None
+}
+
+/// The width class of a width in 65536ths of a percent.
+fn width_class(width: i64) -> u16 {
+    let mut class = 1u16;
+    for least in WIDTHS {
+        if width.saturating_mul(4) >= least.saturating_mul(65536) {
+            class = class.saturating_add(1);
+        }
+    }
+    class
+}
+
+/// The average of the advances that are not 0, to the nearest unit; 0 where all are.
+fn average(metrics: &[Metric]) -> i64 {
+    let mut sum = 0i64;
+    let mut count = 0i64;
+    for metric in metrics {
+        if metric.advance > 0 {
+            sum = sum.saturating_add(i64::from(metric.advance));
+            count = count.saturating_add(1);
+        }
+    }
+    sum.saturating_add(count / 2)
+        .checked_div(count)
+        .unwrap_or(0)
+}
+
+/// The greatest advance.
+fn widest(metrics: &[Metric]) -> u16 {
+    let mut widest = 0u16;
+    for metric in metrics {
+        widest = widest.max(metric.advance);
+    }
+    widest
+}
+
+/// What the tables of a place are made of.
+#[derive(Clone, Copy)]
+struct Maker<'m, 'l> {
+    alloc: Global,
+    face: &'m VariableFace<'l>,
+    chosen: &'m Chosen,
+    drawn: &'m Drawn,
+    style: &'m Style,
+    metrics: Option<MetricVariations<'l>>,
+}
+
+impl<'m, 'l> Maker<'m, 'l> {
+    /// A copy of a table, with what its numbers vary by.
+    fn varied(&self, table: &[u8], entries: &[Entry]) -> Result<Vec<u8>, AllocError> {
+        let mut new = Vec::from_slice(self.alloc, table)?;
+        vary(
+            &mut new,
+            entries,
+            &self.metrics,
+            self.chosen.coordinates.as_slice(),
+        );
+        Ok(new)
+    }
+
+    /// The table `head`: the box round all glyphs, and whether the style is bold or italic.
+    fn head(&self) -> Result<Vec<u8>, Failure> {
+        let mut head = self.varied(needed(&self.face.file, *b"head", "head")?, &[])?;
+        let frame = self.drawn.frame.unwrap_or(Frame::NONE);
+        set_signed(&mut head, 36, frame.left);
+        set_signed(&mut head, 38, frame.bottom);
+        set_signed(&mut head, 40, frame.right);
+        set_signed(&mut head, 42, frame.top);
+        let others = word(&head, 44) & 0xfffc;
+        set_word(&mut head, 44, others | self.style.bits(1, 2, 0));
+        Ok(head)
+    }
+
+    /// The table `hhea`, with the extremes of the metrics of glyphs.
+    fn hhea(&self) -> Result<Vec<u8>, Failure> {
+        let old = needed(&self.face.file, *b"hhea", "hhea")?;
+        let mut hhea = self.varied(old, &HHEA)?;
+        let frame = self.drawn.frame.unwrap_or(Frame::NONE);
+        set_word(&mut hhea, 10, widest(&self.drawn.metrics));
+        set_signed(&mut hhea, 12, frame.left);
+        set_signed(&mut hhea, 14, self.drawn.least_right);
+        set_signed(&mut hhea, 16, frame.right);
+        let count = u16::try_from(self.drawn.metrics.len()).unwrap_or(u16::MAX);
+        Ok(with_number_of_metrics(self.alloc, &hhea, count)?)
+    }
+
+    /// The table `OS/2`: the weight, the width, and whether the style is bold, italic or regular.
+    fn os2(&self, old: &[u8]) -> Result<Vec<u8>, Failure> {
+        let mut table = self.varied(old, &OS2)?;
+        if let Some(weight) = value_along(self.face, self.chosen, *b"wght") {
+            let weight = weight.saturating_add(32768).div_euclid(65536);
+            set_unsigned(&mut table, 4, weight.max(1).min(1000));
+        }
+        if let Some(width) = value_along(self.face, self.chosen, *b"wdth") {
+            set_word(&mut table, 6, width_class(width));
+        }
+        if word(&table, 0) >= 3 {
+            set_signed(&mut table, 2, average(&self.drawn.metrics));
+        }
+        let others = word(&table, 62) & 0xff9e;
+        set_word(&mut table, 62, others | self.style.bits(0x20, 1, 0x40));
+        Ok(table)
+    }
+
+    /// The table `post` without names of glyphs: the slant, and the line below.
+    fn post(&self) -> Result<Vec<u8>, Failure> {
+        let old = match self.face.file.table(*b"post") {
+            Some(post) if post.len() >= 32 => post,
+            _ => &[0; 32],
+        };
+        let mut post = self.varied(old, &POST)?;
+        if let Some(slant) = value_along(self.face, self.chosen, *b"slnt") {
+            let slant = slant.max(-90 * 65536).min(90 * 65536);
+            set_signed(&mut post, 4, slant.div_euclid(65536));
+            set_unsigned(&mut post, 6, slant.rem_euclid(65536));
+        }
+        Ok(without_names(self.alloc, &post)?)
+    }
+
+    /// The table `maxp`.
+    fn maxp(&self) -> Result<Vec<u8>, Failure> {
+        let count = u16::try_from(self.drawn.metrics.len()).unwrap_or(u16::MAX);
+        Ok(with_number_of_glyphs(self.alloc, &MAXP, count)?)
+    }
+}
+
+impl Made {
+    /// Adds a table.
+    fn put(&mut self, tag: u32, bytes: Vec<u8>) -> Result<(), AllocError> {
+        self.tables.push(MadeTable { tag, bytes })?;
+        Ok(())
+    }
+
+    /// Adds those that a face need not have.
+    fn put_others(&mut self, maker: &Maker<'_, '_>) -> Result<(), Failure> {
+        let file = maker.face.file;
+        if let Some(table) = file.table(*b"OS/2") {
+            self.put(0x4f532f32, maker.os2(table)?)?;
+        }
+        if let (Some(table), None) = (file.table(*b"vhea"), file.table(*b"VVAR")) {
+            self.put(0x76686561, maker.varied(table, &VHEA)?)?;
+        }
+        Ok(())
+    }
+
+    /// The tables of a place.
+    pub fn of(
+        alloc: Global,
+        face: &VariableFace<'_>,
+        chosen: &Chosen,
+        drawn: &Drawn,
+        style: &Style,
+    ) -> Result<Made, Failure> {
+        let metrics = match face.file.table(*b"MVAR") {
+            Some(mvar) => Some(read_as("MVAR", MetricVariations::read(mvar))?),
+            None => None,
+        };
+        let maker = Maker {
+            alloc,
+            face,
+            chosen,
+            drawn,
+            style,
+            metrics,
+        };
+        let mut made = Made {
+            tables: Vec::new(alloc),
+        };
+        made.put(0x68656164, maker.head()?)?;
+        made.put(0x68686561, maker.hhea()?)?;
+        made.put(0x686d7478, hmtx(alloc, &drawn.metrics)?)?;
+        made.put(0x6d617870, maker.maxp()?)?;
+        made.put(0x6e616d65, names_of(alloc, face, style)?)?;
+        made.put(0x706f7374, maker.post()?)?;
+        made.put_others(&maker)?;
+        Ok(made)
+    }
+}

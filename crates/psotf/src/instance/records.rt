@@ -1,0 +1,188 @@
+//! The table `name` of one place (ISO/IEC 14496-22, 5.2.7).
+use super::style::Style;
+use crate::failure::Failure;
+use crate::naming::{Kept, MOST, Record, record_at};
+use crate::variable::{VariableFace, name_of, text_of};
+use postscript_items::number::number_within;
+use postscript_variation::Axes;
+use std::alloc::{AllocError, Global};
+
+/// The texts that are written anew or do not hold any more: family, style, unique and full name, PostScript name, the typographic
+/// family and style, the names of Macintosh and of CIDs, the WWS family and style, and the prefix of variations.
+const ANEW: [usize; 12] = [1, 2, 3, 4, 6, 16, 17, 18, 20, 21, 22, 25];
+
+/// The first identifier of a text of the font's own.
+const OWN: usize = 256;
+
+/// A text that is written, and its identifier.
+#[derive(Drop)]
+struct Text {
+    identifier: usize,
+    text: String,
+}
+
+/// Whether axes or instances are called by the name of an identifier.
+fn is_of_axes(axes: &Axes<'_>, identifier: usize) -> bool {
+    for i in 0..axes.len() {
+        if let Some(axis) = axes.get(i) {
+            if usize::from(axis.name) == identifier {
+                return true;
+            }
+        }
+    }
+    for i in 0..axes.instances() {
+        if let Some(instance) = axes.instance(i) {
+            let postscript = usize::from(instance.postscript_name.unwrap_or(0));
+            if usize::from(instance.name) == identifier || postscript == identifier {
+                return true;
+            }
+        }
+    }
+    false
+}
+
+/// Whether a record of the face stays: none of a text that is written anew, nor of a name of axes or instances alone, in a language
+/// that is told by a number.
+fn stays(face: &VariableFace<'_>, record: &Record<'_>) -> bool {
+    if record.language >= 0x8000 || ANEW.contains(&record.identifier) {
+        return false;
+    }
+    match face.axes {
+        Some(axes) => record.identifier < OWN || !is_of_axes(&axes, record.identifier),
+        None => true,
+    }
+}
+
+/// The version of a face, as it tells it.
+fn version(alloc: Global, face: &VariableFace<'_>) -> Result<String, AllocError> {
+    let text = text_of(alloc, name_of(face, 5))?;
+    let number = text
+        .as_str()
+        .strip_prefix("Version ")
+        .unwrap_or(text.as_str());
+    String::from_str(alloc, number)
+}
+
+/// The texts of a style.
+fn texts(alloc: Global, face: &VariableFace<'_>, style: &Style) -> Result<Vec<Text>, AllocError> {
+    let family = style.family.as_str();
+    let weight = style.weight.as_str();
+    let postscript = style.postscript.as_str();
+    let full = style.full(alloc)?;
+    let version = version(alloc, face)?;
+    let linked = if style.is_linked() {
+        String::from_str(alloc, family)?
+    } else {
+        format!(in alloc; "{family} {weight}")?
+    };
+    let mut texts = Vec::new(alloc);
+    for (identifier, text) in [
+        (1, linked),
+        (2, String::from_str(alloc, style.linked())?),
+        (3, format!(in alloc; "{version};{postscript}")?),
+        (4, format!(in alloc; "{family} {full}")?),
+        (6, String::from_str(alloc, postscript)?),
+    ] {
+        texts.push(Text { identifier, text })?;
+    }
+    if !style.is_linked() {
+        let text = String::from_str(alloc, family)?;
+        texts.push(Text {
+            identifier: 16,
+            text,
+        })?;
+        texts.push(Text {
+            identifier: 17,
+            text: full,
+        })?;
+    }
+    Ok(texts)
+}
+
+/// A text in UTF-16, the high byte of each unit first.
+fn utf16(alloc: Global, text: &str) -> Result<Vec<u8>, AllocError> {
+    let mut bytes = Vec::new(alloc);
+    for char in text.chars() {
+        let code = u32::from(char);
+        match u16::try_from(code) {
+            Ok(unit) => bytes.extend_from_slice(&unit.to_be_bytes())?,
+            Err(_) => {
+                let rest = code.saturating_sub(0x10000);
+                let high = 0xd800u16.saturating_add((rest / 1024 % 1024) as u16);
+                let low = 0xdc00u16.saturating_add((rest % 1024) as u16);
+                bytes.extend_from_slice(&high.to_be_bytes())?;
+                bytes.extend_from_slice(&low.to_be_bytes())?;
+            }
+        }
+    }
+    Ok(bytes)
+}
+
+/// The order of records in the table.
+fn order(record: &Record<'_>) -> u64 {
+    let mut order = 0u64;
+    for number in [
+        record.platform,
+        record.encoding,
+        record.language,
+        record.identifier,
+    ] {
+        order = order.wrapping_mul(65536).wrapping_add(number as u64);
+    }
+    order
+}
+
+/// Adds the records of the face that stay.
+fn put_old<'l>(
+    records: &mut Vec<Record<'l>>,
+    face: &VariableFace<'_>,
+    table: &'l [u8],
+) -> Result<(), AllocError> {
+    let count = number_within(table, 2, 2).unwrap_or(0).min(MOST);
+    for i in 0..count {
+        if let Some(record) = record_at(table, i) {
+            if stays(face, &record) {
+                records.push(record)?;
+            }
+        }
+    }
+    Ok(())
+}
+
+/// The table of records, in their order.
+fn table_of(alloc: Global, records: &[Record<'_>]) -> Result<Vec<u8>, Failure> {
+    let mut kept = Kept::new(alloc);
+    for record in records {
+        kept.put(record)?;
+    }
+    match kept.table(alloc)? {
+        Some(table) => Ok(table),
+        None => Err(Failure::Lacks("room for more names in its table name")),
+    }
+}
+
+/// The table `name` of a style: what is called by it in the English of the United States, for Windows, and what stays of the face.
+pub fn names_of(alloc: Global, face: &VariableFace<'_>, style: &Style) -> Result<Vec<u8>, Failure> {
+    let table = face.file.table(*b"name").unwrap_or(&[]);
+    let mut bytes = Vec::new(alloc);
+    let texts = texts(alloc, face, style)?;
+    for text in &texts {
+        bytes.push(utf16(alloc, text.text.as_str())?)?;
+    }
+    let mut records = Vec::new(alloc);
+    put_old(&mut records, face, table)?;
+    for i in 0..texts.len() {
+        if let (Some(text), Some(bytes)) = (texts.get(i), bytes.get(i)) {
+            records.push(Record {
+                platform: 3,
+                encoding: 1,
+                language: 0x409,
+                identifier: text.identifier,
+                start: table.len().saturating_add(i),
+                text: bytes.as_slice(),
+            })?;
+        }
+    }
+    records.sort_by_key(|record: &Record<'_>| order(record))?;
+    table_of(alloc, &records)
+}
