@@ -5,18 +5,19 @@
     tools/static_fonts.py SEED PLACES WORD..
 
 Each WORD is an OpenType file with a table `CFF2`, or a Debian package, which is downloaded (not installed) and of which each such file
-is taken; pango1.0-tests has Cantarell-VF.otf. Besides, the fonts of two and three axes of tools/variable.py are made of EB Garamond (Debian's
-fonts-ebgaramond), without and with subroutines; they have a table `cmap` of their letters.
+is taken; pango1.0-tests has Cantarell-VF.otf. Besides, the fonts of tools/variable.py are made of EB Garamond (Debian's fonts-ebgaramond), with
+two and three axes, with and without subroutines; and once more with operators of fewer than 48 operands, since a font with a glyph of
+more has to be refused by the number of that glyph.
 
 A file is written at each named instance, at each end of each axis, and at PLACES random places. It must be read by fontTools, each table
 of it, and pass ots-sanitize; FreeType must load each glyph. By `psotf glyph --all --json` each glyph must have the segments and the advance
-that the variable font has at the place; as fontTools reads it, the charstring the width of `hmtx`, and the side bearing that of the
-outline. hb-shape must set a line of text as it does of the variable font; without kerning, where GPOS is left out. What fontTools'
-varLib.mutator makes of the font must have advances, outlines, and numbers that MVAR varies, no further off than a unit. The names of a
-named instance must be those of its style. It prints each fault, and the sizes beside those of the mutator, whose files keep CFF2, and with
-the table `CFF ` of its charstrings by fontTools. A font with a glyph of more than 48 operands must be refused by its number. crates/psotf/out/psotf is run,
-or the program that the variable PSOTF names. Needs Debian's python3-fonttools, libfreetype6, libharfbuzz-bin and opentype-sanitizer. The
-status is 1 where something differs.
+that the variable font has at the place. As fontTools reads it, the width of each charstring must be that of `hmtx`, the side bearing that of
+the outline, and no coordinate further than 1/16 unit from what it draws of the variable font by floats. hb-shape must set a line of text, and 300
+lines of random characters of the font, as it does of the variable font, kerning and marks with them. What fontTools' varLib.mutator makes of
+the font (its instancer takes no CFF2) must have advances, and the numbers that MVAR varies, no further off than a unit; the mutator
+rounds each difference of points, so that of its outlines the furthest is told. The names of a named instance must be those of its style. It
+prints each fault, and the sizes beside those of the mutator's files, which keep CFF2. crates/psotf/out/psotf is run, or the program that the variable PSOTF
+names. Needs Debian's python3-fonttools, libfreetype6, libharfbuzz-bin and opentype-sanitizer. The status is 1 where something differs.
 """
 
 import collections
@@ -27,21 +28,23 @@ import random
 import subprocess
 import sys
 import tempfile
-from fractions import Fraction
 
 sys.dont_write_bytecode = True
 
 from fontTools.misc.psCharStrings import T2WidthExtractor
 from fontTools.pens.boundsPen import BoundsPen
+from fontTools.pens.recordingPen import RecordingPen
 from fontTools.ttLib import TTFont
+import fontTools.varLib.cff
 from fontTools.varLib import mutator
 from fontTools.varLib.mvar import MVAR_ENTRIES
 
 from instance import drawn, farthest
-from variable import NEAR, NO_HINTING, FreeType, files_in, mixed, variable
+from variable import NEAR, NO_HINTING, FreeType, files_in, mixed, shapes_of, variable
 
 PSOTF = os.environ.get("PSOTF") or pathlib.Path(__file__).resolve().parent.parent / "crates" / "psotf" / "out" / "psotf"
 TEXT = "Hamburgefonts fi AVAToWa, 0123456789"
+LINES, LONG = 300, 12
 LINKED = {"Regular", "Bold", "Italic", "Bold Italic"}
 
 
@@ -73,12 +76,18 @@ def places_of(font, chance, count):
         yield ["--variations", ",".join(f"{tag}={value:g}" for tag, value in values.items())], values, None
 
 
-def set_by_harfbuzz(path, *words):
-    """The glyphs and the advances of a line of text."""
+def lines_of(font, chance):
+    """A line of text, and lines of random characters of the font."""
+    characters = [char for char in sorted(font.getBestCmap()) if chr(char).isprintable()]
+    return [TEXT, *("".join(map(chr, chance.choices(characters, k=LONG))) for _ in range(LINES))]
+
+
+def set_by_harfbuzz(path, lines, *words):
+    """The glyphs of lines of text, with their places and advances."""
     done = subprocess.run(
-        ["hb-shape", *words, "--no-glyph-names", "--no-clusters", str(path), TEXT], capture_output=True, text=True, check=True,
+        ["hb-shape", *words, "--no-glyph-names", "--no-clusters", str(path)], input="\n".join(lines), capture_output=True, text=True, check=True,
     )
-    return done.stdout.strip()
+    return done.stdout.splitlines()
 
 
 def names_are(static, font, name, faults):
@@ -100,7 +109,7 @@ def names_are(static, font, name, faults):
 
 def widths_are(static, faults):
     """Compares the widths of charstrings, bearings and boxes with the metrics."""
-    top, box = static["CFF "].cff.topDictIndex[0], None
+    top = static["CFF "].cff.topDictIndex[0]
     glyphs = static.getGlyphSet()
     for number, name in enumerate(static.getGlyphOrder()):
         string = top.CharStrings[name]
@@ -113,7 +122,6 @@ def widths_are(static, faults):
             faults.append(f"{number}: its width")
         if abs(bearing - static["hmtx"][name][1]) > (pen.bounds is not None and pen.bounds[0] % 1 < 0.001):
             faults.append(f"{number}: its bearing {static['hmtx'][name][1]}, not {bearing}")
-    return box
 
 
 def moved_metrics(static, made, faults):
@@ -131,20 +139,33 @@ def near_mutator(path, values, static, folder, faults):
     made.save(folder / "mutated.otf")
     made = TTFont(folder / "mutated.otf")
     moved_metrics(static, made, faults)
-    theirs, worst = list(drawn(made)), 0
-    for number, (ours, others) in enumerate(zip(drawn(static), theirs, strict=True)):
-        far = farthest(ours, others)
-        if far is None or far > 65536:
-            faults.append(f"{number}: its outline is {far} from the mutator's")
-        else:
-            worst = max(worst, far)
+    far = [farthest(ours, others) for ours, others in zip(drawn(static), drawn(made), strict=True)]
     for number, (ours, others) in enumerate(zip(static.getGlyphOrder(), made.getGlyphOrder(), strict=True)):
         if abs(static["hmtx"][ours][0] - made["hmtx"][others][0]) > 1:
             faults.append(f"{number}: its advance is not the mutator's")
-    return (folder / "mutated.otf").stat().st_size, worst
+    return (folder / "mutated.otf").stat().st_size, max((one for one in far if one is not None), default=0)
 
 
-def compare_place(path, font, words, values, name, folder, freetype, counts):
+def near_floats(font, values, static, faults):
+    """Compares with the outlines that fontTools draws at the place by floats; the furthest that points are off."""
+    glyphs, worst = font.getGlyphSet(location=values), 0
+    for number, (ours, name) in enumerate(zip(drawn(static), font.getGlyphOrder(), strict=True)):
+        pen, contours = RecordingPen(), []
+        glyphs[name].draw(pen)
+        for word, points in pen.value:
+            if word == "moveTo":
+                contours.append([])
+            if points:
+                contours[-1] += [(x * 65536, y * 65536) for x, y in points]
+        far = farthest(ours, shapes_of(contours, NEAR))
+        if far is None or far > NEAR:
+            faults.append(f"{number}: its outline is {far} from that of fontTools")
+        else:
+            worst = max(worst, far)
+    return worst
+
+
+def compare_place(path, font, words, values, name, folder, freetype, lines, counts):
     """Compares the file of a place; tells what is at fault."""
     out, faults = folder / "static.otf", []
     _, said = run("instance", path, *words, "-o", out)
@@ -169,11 +190,13 @@ def compare_place(path, font, words, values, name, folder, freetype, counts):
         faults.append("FreeType")
     else:
         freetype.calls.FT_Done_Face(face)
-    kerned = [] if "GPOS" in static or "GPOS" not in font else ["--features=-kern,-mark,-mkmk"]
-    if set_by_harfbuzz(out, *kerned) != set_by_harfbuzz(path, *kerned, f"--variations={place[1]}"):
-        faults.append(f"hb-shape: {set_by_harfbuzz(out, *kerned)}, not {set_by_harfbuzz(path, *kerned, f'--variations={place[1]}')}")
+    for ours, theirs, line in zip(set_by_harfbuzz(out, lines), set_by_harfbuzz(path, lines, f"--variations={place[1]}"), lines, strict=True):
+        if ours != theirs:
+            faults.append(f"hb-shape: {line!a}: {ours}, not {theirs}")
+    counts["lines"] += len(lines)
     if name is not None:
         names_are(static, font, name, faults)
+    counts["floats"] = max(counts["floats"], near_floats(font, values, static, faults))
     size, worst = near_mutator(path, values, static, folder, faults)
     counts["size"], counts["mutated"] = counts["size"] + out.stat().st_size, counts["mutated"] + size
     counts["worst"] = max(counts["worst"], worst)
@@ -189,20 +212,21 @@ def refused(path, words, folder):
 def compare_font(path, chance, count, folder, freetype):
     """Compares the static fonts of a font; tells how much differs."""
     font, differ, refusals = TTFont(path), 0, collections.Counter()
-    counts = {"glyphs": 0, "size": 0, "mutated": 0, "worst": 0, "said": set()}
-    places = list(places_of(font, chance, count))
+    counts = {"glyphs": 0, "lines": 0, "size": 0, "mutated": 0, "worst": 0, "floats": 0, "said": set()}
+    places, lines = list(places_of(font, chance, count)), lines_of(font, chance)
     for words, values, name in places:
         if (said := refused(path, words, folder)) is not None:
             refusals[said.strip().rsplit(": ", 1)[-1]] += 1
             faults = [] if ": glyph " in said and not (folder / "none.otf").exists() else [said]
         else:
             (folder / "none.otf").unlink()
-            faults = compare_place(path, font, words, values, name, folder, freetype, counts)
+            faults = compare_place(path, font, words, values, name, folder, freetype, lines, counts)
         differ += len(faults)
         for fault in faults[:8]:
             print(f"{path.name} {' '.join(words)}: {fault}", file=sys.stderr)
-    print(f"{path.name}: {len(places)} places, {counts['glyphs']} glyphs; refused: {dict(refusals)}; {differ} differ; furthest from the mutator"
-          f" {counts['worst'] / 65536:.3f} unit; {counts['size']} bytes, the mutator's {counts['mutated']}; said: {sorted(counts['said'])}", flush=True)
+    print(f"{path.name}: {len(places)} places, {counts['glyphs']} glyphs, {counts['lines']} lines; refused: {dict(refusals)}; {differ} differ; furthest from floats"
+          f" {counts['floats'] / 65536:.5f} unit, from the mutator {counts['worst'] / 65536:.3f}; {counts['size']} bytes, the mutator's {counts['mutated']};"
+          f" said: {sorted(counts['said'])}", flush=True)
     return differ
 
 
@@ -212,11 +236,13 @@ def main():
     freetype, differ = FreeType(), 0
     with tempfile.TemporaryDirectory() as name:
         folder = pathlib.Path(name)
-        (folder / "fonts").mkdir()
         fonts = [path for word in words for path in files_in(folder, word)]
-        for count in (2, 3):
-            made = variable(folder / "fonts", count)
-            fonts += [made, mixed(made)]
+        for few in (False, True):
+            fontTools.varLib.cff.maxStackLimit = 48 if few else 513
+            (folder / f"fonts{few}").mkdir()
+            for count in (2, 3):
+                made = variable(folder / f"fonts{few}", count)
+                fonts += [made, mixed(made)]
         for path in fonts:
             differ += compare_font(path, random.Random(f"{seed} {path.name}"), int(places), folder, freetype)
     print(f"{differ} differ")

@@ -2,6 +2,7 @@
 mod drawn;
 mod kept;
 mod metrics;
+mod positions;
 mod records;
 mod style;
 mod values;
@@ -13,6 +14,7 @@ use crate::variable::{Chosen, VariableFace};
 use clap::ArgMatches;
 use drawn::Drawn;
 use metrics::Made;
+use positions::Positions;
 use postscript_instance::{Error, glyph, table};
 use postscript_sfnt_write::{Table, file_of};
 use std::alloc::Global;
@@ -77,6 +79,7 @@ fn file_with(
     face: &VariableFace<'_>,
     font: &[u8],
     made: &Made,
+    positions: &Positions,
 ) -> Result<Vec<u8>, Failure> {
     let mut tables: Vec<Table<'_>> = Vec::new(alloc);
     tables.push(Table {
@@ -88,6 +91,14 @@ fn file_with(
             tag: table.tag,
             bytes: table.bytes.as_slice(),
         })?;
+    }
+    for (tag, table) in [(0x47444546, &positions.gdef), (0x47504f53, &positions.gpos)] {
+        if let Some(table) = table {
+            tables.push(Table {
+                tag,
+                bytes: table.as_slice(),
+            })?;
+        }
     }
     kept::put(&mut tables, face)?;
     tables.sort_by_key(|table: &Table<'_>| table.tag)?;
@@ -109,9 +120,10 @@ pub fn write<W: Write>(
     let style = Style::of(alloc, face, &chosen)?;
     let font = font_of(alloc, face, &chosen, &drawn, &style)?;
     let made = Made::of(alloc, face, &chosen, &drawn, &style)?;
-    let file = file_with(alloc, face, &font, &made)?;
+    let positions = Positions::of(alloc, face, &chosen)?;
+    let file = file_with(alloc, face, &font, &made, &positions)?;
     if !words.get_flag("quiet") {
-        kept::tell(rt, face)?;
+        kept::tell(rt, face, &positions)?;
     }
     saving::put(rt, words, &file, out)
 }

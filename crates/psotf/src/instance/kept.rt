@@ -1,4 +1,5 @@
 //! Which tables a file of one place keeps of the face.
+use super::positions::Positions;
 use super::values::word;
 use crate::failure::Failure;
 use crate::leaving::put_tag;
@@ -101,22 +102,33 @@ pub fn put<'l>(tables: &mut Vec<Table<'l>>, face: &VariableFace<'l>) -> Result<(
     Ok(())
 }
 
-/// Whether a table of a tag is left out, and is to be told of.
-fn is_left_out(file: &FontFile<'_>, tag: [u8; 4]) -> bool {
-    if MADE.contains(&tag) || GONE.contains(&tag) {
-        return false;
-    }
+/// Whether a table of a tag is made for the place.
+fn is_made(file: &FontFile<'_>, positions: &Positions, tag: [u8; 4]) -> bool {
     if tag == *b"vhea" {
-        return file.table(*b"VVAR").is_some();
+        return file.table(*b"VVAR").is_none();
+    }
+    MADE.contains(&tag)
+        || (tag == *b"GDEF" && positions.gdef.is_some())
+        || (tag == *b"GPOS" && positions.gpos.is_some())
+}
+
+/// Whether a table of a tag is left out, and is to be told of.
+fn is_left_out(file: &FontFile<'_>, positions: &Positions, tag: [u8; 4]) -> bool {
+    if GONE.contains(&tag) || is_made(file, positions, tag) {
+        return false;
     }
     !SAME.iter().any(|(same, condition)| *same == tag && kept(file, tag, *condition).is_some())
 }
 
 /// Adds the tags of the tables that are left out, each behind a space.
-fn put_tags(text: &mut String, file: &FontFile<'_>) -> Result<(), AllocError> {
+fn put_tags(
+    text: &mut String,
+    file: &FontFile<'_>,
+    positions: &Positions,
+) -> Result<(), AllocError> {
     for i in 0..file.tables() {
         let tag = file.tag(i).unwrap_or(0).to_be_bytes();
-        if is_left_out(file, tag) {
+        if is_left_out(file, positions, tag) {
             text.push(' ')?;
             put_tag(text, &tag)?;
         }
@@ -125,10 +137,10 @@ fn put_tags(text: &mut String, file: &FontFile<'_>) -> Result<(), AllocError> {
 }
 
 /// What is lost with the tables that are left out.
-fn lost(alloc: Global, file: &FontFile<'_>) -> Result<String, AllocError> {
+fn lost(alloc: Global, file: &FontFile<'_>, positions: &Positions) -> Result<String, AllocError> {
     let mut text = String::new(alloc);
     for (tag, what) in LOST {
-        if file.table(tag).is_some() && is_left_out(file, tag) {
+        if file.table(tag).is_some() && is_left_out(file, positions, tag) {
             text.push_str(if text.is_empty() { "; lost are " } else { ", " })?;
             text.push_str(what)?;
         }
@@ -137,13 +149,17 @@ fn lost(alloc: Global, file: &FontFile<'_>) -> Result<String, AllocError> {
 }
 
 /// Tells on standard error, in one line, which tables are left out, and what is lost with them.
-pub fn tell(rt: &HostRuntime, face: &VariableFace<'_>) -> Result<(), Failure> {
+pub fn tell(
+    rt: &HostRuntime,
+    face: &VariableFace<'_>,
+    positions: &Positions,
+) -> Result<(), Failure> {
     let mut tags = String::new(rt.alloc());
-    put_tags(&mut tags, &face.file)?;
+    put_tags(&mut tags, &face.file, positions)?;
     if tags.is_empty() {
         return Ok(());
     }
-    let lost = lost(rt.alloc(), &face.file)?;
+    let lost = lost(rt.alloc(), &face.file, positions)?;
     eprintln!(rt; "psotf: tables left out:{tags}{lost}")?;
     Ok(())
 }

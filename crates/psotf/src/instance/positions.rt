@@ -1,0 +1,421 @@
+//! The tables `GDEF` and `GPOS` of a place (OpenType 1.9). What a number varies by is added to it where it stands, and the device table
+//! that tells it is named no more; no byte moves.
+use super::values::{set_signed, set_word, word};
+use crate::variable::{Chosen, VariableFace};
+use postscript_items::number::number_within;
+use postscript_variation::{Store, in_whole};
+use std::alloc::{AllocError, Global};
+
+/// The most steps that are taken in a table.
+const STEPS: u64 = 50_000_000;
+
+/// The format of a device table that tells variations (VariationIndex).
+const VARIATIONS: usize = 0x8000;
+
+/// The bits of a format of values: of a number, and of its device table.
+const PARTS: [(u16, u16); 4] = [(0x01, 0x10), (0x02, 0x20), (0x04, 0x40), (0x08, 0x80)];
+
+/// A place behind another one.
+fn behind(place: usize, more: usize) -> usize {
+    place.saturating_add(more)
+}
+
+/// A place behind so many numbers of two bytes.
+fn words(place: usize, count: usize) -> usize {
+    place.saturating_add(count.saturating_mul(2))
+}
+
+/// How many bytes the fields of a format take that stand before that of a bit.
+fn room(format: u16, bit: u16) -> usize {
+    let mut room = 0usize;
+    let mut other = 1u16;
+    for _ in 0..8 {
+        if other < bit && format & other != 0 {
+            room = room.saturating_add(2);
+        }
+        other = other.saturating_mul(2);
+    }
+    room
+}
+
+/// A table whose numbers come to stand at a place.
+#[derive(Drop)]
+struct Varied<'v> {
+    bytes: Vec<u8>,
+    store: Store<'v>,
+    coordinates: &'v [i16],
+    /// How many steps are left.
+    steps: u64,
+    /// Whether a variation has no number that it could be added to, or there are too many steps.
+    is_over: bool,
+}
+
+impl<'v> Varied<'v> {
+    /// A number of two bytes; 0 where the table is cut.
+    fn word(&self, place: usize) -> usize {
+        number_within(&self.bytes, place, 2).unwrap_or(0)
+    }
+
+    /// Where a table stands that is named at a place. None where none is.
+    fn named(&self, parent: usize, place: usize) -> Option<usize> {
+        match self.word(place) {
+            0 => None,
+            offset => Some(behind(parent, offset)),
+        }
+    }
+
+    /// Takes steps.
+    fn take(&mut self, steps: u64) {
+        if self.steps < steps {
+            self.is_over = true;
+        }
+        self.steps = self.steps.saturating_sub(steps);
+    }
+
+    /// What the device table at a place adds, to the nearest unit. None where it tells no variations.
+    fn added(&mut self, device: usize) -> Option<i64> {
+        if self.word(behind(device, 4)) != VARIATIONS {
+            return None;
+        }
+        let (outer, inner) = (self.word(device), self.word(behind(device, 2)));
+        let regions = match self.store.table(outer) {
+            Some(data) => data.len() as u64,
+            None => 0,
+        };
+        self.take(regions.saturating_mul(self.coordinates.len() as u64));
+        if self.is_over {
+            return None;
+        }
+        match self.store.variation(outer, inner, self.coordinates) {
+            Some(total) => Some(in_whole(total)),
+            None => Some(0),
+        }
+    }
+
+    /// Adds to a number what the device table adds that is named at a place.
+    fn vary(&mut self, parent: usize, number: Option<usize>, place: usize) {
+        self.take(1);
+        let Some(device) = self.named(parent, place) else {
+            return;
+        };
+        let Some(added) = self.added(device) else {
+            return;
+        };
+        match number {
+            Some(number) => {
+                let old = i64::from(word(&self.bytes, number).cast_signed());
+                set_signed(&mut self.bytes, number, old.saturating_add(added));
+            }
+            None => if added != 0 {
+                self.is_over = true;
+            },
+        }
+        set_word(&mut self.bytes, place, 0);
+    }
+
+    /// A value of a format.
+    fn value(&mut self, parent: usize, place: usize, format: u16) {
+        self.take(1);
+        for (bit, device) in PARTS {
+            if format & device != 0 {
+                let number = if format & bit != 0 {
+                    Some(behind(place, room(format, bit)))
+                } else {
+                    None
+                };
+                self.vary(parent, number, behind(place, room(format, device)));
+            }
+        }
+    }
+
+    /// An anchor.
+    fn anchor(&mut self, place: usize) {
+        if self.word(place) == 3 {
+            self.vary(place, Some(behind(place, 2)), behind(place, 6));
+            self.vary(place, Some(behind(place, 4)), behind(place, 8));
+        }
+    }
+
+    /// Anchors that are named one behind the other.
+    fn anchors(&mut self, parent: usize, place: usize, count: usize) {
+        for i in 0..count {
+            self.take(1);
+            if self.is_over {
+                return;
+            }
+            if let Some(anchor) = self.named(parent, words(place, i)) {
+                self.anchor(anchor);
+            }
+        }
+    }
+
+    /// Values of two formats, one behind the other, each behind so many bytes.
+    fn values(
+        &mut self,
+        parent: usize,
+        place: usize,
+        count: usize,
+        formats: [u16; 2],
+        skip: usize,
+    ) {
+        let [first, second] = formats;
+        let (left, right) = (room(first, 0x100), room(second, 0x100));
+        let size = skip.saturating_add(left).saturating_add(right);
+        for i in 0..count {
+            if self.is_over {
+                return;
+            }
+            let at = behind(behind(place, i.saturating_mul(size)), skip);
+            self.value(parent, at, first);
+            self.value(parent, behind(at, left), second);
+        }
+    }
+
+    /// The format of values that a table has at a place.
+    fn format(&self, place: usize) -> u16 {
+        word(&self.bytes, place)
+    }
+
+    /// Single adjustments.
+    fn single(&mut self, table: usize) {
+        let formats = [self.format(behind(table, 4)), 0];
+        if self.word(table) == 1 {
+            self.values(table, behind(table, 6), 1, formats, 0);
+        } else {
+            let count = self.word(behind(table, 6));
+            self.values(table, behind(table, 8), count, formats, 0);
+        }
+    }
+
+    /// Adjustments of pairs.
+    fn pairs(&mut self, table: usize) {
+        let formats = [self.format(behind(table, 4)), self.format(behind(table, 6))];
+        if self.word(table) == 1 {
+            self.pair_sets(table, formats);
+        } else {
+            let classes = self.word(behind(table, 12));
+            let count = classes.saturating_mul(self.word(behind(table, 14)));
+            self.values(table, behind(table, 16), count, formats, 0);
+        }
+    }
+
+    /// Adjustments of pairs, glyph by glyph.
+    fn pair_sets(&mut self, table: usize, formats: [u16; 2]) {
+        for i in 0..self.word(behind(table, 8)) {
+            self.take(1);
+            if self.is_over {
+                return;
+            }
+            if let Some(set) = self.named(table, words(behind(table, 10), i)) {
+                let count = self.word(set);
+                self.values(set, behind(set, 2), count, formats, 2);
+            }
+        }
+    }
+
+    /// Marks and their anchors.
+    fn marks(&mut self, table: usize) {
+        for i in 0..self.word(table) {
+            self.take(1);
+            if self.is_over {
+                return;
+            }
+            if let Some(anchor) = self.named(table, words(behind(table, 4), i.saturating_mul(2))) {
+                self.anchor(anchor);
+            }
+        }
+    }
+
+    /// Bases, or components of a ligature, and their anchors, one for each class of marks.
+    fn bases(&mut self, table: usize, classes: usize) {
+        let count = classes.saturating_mul(self.word(table));
+        self.anchors(table, behind(table, 2), count);
+    }
+
+    /// Ligatures and their anchors.
+    fn ligatures(&mut self, table: usize, classes: usize) {
+        for i in 0..self.word(table) {
+            self.take(1);
+            if self.is_over {
+                return;
+            }
+            if let Some(ligature) = self.named(table, words(behind(table, 2), i)) {
+                self.bases(ligature, classes);
+            }
+        }
+    }
+
+    /// Marks that are attached to glyphs.
+    fn attached(&mut self, table: usize, to_ligatures: bool) {
+        let classes = self.word(behind(table, 6));
+        if let Some(marks) = self.named(table, behind(table, 8)) {
+            self.marks(marks);
+        }
+        if let Some(others) = self.named(table, behind(table, 10)) {
+            if to_ligatures {
+                self.ligatures(others, classes);
+            } else {
+                self.bases(others, classes);
+            }
+        }
+    }
+
+    /// A subtable of a lookup of a type that is no extension.
+    fn adjusted(&mut self, kind: usize, table: usize) {
+        match kind {
+            1 => self.single(table),
+            2 => self.pairs(table),
+            3 => {
+                let count = self.word(behind(table, 4)).saturating_mul(2);
+                self.anchors(table, behind(table, 6), count);
+            }
+            4 | 6 => self.attached(table, false),
+            5 => self.attached(table, true),
+            _ => {}
+        }
+    }
+
+    /// A subtable of a lookup.
+    fn subtable(&mut self, kind: usize, table: usize) {
+        self.take(1);
+        if kind != 9 {
+            self.adjusted(kind, table);
+            return;
+        }
+        let place = behind(table, 4);
+        let offset = number_within(&self.bytes, place, 4).unwrap_or(0);
+        self.adjusted(self.word(behind(table, 2)), behind(table, offset));
+    }
+
+    /// A lookup.
+    fn lookup(&mut self, table: usize) {
+        let kind = self.word(table);
+        for i in 0..self.word(behind(table, 4)) {
+            if self.is_over {
+                return;
+            }
+            if let Some(subtable) = self.named(table, words(behind(table, 6), i)) {
+                self.subtable(kind, subtable);
+            }
+        }
+    }
+
+    /// The lookups of a table `GPOS`.
+    fn lookups(&mut self) {
+        let Some(list) = self.named(0, 8) else {
+            return;
+        };
+        for i in 0..self.word(list) {
+            self.take(1);
+            if self.is_over {
+                return;
+            }
+            if let Some(lookup) = self.named(list, words(behind(list, 2), i)) {
+                self.lookup(lookup);
+            }
+        }
+    }
+
+    /// The carets of a ligature.
+    fn carets(&mut self, table: usize) {
+        for i in 0..self.word(table) {
+            self.take(1);
+            if self.is_over {
+                return;
+            }
+            if let Some(caret) = self.named(table, words(behind(table, 2), i)) {
+                if self.word(caret) == 3 {
+                    self.vary(caret, Some(behind(caret, 2)), behind(caret, 4));
+                }
+            }
+        }
+    }
+
+    /// The ligatures of a table `GDEF`, which names no store any more.
+    fn definitions(&mut self) {
+        set_word(&mut self.bytes, 14, 0);
+        set_word(&mut self.bytes, 16, 0);
+        let Some(list) = self.named(0, 8) else {
+            return;
+        };
+        for i in 0..self.word(behind(list, 2)) {
+            self.take(1);
+            if self.is_over {
+                return;
+            }
+            if let Some(ligature) = self.named(list, words(behind(list, 4), i)) {
+                self.carets(ligature);
+            }
+        }
+    }
+
+    /// The table, where all of it came to stand at the place.
+    fn end(self) -> Option<Vec<u8>> {
+        if self.is_over { None } else { Some(self.bytes) }
+    }
+}
+
+/// The tables `GDEF` and `GPOS` of a place, as far as they were made.
+#[derive(Drop)]
+pub struct Positions {
+    pub gdef: Option<Vec<u8>>,
+    pub gpos: Option<Vec<u8>>,
+}
+
+/// The store that a table `GDEF` names. None where it names none.
+fn store_of(table: &[u8]) -> Option<Store<'_>> {
+    if number_within(table, 2, 2).unwrap_or(0) < 3 {
+        return None;
+    }
+    match number_within(table, 14, 4).unwrap_or(0) {
+        0 => None,
+        place => Store::read(table, place).ok(),
+    }
+}
+
+/// A table that is to come to stand at a place.
+fn begun<'v>(
+    alloc: Global,
+    table: &[u8],
+    store: Store<'v>,
+    coordinates: &'v [i16],
+) -> Result<Varied<'v>, AllocError> {
+    Ok(Varied {
+        bytes: Vec::from_slice(alloc, table)?,
+        store,
+        coordinates,
+        steps: STEPS,
+        is_over: false,
+    })
+}
+
+impl Positions {
+    /// Those that vary by the store of `GDEF`: none where there is no store, or where one cannot be made; nor `GPOS`, where its features
+    /// vary.
+    pub fn of(
+        alloc: Global,
+        face: &VariableFace<'_>,
+        chosen: &Chosen,
+    ) -> Result<Positions, AllocError> {
+        let mut made = Positions {
+            gdef: None,
+            gpos: None,
+        };
+        let table = face.file.table(*b"GDEF").unwrap_or(&[]);
+        let Some(store) = store_of(table) else {
+            return Ok(made);
+        };
+        let coordinates = chosen.coordinates.as_slice();
+        let mut gdef = begun(alloc, table, store, coordinates)?;
+        gdef.definitions();
+        made.gdef = gdef.end();
+        let table = face.file.table(*b"GPOS").unwrap_or(&[]);
+        let minor = number_within(table, 2, 2).unwrap_or(1);
+        if minor == 0 || number_within(table, 10, 4).unwrap_or(1) == 0 {
+            let mut gpos = begun(alloc, table, store, coordinates)?;
+            gpos.lookups();
+            made.gpos = gpos.end();
+        }
+        Ok(made)
+    }
+}
