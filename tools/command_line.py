@@ -11,12 +11,16 @@ tells; what is said on standard error, once, and nothing with --quiet. Of `sheet
 size, that they are no wider than their cells, and why a glyph is refused, in its cell. Of words that are no subcommand the nearest one,
 and the status; of no words the help, and of a file alone what it holds. Of characters that the font has no glyph for which they are, by
 `svg` and by `subset`. Of files of other kinds the line that says what each is. Of `inspect` the memory that it takes of Noto Sans CJK.
-Of `report` the pages of more glyphs than one holds. Needs Debian's python3-fonttools and fonts-ebgaramond, and, where it is there, takes
+Of `report` the pages of more glyphs than one holds. Of `instance` what is refused and how it is said: axes, instances
+and words, files that are not variable, runs past the limit, damaged tables, a disk that is full; which tables are left out, and the names of a
+place. Needs Debian's python3-fonttools and fonts-ebgaramond, and, where it is there, takes
 fonts-noto-cjk. The status is 1 where something is otherwise.
 """
 
+import functools
 import os
 import pathlib
+import resource
 import subprocess
 import sys
 import tempfile
@@ -24,9 +28,13 @@ import xml.etree.ElementTree
 
 sys.dont_write_bytecode = True
 
-from fontTools.ttLib import TTFont
+import fontTools.varLib.cff
+from fontTools.ttLib import TTFont, newTable
+from fontTools.ttLib.tables._f_v_a_r import NamedInstance
+from fontTools.varLib.featureVars import addFeatureVariations
 
 from hostile_files import END, ONE, PSOTF, call, file_of, plain_font
+from variable import variable
 
 FONT = "/usr/share/fonts/opentype/ebgaramond/EBGaramond12-Regular.otf"
 LARGE = pathlib.Path("/usr/share/fonts/opentype/noto/NotoSansCJK-Regular.ttc")
@@ -187,7 +195,7 @@ def _(folder):
 
 @case("words: the nearest subcommand is named")
 def _(folder):
-    for word, nearest in (("inspct", "inspect"), ("glyphs", "glyph"), ("svgs", "svg"), ("sheets", "sheet"), ("rapport", "report"), ("flatt", "flat"), ("subsett", "subset")):
+    for word, nearest in (("inspct", "inspect"), ("glyphs", "glyph"), ("svgs", "svg"), ("sheets", "sheet"), ("rapport", "report"), ("flatt", "flat"), ("subsett", "subset"), ("instanc", "instance")):
         said = run(word, FONT, status=2)[1]
         assert f"'{word}'" in said and f"'{nearest}'" in said, said
 
@@ -262,6 +270,133 @@ def _(folder):
     pages = {page.name: page.read_text() for page in folder.glob("report*.html")}
     assert sorted(pages) == ["report-10000.html", "report-20000.html", "report.html"], sorted(pages)
     assert '"pages":[["report.html",0,10000],["report-10000.html",10000,20000],["report-20000.html",20000,20001]]' in pages["report-10000.html"]
+
+
+@functools.cache
+def made():
+    """A variable font of two axes, made of EB Garamond, with an instance Bold."""
+    fontTools.varLib.cff.maxStackLimit = 48
+    with tempfile.TemporaryDirectory() as folder:
+        path = variable(pathlib.Path(folder), 2)
+        font = TTFont(path)
+        for name, weight in (("Bold", 700), ("Semi Bold", 600)):
+            instance = NamedInstance()
+            instance.subfamilyNameID, instance.coordinates = font["name"].addName(name), {"wght": weight, "wdth": 100}
+            font["fvar"].instances.append(instance)
+        font["name"].setName("Garamond", 1, 3, 1, 0x409)
+        font.save(path)
+        return path.read_bytes()
+
+
+def varied(folder, change=None):
+    """That font as a file, with a change."""
+    path = folder / "variable.otf"
+    path.write_bytes(made())
+    if change is not None:
+        font = TTFont(path)
+        change(font)
+        font.save(path)
+    return path
+
+
+def instance(folder, *words, change=None, status=0):
+    """What is said of the instance of words; the file that is written. Where it is refused, what stood there stays, alone."""
+    path, out = varied(folder, change), folder / "out.otf"
+    out.write_bytes(b"old")
+    said = run("instance", path, *words, "-o", out, status=status)[1].replace(f"{path}: ", "")
+    assert [file.name for file in folder.iterdir() if file.suffix == ".part"] == []
+    assert (out.read_bytes() == b"old") == (status != 0)
+    return out, said
+
+
+@case("instance: an axis, an instance or a number that is not there is refused by name")
+def _(folder):
+    for words, wanted in (
+        ("--variations opsz=12", "the face has no axis opsz"), ("--instance Thin", "the face has no instance Thin"),
+        ("--variations wght=heavy", "--variations: a list of tags and numbers, as wght=650,opsz=12"),
+    ):  # fmt: skip
+        assert instance(folder, *words.split(), status=2)[1] == f"psotf: {wanted}\n"
+
+
+@case("instance: one of both words has to be given")
+def _(folder):
+    for words in ([], ["--variations", "wght=700", "--instance", "Bold"]):
+        assert "--variations" in instance(folder, *words, status=2)[1]
+
+
+@case("instance: a value past the axis is said once, and its end is taken")
+def _(folder):
+    out, said = instance(folder, "--variations", "wght=2000")
+    assert said == "psotf: 2000 is past the end of the axis wght, which is taken instead\n", said
+    assert TTFont(out)["OS/2"].usWeightClass == 900
+
+
+@case("instance: a font that is not variable is named")
+def _(folder):
+    for path, wanted in ((FONT, "of one place, with outlines in the table CFF"), (folder / "cut.otf", "the header")):
+        (folder / "cut.otf").write_bytes(b"OTTO")
+        said = run("instance", path, "--variations", "wght=650", "-o", folder / "none.otf", status=1)[1]
+        assert wanted in said and said.count("\n") == 1 and not (folder / "none.otf").exists(), said
+
+
+@case("instance: a run past the limit is named, with the limit and the option")
+def _(folder):
+    said = instance(folder, "--instance", "Bold", "--limit", "20", status=1)[1]
+    assert said.startswith("psotf: glyph ") and said.endswith(": its run takes more than 20 units (--limit)\n"), said
+
+
+@case("instance: damaged tables of variations are named")
+def _(folder):
+    def cut(tag):
+        def change(font):
+            font[tag] = newTable(tag)
+            font[tag].decompile = lambda data, font: None
+            font[tag].compile = lambda font: b"\0\1\0"
+        return change
+
+    for tag in ("HVAR", "MVAR", "avar"):
+        said = instance(folder, "--instance", "Bold", change=cut(tag), status=1)[1]
+        assert said.startswith(f"psotf: the table {tag}: "), said
+
+
+@case("instance: where the disk is full the old file stays")
+def _(folder):
+    path, out = varied(folder), folder / "out.otf"
+    out.write_bytes(b"old")
+    done = subprocess.run(
+        [str(PSOTF), "instance", str(path), "--instance", "Bold", "-o", str(out)], capture_output=True, check=False, restore_signals=False,
+        preexec_fn=lambda: resource.setrlimit(resource.RLIMIT_FSIZE, (1000, 1000)),
+    )  # fmt: skip
+    assert done.returncode == 1 and b"writing" in done.stderr, done.stderr
+    assert out.read_bytes() == b"old" and not out.with_name("out.otf.part").exists()
+
+
+@case("instance: what is left out is said once, and not with --quiet")
+def _(folder):
+    def change(font):
+        font["XXXX"] = newTable("XXXX")
+        font["XXXX"].data = b"own"
+        addFeatureVariations(font, [([{"wght": (0.5, 1)}], {"A": "B"})])
+
+    out, said = instance(folder, "--instance", "Bold", change=change)
+    assert said == "psotf: tables left out: GSUB XXXX; lost are ligatures and other substitutes\n", said
+    assert not {"GSUB", "XXXX", "fvar", "STAT"} & set(TTFont(out).keys())
+    assert instance(folder, "--instance", "Bold", "--quiet", change=change)[1] == ""
+    assert instance(folder, "--instance", "Bold")[1] == ""
+
+
+@case("instance: the names of a place")
+def _(folder):
+    for words, wanted in (
+        ("--instance Bold", ["Garamond", "Bold", "Garamond Bold", "Garamond-Bold", None, None]),
+        ("--variations wght=700", ["Garamond", "Bold", "Garamond Bold", "Garamond-Bold", None, None]),
+        ("--variations wght=600", ["Garamond Semi Bold", "Regular", "Garamond Semi Bold", "Garamond-SemiBold", "Garamond", "Semi Bold"]),
+        ("--variations wght=650.5,wdth=80", ["Garamond 650.5wght 80wdth", "Regular", "Garamond 650.5wght 80wdth", "Garamond_650.5wght_80wdth", "Garamond", "650.5wght 80wdth"]),
+    ):  # fmt: skip
+        font = TTFont(instance(folder, *words.split())[0])
+        told = [font["name"].getDebugName(i) for i in (1, 2, 4, 6, 16, 17)]
+        assert told == wanted, told
+        assert font["CFF "].cff.fontNames == [wanted[3]]
 
 
 def main():

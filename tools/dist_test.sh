@@ -138,7 +138,7 @@ case_of 'the lines of README' 'sed -n "/^To install it without/,/^Proved is/s/^ 
     grep -q "<svg" hello.svg; grep -q "^top FullName" told2; grep -q "^M.*Z$" told3; cargo build -q --offline'
 got man-db bash zsh fish
 case_of 'manual pages: no warning' 'for page in $N/share/man/man*/*; do MANROFFSEQ= man --warnings -E UTF-8 -l -Tutf8 -Z $page > /dev/null 2> log; cat log; refused test -s log; done'
-case_of 'manual pages: each option' 'for c in inspect glyph svg sheet report flat subset; do psotf $c --help | grep -o -e "--[a-z-]*" | sort -u | while read -r o; do
+case_of 'manual pages: each option' 'for c in inspect glyph svg sheet report flat instance subset; do psotf $c --help | grep -o -e "--[a-z-]*" | sort -u | while read -r o; do
     sed "s/\\\\-/-/g" $N/share/man/man1/psotf.1 | grep -q -e "$o"; done; done'
 case_of 'completions: bash' 'cat > complete.bash << "END"
 source /usr/share/bash-completion/completions/psotf
