@@ -6,8 +6,8 @@
 
 Each WORD is an OpenType file with a table `CFF2`, or a Debian package, which is downloaded (not installed) and of which each such file
 is taken; pango1.0-tests has Cantarell-VF.otf. Besides, the fonts of tools/variable.py are made of EB Garamond (Debian's fonts-ebgaramond), with
-two and three axes, with and without subroutines; and once more with operators of fewer than 48 operands, since a font with a glyph of
-more has to be refused by the number of that glyph.
+two and three axes, with and without subroutines, and with positions of each kind that vary; and once more with operators of fewer than 48
+operands, since a font with a glyph of more has to be refused by the number of that glyph.
 
 A file is written at each named instance, at each end of each axis, and at PLACES random places. It must be read by fontTools, each table
 of it, and pass ots-sanitize; FreeType must load each glyph. By `psotf glyph --all --json` each glyph must have the segments and the advance
@@ -36,6 +36,7 @@ from fontTools.pens.boundsPen import BoundsPen
 from fontTools.pens.recordingPen import RecordingPen
 from fontTools.ttLib import TTFont
 import fontTools.varLib.cff
+from fontTools.feaLib.builder import addOpenTypeFeaturesFromString
 from fontTools.varLib import mutator
 from fontTools.varLib.mvar import MVAR_ENTRIES
 
@@ -45,6 +46,31 @@ from variable import NEAR, NO_HINTING, FreeType, files_in, mixed, shapes_of, var
 PSOTF = os.environ.get("PSOTF") or pathlib.Path(__file__).resolve().parent.parent / "crates" / "psotf" / "out" / "psotf"
 TEXT = "Hamburgefonts fi AVAToWa, 0123456789"
 LINES, LONG = 300, 12
+FEATURES = """
+languagesystem DFLT dflt;
+markClass [grave] <anchor (wght=100:90 wght=400:100 wght=900:160) 400> @TOP;
+markClass [asciicircum] <anchor 120 (wght=400:380 wght=900:430)> @TOP;
+feature kern {
+    pos T <(wght=400:10 wght=900:30) 0 (wght=400:20 wght=900:61) 0>;
+    pos A V (wght=100:-10 wght=400:-50 wght=900:-120);
+    pos A W <0 (wght=400:5 wght=900:9) (wght=400:-30 wght=900:-77) 0>;
+    pos [a e o] [v w y] (wght=100:-5 wght=400:-20 wght=900:-71);
+} kern;
+feature curs {
+    pos cursive n <anchor 0 (wght=400:10 wght=900:50)> <anchor 300 (wght=400:30 wght=900:90)>;
+    pos cursive u <anchor (wght=400:7 wght=900:11) 20> <anchor 310 (wght=400:40 wght=900:80)>;
+} curs;
+feature mark {
+    pos base [H b g] <anchor (wght=400:250 wght=900:400) 650> mark @TOP;
+    pos ligature [f] <anchor (wght=400:50 wght=900:90) 700> mark @TOP ligComponent <anchor 200 (wght=400:600 wght=900:666)> mark @TOP;
+} mark;
+feature mkmk {
+    pos mark [grave asciicircum] <anchor (wght=400:100 wght=900:140) (wght=400:500 wght=900:590)> mark @TOP;
+} mkmk;
+table GDEF {
+    GlyphClassDef [A-Z a b g n u v w y e o], [f], [grave asciicircum], ;
+} GDEF;
+"""
 LINKED = {"Regular", "Bold", "Italic", "Bold Italic"}
 
 
@@ -79,7 +105,9 @@ def places_of(font, chance, count):
 def lines_of(font, chance):
     """A line of text, and lines of random characters of the font."""
     characters = [char for char in sorted(font.getBestCmap()) if chr(char).isprintable()]
-    return [TEXT, *("".join(map(chr, chance.choices(characters, k=LONG))) for _ in range(LINES))]
+    some = [ord(char) for char in "AVWTaeovwynuHbgf`^`^" if ord(char) in characters]
+    lines = ["".join(map(chr, chance.choices(by_turns, k=LONG))) for by_turns in (characters, some) for _ in range(LINES // 2)]
+    return [TEXT, *lines]
 
 
 def set_by_harfbuzz(path, lines, *words):
@@ -230,6 +258,15 @@ def compare_font(path, chance, count, folder, freetype):
     return differ
 
 
+def with_features(path):
+    """The font with positions of each kind that vary."""
+    font = TTFont(path)
+    addOpenTypeFeaturesFromString(font, FEATURES)
+    assert font["GDEF"].table.VarStore and {lookup.LookupType for lookup in font["GPOS"].table.LookupList.Lookup} == {1, 2, 3, 4, 5, 6}
+    font.save(path)
+    return path
+
+
 def main():
     seed, places, *words = sys.argv[1:]
     print(f"seed {seed}")
@@ -241,7 +278,7 @@ def main():
             fontTools.varLib.cff.maxStackLimit = 48 if few else 513
             (folder / f"fonts{few}").mkdir()
             for count in (2, 3):
-                made = variable(folder / f"fonts{few}", count)
+                made = with_features(variable(folder / f"fonts{few}", count))
                 fonts += [made, mixed(made)]
         for path in fonts:
             differ += compare_font(path, random.Random(f"{seed} {path.name}"), int(places), folder, freetype)
