@@ -1,5 +1,6 @@
 /* slowest CASES SEED FONT..: changes bytes of tables CFF in place, calls each function of a glyph over them, and tells of each function the
-   slowest call. Each case is one table with one to four changes, opened, and two glyphs of it; then the bytes are put back. */
+   slowest call, by the time that the processor gave it. Each case is one table with one to four changes, opened, and two glyphs of it; then
+   the bytes are put back. */
 #include <stdio.h>
 #include <stdlib.h>
 #include <string.h>

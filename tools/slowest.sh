@@ -4,10 +4,11 @@
 #     tools/slowest.sh CASES SEED WORD..
 #
 # Each WORD is an installed Debian package, of which each file .otf is taken, or a font file. Each of the CASES is a table with one to four bytes
-# changed, which is opened; its bounds, outline, flat code, operations and name are asked for of two glyphs. For each call are printed how
-# many there were, the mean, the slowest with its case, and how often which status was told. Needs `rt` on the path, and Debian's gcc and make.
+# changed, which is opened; its bounds, outline, flat code, operations and name are asked for of two glyphs. For each call are printed how many
+# there were, the mean and the slowest with its case, by the time that the processor gave it, and how often which status was told. Needs `rt` on
+# the path, and Debian's gcc and make.
 set -e
-[ $# -ge 3 ] || { sed -n '2,8s/^# \{0,1\}//p' "$0" >&2; exit 2; }
+[ $# -ge 3 ] || { sed -n '2,9s/^# \{0,1\}//p' "$0" >&2; exit 2; }
 tools=$(cd "$(dirname "$0")" && pwd)
 cases=$1
 seed=$2
