@@ -18,9 +18,9 @@
  * Time and memory: each call that takes a psf_font runs a glyph, an accented one with its base and its accent, within font->limit,
  * which the caller may change. Of the 20,000,000 units that psf_font_open tells it reads at most as many bytes of phrases (operators
  * with the numbers before them; a roll counts as 4096 more, and a square root as 8) and one phrase besides, which takes well under a
- * second; psf_glyph_flat and psf_glyph_operations read them twice. What they keep is in proportion. psf_font_flat and psf_font_subset
- * are handed a limit for the runs of all glyphs together, and go through these six times at most. docs/LINKED.md tells what of this is
- * proved, and what is tested.
+ * second. What psf_glyph_flat and psf_glyph_operations keep is in proportion. psf_font_flat and psf_font_subset are handed a limit for
+ * the runs of all glyphs together, and go through these six times at most. docs/LINKED.md tells what of this is proved, and what is
+ * tested.
  *
  * The library is built for 64-bit machines only.
  *
@@ -218,7 +218,7 @@ int32_t psf_glyph_outline(const uint8_t *cff, size_t length, const psf_font *fon
 int32_t psf_glyph_bounds(const uint8_t *cff, size_t length, const psf_font *font, size_t glyph, psf_bounds *bounds);
 
 /* The code of a glyph without calls of subroutines, to the front of code[0..room]: over any subroutines it has the operations
- * and the width of the glyph. Its run is held against font->limit first.
+ * and the width of the glyph. Its run keeps to font->limit.
  * On PSF_OK and PSF_NO_ROOM *count is how many bytes it has. Also answered: PSF_NO_GLYPH, PSF_NO_PART as by psf_glyph_outline,
  * PSF_TOO_LONG where the limit is used up, and errors from 1 to 30. */
 int32_t psf_glyph_flat(const uint8_t *cff, size_t length, const psf_font *font, size_t glyph,
@@ -226,7 +226,7 @@ int32_t psf_glyph_flat(const uint8_t *cff, size_t length, const psf_font *font, 
 
 /* The operations of a glyph, in the order of its run, to the front of operations[0..room], and the operands of all of them to
  * the front of operands[0..operand_room]. Those of operations[i] are operands[first..first + count]. An accented glyph has its own
- * operations alone. Its run is held against font->limit first.
+ * operations alone. Its run keeps to font->limit.
  * On PSF_OK and PSF_NO_ROOM *count and *operand_count tell how many there are of each; on PSF_NO_ROOM one of them is more than
  * its room, and nothing else is written. Also answered: PSF_NO_GLYPH, PSF_NO_PART as by psf_glyph_outline, PSF_TOO_LONG where the
  * limit is used up, and errors from 1 to 30; then nothing is written. */
