@@ -35,6 +35,7 @@ sys.dont_write_bytecode = True
 from fontTools.misc.psCharStrings import SimpleT2Decompiler
 from fontTools.ttLib import TTFont
 from selenium import webdriver
+from selenium.common.exceptions import TimeoutException
 from selenium.webdriver.chrome.service import Service
 from selenium.webdriver.common.by import By
 
@@ -238,12 +239,17 @@ return [cells.length, cells.filter((cell) => cell.querySelector("path, .why") ==
 
 def look_at_print(driver, page, told, faults):
     """On paper each glyph has its cell, and each cell its picture or its reason, the last ones too: by the event before printing, and by
-    the change of the medium alone. The driver waits for ten seconds, too short for the paper of more glyphs."""
+    the change of the medium alone. The driver waits for ten seconds for the paper, too short for that of more glyphs, or on a machine with
+    much other work: then only the medium is tried."""
     many = len(told["glyphs"])
     media = lambda: driver.execute_cdp_cmd("Emulation.setEmulatedMedia", {"media": "print"})
     for how in (driver.print_page, media) if many <= LONG else (media,):
         driver.get(page.as_uri())
-        how()
+        try:
+            how()
+        except TimeoutException:
+            print(f"{page.name}: not printed on paper within ten seconds", file=sys.stderr)
+            continue
         cells, undrawn = driver.execute_script(UNDRAWN)
         if (cells, undrawn) != (many, 0):
             faults.append(f"{cells} cells are printed of {many}, {undrawn} of them empty")
