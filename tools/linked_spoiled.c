@@ -40,7 +40,9 @@ static uint64_t next(void) {
 
 static uint64_t below(uint64_t n) { return next() % n; }
 
-static long counts[PSF_NO_STATUS + 1];
+#define STATUSES 256
+
+static long counts[STATUSES];
 
 /* A call over a font of which a number may be spoiled, into a room of a few segments or many. */
 static void call(const uint8_t *bytes, size_t length, const psf_font *font) {
@@ -87,7 +89,7 @@ int main(int argc, char **argv) {
         drop(bytes, length);
     }
     printf("%s rounds, seed %s: opened %ld; calls by their status:", argv[2], argv[3], opened);
-    for (int i = 0; i <= PSF_NO_STATUS; i++)
+    for (int i = 0; i < STATUSES; i++)
         if (counts[i]) printf(" %d: %ld", i, counts[i]);
     printf("\n");
     free(all);

@@ -11,6 +11,7 @@
 #define MAX_CHANGES 4
 #define SEGMENTS 4096
 #define MAX_FONTS 64
+#define STATUSES 256
 
 enum { OPEN, BOUNDS, OUTLINE, FLAT, OPERATIONS, NAME, CALLS };
 
@@ -25,7 +26,7 @@ typedef struct {
 
 typedef struct {
     uint64_t calls, nanoseconds, slowest, at;
-    long told[PSF_NO_STATUS + 1];
+    long told[STATUSES];
 } tally;
 
 static tally tallies[CALLS];
@@ -140,7 +141,7 @@ static void print(int call, uint64_t cases, int fonts, char **paths) {
     if (t->calls == 0) return;
     printf("%-21s %11llu calls, %7.0f ns each; slowest %9.3f ms, case %llu of %s; by status:", names[call], (unsigned long long)t->calls,
            (double)t->nanoseconds / (double)t->calls, (double)t->slowest / 1e6, (unsigned long long)t->at, paths[t->at % (uint64_t)fonts]);
-    for (int i = 0; i <= PSF_NO_STATUS; i++)
+    for (int i = 0; i < STATUSES; i++)
         if (t->told[i]) printf(" %d: %ld", i, t->told[i]);
     printf("\n");
     (void)cases;
