@@ -38,6 +38,7 @@ COMMANDS = {
     "glyph --name": ["glyph", "--name", "none"],
     "svg": ["svg", "--gid", "1"],
     "sheet": ["sheet"],
+    "report": ["report", "-o", "OUT"],
     "flat": ["flat", "-o", "OUT"],
     "subset": ["subset", "--gids", "GIDS", "-o", "OUT"],
     "subset --retain-gids": ["subset", "--gids", "GIDS", "--retain-gids", "-o", "OUT"],

@@ -157,14 +157,30 @@ fn pages_of<'w>(face: &Face<'_>, words: &'w ArgMatches<'_>) -> Pages<'w> {
     }
 }
 
-/// Writes pages that show a face, and load nothing: one, or more where the glyphs are too many for one. It is refused behind that
-/// where the runs of glyphs take longer than the limit, with how many do.
+/// How many local subroutines a page lists at most. Font dictionaries that share them have each of them listed.
+const MOST_LISTED: usize = 1_000_000;
+
+/// Whether the font dictionaries have more local subroutines together than a page lists.
+fn lists_too_many(face: &Face<'_>) -> bool {
+    let mut sum = 0usize;
+    for part in &face.font.parts {
+        sum = sum.saturating_add(part.subroutines.len());
+    }
+    sum > MOST_LISTED
+}
+
+/// Writes pages that show a face, and load nothing: one, or more where the glyphs are too many for one. It is refused before that
+/// where the font dictionaries share too many subroutines, and behind it where the runs of glyphs take longer than the limit, with how
+/// many do.
 pub fn write(
     rt: &HostRuntime,
     face: &Face<'_>,
     words: &ArgMatches<'_>,
     budget: &mut Budget,
 ) -> Result<(), Failure> {
+    if lists_too_many(face) {
+        return Err(Failure::Dictionaries);
+    }
     let mut stopped = Stopped::new(rt);
     let mapped = by_glyph(rt.alloc(), &face.map)?;
     let pages = pages_of(face, words);
