@@ -1,5 +1,4 @@
 //! Glyphs as code without calls.
-ghost use Rattle.std.specs.Prelude.{◌≡◌, option_map};
 ghost use Rattle.postscript_c.specs.Fitting.{ReadsWithin, RunsWithin};
 ghost use Rattle.postscript_c.specs.Flats.{flat_at, flattened};
 ghost use Rattle.postscript_c.specs.Flatness.{flat_shown, TellsFlatBy};

@@ -9,7 +9,7 @@ use crate::failure::Failure;
 use crate::instance;
 use crate::limit::Budget;
 use clap::ArgMatches;
-pub use glyphs::advance_of;
+pub use glyphs::{advance_of, refusal_of};
 pub use place::{Chosen, name_of, text_of};
 use postscript_cff2::Font;
 use postscript_sfnt::FontFile;

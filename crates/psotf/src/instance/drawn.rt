@@ -1,9 +1,8 @@
 //! The glyphs of a place, drawn within the limit and measured.
-use crate::failure::{Failure, Refusal};
+use crate::failure::Failure;
 use crate::limit::Budget;
 use crate::progress::Progress;
-use crate::variable::{Chosen, VariableFace, advance_of};
-use postscript_drawing::Error as Undrawn;
+use crate::variable::{Chosen, VariableFace, advance_of, refusal_of};
 use postscript_outline::{Bounds, Outline};
 use postscript_sfnt_write::Metric;
 use postscript_type2::Operand;
@@ -64,19 +63,6 @@ pub struct Drawn {
     pub frame: Option<Frame>,
     /// The least of the right side bearings of glyphs with contours.
     pub least_right: i64,
-}
-
-/// Why a glyph is refused that was given a share.
-fn refusal_of(error: Undrawn, face: &VariableFace<'_>, share: u64, budget: &mut Budget) -> Refusal {
-    match error {
-        Undrawn::Font(fault) => {
-            budget.spend_whole(face.font.bytes.len() as u64);
-            Refusal::Run(fault)
-        }
-        Undrawn::NoSuchGlyph(_) => Refusal::NoPart,
-        Undrawn::TooLong => budget.stop(share),
-        error => Refusal::Accent(error),
-    }
 }
 
 /// Round what a glyph draws, within its share. None where it draws nothing.

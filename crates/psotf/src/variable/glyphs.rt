@@ -37,7 +37,12 @@ pub fn advance_of(face: &VariableFace<'_>, gid: u16, chosen: &Chosen) -> i64 {
 }
 
 /// Why a glyph is refused that was given a share.
-fn refusal_of(error: Undrawn, face: &VariableFace<'_>, share: u64, budget: &mut Budget) -> Refusal {
+pub fn refusal_of(
+    error: Undrawn,
+    face: &VariableFace<'_>,
+    share: u64,
+    budget: &mut Budget,
+) -> Refusal {
     match error {
         Undrawn::Font(fault) => {
             budget.spend_whole(face.font.bytes.len() as u64);
