@@ -7,18 +7,19 @@
 Each font of at most 1 MB is made in a temporary folder: runs that multiply by nested calls, with and without work where they end, many
 glyphs that each cost about the limit, glyphs that are refused behind long numbers, and tables that are searched or are many. With
 words, only those fonts are made whose names have one of them. crates/psotf/out/psotf, or the program that the variable PSOTF names, is run
-over each. The table gives the bytes, the seconds of each subcommand, the most memory in MB, and the seconds of hb-view, ots-sanitize and ftbench
-where these are on the path, else a line. One that takes longer than 20 seconds is ended. Nothing is drawn at random. The status is 1 where psotf
-takes longer than ten seconds, or ends with another status than 0 and 1.
+over each. The table gives the bytes, the seconds of processor time of each subcommand, so that other work beside does not count, the most memory
+in MB, and the seconds of hb-view, ots-sanitize and ftbench where these are on the path, else a line. One that takes more than 20 of these seconds is
+ended. Nothing is drawn at random. The status is 1 where psotf takes more than ten seconds, or ends with another status than 0 and 1.
 """
 
+import itertools
 import os
 import pathlib
+import resource
 import shutil
 import subprocess
 import sys
 import tempfile
-import time
 
 sys.dont_write_bytecode = True
 
@@ -136,10 +137,10 @@ def groups(rows):
 LETTERS = groups([(65, 66, 1)])
 
 
-def file_of(cff, glyphs, cmap=LETTERS, more=()):
-    """An OpenType file, and how many glyphs it has. The tables of more tags are all others together."""
+def file_of(outlines, glyphs, cmap=LETTERS, more=(), tag=b"CFF ", others=()):
+    """An OpenType file of a table of outlines and others, and how many glyphs it has. The tables of more tags are all others together."""
     tables = {
-        b"CFF ": cff,
+        tag: outlines,
         b"OS/2": short(4) + bytes(94),
         b"cmap": cmap,
         b"head": long(0x00010000) + long(0x00010000) + long(0) + long(0x5F0F3CF5) + short(0) + short(1000) + bytes(34),
@@ -148,6 +149,7 @@ def file_of(cff, glyphs, cmap=LETTERS, more=()):
         b"maxp": long(0x00005000) + short(glyphs),
         b"name": short(0) + short(0) + short(6),
         b"post": long(0x00030000) + bytes(28),
+        **dict(others),
     }
     many = len(tables) + len(more)
     at, body, records = 12 + 16 * many, b"", []
@@ -225,16 +227,20 @@ def searched():
     yield "10,000 tables over the same bytes", file_of(plain_font([END] * 60_000), 60_000, more=tags)
 
 
+def at_most():
+    resource.setrlimit(resource.RLIMIT_CPU, (LONGEST, LONGEST))
+
+
 def timed(words):
-    """The seconds that a command takes, its most memory in MB, and its status; None where it is ended."""
-    begun = time.monotonic()
+    """The seconds of processor time that a command takes, its most memory in MB, and its status; below zero where it is ended."""
     with tempfile.NamedTemporaryFile() as told:
         process = subprocess.Popen(
-            ["/usr/bin/time", "-q", "-f", "%M", "-o", told.name, "timeout", str(LONGEST), *words],
-            stdin=subprocess.DEVNULL, stdout=subprocess.DEVNULL, stderr=subprocess.DEVNULL,
-        )
+            ["/usr/bin/time", "-q", "-f", "%U %S %M", "-o", told.name, *words],
+            stdin=subprocess.DEVNULL, stdout=subprocess.DEVNULL, stderr=subprocess.DEVNULL, preexec_fn=at_most,
+        )  # fmt: skip
         status = process.wait()
-        return time.monotonic() - begun, int(told.read().split()[-1]) / 1024, status
+        user, system, most = told.read().split()[-3:]
+        return float(user) + float(system), int(most) / 1024, status
 
 
 def words_of(command, path, glyphs, out):
@@ -242,12 +248,12 @@ def words_of(command, path, glyphs, out):
     return [str(PSOTF), command[0], path, *(given.get(word, word) for word in command[1:])]
 
 
-def row(name, data, glyphs, folder):
+def row(name, data, glyphs, folder, commands):
     """Prints what a font takes, and tells whether it takes too long."""
     path, out = f"{folder}/font.otf", f"{folder}/out.otf"
     pathlib.Path(path).write_bytes(data)
     cells, memory, bad = [], 0, False
-    for command in COMMANDS.values():
+    for command in commands.values():
         seconds, most, status = timed(words_of(command, path, glyphs, out))
         memory, bad = max(memory, most), bad or seconds > MOST or status not in (0, 1)
         cells.append(f"{seconds:.2f}" if status in (0, 1) else f"{seconds:.0f} (status {status})")
@@ -256,23 +262,23 @@ def row(name, data, glyphs, folder):
         if shutil.which(command[0]) is None:
             others.append("-")
             continue
-        seconds, _, status = timed([word.replace("FILE", path) for word in command])
-        others.append(f"{seconds:.2f}" if status != 124 else f"over {LONGEST}")
+        seconds, _, _ = timed([word.replace("FILE", path) for word in command])
+        others.append(f"{seconds:.2f}" if seconds < LONGEST else f"over {LONGEST}")
     print(f"| {name} | {len(data)} |", " | ".join([*cells, f"{memory:.0f}", *others]), "|", flush=True)
     return bad
 
 
-def main(words):
-    print("| font | bytes |", " | ".join([*COMMANDS, "MB", *OTHERS]), "|")
-    print("|---" * (len(COMMANDS) + len(OTHERS) + 3) + "|")
+def table(fonts, commands, words):
+    """Prints the table of these fonts, or of those whose names have one of the words, and gives the status."""
+    print("| font | bytes |", " | ".join([*commands, "MB", *OTHERS]), "|")
+    print("|---" * (len(commands) + len(OTHERS) + 3) + "|")
     bad = False
     with tempfile.TemporaryDirectory() as folder:
-        for fonts in (runs(), searched()):
-            for name, (data, glyphs) in fonts:
-                if not words or any(word in name for word in words):
-                    bad = row(name, data, glyphs, folder) or bad
+        for name, (data, glyphs) in fonts:
+            if not words or any(word in name for word in words):
+                bad = row(name, data, glyphs, folder, commands) or bad
     return 1 if bad else 0
 
 
 if __name__ == "__main__":
-    sys.exit(main(sys.argv[1:]))
+    sys.exit(table(itertools.chain(runs(), searched()), COMMANDS, sys.argv[1:]))

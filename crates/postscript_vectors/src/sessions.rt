@@ -1,7 +1,7 @@
 //! Sessions with faults and with waits. The stored run of `psfont`, its files `stdin` and `stdout`, shows what lines are
 //! answered with.
 use crate::checks::{code_of, holds_at};
-use psfont_session::session;
+use psfont_session::{session, session_within};
 use std::alloc::Global;
 use std::cell::Cell;
 use std::io;
@@ -180,5 +180,28 @@ fn flushes_before_it_waits(rt: HostRuntime) {
     for step in [1, 5, 6, 17, 18, 99] {
         let is_so = is_flushed(rt.alloc(), step, step < 18);
         holds_at(&rt, is_so, "bytes at a time:", step);
+    }
+}
+
+/// A limit, and what a session within it answers to a code whose run costs two units, its run and its flat code.
+#[rattlefmt::skip]
+const LIMITS: &[(u64, &str)] = &[
+    (0, "ok\ntoo long: code 8c06 takes more than --limit 0\ntoo long: code 8c06 takes more than --limit 0\n"),
+    (2, "ok\ntoo long: code 8c06 takes more than --limit 2\ntoo long: code 8c06 takes more than --limit 2\n"),
+    (3, "ok\nHLineTo 1\nend\nwidth none\nflat 8c06\n"),
+];
+
+/// Whether a session within a limit answers so.
+fn is_within(alloc: Global, limit: u64, wanted: &str) -> bool {
+    let mut reader = b"code 8c06\nrun\nflat".as_slice();
+    let mut writer = Vec::new(alloc);
+    let code = code_of(session_within(alloc, limit, &mut reader, &mut writer));
+    code == 0 && writer.as_slice() == wanted.as_bytes()
+}
+
+#[test]
+fn keeps_to_a_limit(rt: HostRuntime) {
+    for (row, (limit, wanted)) in LIMITS.iter().enumerate() {
+        holds_at(&rt, is_within(rt.alloc(), *limit, wanted), "row", row);
     }
 }

@@ -9,6 +9,7 @@ use Rattle.postscript_type2.specs.Private.Machines.{still_of}
 use Rattle.postscript_type2.specs.Program.Charstrings.{lists_of}
 use Rattle.postscript_type2.specs.Private.Working.{state_of, move_of, after_move}
 use Rattle.postscript_type2.proofs.Arms.{IsRead, is-read, some-of, used-up, kept, answered, entered, too-deep-call, returned, no-caller, finished, trailing, refused-or-memory, unread-or-memory, unread-is-last, refused-is-last, too-deep-is-last, trailing-is-last}
+use Rattle.postscript_type2.proofs.Costs.{clears-plainly}
 use Rattle.postscript_type2.proofs.program.machine.Machine.advance.Goals as goal
 
 pub returns-then-is_empty-clause-advances : goal.returns-then-is_empty-clause-advances
@@ -136,3 +137,11 @@ returns-else-not-are_used_up-clause-advances c =
     let stays : (state_of c.act.new.self).stack ≡ (state_of c.settle.new.self).stack = sym (ap (λ (s : State). s.stack) c.settle.ensures) in
     let width = settled (state_of c.act.new.self).width (state_of c.act.new.self).stack c.in-Ends.counted in
     (width, run ∙ ap (λ stack. with_phrase (by c.in_ok-operator.operator c.passed-bytes.result.now) (at_end (Finished (last_of stack c.in-Ends.counted) width))) stays, ap (λ (s : State). s.width) c.settle.ensures)
+
+pub returns-in-Some-clause-plain : goal.returns-in-Some-clause-plain
+returns-in-Some-clause-plain c = clears-plainly c.in_ok-operator.operator _ _ _ (c.in-Some.ensures (lists_of c.args.self.now.lists) c.phrase.new.self)
+
+pub returns-in-Clears-clause-plain : goal.returns-in-Clears-clause-plain
+returns-in-Clears-clause-plain c =
+    let does = c.in_ok-act.ensures.value c.phrase.new.self (sym c.len-behind.ensures) in
+    clears-plainly c.in_ok-operator.operator _ _ _ (does.0 ∙ ap (λ done. move_of done (state_of c.act.new.self)) c.in-Clears.is)
