@@ -205,6 +205,8 @@ def searched():
     plain = [END] * MANY
     select = b"\x03" + short(MANY) + b"".join(short(i) + bytes([i % 2]) for i in range(MANY)) + short(MANY)
     yield "FDSelect of 65,535 ranges", file_of(keyed_font(plain, select), MANY)
+    falling = b"\x03" + short(MANY) + b"".join(short(MANY - i) + bytes([i % 2]) for i in range(MANY)) + short(MANY)
+    yield "FDSelect of 65,535 ranges that fall", file_of(keyed_font(plain, falling), MANY)
     ranges = b"\x01" + b"".join(short(MANY - i) + b"\x00" for i in range(1, MANY))
     yield "a char set of 65,534 ranges", file_of(plain_font(plain, char_set=ranges), MANY)
     listed = b"\x00" + short(1) * (MANY - 2) + short(34)

@@ -122,6 +122,11 @@ def searched():
     yield "FDSelect of 65,535 ranges", font(outlines(plain, select=select, parts=2), MANY)
     wide = b"\x04" + long(MANY) + b"".join(long(i) + short(i % 2) for i in range(MANY)) + long(MANY)
     yield "FDSelect of 65,535 wide ranges", font(outlines(plain, select=wide, parts=2), MANY)
+    falling = b"\x04" + long(60_000) + b"".join(long(MANY - i) + short(i % 2) for i in range(60_000)) + long(MANY)
+    yield "FDSelect of 60,000 ranges that fall", font(outlines(plain, select=falling, parts=2), MANY)
+    yield "65,535 glyphs of a private dictionary of 300,000 bytes", font(outlines(plain, private=b"\x8b\x0c\x09" * 100_000), MANY)
+    store = store_of(regions_of(60_000), range(60_000), times=60_000)
+    yield "a store of 60,000 data, each of 60,000 regions", font(outlines([b""] * 2, store=store), 2)
     widths = (b"\x8b\x0c\x09") * 200_000
     yield "20,000 font dictionaries over one private dictionary of 600,000 bytes", font(
         outlines([b""] * 2, select=b"\x00\x00\x00", parts=20_000, private=widths), 2,
@@ -129,9 +134,16 @@ def searched():
     yield "60,000 instances", font(outlines([b""] * 2), 2, axes_of([256] * 60_000))
     records = b"".join(short(3) + short(1) + short(0x409) + short(256 + i) + short(0) + short(0) for i in range(40_000))
     name = short(0) + short(40_000) + short(6) + records
+    few = axes_of([40_255 - i for i in range(4_000)])
+    yield "4,000 instances of 40,000 names", font(outlines([b""] * 2), 2, few, name=name)
+    long_name = short(0) + short(1) + short(18) + short(3) + short(1) + short(0x409) + short(256) + short(65_534) + short(0) + b"\0A" * 32_767
+    yield "4,000 instances of a name of 32,767 letters", font(outlines([b""] * 2), 2, axes_of([256] * 4_000), name=long_name)
     yield "40,000 instances of 40,000 names", font(outlines([b""] * 2), 2, axes_of([40_255 - i for i in range(40_000)]), name=name)
-    yield "8,000 axes", font(outlines([b""] * 2, store=store_of(regions_of(1, 8_000))), 2, axes_of(axes=8_000))
-    for deltas, times in ((1, 1), (30_000, 1), (30_000, 60_000)):
+    for axes in (4_000, 8_000):
+        varied = outlines([b""] * 2, store=store_of(regions_of(1, axes)))
+        maps = short(1) + short(0) + short(0) + short(axes) + short(0) * axes
+        yield f"{axes:,} axes", font(varied, 2, axes_of([256], axes), avar=maps)
+    for deltas, times in ((1, 1), (30_000, 1), (30_000, 30_000)):
         store = store_of(regions_of(deltas), range(deltas), bytes([1]) * deltas, 1, times)
         # entries of four bytes, whose lower half is the row
         mapped = b"\x01\x3f" + long(MANY) + b"".join(short(i % times) + short(0) for i in range(MANY))

@@ -1,6 +1,6 @@
 #!/usr/bin/python3
 """Counts the instructions that the glyphs of a font take here, in the Rust crate `postscript` and in `ttf-parser`, and prints a
-table; then how many requests for memory each glyph makes here by `step`.
+table; then how many requests for memory each glyph makes here by `step`, and what time `step_within` takes beside it.
 
     tools/instructions.py CRATE FONT..
 
@@ -20,6 +20,7 @@ import collections
 import os
 import pathlib
 import re
+import resource
 import subprocess
 import sys
 import tempfile
@@ -35,6 +36,7 @@ WAYS = ["step", "step_over", "step_within", "next", "next_over", "run", "flat_le
 ALONE_WAYS = ["step", "step_within", "draw_program"]
 ALIKE = ["step", "step_over", "step_within", "next", "next_over"]
 ROUNDS = 2
+TIMED, TURNS = 100, 15
 ARM = re.compile(r' {8}("\w+"|_) => ')
 
 
@@ -75,6 +77,25 @@ def print_line(programs, alone, given, font):
     print(f"| {given.name} | {glyphs} | {' | '.join(str(count) for count, _ in counts)} |", flush=True)
 
 
+def seconds(command, given):
+    """The processor time that a command takes with this file as its input."""
+    before = resource.getrusage(resource.RUSAGE_CHILDREN).ru_utime
+    with open(given, "rb") as file:
+        subprocess.run(command, stdin=file, stdout=subprocess.DEVNULL, check=True)
+    return resource.getrusage(resource.RUSAGE_CHILDREN).ru_utime - before
+
+
+def print_times(alone, given):
+    """Prints the time of `step_within` beside that of `step`, each in a program of its own: of rounds in turn, the least of each."""
+    ways, least = ["step", "step_within"], {}
+    for _ in range(TURNS):
+        for way in ways:
+            taken = seconds([alone[way], way, str(TIMED)], given)
+            least[way] = min(taken, least.get(way, taken))
+    step, within = (least[way] for way in ways)
+    print(f"{given.name}: {TIMED} rounds of `step` took {step:.3f} s, of `step_within` {within:.3f} s, {within / step:.3f} of it", flush=True)
+
+
 def requests(counter, command, lines):
     """How many requests for memory a command makes with these lines as its input."""
     with tempfile.NamedTemporaryFile("r") as told:
@@ -108,6 +129,7 @@ def print_all(programs, alone, counter, fonts):
     print()
     for _, given in fonts:
         print_requests(programs[0], counter, given)
+        print_times(alone, given)
 
 
 def main(words):

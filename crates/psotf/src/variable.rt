@@ -3,6 +3,7 @@ mod fixed;
 mod glyphs;
 mod holds;
 mod place;
+mod weight;
 
 use crate::face::Common;
 use crate::failure::Failure;
@@ -15,6 +16,7 @@ use postscript_cff2::Font;
 use postscript_sfnt::FontFile;
 use postscript_variation::{AdvanceVariations, Axes, Maps};
 use std::io::Write;
+use weight::heavy_table;
 
 /// A face of a file with a table `CFF2`.
 #[derive(Clone, Copy)]
@@ -39,7 +41,7 @@ pub fn read_as<T>(name: &'static str, read: postscript_variation::Result<T>) -> 
 }
 
 impl<'l> VariableFace<'l> {
-    /// The face of a file. None where it has no table `CFF2`, or a table `CFF ` too.
+    /// The face of a file. None where it has no table `CFF2`, or a table `CFF ` too. Refused too where a table makes too much work.
     pub fn open(file: &FontFile<'l>) -> Result<Option<VariableFace<'l>>, Failure> {
         let Some(cff2) = file.table(*b"CFF2") else {
             return Ok(None);
@@ -59,14 +61,18 @@ impl<'l> VariableFace<'l> {
             Some(hvar) => Some(read_as("HVAR", AdvanceVariations::read(hvar))?),
             None => None,
         };
-        Ok(Some(VariableFace {
+        let face = VariableFace {
             file: *file,
             common: Common::open(file)?,
             font: Font::read(cff2)?,
             axes,
             maps,
             advances,
-        }))
+        };
+        match heavy_table(&face) {
+            Some(name) => Err(Failure::Heavy(name)),
+            None => Ok(Some(face)),
+        }
     }
 }
 

@@ -1,5 +1,5 @@
 //! The glyphs of a place, drawn within the limit and measured.
-use crate::failure::Failure;
+use crate::failure::{Failure, Refusal};
 use crate::limit::Budget;
 use crate::progress::Progress;
 use crate::variable::{Chosen, VariableFace, advance_of, refusal_of};
@@ -8,6 +8,9 @@ use postscript_sfnt_write::Metric;
 use postscript_type2::Operand;
 use postscript_variable_drawing::draw_glyph;
 use std::alloc::Global;
+
+/// What part of the limit the run of a glyph may take here: all its operations are held while it is written.
+const HELD: u64 = 10;
 
 /// A rectangle in whole units of the em.
 #[derive(Clone, Copy)]
@@ -85,7 +88,15 @@ fn frame_of(
         &mut left,
         &mut segments,
     );
-    budget.spend_whole(share.saturating_sub(left));
+    let taken = share.saturating_sub(left);
+    budget.spend_whole(taken);
+    let most = budget.limit / HELD;
+    if taken > most {
+        return Err(Failure::Glyph {
+            gid,
+            refusal: Refusal::TooLong(most),
+        });
+    }
     match drawn {
         Ok(()) => {
             let outline = Outline {

@@ -291,6 +291,7 @@ impl<'v> Varied<'v> {
     fn lookup(&mut self, table: usize) {
         let kind = self.word(table);
         for i in 0..self.word(behind(table, 4)) {
+            self.take(1);
             if self.is_over {
                 return;
             }
