@@ -3,6 +3,8 @@ pub mod Limit
 pub mod Reading
 pub mod Deltas
 pub mod Remains
+pub mod Numbers
+pub mod Passing
 pub mod Fronts
 pub mod TokenLaws
 pub mod MeaningLaws
@@ -11,3 +13,4 @@ pub mod EndingLaws
 pub mod BlendLaws
 pub mod OperatorLaws
 pub mod DefaultLaws
+pub mod NearLaws

@@ -25,6 +25,12 @@ paid {limit} {left} {after} {price} {costs} {before} {rest} spends h is positive
 pub falls-so : {limit left after price : ℕ} → left ≤ limit → left ≢ 0 → 0 < price → after ≡ left - price → after < limit
 falls-so {limit} {left} {after} {price} less h positive pays = omega (arith, less, h, positive, pays)
 
+-- one spending after another
+pub spends-on : {limit : ℕ} {costs : List ℕ} {between : ℕ} {half : List ℕ} {left : ℕ} {rest : List ℕ} → Spends limit costs between half → Spends between half left rest →
+    Spends limit costs left rest
+spends-on first nothing = first
+spends-on first (one_more before price behind spends is_left positive) = one_more before price behind (spends-on first spends) is_left positive
+
 -- a limit above all costs leaves more than the rest of them, and what is left with them is what was there
 pub lasts : LimitLasts
 lasts limit costs left rest nothing h = (h, refl)

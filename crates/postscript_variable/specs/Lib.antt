@@ -2,6 +2,7 @@
 pub mod Commands
 pub mod Blending
 pub mod Defaults
+pub mod Nearness
 pub mod Effects
 pub mod Tokens
 pub mod Meaning

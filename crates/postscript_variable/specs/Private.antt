@@ -3,5 +3,6 @@ pub mod Refused
 pub mod Working
 pub mod Remaining
 pub mod Machines
+pub mod Numbers
 pub mod Limited
 pub mod Views

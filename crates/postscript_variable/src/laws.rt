@@ -3,6 +3,7 @@ ghost use Rattle.postscript_variable.specs.Computed.{NumberIsRead, OperatorIsRea
 ghost use Rattle.postscript_variable.specs.Defaults.{DefaultsStay};
 ghost use Rattle.postscript_variable.specs.Endings.{RunsEndSo};
 ghost use Rattle.postscript_variable.specs.Limit.{LimitIsCost, LimitLasts, LimitBoundsSteps};
+ghost use Rattle.postscript_variable.specs.Nearness.{SumsAreNear};
 ghost use Rattle.postscript_variable.specs.OperatorRules.{OperatorsDoSo};
 ghost use Rattle.postscript_variable.specs.Told.{ToldIsComputed, ToldIsAnswered};
 
@@ -58,4 +59,10 @@ pub fn limit_is_cost()
 /// scalars in use before and after it, and each cause of a refusal. It does nothing and is never refused.
 pub fn operators_do_so()
     ensures { OperatorsDoSo }
+{}
+
+/// A law: with n regions, what the deltas add to a blended value is at most n / 2 units of 1 / 65536 away from the exact sum of each delta
+/// times the scalar of its region (`specs/Nearness.antt`); the default is added without rounding. It does nothing and is never refused.
+pub fn sums_are_near()
+    ensures { SumsAreNear }
 {}

@@ -5,14 +5,14 @@ ghost use Rattle.postscript_type2.specs.Program.Effects.{last_of};
 ghost use Rattle.postscript_variable.specs.Charstrings.{run_from};
 ghost use Rattle.postscript_variable.specs.Costs.{cost_beside};
 ghost use Rattle.postscript_variable.specs.Private.Machines.{IsNested, still_of, still_emptied, still_with, still_by, work_of, cost_of, Advances, Reaches};
-ghost use Rattle.postscript_variable.specs.Private.Limited.{ReachesWithin};
+ghost use Rattle.postscript_variable.specs.Private.Limited.{Passes, ReachesWithin};
 ghost use Rattle.postscript_variable.specs.Private.Working.{font_of, state_of, rests};
 
 use crate::callers::Callers;
 use crate::charstring::Charstring;
 use crate::command::Command;
 use crate::refused::{Refused, Result};
-use crate::routine::{Routine, Token};
+use crate::routine::{OPERANDS, Routine, Token};
 use crate::state::{Effect, Font, State};
 use postscript_type2::{Operand, Operator};
 use std::alloc::Global;
@@ -48,10 +48,8 @@ pub(crate) enum Reach {
     Paused,
 }
 
-/// How many calls may nest, and how many operands a stack holds ("CFF2 CharString Implementation Limits").
+/// How many calls may nest ("CFF2 CharString Implementation Limits").
 const NESTED_CALLS: usize = 10;
-
-const OPERANDS: usize = 513;
 
 /// What is run over, the routine that is run, its callers, how many more calls may nest, and the state reached.
 #[derive(Drop)]
@@ -225,6 +223,19 @@ impl<'l> Machine<'l> {
         self.state.stack.clear();
     }
 
+    /// Puts the numbers at the front onto the stack, while it has room and the limit lasts.
+    #[inline(always)]
+    fn pass_numbers(&mut self, limit: &mut u64) -> Result<()>
+        requires nested { IsNested self.old }
+        ensures passes { OnOk result (Passes (still_of self.old) (work_of (still_of self.old) self.old) limit.old self.new limit.new) }
+        ensures nested { OnOk result (IsNested self.new) }
+        ensures refused { IfErr result (λ e. (e ≡ cases.Memory) × (limit.new ≡ limit.old)) }
+    {
+        let left = self.routine.numbers(&mut self.state.stack, *limit)?;
+        *limit = left;
+        Ok(())
+    }
+
     /// Runs up to the next operator that is answered; what it takes stands on the stack. None at an end without fault.
     #[inline(always)]
     pub(crate) fn reach(&mut self) -> Result<Option<(Operator, usize)>>
@@ -233,6 +244,7 @@ impl<'l> Machine<'l> {
         ensures nested { IfOk result (λ reached. IfSome reached (λ _. IsNested self.new)) }
     {
         loop {
+            self.pass_numbers(&mut u64::MAX)?;
             match self.advance() {
                 Ok(Event::Back | Event::Went(_)) => {}
                 Ok(Event::Answered(operator, count, _, _)) => return Ok(Some((operator, count))),
@@ -250,6 +262,7 @@ impl<'l> Machine<'l> {
         ensures nested { IfOk result (λ _. IsNested self.new) }
     {
         loop {
+            self.pass_numbers(limit)?;
             if *limit == 0 {
                 return Ok(Reach::Paused);
             }

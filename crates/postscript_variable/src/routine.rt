@@ -1,14 +1,15 @@
 //! A routine: code, and the place that is reached in it.
 ghost use Rattle.std.specs.Option.{ok_or};
-ghost use Rattle.std.specs.Prelude.{◌≡◌, ◌∷◌, ◌+◌, ◌<◌, ◌≤◌, ◌^◌, IfOk, IfSome, length, take, drop, option_map};
+ghost use Rattle.std.specs.Prelude.{◌≡◌, ◌∷◌, ◌+◌, ◌<◌, ◌≤◌, ◌^◌, OnOk, IfOk, IfErr, IfSome, length, take, drop, option_map};
 ghost use Rattle.postscript_type2.specs.Program.Parsing.{is_number};
 ghost use Rattle.postscript_variable.specs.declared.refused.Refused.TheVariants as cases;
 ghost use Rattle.postscript_variable.specs.Commands.{command_of};
+ghost use Rattle.postscript_variable.specs.Private.Numbers.{IsNumberAt, PutsNumbers};
 ghost use Rattle.postscript_variable.specs.Private.Working.{EndsAt, ReadsTokenAt, ReadsFront};
 
 use crate::command::Command;
 use crate::refused::{Refused, Result};
-use postscript_type2::number;
+use postscript_type2::{Operand, number};
 use std::marker::Model;
 
 /// What is read at a place, and the place behind it.
@@ -92,6 +93,61 @@ fn token_at(code: &[u8], first: u8, place: usize) -> Result<At<Token>>
     }
 }
 
+/// How many operands a stack holds ("CFF2 CharString Implementation Limits").
+pub(crate) const OPERANDS: usize = 513;
+
+/// For how many operands a stack takes memory at once, before its first one: few glyphs have more at a time.
+const ROOM: usize = 256;
+
+/// Takes memory for operands, where a stack has none yet.
+#[inline(always)]
+fn make_room(stack: &mut Vec<Operand>) -> Result<()>
+    ensures ok { OnOk result (stack.new.items ≡ stack.old.items) }
+    ensures err { IfErr result (λ e. e ≡ cases.Memory) }
+{
+    if stack.capacity() == 0 {
+        stack.reserve(ROOM)?;
+    }
+    Ok(())
+}
+
+/// The number that stands at a place, and the place behind it. None where an operator stands there, or nothing that is whole.
+#[inline(always)]
+fn number_at(code: &[u8], place: usize) -> Option<At<Operand>>
+    ensures found { IfSome result (λ read. IsNumberAt (drop place code.now) place read.0 read.1) }
+    ensures room { IfSome result (λ read. read.1 ≤ length code.now) }
+{
+    let Some(first) = code.get(place) else {
+        return None;
+    };
+    if !begins_number(*first) {
+        return None;
+    }
+    number::at(code, place)
+}
+
+/// Puts the numbers that stand at a place onto the stack, one after another, while it has room and the limit lasts. Answers what is left
+/// of the limit, and the place behind them.
+#[inline(always)]
+fn numbers_at(code: &[u8], place: usize, stack: &mut Vec<Operand>, limit: u64) -> Result<At<u64>>
+    requires { place ≤ length code.now }
+    ensures puts { IfOk result (λ read. PutsNumbers (drop place code.now) stack.old.items limit (drop read.1 code.now) stack.new.items read.0) }
+    ensures room { IfOk result (λ read. read.1 ≤ length code.now) }
+    ensures refused { IfErr result (λ e. e ≡ cases.Memory) }
+{
+    let mut left = limit;
+    let mut next = place;
+    while left > 0 && stack.len() < OPERANDS {
+        let Some((number, behind)) = number_at(code, next) else {
+            break;
+        };
+        stack.push(number)?;
+        left = left.saturating_sub((behind - next) as u64);
+        next = behind;
+    }
+    Ok((left, next))
+}
+
 impl<'l> Routine<'l> {
     pub(crate) fn new(code: &'l [u8]) -> Self
         ensures { result ≡ code.now }
@@ -133,5 +189,18 @@ impl<'l> Routine<'l> {
         let size = place - self.place;
         self.place = place;
         Ok(Some((token, size)))
+    }
+
+    /// Puts the numbers at the front onto the stack, one after another, while it has room and the limit lasts. Answers what is left of
+    /// the limit.
+    #[inline(always)]
+    pub(crate) fn numbers(&mut self, stack: &mut Vec<Operand>, limit: u64) -> Result<u64>
+        ensures puts { IfOk result (λ left. PutsNumbers self.old stack.old.items limit self.new stack.new.items left) }
+        ensures refused { IfErr result (λ e. e ≡ cases.Memory) }
+    {
+        make_room(stack)?;
+        let (left, place) = numbers_at(self.code, self.place, stack, limit)?;
+        self.place = place;
+        Ok(left)
     }
 }

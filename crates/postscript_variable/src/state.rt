@@ -1,5 +1,5 @@
 //! What an operator does with the stack.
-ghost use Rattle.std.specs.Prelude.{◌≡◌, ◌≤◌, ◌^◌, ℕ, List, length, nat_lt, Ok, Err, IfOk, if◌then◌else◌};
+ghost use Rattle.std.specs.Prelude.{◌≡◌, ◌≤◌, ◌*◌, ◌^◌, ℕ, suc, List, length, nat_lt, Ok, Err, IfOk, if◌then◌else◌};
 ghost use Rattle.postscript_variable.specs.declared.refused.Refused.TheVariants as cases;
 ghost use Rattle.postscript_type2.specs.Program.Charstrings.{lists_of};
 ghost use Rattle.postscript_type2.specs.Program.StackWork.{whole_operand as the_whole_operand};
@@ -50,6 +50,14 @@ fn whole_operand(stack: &mut Vec<Operand>) -> Result<i16>
         Some(number) => Ok(number),
         None => Err(Refused::ExpectedInteger),
     }
+}
+
+/// Whether operands are fewer than n defaults and a delta of each for each region.
+#[inline(always)]
+fn has_fewer(operands: usize, n: usize, regions: usize) -> bool
+    ensures { result ≡ nat_lt operands (n * suc regions) }
+{
+    (operands as u128) < n as u128 * (regions as u128 + 1)
 }
 
 impl<'l> State<'l> {
@@ -166,7 +174,7 @@ impl<'l> State<'l> {
             return Err(Refused::InvalidOperand);
         }
         let n = number as usize;
-        if n > 0 && self.stack.len() / n <= scalars.len() {
+        if has_fewer(self.stack.len(), n, scalars.len()) {
             return Err(Refused::ExpectedMoreOperands);
         }
         blend(&mut self.stack, n, scalars)?;

@@ -1,5 +1,5 @@
 -- What the machine of a program does within its limit.
-use Rattle.std.specs.Prelude.{◌≡◌, ◌⊎◌, ◌<◌, ℕ, List, [], Some, None, Result, Ok, Err}
+use Rattle.std.specs.Prelude.{◌≡◌, ◌⊎◌, ◌<◌, ◌≤◌, ℕ, List, [], Some, None, Result, Ok, Err}
 use Rattle.postscript_variable.specs.declared.refused.Refused.{Refused}
 use Rattle.postscript_variable.specs.declared.refused.Refused.TheVariants.{Memory}
 use Rattle.postscript_variable.specs.declared.machine.Machine.{Machine}
@@ -7,7 +7,7 @@ use Rattle.postscript_variable.specs.declared.machine.Reach.{Reach}
 use Rattle.postscript_variable.specs.declared.machine.Reach.TheVariants as reaches
 use Rattle.postscript_variable.specs.Evaluation.{Run}
 use Rattle.postscript_variable.specs.Limit.{Spends}
-use Rattle.postscript_variable.specs.Private.Machines.{still_of, still_emptied, Reaches}
+use Rattle.postscript_variable.specs.Private.Machines.{still_of, still_emptied, work_of, Reaches}
 
 -- As `Reaches`, or what is still answered is left as it was. What was read is paid.
 abbrev pub ReachesWithin : Run → (limit : ℕ) → Result Reach Refused → Machine → (left : ℕ) → Type 0
@@ -19,3 +19,11 @@ ReachesWithin before limit (Ok reaches.Paused) new left =
     Spends limit before.costs left (still_of new).costs
 ReachesWithin before limit (Err e) new left =
     Reaches before (Err e) new × ((rest : List ℕ) × Spends limit before.costs left rest × ((e ≡ Memory) ⊎ (rest ≡ [])))
+
+-- What is passed answers nothing, and is paid.
+pub record Passes (before : Run) (work : ℕ) (limit : ℕ) (new : Machine) (left : ℕ) : Type 0 where
+  pub answers : (still_of new).answers ≡ before.answers
+  pub end : (still_of new).end ≡ before.end
+  pub spends : Spends limit before.costs left (still_of new).costs
+  pub less : left ≤ limit
+  pub no_more : work_of (still_of new) new ≤ work
