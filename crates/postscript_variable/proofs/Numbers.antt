@@ -1,7 +1,8 @@
 -- Numbers that are put onto a stack, and what is still answered behind them.
-use Rattle.std.proofs.Common.{◌≡◌, ◌≢◌, refl, ap, sym, subst, ◌∙◌, ℕ, suc, ◌+◌, ◌-◌, ◌*◌, ◌<◌, ◌≤◌, ℤ, true, List, [], ◌∷◌, ◌++◌, drop, length, Option, Some, None, IfSome, nat_lt, arith}
+use Rattle.std.proofs.Common.{◌≡◌, ◌≢◌, refl, ap, sym, subst, ◌∙◌, ℕ, suc, ◌+◌, ◌-◌, ◌*◌, ◌<◌, ◌≤◌, ℤ, true, List, [], ◌∷◌, ◌++◌, drop, length, get_or, add-one, Option, Some, None, IfSome, nat_lt, arith}
 use Rattle.std.proofs.lemmas.Bool.Decides.{nat_tests}
 use Rattle.std.proofs.lemmas.List.{drop-drop}
+use Rattle.std.proofs.Math.Seq.{drop-cons}
 use Rattle.postscript_base.specs.Tape.Outcome.{Got}
 use Rattle.postscript_type2.specs.Number.{number}
 use Rattle.postscript_type2.specs.Program.Parsing.{is_number}
@@ -14,6 +15,10 @@ use Rattle.postscript_variable.specs.Tokens.{Number, token}
 use Rattle.postscript_variable.proofs.Limit.{paid}
 use Rattle.postscript_variable.proofs.Reading.{number-read}
 use Rattle.postscript_variable.proofs.Remains.{still-number}
+
+-- the byte that stands at a place, before those behind it
+pub front-of : (code : List ℕ) (place : ℕ) → place < length code → drop place code ≡ get_or code place 0 ∷ drop (place + 1) code
+front-of code place room = drop-cons code place 0 room ∙ ap (λ i. get_or code place 0 ∷ drop i code) (sym (add-one place))
 
 -- a number that is read at a place
 behind-first : (place more next : ℕ) → next ≡ place + 1 + more → next ≡ place + suc more
@@ -69,3 +74,7 @@ passes font depth cs st (one_more first behind between left x more before is roo
       omega (arith, so_far.3),
       omega (arith, so_far.4, fewer),
     )
+
+-- nothing is passed yet
+pub nothing-passed : {bytes : List ℕ} {stack : List ℤ} (place limit : ℕ) → PutsNumbers bytes stack limit bytes stack limit → PutsNumbers bytes stack limit bytes stack (limit - (place - place))
+nothing-passed {bytes} {stack} place limit puts = let same : limit ≡ limit - (place - place) = omega arith in subst (PutsNumbers bytes stack limit bytes stack) same puts

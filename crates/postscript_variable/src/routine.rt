@@ -1,6 +1,7 @@
 //! A routine: code, and the place that is reached in it.
 ghost use Rattle.std.specs.Option.{ok_or};
-ghost use Rattle.std.specs.Prelude.{◌≡◌, ◌∷◌, ◌+◌, ◌<◌, ◌≤◌, ◌^◌, OnOk, IfOk, IfErr, IfSome, length, take, drop, option_map};
+ghost use Rattle.std.specs.Prelude.{◌≡◌, ◌∷◌, ◌+◌, ◌-◌, ◌<◌, ◌≤◌, ◌^◌, OnOk, IfOk, IfErr, IfSome, length, take, drop, option_map};
+ghost use Rattle.postscript_type2.specs.Private.Alone.{is_alone as the_is_alone};
 ghost use Rattle.postscript_type2.specs.Program.Parsing.{is_number};
 ghost use Rattle.postscript_variable.specs.declared.refused.Refused.TheVariants as cases;
 ghost use Rattle.postscript_variable.specs.Commands.{command_of};
@@ -111,41 +112,64 @@ fn make_room(stack: &mut Vec<Operand>) -> Result<()>
     Ok(())
 }
 
+/// Whether a byte is a number by itself, as most are ("CharString Encoding").
+#[inline(always)]
+fn is_alone(first: u8) -> bool
+    ensures { result ≡ the_is_alone first }
+{
+    32 <= first && first < 247
+}
+
 /// The number that stands at a place, and the place behind it. None where an operator stands there, or nothing that is whole.
 #[inline(always)]
 fn number_at(code: &[u8], place: usize) -> Option<At<Operand>>
+    requires { place < length code.now }
     ensures found { IfSome result (λ read. IsNumberAt (drop place code.now) place read.0 read.1) }
     ensures room { IfSome result (λ read. read.1 ≤ length code.now) }
 {
-    let Some(first) = code.get(place) else {
-        return None;
-    };
-    if !begins_number(*first) {
+    let first = code[place];
+    if is_alone(first) {
+        return Some((Operand::from_int(i16::from(first) - 139), place + 1));
+    }
+    if !begins_number(first) {
         return None;
     }
     number::at(code, place)
 }
 
-/// Puts the numbers that stand at a place onto the stack, one after another, while it has room and the limit lasts. Answers what is left
-/// of the limit, and the place behind them.
+/// A place before which a number may begin: bytes are left there, the stack has room, and the limit lasts.
 #[inline(always)]
-fn numbers_at(code: &[u8], place: usize, stack: &mut Vec<Operand>, limit: u64) -> Result<At<u64>>
+fn last_place(code: &[u8], place: usize, held: usize, limit: u64) -> usize
     requires { place ≤ length code.now }
-    ensures puts { IfOk result (λ read. PutsNumbers (drop place code.now) stack.old.items limit (drop read.1 code.now) stack.new.items read.0) }
-    ensures room { IfOk result (λ read. read.1 ≤ length code.now) }
+    ensures code { result ≤ length code.now }
+    ensures room { result ≤ place + (513 - held) }
+    ensures limit { result ≤ place + limit }
+{
+    let bytes = code.len() - place;
+    let room = OPERANDS.saturating_sub(held);
+    place + (room.min(bytes) as u64).min(limit) as usize
+}
+
+/// Puts the numbers that stand at a place onto the stack, one after another, while it has room and the limit lasts. Answers the place
+/// behind them.
+#[inline(always)]
+fn numbers_at(code: &[u8], place: usize, stack: &mut Vec<Operand>, limit: u64) -> Result<usize>
+    requires { place ≤ length code.now }
+    ensures puts { IfOk result (λ next. PutsNumbers (drop place code.now) stack.old.items limit (drop next code.now) stack.new.items (limit - (next - place))) }
+    ensures from { IfOk result (λ next. place ≤ next) }
+    ensures room { IfOk result (λ next. next ≤ length code.now) }
     ensures refused { IfErr result (λ e. e ≡ cases.Memory) }
 {
-    let mut left = limit;
+    let last = last_place(code, place, stack.len(), limit);
     let mut next = place;
-    while left > 0 && stack.len() < OPERANDS {
+    while next < last {
         let Some((number, behind)) = number_at(code, next) else {
             break;
         };
         stack.push(number)?;
-        left = left.saturating_sub((behind - next) as u64);
         next = behind;
     }
-    Ok((left, next))
+    Ok(next)
 }
 
 impl<'l> Routine<'l> {
@@ -199,8 +223,9 @@ impl<'l> Routine<'l> {
         ensures refused { IfErr result (λ e. e ≡ cases.Memory) }
     {
         make_room(stack)?;
-        let (left, place) = numbers_at(self.code, self.place, stack, limit)?;
-        self.place = place;
+        let next = numbers_at(self.code, self.place, stack, limit)?;
+        let left = limit.saturating_sub((next - self.place) as u64);
+        self.place = next;
         Ok(left)
     }
 }

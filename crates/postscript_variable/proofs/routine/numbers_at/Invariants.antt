@@ -1,13 +1,15 @@
-use Rattle.std.proofs.Common.{◌≤◌, ◌-◌, drop, length}
+use Rattle.std.proofs.Common.{◌≤◌, ◌-◌, ◌+◌, drop, length}
 use Rattle.postscript_variable.specs.Private.Numbers.{PutsNumbers}
 use Rattle.postscript_variable.proofs.routine.numbers_at.Given as goal
 
--- the numbers before a place are on the stack
-abbrev pub invariant-loop-left : goal.invariant-loop-left
-invariant-loop-left l = record {
+-- the numbers before a place are on the stack, no more than they have bytes
+abbrev pub invariant-loop-next : goal.invariant-loop-next
+invariant-loop-next l = record {
+  from : l.fn.place ≤ l.next;
   within : l.next ≤ length l.code;
-  puts : PutsNumbers (drop l.fn.place l.code) l.fn.stack.items l.fn.limit (drop l.next l.code) l.stack.items l.left;
+  few : length l.stack.items + l.fn.place ≤ length l.fn.stack.items + l.next;
+  puts : PutsNumbers (drop l.fn.place l.code) l.fn.stack.items l.fn.limit (drop l.next l.code) l.stack.items (l.fn.limit - (l.next - l.fn.place));
 }
 
-abbrev pub decreases-loop-left : goal.decreases-loop-left
-decreases-loop-left l = length l.code - l.next
+abbrev pub decreases-loop-next : goal.decreases-loop-next
+decreases-loop-next l = length l.code - l.next
