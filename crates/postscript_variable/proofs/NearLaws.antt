@@ -12,7 +12,7 @@ near-size m = record { above = omega (arith, ints); below = omega (arith, ints) 
 turned : (sum exact : ℤ) (count : ℕ) → IsWithinHalves sum exact count → IsWithinHalves (neg_ℤ sum) (neg_ℤ exact) count
 turned sum exact count near = let a = near.above in let b = near.below in record { above = omega (arith, ints, b); below = omega (arith, ints, a) }
 
-near-one : (delta : ℤ) (scalar : ℕ) → IsWithinHalves (scaled delta scalar) (delta *ℤ pos scalar) 1
+pub near-one : (delta : ℤ) (scalar : ℕ) → IsWithinHalves (scaled delta scalar) (delta *ℤ pos scalar) 1
 near-one (pos n) scalar = rw (above-zero n scalar) (near-size (n * scalar))
 near-one (negsuc n) scalar = turned (pos ((suc n * scalar + 32768) / 65536)) (pos (suc n * scalar)) 1 (near-size (suc n * scalar))
 

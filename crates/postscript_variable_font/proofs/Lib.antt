@@ -1,2 +1,3 @@
 pub mod Scalars
 pub mod OneRun
+pub mod Nearness

@@ -2,3 +2,4 @@
 pub mod Places
 pub mod Glyphs
 pub mod OneRun
+pub mod Nearness
