@@ -155,7 +155,8 @@ fn last_place(code: &[u8], place: usize, held: usize, limit: u64) -> usize
 #[inline(always)]
 fn numbers_at(code: &[u8], place: usize, stack: &mut Vec<Operand>, limit: u64) -> Result<usize>
     requires { place ≤ length code.now }
-    ensures puts { IfOk result (λ next. PutsNumbers (drop place code.now) stack.old.items limit (drop next code.now) stack.new.items (limit - (next - place))) }
+    ensures puts { IfOk result (λ next.
+        PutsNumbers (drop place code.now) stack.old.items limit (drop next code.now) stack.new.items (limit - (next - place))) }
     ensures from { IfOk result (λ next. place ≤ next) }
     ensures room { IfOk result (λ next. next ≤ length code.now) }
     ensures refused { IfErr result (λ e. e ≡ cases.Memory) }

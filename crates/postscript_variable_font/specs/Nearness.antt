@@ -7,16 +7,17 @@ use Rattle.postscript_variation.specs.ScalarLaws.{IsProduct}
 use Rattle.postscript_variation.specs.declared.store.Data.{Data}
 use Rattle.postscript_variable_font.specs.Places.{AreScalars}
 
--- The exact scalar of the region that delta j belongs to is part / whole: the product of its axis scalars, of which so many are fractions; 0
--- where the list has no such region.
+-- The exact scalar of the region that delta j belongs to is part / whole: the product of its axis scalars, of which so many are
+-- fractions; 0 where the list has no such region.
 pub data IsExactScalar (table : Data) (coordinates : List ℤ) (j : ℕ) : (part whole rounded : ℕ) → Type 0 where
   of_region : (part whole rounded : ℕ) → region_of table j < table.regions.count →
-      IsProduct table.regions.bytes.now table.regions.place table.regions.axes (region_of table j) coordinates table.regions.axes part whole rounded →
+      IsProduct table.regions.bytes.now table.regions.place table.regions.axes (region_of table j) coordinates table.regions.axes
+      part whole rounded →
       IsExactScalar table coordinates j part whole rounded
   of_none : table.regions.count ≤ region_of table j → IsExactScalar table coordinates j 0 1 0
 
--- Deltas from delta j on, and the computed scalars of their regions. The sum of each delta times the exact scalar is part / whole. halves: 65536
--- for each region, and how large its delta is for each fraction among its axis scalars.
+-- Deltas from delta j on, and the computed scalars of their regions. The sum of each delta times the exact scalar is part / whole.
+-- halves: 65536 for each region, and how large its delta is for each fraction among its axis scalars.
 pub data IsExactSum (table : Data) (coordinates : List ℤ) :
     (j : ℕ) → (scalars : List ℕ) → (deltas : List ℤ) → (part : ℤ) → (whole halves : ℕ) → Type 0 where
   none : (j : ℕ) → IsExactSum table coordinates j [] [] (pos 0) 1 0
