@@ -1,7 +1,7 @@
 //! Which glyphs of a face are kept, and which of its characters.
 use crate::characters::{Mapped, all_of, by_glyph, glyph_of, missing, of_glyph};
 use crate::face::Face;
-use crate::failure::Failure;
+use crate::failure::{Failure, Missing};
 use clap::ArgMatches;
 use postscript_sfnt_write::Mapping;
 use std::alloc::{AllocError, Global};
@@ -18,7 +18,7 @@ impl Choice {
     fn put_char(&mut self, face: &Face<'_>, char: u32) -> Result<(), Failure> {
         let glyph = glyph_of(&face.map, char);
         if glyph == 0 {
-            return Err(Failure::NoChar(char));
+            return Err(Failure::Missing(Missing::Char(char)));
         }
         self.glyphs.push(usize::from(glyph))?;
         self.pairs.push(Mapping { char, glyph })?;
@@ -29,7 +29,7 @@ impl Choice {
     fn put_text(&mut self, alloc: Global, face: &Face<'_>, text: &str) -> Result<(), Failure> {
         let missing = missing(alloc, &face.map, text)?;
         if !missing.is_empty() {
-            return Err(Failure::NoChars(missing));
+            return Err(Failure::Missing(Missing::Chars(missing)));
         }
         for char in text.chars() {
             self.put_char(face, u32::from(char))?;
@@ -134,7 +134,7 @@ impl Choice {
         };
         choice.put(alloc, face, words)?;
         if choice.glyphs.is_empty() {
-            return Err(Failure::NoneNamed);
+            return Err(Failure::Missing(Missing::Glyphs));
         }
         choice.glyphs.push(0)?;
         choice.glyphs.sort()?;
@@ -181,7 +181,7 @@ fn gids_of(word: &str, glyphs: usize) -> Result<(u32, u32), Failure> {
 fn gid_of(word: &str, glyphs: usize) -> Result<u32, Failure> {
     match word.parse::<u32>() {
         Ok(gid) if (gid as usize) < glyphs => Ok(gid),
-        Ok(gid) => Err(Failure::NoGid(gid)),
+        Ok(gid) => Err(Failure::Missing(Missing::Gid(gid))),
         Err(_) => Err(Failure::Usage("--gids: a list of numbers, as 1,7-12")),
     }
 }

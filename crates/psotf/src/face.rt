@@ -1,5 +1,5 @@
 //! Faces of files.
-use crate::failure::Failure;
+use crate::failure::{Failure, Unread};
 use crate::refused::{rule_of, spot_of};
 use crate::weight::is_too_much;
 use postscript_sfnt::{Advances, CharacterMap, FontFile, Names, faces, glyphs, units_per_em};
@@ -42,7 +42,7 @@ pub fn needed<'l>(
 ) -> Result<&'l [u8], Failure> {
     match file.table(tag) {
         Some(table) => Ok(table),
-        None => Err(Failure::NoTable(name)),
+        None => Err(Failure::Unread(Unread::NoTable(name))),
     }
 }
 
@@ -52,22 +52,22 @@ fn advances_of<'l>(file: &FontFile<'l>) -> Result<Advances<'l>, Failure> {
     let hmtx = needed(file, [b'h', b'm', b't', b'x'], "hmtx")?;
     match Advances::read(hhea, hmtx) {
         Some(advances) => Ok(advances),
-        None => Err(Failure::Cut("hmtx")),
+        None => Err(Failure::Unread(Unread::Cut("hmtx"))),
     }
 }
 
 /// The font of a table `CFF `; where it is refused, in which part and by which rule.
 fn opened<'l>(alloc: Global, cff: &'l [u8]) -> Result<FontView<'l>, Failure> {
     if is_too_much(alloc, cff) {
-        return Err(Failure::Dictionaries);
+        return Err(Failure::Unread(Unread::Dictionaries));
     }
     match FontView::read(alloc, cff) {
         Ok(font) => Ok(font),
-        Err(error) => Err(Failure::Table {
+        Err(error) => Err(Failure::Unread(Unread::Cff {
             spot: spot_of(alloc, cff),
             rule: rule_of(error.code()),
             error,
-        }),
+        })),
     }
 }
 
@@ -97,7 +97,7 @@ fn cff_of<'l>(file: &FontFile<'l>) -> Result<&'l [u8], Failure> {
     match needed(file, *b"CFF ", "CFF") {
         Ok(table) => Ok(table),
         Err(failure) => match other_outlines(file) {
-            Some(kind) => Err(Failure::OtherKind(kind)),
+            Some(kind) => Err(Failure::Unread(Unread::OtherKind(kind))),
             None => Err(failure),
         },
     }
@@ -109,10 +109,10 @@ impl<'l> Common<'l> {
         let head = needed(file, *b"head", "head")?;
         let maxp = needed(file, *b"maxp", "maxp")?;
         let Some(units) = units_per_em(head) else {
-            return Err(Failure::Cut("head"));
+            return Err(Failure::Unread(Unread::Cut("head")));
         };
         let Some(glyphs) = glyphs(maxp) else {
-            return Err(Failure::Cut("maxp"));
+            return Err(Failure::Unread(Unread::Cut("maxp")));
         };
         let advances = advances_of(file)?;
         let map = match file.table(*b"cmap") {
@@ -136,7 +136,7 @@ impl<'l> Common<'l> {
 /// The face of this number of a file, whatever outlines it has.
 pub fn file_of(bytes: &[u8], number: u16) -> Result<FontFile<'_>, Failure> {
     if let Some(kind) = other_kind(bytes) {
-        return Err(Failure::OtherKind(kind));
+        return Err(Failure::Unread(Unread::OtherKind(kind)));
     }
     Ok(FontFile::read(bytes, usize::from(number))?)
 }

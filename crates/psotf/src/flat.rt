@@ -1,7 +1,7 @@
 //! Fonts without subroutines.
 use crate::asking::ask_all;
 use crate::face::Face;
-use crate::failure::Failure;
+use crate::failure::{Failure, Unread};
 use crate::limit::Budget;
 use crate::saving;
 use clap::ArgMatches;
@@ -44,7 +44,7 @@ fn with_font<'t>(
         if tag != DSIG && !has(tables.as_slice(), tag) {
             if let Some(bytes) = file.table(tag.to_be_bytes()) {
                 if bytes.len() > left {
-                    return Err(Failure::Overlap);
+                    return Err(Failure::Unread(Unread::Overlap));
                 }
                 left -= bytes.len();
                 tables.push(Table { tag, bytes })?;

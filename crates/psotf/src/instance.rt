@@ -7,7 +7,7 @@ mod records;
 mod style;
 mod values;
 
-use crate::failure::Failure;
+use crate::failure::{Failure, Refusal};
 use crate::limit::Budget;
 use crate::saving;
 use crate::variable::{Chosen, VariableFace};
@@ -35,7 +35,10 @@ fn unwritten(
         let width = drawn.widths.get(i).copied();
         if let Err(error) = glyph(alloc, &face.font, i, &chosen.place, width) {
             let gid = u16::try_from(i).unwrap_or(u16::MAX);
-            return Some(Failure::Unwritten { gid, error });
+            return Some(Failure::Glyph {
+                gid,
+                refusal: Refusal::Unwritten(error),
+            });
         }
     }
     None

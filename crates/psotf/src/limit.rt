@@ -98,7 +98,8 @@ impl Budget {
     /// Why a glyph is refused that took all of its share. Where that was less than the limit, nothing is left for those behind it.
     pub fn stop(&mut self, share: u64) -> Refusal
         ensures long { self.old.limit ≤ share → (result ≡ refusals.TooLong self.old.limit) × (self.new ≡ self.old) }
-        ensures over { share < self.old.limit → (result ≡ refusals.UsedUp (min (self.old.limit * GLYPHS) (2 ^ 64 - 1))) × (self.new.left ≡ 0) }
+        ensures over { share < self.old.limit → result ≡ refusals.UsedUp (min (self.old.limit * GLYPHS) (2 ^ 64 - 1)) }
+        ensures none_left { share < self.old.limit → self.new.left ≡ 0 }
         ensures limit { self.new.limit ≡ self.old.limit }
     {
         if share < self.limit {

@@ -10,7 +10,7 @@ use std::fmt;
 
 /// A part of a table `CFF `, and where it stands: so many bytes behind the beginning of the table. It has no place where only
 /// its dictionary names one.
-#[derive(Clone, Copy, Debug)]
+#[derive(Clone, Copy)]
 pub struct Spot {
     pub part: &'static str,
     pub place: Option<u64>,

@@ -7,6 +7,7 @@ use crate::limit::Budget;
 use crate::progress::Progress;
 use crate::saving;
 use crate::stopped::Stopped;
+use crate::svg::SVG;
 use clap::ArgMatches;
 use postscript_outline::Outline;
 use std::alloc::{AllocError, Global};
@@ -133,6 +134,21 @@ fn put_cells(
     Ok(())
 }
 
+/// How a picture of so many cells begins.
+fn opening(alloc: Global, face: &Face<'_>, cells: u64) -> Result<String, AllocError> {
+    let units = u64::from(face.units);
+    let rows = cells.saturating_add(COLUMNS - 1) / COLUMNS;
+    let side = units.saturating_mul(2);
+    let (width, height) = (side.saturating_mul(COLUMNS), side.saturating_mul(rows));
+    let (wide, high) = (PIXELS.saturating_mul(COLUMNS), PIXELS.saturating_mul(rows));
+    let size = label_size(units);
+    let mut picture = format!(in alloc;
+        "<svg xmlns=\"{SVG}\" width=\"{wide}\" height=\"{high}\" viewBox=\"0 0 {width} {height}\""
+    )?;
+    writeln!(picture, " font-family=\"monospace\" font-size=\"{size}\">")?;
+    Ok(picture)
+}
+
 /// Writes a picture of the glyphs that words name; those that are refused have the reason in their cells. It is refused behind that
 /// where the runs of some take longer than the limit, with how many do.
 pub fn write<W: Write>(
@@ -145,16 +161,7 @@ pub fn write<W: Write>(
     let from = words.get_one::<u16>("from").unwrap_or(0);
     let most = words.get_one::<u16>("count").unwrap_or(65535);
     let to = count(face).min(from.saturating_add(most));
-    let cells = u64::from(to.saturating_sub(from));
-    let side = u64::from(face.units).saturating_mul(2);
-    let width = side.saturating_mul(COLUMNS);
-    let rows = cells.saturating_add(COLUMNS - 1) / COLUMNS;
-    let height = rows.saturating_mul(side);
-    let (wide, high) = (COLUMNS.saturating_mul(PIXELS), rows.saturating_mul(PIXELS));
-    let size = label_size(u64::from(face.units));
-    let mut picture = format!(in rt.alloc();
-        "<svg xmlns=\"http://www.w3.org/2000/svg\" width=\"{wide}\" height=\"{high}\" viewBox=\"0 0 {width} {height}\" font-family=\"monospace\" font-size=\"{size}\">\n"
-    )?;
+    let mut picture = opening(rt.alloc(), face, u64::from(to.saturating_sub(from)))?;
     let mut stopped = Stopped::new(rt);
     put_cells(rt, face, from..to, budget, &mut stopped, &mut picture)?;
     writeln!(picture, "</svg>")?;

@@ -2,12 +2,16 @@
 use crate::characters::missing;
 use crate::drawing::{count, draw};
 use crate::face::Face;
-use crate::failure::Failure;
+use crate::failure::{Failure, Missing};
 use crate::limit::Budget;
 use crate::saving;
 use clap::ArgMatches;
-use std::alloc::Global;
+use std::alloc::{AllocError, Global};
+use std::fmt::Display;
 use std::io::Write;
+
+/// The namespace of the elements of pictures.
+pub const SVG: &str = "http://www.w3.org/2000/svg";
 
 /// Draws a glyph so far to the right.
 fn put(
@@ -19,7 +23,7 @@ fn put(
     picture: &mut String,
 ) -> Result<(), Failure> {
     if gid >= count(face) {
-        return Err(Failure::NoGlyph(gid));
+        return Err(Failure::Missing(Missing::Glyph(gid)));
     }
     let outline = match draw(alloc, face, gid, budget) {
         Ok((_, outline)) => outline,
@@ -40,7 +44,7 @@ fn paths(
     budget: &mut Budget,
 ) -> Result<(String, u64), Failure> {
     let Some(map) = &face.map else {
-        return Err(Failure::Lacks("character map"));
+        return Err(Failure::Missing(Missing::Part("character map")));
     };
     let mut picture = String::new(alloc);
     let mut x = 0u64;
@@ -66,7 +70,7 @@ fn paths_of(
         match words.get_str("missing") {
             Some("draw") => eprintln!(rt; "psotf: the face has no glyph for:{missing}")?,
             Some(_) => return Err(Failure::Usage("--missing takes the word draw")),
-            None => return Err(Failure::NoChars(missing)),
+            None => return Err(Failure::Missing(Missing::Chars(missing))),
         }
     }
     paths(rt.alloc(), face, text, budget)
@@ -84,6 +88,20 @@ fn path(
     Ok((picture, u64::from(face.advances.of(gid))))
 }
 
+/// A picture so wide of paths that stand on a line, in so many units to the em.
+pub fn picture_of<N: Display>(
+    alloc: Global,
+    units: u16,
+    width: &N,
+    paths: &str,
+) -> Result<String, AllocError> {
+    let units = u64::from(units);
+    let height = units.saturating_mul(2);
+    format!(in alloc;
+        "<svg xmlns=\"{SVG}\" viewBox=\"0 -{units} {width} {height}\">\n<g transform=\"scale(1 -1)\">\n{paths}</g>\n</svg>\n"
+    )
+}
+
 /// Writes a picture of the glyph or the text that words name.
 pub fn write<W: Write>(
     rt: &HostRuntime,
@@ -96,10 +114,6 @@ pub fn write<W: Write>(
         Some(gid) => path(rt.alloc(), face, gid, budget)?,
         None => paths_of(rt, face, words, budget)?,
     };
-    let units = u64::from(face.units);
-    let height = units.saturating_mul(2);
-    let picture = format!(in rt.alloc();
-        "<svg xmlns=\"http://www.w3.org/2000/svg\" viewBox=\"0 -{units} {width} {height}\">\n<g transform=\"scale(1 -1)\">\n{paths}</g>\n</svg>\n"
-    )?;
+    let picture = picture_of(rt.alloc(), face.units, &width, paths.as_str())?;
     saving::put(rt, words, picture.as_bytes(), out)
 }

@@ -6,7 +6,7 @@ mod place;
 mod weight;
 
 use crate::face::Common;
-use crate::failure::Failure;
+use crate::failure::{Failure, Missing, Unread};
 use crate::instance;
 use crate::limit::Budget;
 use clap::ArgMatches;
@@ -36,7 +36,7 @@ pub struct VariableFace<'l> {
 pub fn read_as<T>(name: &'static str, read: postscript_variation::Result<T>) -> Result<T, Failure> {
     match read {
         Ok(read) => Ok(read),
-        Err(error) => Err(Failure::Variations(name, error)),
+        Err(error) => Err(Failure::Unread(Unread::Variations(name, error))),
     }
 }
 
@@ -70,7 +70,7 @@ impl<'l> VariableFace<'l> {
             advances,
         };
         match heavy_table(&face) {
-            Some(name) => Err(Failure::Heavy(name)),
+            Some(name) => Err(Failure::Unread(Unread::Heavy(name))),
             None => Ok(Some(face)),
         }
     }
@@ -79,7 +79,7 @@ impl<'l> VariableFace<'l> {
 /// Refuses an instance, and words that name a place, where the face is of no variable font.
 pub fn refuse(name: &str, words: &ArgMatches<'_>) -> Result<(), Failure> {
     if name == "instance" {
-        return Err(Failure::NotVariable);
+        return Err(Failure::Missing(Missing::Places));
     }
     if words.get_str("variations").is_some() || words.get_str("instance").is_some() {
         return Err(Failure::Usage("--variations and --instance want a variable font"));
@@ -101,9 +101,9 @@ pub fn write<W: Write>(
         "glyph" => glyphs::write(rt, face, words, budget, out),
         "svg" => glyphs::write_picture(rt, face, words, budget, out),
         "instance" => instance::write(rt, face, words, budget, out),
-        "flat" => Err(Failure::Variable("flat")),
-        "subset" => Err(Failure::Variable("subset")),
-        "report" => Err(Failure::Variable("report")),
-        _ => Err(Failure::Variable("sheet")),
+        "flat" => Err(Failure::Missing(Missing::OnePlace("flat"))),
+        "subset" => Err(Failure::Missing(Missing::OnePlace("subset"))),
+        "report" => Err(Failure::Missing(Missing::OnePlace("report"))),
+        _ => Err(Failure::Missing(Missing::OnePlace("sheet"))),
     }
 }

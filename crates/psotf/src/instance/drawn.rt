@@ -117,7 +117,10 @@ fn width_of(face: &VariableFace<'_>, gid: u16, chosen: &Chosen) -> Result<u16, F
     let advance = advance_of(face, gid, chosen);
     match u16::try_from(advance) {
         Ok(width) if width < 32768 => Ok(width),
-        _ => Err(Failure::Advance { gid, advance }),
+        _ => Err(Failure::Glyph {
+            gid,
+            refusal: Refusal::Advance(advance),
+        }),
     }
 }
 

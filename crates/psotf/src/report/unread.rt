@@ -1,7 +1,7 @@
 //! Pages of files whose table `CFF ` is refused.
 use super::pages::Pages;
 use super::{begin, end, head, parts, path_of};
-use crate::failure::Failure;
+use crate::failure::{Failure, Unread};
 use crate::readings;
 use crate::refused::Spot;
 use crate::saving::save;
@@ -63,7 +63,7 @@ pub fn write_refused(
     words: &ArgMatches<'_>,
     failure: &Failure,
 ) -> Result<(), Failure> {
-    let Failure::Table { spot, error, .. } = failure else {
+    let Failure::Unread(Unread::Cff { spot, error, .. }) = failure else {
         return Ok(());
     };
     let mut sheet = Sheet::new(rt.alloc());

@@ -3,12 +3,13 @@ use super::VariableFace;
 use super::place::Chosen;
 use crate::characters::{Mapped, by_glyph, glyph_of, missing, of_glyph};
 use crate::drawing::SEGMENT;
-use crate::failure::{Failure, Refusal};
+use crate::failure::{Failure, Missing, Refusal};
 use crate::glyph::chars;
 use crate::limit::Budget;
 use crate::progress::Progress;
 use crate::saving;
 use crate::sheet::Sheet;
+use crate::svg::picture_of;
 use clap::ArgMatches;
 use postscript_drawing::Error as Undrawn;
 use postscript_outline::Outline;
@@ -152,14 +153,14 @@ fn asked(face: &VariableFace<'_>, words: &ArgMatches<'_>) -> Result<u16, Failure
         return Ok(gid);
     }
     if words.get_str("name").is_some() {
-        return Err(Failure::Lacks("names of glyphs: CFF2 has none"));
+        return Err(Failure::Missing(Missing::Part("names of glyphs: CFF2 has none")));
     }
     let mut chars = words.get_str("char").unwrap_or("").chars();
     let (Some(char), None) = (chars.next(), chars.next()) else {
         return Err(Failure::Usage("--char takes one character"));
     };
     match glyph_of(&face.common.map, u32::from(char)) {
-        0 => Err(Failure::Lacks("glyph of this character")),
+        0 => Err(Failure::Missing(Missing::Part("glyph of this character"))),
         gid => Ok(gid),
     }
 }
@@ -172,7 +173,7 @@ fn named(face: &VariableFace<'_>, words: &ArgMatches<'_>) -> Result<Range<u16>, 
     }
     let gid = asked(face, words)?;
     if gid >= glyphs {
-        return Err(Failure::NoGlyph(gid));
+        return Err(Failure::Missing(Missing::Glyph(gid)));
     }
     Ok(gid..gid.saturating_add(1))
 }
@@ -254,7 +255,7 @@ fn put(
     picture: &mut String,
 ) -> Result<i64, Failure> {
     if gid >= count(face) {
-        return Err(Failure::NoGlyph(gid));
+        return Err(Failure::Missing(Missing::Glyph(gid)));
     }
     match outline_of(alloc, face, gid, chosen, budget) {
         Ok(outline) => {
@@ -278,7 +279,7 @@ fn paths(
 ) -> Result<(String, i64), Failure> {
     let missing = missing(alloc, &face.common.map, text)?;
     if !missing.is_empty() {
-        return Err(Failure::NoChars(missing));
+        return Err(Failure::Missing(Missing::Chars(missing)));
     }
     let mut picture = String::new(alloc);
     let mut x = 0i64;
@@ -312,10 +313,6 @@ pub fn write_picture<W: Write>(
             budget,
         )?,
     };
-    let units = u64::from(face.common.units);
-    let height = units.saturating_mul(2);
-    let picture = format!(in rt.alloc();
-        "<svg xmlns=\"http://www.w3.org/2000/svg\" viewBox=\"0 -{units} {width} {height}\">\n<g transform=\"scale(1 -1)\">\n{paths}</g>\n</svg>\n"
-    )?;
+    let picture = picture_of(rt.alloc(), face.common.units, &width, paths.as_str())?;
     saving::put(rt, words, picture.as_bytes(), out)
 }

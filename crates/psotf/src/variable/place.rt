@@ -1,7 +1,7 @@
 //! Places of the design space, as words name them.
 use super::VariableFace;
 use super::fixed::fixed_of;
-use crate::failure::Failure;
+use crate::failure::{Failure, Missing, Unread};
 use clap::ArgMatches;
 use postscript_sfnt::Name;
 use postscript_variable_font::Place;
@@ -49,7 +49,7 @@ fn axis_of(axes: &Axes<'_>, tag: u32) -> Option<Axis> {
 fn axes_of<'l>(face: &VariableFace<'l>) -> Result<Axes<'l>, Failure> {
     match face.axes {
         Some(axes) => Ok(axes),
-        None => Err(Failure::NoTable("fvar")),
+        None => Err(Failure::Unread(Unread::NoTable("fvar"))),
     }
 }
 
@@ -63,7 +63,7 @@ fn setting_of(rt: &HostRuntime, axes: &Axes<'_>, word: &str) -> Result<Setting, 
         return Err(usage);
     };
     let Some(axis) = axis_of(axes, tag) else {
-        return Err(Failure::NoAxis(String::from_str(rt.alloc(), name)?));
+        return Err(Failure::Missing(Missing::Axis(String::from_str(rt.alloc(), name)?)));
     };
     if value < axis.minimum || value > axis.maximum {
         eprintln!(rt;
@@ -115,7 +115,7 @@ fn instance_of(
             }
         }
     }
-    Err(Failure::NoInstance(String::from_str(alloc, name)?))
+    Err(Failure::Missing(Missing::Instance(String::from_str(alloc, name)?)))
 }
 
 /// The settings of an instance: a value for each axis.
