@@ -86,7 +86,7 @@ fn file_with(
 ) -> Result<Vec<u8>, Failure> {
     let mut tables: Vec<Table<'_>> = Vec::new(alloc);
     tables.push(Table {
-        tag: 0x43464620,
+        tag: u32::from_be_bytes(*b"CFF "),
         bytes: font,
     })?;
     for table in &made.tables {
@@ -95,10 +95,10 @@ fn file_with(
             bytes: table.bytes.as_slice(),
         })?;
     }
-    for (tag, table) in [(0x47444546, &positions.gdef), (0x47504f53, &positions.gpos)] {
+    for (tag, table) in [(*b"GDEF", &positions.gdef), (*b"GPOS", &positions.gpos)] {
         if let Some(table) = table {
             tables.push(Table {
-                tag,
+                tag: u32::from_be_bytes(tag),
                 bytes: table.as_slice(),
             })?;
         }

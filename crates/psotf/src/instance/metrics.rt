@@ -171,7 +171,8 @@ impl<'m, 'l> Maker<'m, 'l> {
 
 impl Made {
     /// Adds a table.
-    fn put(&mut self, tag: u32, bytes: Vec<u8>) -> Result<(), AllocError> {
+    fn put(&mut self, tag: [u8; 4], bytes: Vec<u8>) -> Result<(), AllocError> {
+        let tag = u32::from_be_bytes(tag);
         self.tables.push(MadeTable { tag, bytes })?;
         Ok(())
     }
@@ -180,10 +181,10 @@ impl Made {
     fn put_others(&mut self, maker: &Maker<'_, '_>) -> Result<(), Failure> {
         let file = maker.face.file;
         if let Some(table) = file.table(*b"OS/2") {
-            self.put(0x4f532f32, maker.os2(table)?)?;
+            self.put(*b"OS/2", maker.os2(table)?)?;
         }
         if let (Some(table), None) = (file.table(*b"vhea"), file.table(*b"VVAR")) {
-            self.put(0x76686561, maker.varied(table, &VHEA)?)?;
+            self.put(*b"vhea", maker.varied(table, &VHEA)?)?;
         }
         Ok(())
     }
@@ -211,12 +212,12 @@ impl Made {
         let mut made = Made {
             tables: Vec::new(alloc),
         };
-        made.put(0x68656164, maker.head()?)?;
-        made.put(0x68686561, maker.hhea()?)?;
-        made.put(0x686d7478, hmtx(alloc, &drawn.metrics)?)?;
-        made.put(0x6d617870, maker.maxp()?)?;
-        made.put(0x6e616d65, names_of(alloc, face, style)?)?;
-        made.put(0x706f7374, maker.post()?)?;
+        made.put(*b"head", maker.head()?)?;
+        made.put(*b"hhea", maker.hhea()?)?;
+        made.put(*b"hmtx", hmtx(alloc, &drawn.metrics)?)?;
+        made.put(*b"maxp", maker.maxp()?)?;
+        made.put(*b"name", names_of(alloc, face, style)?)?;
+        made.put(*b"post", maker.post()?)?;
         made.put_others(&maker)?;
         Ok(made)
     }
