@@ -72,6 +72,15 @@ impl<'v> Varied<'v> {
         self.steps = self.steps.saturating_sub(steps);
     }
 
+    /// Where a table stands that is named at a place, which takes a step. None where none is, or there are too many steps.
+    fn follow(&mut self, parent: usize, place: usize) -> Option<usize> {
+        self.take(1);
+        if self.is_over {
+            return None;
+        }
+        self.named(parent, place)
+    }
+
     /// What the device table at a place adds, to the nearest unit. None where it tells no variations.
     fn added(&mut self, device: usize) -> Option<i64> {
         if self.word(behind(device, 4)) != VARIATIONS {
@@ -139,11 +148,10 @@ impl<'v> Varied<'v> {
     /// Anchors that are named one behind the other.
     fn anchors(&mut self, parent: usize, place: usize, count: usize) {
         for i in 0..count {
-            self.take(1);
             if self.is_over {
                 return;
             }
-            if let Some(anchor) = self.named(parent, words(place, i)) {
+            if let Some(anchor) = self.follow(parent, words(place, i)) {
                 self.anchor(anchor);
             }
         }
@@ -202,11 +210,7 @@ impl<'v> Varied<'v> {
     /// Adjustments of pairs, glyph by glyph.
     fn pair_sets(&mut self, table: usize, formats: [u16; 2]) {
         for i in 0..self.word(behind(table, 8)) {
-            self.take(1);
-            if self.is_over {
-                return;
-            }
-            if let Some(set) = self.named(table, words(behind(table, 10), i)) {
+            if let Some(set) = self.follow(table, words(behind(table, 10), i)) {
                 let count = self.word(set);
                 self.values(set, behind(set, 2), count, formats, 2);
             }
@@ -216,11 +220,7 @@ impl<'v> Varied<'v> {
     /// Marks and their anchors.
     fn marks(&mut self, table: usize) {
         for i in 0..self.word(table) {
-            self.take(1);
-            if self.is_over {
-                return;
-            }
-            if let Some(anchor) = self.named(table, words(behind(table, 4), i.saturating_mul(2))) {
+            if let Some(anchor) = self.follow(table, words(behind(table, 4), i.saturating_mul(2))) {
                 self.anchor(anchor);
             }
         }
@@ -235,11 +235,7 @@ impl<'v> Varied<'v> {
     /// Ligatures and their anchors.
     fn ligatures(&mut self, table: usize, classes: usize) {
         for i in 0..self.word(table) {
-            self.take(1);
-            if self.is_over {
-                return;
-            }
-            if let Some(ligature) = self.named(table, words(behind(table, 2), i)) {
+            if let Some(ligature) = self.follow(table, words(behind(table, 2), i)) {
                 self.bases(ligature, classes);
             }
         }
@@ -277,7 +273,6 @@ impl<'v> Varied<'v> {
 
     /// A subtable of a lookup.
     fn subtable(&mut self, kind: usize, table: usize) {
-        self.take(1);
         if kind != 9 {
             self.adjusted(kind, table);
             return;
@@ -291,11 +286,7 @@ impl<'v> Varied<'v> {
     fn lookup(&mut self, table: usize) {
         let kind = self.word(table);
         for i in 0..self.word(behind(table, 4)) {
-            self.take(1);
-            if self.is_over {
-                return;
-            }
-            if let Some(subtable) = self.named(table, words(behind(table, 6), i)) {
+            if let Some(subtable) = self.follow(table, words(behind(table, 6), i)) {
                 self.subtable(kind, subtable);
             }
         }
@@ -307,11 +298,7 @@ impl<'v> Varied<'v> {
             return;
         };
         for i in 0..self.word(list) {
-            self.take(1);
-            if self.is_over {
-                return;
-            }
-            if let Some(lookup) = self.named(list, words(behind(list, 2), i)) {
+            if let Some(lookup) = self.follow(list, words(behind(list, 2), i)) {
                 self.lookup(lookup);
             }
         }
@@ -320,11 +307,7 @@ impl<'v> Varied<'v> {
     /// The carets of a ligature.
     fn carets(&mut self, table: usize) {
         for i in 0..self.word(table) {
-            self.take(1);
-            if self.is_over {
-                return;
-            }
-            if let Some(caret) = self.named(table, words(behind(table, 2), i)) {
+            if let Some(caret) = self.follow(table, words(behind(table, 2), i)) {
                 if self.word(caret) == 3 {
                     self.vary(caret, Some(behind(caret, 2)), behind(caret, 4));
                 }
@@ -340,11 +323,7 @@ impl<'v> Varied<'v> {
             return;
         };
         for i in 0..self.word(behind(list, 2)) {
-            self.take(1);
-            if self.is_over {
-                return;
-            }
-            if let Some(ligature) = self.named(list, words(behind(list, 4), i)) {
+            if let Some(ligature) = self.follow(list, words(behind(list, 4), i)) {
                 self.carets(ligature);
             }
         }
