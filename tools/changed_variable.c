@@ -1,8 +1,10 @@
 /* How FreeType draws what tools/changed_variable_main.txt tells. The words are the paths of the same files, in the same order; its lines come
  * on standard input. The bytes of each case are changed in memory, the face is opened, and each glyph that was drawn is loaded at 2 pixels a
  * unit, the most at which FreeType keeps fractions. Each of its points must be ours cut to 1/128 unit; or, in glyphs that it moves by
- * their hints, where it is told not to, ours cut to a unit, or the next unit where ours is less than 1/1024 below it. Each glyph that is
- * neither is a line `unlike` on standard error, with its case. The answer is how many of which kind there were. */
+ * their hints, where it is told not to, ours cut to a unit, or the next unit where ours is less than 1/1024 below it. Three kinds are told
+ * apart: glyphs that are so without lines that go nowhere, those with a coordinate that FreeType does not hold at this size, and those with a
+ * contour that comes back nearly to where it began, whose last point may be the first one or another. Each other glyph is a line `unlike` on
+ * standard error, with its case. The answer is how many of which kind there were. */
 #include <ft2build.h>
 #include FT_FREETYPE_H
 #include FT_MULTIPLE_MASTERS_H
@@ -10,22 +12,24 @@
 #include <stdlib.h>
 #include <string.h>
 
-enum { FONTS = 16, GLYPHS = 65536, POINTS = 400000, CONTOURS = 40000, AXES = 16, LEAST = 64 };
+enum { FONTS = 16, GLYPHS = 65536, POINTS = 400000, CONTOURS = 40000, AXES = 16, LEAST = 64, FAR = 16383 };
 
 typedef struct { long x, y; } point;
-typedef struct { int contours, ends[CONTOURS]; point points[POINTS]; } shape;
+typedef struct { int contours, ends[CONTOURS]; point points[POINTS]; char lines[POINTS]; } shape;
 typedef struct { unsigned char *bytes, *whole; long length, advances[GLYPHS]; int axes, glyphs; } subject;
 
 static subject fonts[FONTS];
 static shape ours, low, high, exact, theirs;
 static FT_Library library;
 
-enum { TABLES, UNREAD, NOWHERE, UNOPENED, ALIKE, UNITS, OTHERWISE, REFUSED_THERE, REFUSED_HERE, REFUSED_BOTH, BYTES, OTHER_TABLES, OTHER_UNREAD,
+enum { TABLES, UNREAD, NOWHERE, UNOPENED, ALIKE, UNITS, OTHERWISE, REFUSED_THERE, REFUSED_HERE, REFUSED_BOTH, NO_LENGTH, TOO_FAR, CLOSES, BYTES, OTHER_TABLES, OTHER_UNREAD,
        OTHER_UNOPENED, COORDINATES, OTHER_COORDINATES, ADVANCES, BY_ONE, OTHER_ADVANCES, KINDS };
 static const char *const words[KINDS] = {
-    "cases", "tables CFF2 refused here", "without a place", "drawn here, with a face that FreeType refuses", "glyphs alike", "glyphs alike in whole units",
-    "glyphs otherwise", "glyphs drawn here alone", "glyphs drawn by FreeType alone", "glyphs refused by both", "bytes changed",
-    "cases of fvar, avar and HVAR", "of them refused here", "of them refused by FreeType", "coordinates within 2^-14", "other coordinates", "advances alike",
+    "cases", "tables CFF2 refused here", "without a place", "glyphs with a face that FreeType refuses", "glyphs alike", "glyphs alike in whole units",
+    "glyphs otherwise", "glyphs drawn here alone", "glyphs drawn by FreeType alone", "glyphs refused by both", "glyphs alike but for lines of no length",
+    "glyphs with coordinates past 16,383 units",
+    "glyphs otherwise with a contour that ends within a unit of where it began", "bytes changed",
+    "cases of fvar or avar or HVAR", "of them refused here", "of them refused by FreeType", "coordinates within 2^-14", "other coordinates", "advances alike",
     "advances one unit away", "other advances",
 };
 static long counts[KINDS];
@@ -81,12 +85,58 @@ static int either(void) {
     return 1;
 }
 
-static int how(FT_Face face, int glyph) {
-    if (!load(face, glyph, FT_LOAD_NO_AUTOHINT)) return REFUSED_THERE;
+static int alike(FT_Face face, int glyph) {
+    load(face, glyph, FT_LOAD_NO_AUTOHINT);
     cut(&exact, 512, 0);
     if (same_form(&theirs, &exact) && !memcmp(theirs.points, exact.points, points_in(&exact) * sizeof(point))) return ALIKE;
-    if (load(face, glyph, FT_LOAD_NO_HINTING) && either()) return UNITS;
-    return OTHERWISE;
+    return load(face, glyph, FT_LOAD_NO_HINTING) && either() ? UNITS : OTHERWISE;
+}
+
+/* FreeType leaves lines out that go nowhere */
+static int drop_lines(void) {
+    int from = 0, at = 0, dropped = 0;
+    for (int c = 0; c < ours.contours; c++) {
+        int begin = at, end = ours.ends[c];
+        for (int i = from; i < end; i++) {
+            point p = ours.points[i];
+            if (ours.lines[i] && at > begin && ours.points[at - 1].x == p.x && ours.points[at - 1].y == p.y) {
+                dropped++;
+                continue;
+            }
+            ours.lines[at] = ours.lines[i];
+            ours.points[at++] = p;
+        }
+        from = end;
+        ours.ends[c] = at;
+    }
+    return dropped;
+}
+
+/* FreeType does not hold coordinates that are further off at 2 pixels a unit */
+static int is_far(void) {
+    for (int i = 0; i < points_in(&ours); i++)
+        if (labs(ours.points[i].x) > FAR * 65536L || labs(ours.points[i].y) > FAR * 65536L) return 1;
+    return 0;
+}
+
+/* a contour whose last point is not the first one, but may be where both are cut */
+static int nearly_closes(void) {
+    int from = 0;
+    for (int c = 0; c < ours.contours; c++) {
+        point a = ours.points[from], b = ours.points[ours.ends[c] - 1];
+        if (ours.ends[c] > from && (a.x != b.x || a.y != b.y) && labs(a.x - b.x) <= 65536 && labs(a.y - b.y) <= 65536) return 1;
+        from = ours.ends[c];
+    }
+    return 0;
+}
+
+static int how(FT_Face face, int glyph) {
+    if (!load(face, glyph, FT_LOAD_NO_AUTOHINT)) return REFUSED_THERE;
+    int kind = alike(face, glyph);
+    if (kind != OTHERWISE) return kind;
+    if (is_far()) return TOO_FAR;
+    if (drop_lines() && alike(face, glyph) != OTHERWISE) return NO_LENGTH;
+    return nearly_closes() ? CLOSES : OTHERWISE;
 }
 
 static FT_Face opened(subject *s) {
@@ -125,9 +175,12 @@ static int numbers(const char *line, long *found, int most) {
     }
 }
 
-static void add(long x, long y) {
+static void add(long x, long y, int is_line) {
     int at = ours.contours ? ours.ends[ours.contours - 1] : 0;
-    if (at < POINTS && ours.contours) ours.points[at] = (point){x, y}, ours.ends[ours.contours - 1]++;
+    if (at == POINTS || !ours.contours) return;
+    ours.points[at] = (point){x, y};
+    ours.lines[at] = is_line;
+    ours.ends[ours.contours - 1]++;
 }
 
 static char told[4096], asked[256], shown[256];
@@ -209,7 +262,7 @@ static void segment(const char *line) {
         int at = ours.contours ? ours.ends[ours.contours - 1] : 0;
         ours.ends[ours.contours++] = at;
     }
-    for (int i = 0; i + 1 < count; i += 2) add(n[i], n[i + 1]);
+    for (int i = 0; i + 1 < count; i += 2) add(n[i], n[i + 1], line[0] == 'L');
 }
 
 static void take_line(const char *line) {

@@ -32,8 +32,9 @@ FACE_REFUSED, OTHERWISE, THERE_REFUSED, HERE_REFUSED = 3, 6, 7, 8
 SAID = {FACE_REFUSED: "drawn here, the face refused by FreeType", OTHERWISE: "drawn otherwise", THERE_REFUSED: "drawn here, refused by FreeType",
         HERE_REFUSED: "refused here, drawn by FreeType"}
 
-# how many operands an operator takes of so many: the others are left over
-PAIRS = {5: 2, 8: 6}
+# what is odd in a run, the first reason first
+ORDER = ["an operator with more operands than it takes", "stems behind a mask or a path", "more than 96 stems", "vsindex behind a blend or an operator",
+         "a blend of no operands"]
 
 
 def taken(op, n):
@@ -95,7 +96,7 @@ class Table:
 
     def one(self, entries, op):
         if not entries.get(op):
-            raise Odd("the Top DICT names less")
+            raise Odd("a DICT that names less")
         return entries[op][-1]
 
     def number(self, place, size):
@@ -163,17 +164,18 @@ class Run:
     def __init__(self, table):
         self.table, self.stack, self.stems, self.odd, self.x, self.steps = table, [], 0, [], [0, 0], 0
         self.regions = table.regions[table.first] if table.first < len(table.regions) else None
-        self.drawn = False
+        self.drawn = self.masked = False
 
     def say(self, what):
         if what not in self.odd:
             self.odd.append(what)
+            self.odd.sort(key=ORDER.index)
 
     def clear(self, op):
         n = taken(op, len(self.stack))
         if n is None:
             raise Odd("an operator with other counts of operands than it takes")
-        if n < len(self.stack) and not (op in (19, 20, 1, 3, 18, 23) and False):
+        if n < len(self.stack):
             self.say("an operator with more operands than it takes")
         self.stack.clear()
 
@@ -197,8 +199,6 @@ class Run:
                 place += size
                 self.stack.append(int.from_bytes(more, "big", signed=True) if b == 28 else b - 139 if b < 247 else (b - 247) * 256 + more[0] + 108 if b < 251
                                   else -(b - 251) * 256 - more[0] - 108 if b < 255 else int.from_bytes(more, "big", signed=True) / 65536)
-                if b == 255:
-                    self.say("a number of five bytes")
                 if len(self.stack) > 513:
                     raise Odd("more than 513 operands")
                 continue
@@ -231,28 +231,28 @@ class Run:
                 if n < 0 or len(self.stack) < n * (self.regions + 1):
                     raise Odd("a blend of more operands than there are")
                 if n:
-                    base = len(self.stack) - n * (self.regions + 1)
-                    if any(abs(v) > 4096 for v in self.stack[base:]):
-                        self.say("blends of numbers above 4,096")
-                    del self.stack[base + n:]
+                    del self.stack[len(self.stack) - n * self.regions:]
                 else:
                     self.say("a blend of no operands")
             elif b in (19, 20):
                 if len(self.stack) % 2:
                     self.say("an operator with more operands than it takes")
+                if len(self.stack) > 1 and self.masked:
+                    self.say("stems behind a mask or a path")
+                self.masked = True
                 self.stems += len(self.stack) // 2
                 self.stack.clear()
                 place += (self.stems + 7) // 8
                 if place > end:
                     raise Odd("a mask that is cut")
             elif b in (1, 3, 18, 23):
+                if self.masked:
+                    self.say("stems behind a mask or a path")
                 self.stems += len(self.stack) // 2
                 self.clear(b)
             elif b in (4, 5, 6, 7, 8, 21, 22, 24, 25, 26, 27, 30, 31, 0xC22, 0xC23, 0xC24, 0xC25):
-                if any(abs(v) > 8191 for v in self.stack):
-                    self.say("coordinates that FreeType does not hold at 2 pixels a unit")
                 self.clear(b)
-                self.drawn = True
+                self.drawn = self.masked = True
             else:
                 raise Odd("an operator that CFF2 has not")
             if self.stems > 96:
@@ -268,6 +268,8 @@ def reason(font, span, line):
     """The reason of an unlike glyph, which is told by the words of its line."""
     told, at, refused = line.split("|")
     _, kind, glyph, number, *changes = told.split()
+    if int(kind) == HERE_REFUSED:
+        return refused.strip()
     data = bytearray(font)
     places = list(map(int, changes[::2]))
     for place, value in zip(places, changes[1::2]):
@@ -277,6 +279,8 @@ def reason(font, span, line):
         table = Table(own)
     except Odd as why:
         return f"{why}"
+    except IndexError:
+        return "a DICT that names less"
     where = {table.part(place - span[0]) for place in places}
     offsets = sorted(name for name in where if name.startswith("the offsets"))
     if offsets:
