@@ -269,7 +269,8 @@ def reason(font, span, line):
     told, at, refused = line.split("|")
     _, kind, glyph, number, *changes = told.split()
     if int(kind) == HERE_REFUSED:
-        return refused.strip()
+        why = refused.strip()
+        return "there is no such glyph" if why.startswith("there is no glyph") else why
     data = bytearray(font)
     places = list(map(int, changes[::2]))
     for place, value in zip(places, changes[1::2]):
