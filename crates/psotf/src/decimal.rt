@@ -5,6 +5,15 @@ use std::alloc::AllocError;
 /// The greatest number of zeros, or of digits behind the point, that is written out.
 const MOST: u32 = 30;
 
+/// Adds a whole number with so many zeros behind it.
+fn put_whole(text: &mut String, number: i64, zeros: u32) -> Result<(), AllocError> {
+    write!(text, "{number}")?;
+    for _ in 0..zeros {
+        text.push('0')?;
+    }
+    Ok(())
+}
+
 /// Adds a decimal: without an exponent, where it is short so.
 pub fn put(text: &mut String, value: &Operand) -> Result<(), AllocError> {
     let (mantissa, exponent) = (value.mantissa(), value.exponent());
@@ -19,11 +28,7 @@ pub fn put(text: &mut String, value: &Operand) -> Result<(), AllocError> {
         }
         return put_fraction(text, mantissa.unsigned_abs(), size);
     }
-    write!(text, "{mantissa}")?;
-    for _ in 0..size {
-        text.push('0')?;
-    }
-    Ok(())
+    put_whole(text, mantissa, size)
 }
 
 /// Adds a number with so many digits behind the point.

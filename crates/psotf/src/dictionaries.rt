@@ -2,7 +2,7 @@
 use crate::decimal;
 use crate::failure::Failure;
 use crate::sheet::Sheet;
-use postscript_base::compact1::{Operations, Operator};
+use postscript_base::compact1::{Operand, Operations, Operator};
 use std::alloc::{AllocError, Global};
 use std::io;
 
@@ -39,6 +39,15 @@ pub fn write(sheet: &mut Sheet, dictionary: &Operations, codes: &[u16]) -> Resul
     sheet.json.end_object()
 }
 
+/// Adds operands, each behind a space.
+fn put_operands(line: &mut String, operands: &[Operand]) -> Result<(), AllocError> {
+    for operand in operands {
+        line.push(' ')?;
+        decimal::put(line, operand)?;
+    }
+    Ok(())
+}
+
 /// Writes a line for each operator that has operands, behind the dictionary's title.
 pub fn list<W: io::Write>(
     alloc: Global,
@@ -52,10 +61,7 @@ pub fn list<W: io::Write>(
         if let Ok(operator) = Operator::from(*code) {
             if let Some(operands) = dictionary.get(operator) {
                 line.clear();
-                for operand in operands.as_slice() {
-                    line.push(' ')?;
-                    decimal::put(&mut line, operand)?;
-                }
+                put_operands(&mut line, operands.as_slice())?;
                 let name = operator.name();
                 writeln!(out, "{title} {name}:{line}")?;
             }

@@ -8,6 +8,7 @@ use crate::progress::Progress;
 use crate::sheet::Sheet;
 use clap::ArgMatches;
 use postscript_outline::Outline;
+use postscript_type2::{Operand, Operator};
 use postscript_view::Glyph;
 use std::alloc::{AllocError, Global};
 use std::io::Write;
@@ -74,6 +75,18 @@ fn refused(sheet: &mut Sheet, refusal: &Refusal) -> Result<(), AllocError> {
     sheet.tell("refused", refusal)
 }
 
+/// Writes an operation as a text, and takes what that takes.
+fn operation(
+    sheet: &mut Sheet,
+    operator: Operator,
+    operands: &[Operand],
+    budget: &mut Budget,
+) -> Result<(), AllocError> {
+    let count = (operands.len() as u64).saturating_add(1);
+    budget.spend(count.saturating_mul(OPERAND));
+    sheet.operation(operator.name(), operands)
+}
+
 /// Writes the operations of a glyph that was drawn, each as a text.
 pub fn operations(
     alloc: Global,
@@ -87,15 +100,31 @@ pub fn operations(
         let Some((operator, operands)) = program.next()? else {
             break;
         };
-        budget.spend(
-            (operands.len() as u64)
-                .saturating_add(1)
-                .saturating_mul(OPERAND),
-        );
-        sheet.operation(operator.name(), operands.as_slice())?;
+        operation(sheet, operator, operands.as_slice(), budget)?;
     }
     sheet.json.end_array()?;
     Ok(())
+}
+
+/// Writes what a glyph draws and its operations, or why it is refused; and tells whether it is drawn.
+fn drawing(
+    alloc: Global,
+    sheet: &mut Sheet,
+    face: &Face<'_>,
+    gid: u16,
+    budget: &mut Budget,
+) -> Result<bool, Failure> {
+    match draw(alloc, face, gid, budget) {
+        Ok((glyph, outline)) => {
+            drawn(sheet, &glyph, &outline)?;
+            operations(alloc, sheet, &glyph, budget)?;
+            Ok(true)
+        }
+        Err(refusal) => {
+            refused(sheet, &refusal)?;
+            Ok(false)
+        }
+    }
 }
 
 /// Writes a glyph as an object, and tells whether it is drawn.
@@ -112,17 +141,7 @@ fn object(
     name(alloc, sheet, face, gid)?;
     chars(alloc, sheet, of_glyph(mapped, gid))?;
     sheet.number("advance", u64::from(face.advances.of(gid)))?;
-    let is_drawn = match draw(alloc, face, gid, budget) {
-        Ok((glyph, outline)) => {
-            drawn(sheet, &glyph, &outline)?;
-            operations(alloc, sheet, &glyph, budget)?;
-            true
-        }
-        Err(refusal) => {
-            refused(sheet, &refusal)?;
-            false
-        }
-    };
+    let is_drawn = drawing(alloc, sheet, face, gid, budget)?;
     sheet.json.end_object()?;
     Ok(is_drawn)
 }

@@ -47,13 +47,8 @@ fn has_mask(operator: Operator) -> bool {
     }
 }
 
-/// Adds the code of an operator, how many operands it has, and these.
-fn put_operation(
-    text: &mut String,
-    operator: Operator,
-    operands: &[Operand],
-) -> Result<(), AllocError> {
-    short::put(text, code_of(operator))?;
+/// Adds how many operands there are, and these.
+fn put_operands(text: &mut String, operands: &[Operand]) -> Result<(), AllocError> {
     short::put_count(text, operands.len())?;
     for operand in operands {
         short::put_bits(text, i64::from(operand.bits()))?;
@@ -66,6 +61,21 @@ fn put_mask(text: &mut String, mask: &[u8]) -> Result<(), AllocError> {
     short::put_count(text, mask.len())?;
     for byte in mask {
         short::put(text, i64::from(*byte))?;
+    }
+    Ok(())
+}
+
+/// Adds the code of an operator, its operands, and the mask behind it, if it has one.
+fn put_operation(
+    text: &mut String,
+    operator: Operator,
+    operands: &[Operand],
+    mask: &[u8],
+) -> Result<(), AllocError> {
+    short::put(text, code_of(operator))?;
+    put_operands(text, operands)?;
+    if has_mask(operator) {
+        put_mask(text, mask)?;
     }
     Ok(())
 }
@@ -94,10 +104,7 @@ pub fn put(
         };
         let mask = mask_of(phrase);
         budget.spend(price(operands.len(), mask.len()));
-        put_operation(&mut text, operator, operands)?;
-        if has_mask(operator) {
-            put_mask(&mut text, mask)?;
-        }
+        put_operation(&mut text, operator, operands, mask)?;
     }
     sheet.json.string(text.as_str())?;
     Ok(())
