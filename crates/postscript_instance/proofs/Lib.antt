@@ -1,5 +1,7 @@
 pub mod Rests
 pub mod Sayable
+pub mod Strokes
+pub mod Cutting
 pub mod Spelling
 pub mod Runs
 pub mod Shortest

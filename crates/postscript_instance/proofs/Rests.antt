@@ -1,17 +1,16 @@
 -- What a loop still goes over.
-use Rattle.std.proofs.Common.{refl, IsTrue, ◌≡◌, sym, ap, subst, ◌∙◌, ℕ, ◌+◌, ◌≤◌, ◌<◌, ℤ, Bool, true, false, nat_le, List, [], ◌∷◌, ◌++◌, length, drop, map, get_or, add-one, append_assoc, Option, None, arith}
+use Rattle.std.proofs.Common.{refl, IsTrue, ◌≡◌, sym, ap, subst, ◌∙◌, ℕ, ◌+◌, ◌≤◌, ◌<◌, ◌⊎◌, inl, inr, ◌||◌, ℤ, Bool, true, false, nat_le, List, [], ◌∷◌, ◌++◌, length, drop, map, get_or, add-one, append_assoc, Option, None, Result, Ok, Err, OnOk, arith}
 use Rattle.std.proofs.Math.Seq.{drop-cons}
 use Rattle.std.proofs.Math.ListN.{drop_of_length-le}
 use Rattle.std.proofs.lemmas.Bool.Decides.{nat_tests}
 use Rattle.postscript_variable.specs.declared.sayings.Saying.{Saying}
 use Rattle.postscript_variable.specs.Defaults.{AreHeld}
+use Rattle.postscript_variable.specs.Sayings.{Said}
 use Rattle.postscript_variable.specs.Told.{said_of}
 use Rattle.postscript_type2.specs.Program.OperatorRules.{IsHeld}
 use Rattle.postscript_instance.specs.Numbers.{number_text, numbers_text}
-use Rattle.postscript_instance.specs.Private.{AreHeldIn}
-use Rattle.postscript_instance.specs.Refusals.{HasMore, here, later}
-use Rattle.postscript_instance.specs.Statics.{Fits}
-use Rattle.postscript_instance.specs.Texts.{numbers_of, phrase_text, code_text}
+use Rattle.postscript_instance.specs.Private.{is_cut, front_of, rest_of, IsTooLong, IsWhole, AreCut, none, whole, piece, IsWritten, IsHeldOrCut, AreHeldOrCut, HasMoreUncut, here, later}
+use Rattle.postscript_instance.specs.Texts.{width_numbers, numbers_of, phrase_text, code_text}
 
 pub rest-more : (xs : List Saying) (i : ℕ) (x : Saying) → x ≡ get_or xs i x → i < length xs → map said_of (drop i xs) ≡ said_of x ∷ map said_of (drop (i + 1) xs)
 rest-more xs i x e h =
@@ -22,37 +21,85 @@ rest-more xs i x e h =
 pub rest-done : (xs : List Saying) (i : ℕ) → length xs ≤ i → map said_of (drop i xs) ≡ []
 rest-done xs i h = ap (map said_of) (drop_of_length-le xs h)
 
--- one that fits, and one that does not
-pub held-few : (n : ℕ) (b : Bool) → b ≡ nat_le n 48 → b ≡ true → n ≤ 48
+-- one that fits or is cut, and one that does not
+held-few : (n : ℕ) (b : Bool) → b ≡ nat_le n 48 → b ≡ true → n ≤ 48
 held-few n b is h = grind (arith, nat_tests)
 
-pub held-many : (n : ℕ) (b : Bool) → b ≡ nat_le n 48 → b ≡ false → 48 < n
+held-many : (n : ℕ) (b : Bool) → b ≡ nat_le n 48 → b ≡ false → 48 < n
 held-many n b is h = grind (arith, nat_tests)
 
-pub fits-more : (xs : List Saying) (i : ℕ) (x : Saying) (width : Option ℤ) → x ≡ get_or xs i x → i < length xs → length (numbers_of width (said_of x)) ≤ 48 →
-    Fits None (map said_of (drop (i + 1) xs)) → Fits width (map said_of (drop i xs))
-fits-more xs i x width e h few rest = subst (Fits width) (sym (rest-more xs i x e h)) (few, rest)
+either : (cut held b : Bool) → b ≡ (cut || held) → b ≡ true → (cut ≡ true) ⊎ (held ≡ true)
+either true held b is h = inl refl
+either false held b is h = inr (sym is ∙ h)
+
+neither : (cut held b : Bool) → b ≡ (cut || held) → b ≡ false → (cut ≡ false) × (held ≡ false)
+neither true held b is h = absurd (cc)
+neither false held b is h = (refl, sym is ∙ h)
+
+-- whether there is room for the numbers before an operator, as a test
+abbrev pub room : Option ℤ → Said → Bool
+room width x = is_cut x.operator || nat_le (length (numbers_of width x)) 48
+
+pub room-held : (width : Option ℤ) (x : Said) (b : Bool) → b ≡ room width x → b ≡ true → IsHeldOrCut width x
+room-held width x b is h = elim (either (is_cut x.operator) (nat_le (length (numbers_of width x)) 48) b is h) [
+  | inl cut ↦ inl cut
+  | inr few ↦ inr (held-few (length (numbers_of width x)) _ refl few)
+]
+
+pub fits-more : (xs : List Saying) (i : ℕ) (x : Saying) (width : Option ℤ) → x ≡ get_or xs i x → i < length xs → IsHeldOrCut width (said_of x) →
+    AreHeldOrCut None (map said_of (drop (i + 1) xs)) → AreHeldOrCut width (map said_of (drop i xs))
+fits-more xs i x width e h few rest = subst (AreHeldOrCut width) (sym (rest-more xs i x e h)) (few, rest)
 
 pub many-more : (xs : List Saying) (i : ℕ) (x : Saying) (width : Option ℤ) → x ≡ get_or xs i x → i < length xs →
-    HasMore None (map said_of (drop (i + 1) xs)) → HasMore width (map said_of (drop i xs))
-many-more xs i x width e h rest = subst (HasMore width) (sym (rest-more xs i x e h)) (later width (said_of x) (map said_of (drop (i + 1) xs)) rest)
+    HasMoreUncut None (map said_of (drop (i + 1) xs)) → HasMoreUncut width (map said_of (drop i xs))
+many-more xs i x width e h rest = subst (HasMoreUncut width) (sym (rest-more xs i x e h)) (later width (said_of x) (map said_of (drop (i + 1) xs)) rest)
 
-pub many-here : (xs : List Saying) (i : ℕ) (x : Saying) (width : Option ℤ) → x ≡ get_or xs i x → i < length xs → 48 < length (numbers_of width (said_of x)) → HasMore width (map said_of (drop i xs))
-many-here xs i x width e h many = subst (HasMore width) (sym (rest-more xs i x e h)) (here width (said_of x) (map said_of (drop (i + 1) xs)) many)
+pub many-here : (xs : List Saying) (i : ℕ) (x : Saying) (width : Option ℤ) (b : Bool) → x ≡ get_or xs i x → i < length xs → b ≡ room width (said_of x) → b ≡ false →
+    HasMoreUncut width (map said_of (drop i xs))
+many-here xs i x width b e h is never =
+    let n = length (numbers_of width (said_of x)) in
+    let both = neither (is_cut x.operator) (nat_le n 48) b is never in
+    subst (HasMoreUncut width) (sym (rest-more xs i x e h)) (here width (said_of x) (map said_of (drop (i + 1) xs)) both.0 (held-many n _ refl both.1))
 
--- one that is written
-pub text-more : (xs : List Saying) (i : ℕ) (x : Saying) (width : Option ℤ) (out new : List ℕ) → x ≡ get_or xs i x → i < length xs → new ≡ out ++ (phrase_text width (said_of x) ++ x.mask.now) →
-    new ++ code_text None (map said_of (drop (i + 1) xs)) ≡ out ++ code_text width (map said_of (drop i xs))
-text-more xs i x width out new e h is =
-    let said = said_of x in
-    let rest = code_text None (map said_of (drop (i + 1) xs)) in
-    ap (λ bytes. bytes ++ rest) is ∙ append_assoc out (phrase_text width said ++ said.mask) rest
-    ∙ ap (λ bytes. out ++ bytes) (append_assoc (phrase_text width said) said.mask rest)
-    ∙ ap (λ ys. out ++ code_text width ys) (sym (rest-more xs i x e h))
+-- what is written of one, and of the rest
+joined-text : (width : Option ℤ) (x : Said) (xs : List Said) (old mid new : List ℕ) → mid ≡ old ++ (phrase_text width x ++ x.mask) → new ≡ mid ++ code_text None xs →
+    new ≡ old ++ code_text width (x ∷ xs)
+joined-text width x xs old mid new put rest =
+    let behind = code_text None xs in
+    rest ∙ ap (λ bytes. bytes ++ behind) put ∙ append_assoc old (phrase_text width x ++ x.mask) behind ∙ ap (λ bytes. old ++ bytes) (append_assoc (phrase_text width x) x.mask behind)
 
-pub held-more : (xs : List Saying) (i : ℕ) (x : Saying) (width : Option ℤ) → x ≡ get_or xs i x → i < length xs → AreHeld (numbers_of width (said_of x)) →
-    AreHeldIn None (map said_of (drop (i + 1) xs)) → AreHeldIn width (map said_of (drop i xs))
-held-more xs i x width e h held rest = subst (AreHeldIn width) (sym (rest-more xs i x e h)) (held, rest)
+pub written-none : (width : Option ℤ) (old mid new : List ℕ) → mid ≡ old ++ numbers_text (width_numbers width) → new ≡ mid ++ 0x0e ∷ [] → AreHeld (width_numbers width) →
+    IsWritten width [] old new
+written-none width old mid new first last held = record {
+  written = [];
+  cut = none;
+  text = last ∙ ap (λ bytes. bytes ++ 0x0e ∷ []) first ∙ append_assoc old (numbers_text (width_numbers width)) (0x0e ∷ []);
+  held = held;
+}
+
+pub written-whole : (width : Option ℤ) (x : Said) (xs : List Said) (old mid new : List ℕ) → IsWhole x → mid ≡ old ++ (phrase_text width x ++ x.mask) → AreHeld (numbers_of width x) →
+    IsWritten None xs mid new → IsWritten width (x ∷ xs) old new
+written-whole width x xs old mid new is put held rest =
+    record { written = x ∷ rest.written; cut = whole x xs rest.written is rest.cut; text = joined-text width x rest.written old mid new put rest.text; held = (held, rest.held) }
+
+pub written-piece : (width : Option ℤ) (x front behind : Said) (xs : List Said) (old mid new : List ℕ) → IsTooLong x → front ≡ front_of x → behind ≡ rest_of x →
+    mid ≡ old ++ (phrase_text width front ++ front.mask) → AreHeld (numbers_of width front) → IsWritten None (behind ∷ xs) mid new → IsWritten width (x ∷ xs) old new
+written-piece width x front behind xs old mid new is first last put held rest = record {
+  written = front ∷ rest.written;
+  cut = subst (λ y. AreCut (x ∷ xs) (y ∷ rest.written)) (sym first) (piece x xs rest.written is (subst (λ y. AreCut (y ∷ xs) rest.written) last rest.cut));
+  text = joined-text width front rest.written old mid new put rest.text;
+  held = (held, rest.held);
+}
+
+-- what follows of two things where nothing is refused
+pub on-both : {A E : Type 0} {P Q R : Type 0} (r : Result A E) → OnOk r P → OnOk r Q → (P → Q → R) → OnOk r R
+on-both (Ok x) p q f = f p q
+on-both (Err e) p q f = tt
+
+-- the rest of the sayings
+pub written-rest : (xs : List Saying) (i : ℕ) (x : Saying) (width : Option ℤ) (old new : List ℕ) → x ≡ get_or xs i x → i < length xs →
+    IsWritten width (said_of x ∷ map said_of (drop (i + 1) xs)) old new → IsWritten width (map said_of (drop i xs)) old new
+written-rest xs i x width old new e h is = subst (λ ys. IsWritten width ys old new) (sym (rest-more xs i x e h)) is
 
 -- the same of numbers
 numbers-rest : (xs : List ℤ) (i : ℕ) (x : ℤ) → x ≡ get_or xs i x → i < length xs → drop i xs ≡ x ∷ drop (i + 1) xs

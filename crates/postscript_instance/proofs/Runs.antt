@@ -1,7 +1,8 @@
 -- The run of what is written.
-use Rattle.std.proofs.Common.{◌≡◌, refl, sym, subst, ℕ, suc, ◌+◌, ◌*◌, ◌%◌, ◌<◌, ◌≤◌, ℤ, Bool, true, IsTrue, ◌⊎◌, inl, inr, List, [], ◌∷◌, ◌++◌, length, length-append, map, replicate, Option, Some, None, arith, pos}
+use Rattle.std.proofs.Common.{◌≡◌, refl, sym, subst, ℕ, suc, ◌+◌, ◌*◌, ◌%◌, ◌<◌, ◌≤◌, ℤ, Bool, true, IsTrue, ◌⊎◌, inl, inr, List, [], ◌∷◌, ◌++◌, length, length-append, map, replicate, Option, Some, None, Result, Ok, Err, IfErr, arith, pos}
 use Rattle.std.proofs.lemmas.Bool.Decides.{nat_tests}
 use Rattle.std.proofs.lemmas.List.{append-nil}
+use Rattle.std.specs.Prelude.{IsErrAnd}
 use Rattle.postscript_type2.specs.declared.operation.Operator.{Operator}
 use Rattle.postscript_type2.specs.declared.operation.Operator.TheVariants.{EndChar}
 use Rattle.postscript_type2.specs.Operation.Kinds.{Kind, Draws, DeclaresStems, Masks, Works, Stores, CallsFrom, GoesBack, EndsGlyph, IsRefused, kind}
@@ -21,9 +22,13 @@ use Rattle.postscript_variable.specs.Told.{Says}
 use Rattle.postscript_variable.specs.Defaults.{AreHeld}
 use Rattle.postscript_variable.specs.Sayings.{Said}
 use Rattle.postscript_instance.specs.Numbers.{numbers_text}
-use Rattle.postscript_instance.specs.Private.{AreHeldIn}
-use Rattle.postscript_instance.specs.Statics.{AreSpelled, finish, one_more, answer_with, SaysSo, bears_width, BearsWidth, Fits, IsStaticOf}
+use Rattle.postscript_instance.specs.Private.{AreHeldIn, AreHeldOrCut, HasMoreUncut, IsUnwritten, IsWritten}
+use Rattle.postscript_instance.specs.declared.error.Error.{Error}
+use Rattle.postscript_instance.specs.declared.error.Error.TheVariants as errors
+use Rattle.postscript_instance.specs.Refusals.{HasMore, NotWritten}
+use Rattle.postscript_instance.specs.Statics.{AreSpelled, finish, one_more, answer_with, SaysSo, bears_width, BearsWidth, IsStaticOf}
 use Rattle.postscript_instance.specs.Texts.{width_numbers, numbers_of, phrase_text, code_text}
+use Rattle.postscript_instance.proofs.Cutting.{cut-sayable, cut-in-pieces, cut-fits, cut-bears, hints-more}
 use Rattle.postscript_instance.proofs.Sayable.{SayableAs, IsSayable, AreSayable, more, mask-kind, stems-take, sayable}
 use Rattle.postscript_instance.proofs.Spelling.{IsAnswered, endchar-spelled, phrase-spelled, said-spelled}
 
@@ -171,8 +176,35 @@ says-so lists xs after width code is sayable held bears =
     }
 
 -- and so what is written does what the charstring does
-pub static-of : (charstring : Charstring) (width : Option ℤ) (code : List ℕ) (xs : List Said) → Says charstring xs → code ≡ code_text width xs → AreHeldIn width xs → Fits width xs →
-    BearsWidth width xs → IsStaticOf charstring width code
-static-of charstring width code xs said is held fits bears =
-    let all : AreSayable 0 xs said.last.stems = subst (λ ys. AreSayable 0 ys said.last.stems) (sym said.all) (sayable said.run) in
-    record { says = xs; said = said; does = λ lists. says-so lists xs said.last.stems width code is all held bears; fits = fits; bears = bears }
+pub static-of : (charstring : Charstring) (width : Option ℤ) (code : List ℕ) (says : List Said) → Says charstring says → IsWritten width says [] code → AreHeldOrCut width says →
+    BearsWidth width says → IsStaticOf charstring width code
+static-of charstring width code says said is held bears =
+    let after = said.last.stems in
+    let all : AreSayable 0 says after = subst (λ ys. AreSayable 0 ys after) (sym said.all) (sayable said.run) in
+    let again = cut-sayable is.cut 0 after all in
+    let first = cut-bears width is.cut bears in record {
+      says = says;
+      said = said;
+      written = is.written;
+      in_pieces = cut-in-pieces is.cut 0 after all;
+      does = λ lists. says-so lists is.written after width code is.text again is.held first;
+      fits = cut-fits is.cut 0 after width all held bears;
+      bears = first;
+    }
+
+-- what is not written for its numbers has hints with too many
+too-many : (charstring : Charstring) (width : Option ℤ) (says : List Said) → Says charstring says → HasMoreUncut width says → HasMore width says
+too-many charstring width says said many =
+    let after = said.last.stems in
+    hints-more many 0 after (subst (λ ys. AreSayable 0 ys after) (sym said.all) (sayable said.run))
+
+unwritten : (charstring : Charstring) (width : Option ℤ) (says : List Said) (e : Error) → Says charstring says → IsUnwritten width says e → NotWritten charstring width e
+unwritten charstring width says (errors.Font e) said is = subst (λ cause. NotWritten charstring width (errors.Font cause)) (sym is) tt
+unwritten charstring width says errors.TooManyOperands said is = (says, said, too-many charstring width says said is)
+unwritten charstring width says errors.NoMove said is = (says, said, is)
+unwritten charstring width says e said is = absurd is
+
+pub refused-on : {A : Type 0} (charstring : Charstring) (width : Option ℤ) (says : List Said) (r : Result A Error) (e : Error) → IsErrAnd r (λ x. x ≡ e) → Says charstring says →
+    IsUnwritten width says e → IfErr r (λ x. NotWritten charstring width x)
+refused-on charstring width says (Ok x) e same said is = absurd same
+refused-on charstring width says (Err x) e same said is = subst (NotWritten charstring width) (sym same) (unwritten charstring width says e said is)

@@ -1,6 +1,7 @@
 -- What contracts say of static charstrings of variable ones.
 pub mod Numbers
 pub mod Texts
+pub mod Pieces
 pub mod Statics
 pub mod Refusals
 pub mod Laws

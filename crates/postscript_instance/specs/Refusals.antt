@@ -2,17 +2,26 @@
 use Rattle.std.specs.Prelude.{◌≡◌, ◌<◌, ℤ, false, List, ◌∷◌, length, Option, Some, None}
 use Rattle.postscript_base.specs.declared.error.Error.TheVariants as causes
 use Rattle.postscript_base.specs.Refusal.{refusal_of}
+use Rattle.postscript_type2.specs.Operation.Kinds.{Kind, DeclaresStems, Masks, kind}
 use Rattle.postscript_variable.specs.declared.charstring.Charstring.{Charstring}
 use Rattle.postscript_variable.specs.Sayings.{Said}
 use Rattle.postscript_variable.specs.Told.{Says, StopsWith}
 use Rattle.postscript_instance.specs.declared.error.Error.{Error}
 use Rattle.postscript_instance.specs.declared.error.Error.TheVariants as errors
-use Rattle.postscript_instance.specs.Statics.{stack_limit, bears_width}
+use Rattle.postscript_instance.specs.Pieces.{stack_limit}
+use Rattle.postscript_instance.specs.Statics.{bears_width}
 use Rattle.postscript_instance.specs.Texts.{numbers_of}
 
--- an operator has more numbers before it than a stack holds
+-- the hint operators: those that declare stems, and masks
+abbrev pub IsHint : Kind → Type 0
+IsHint (DeclaresStems takes) = Unit {0}
+IsHint (Masks takes) = Unit {0}
+IsHint kind = ⊥
+
+-- a hint operator has more numbers before it than a stack holds
 pub data HasMore : Option ℤ → List Said → Type 0 where
-  here : (width : Option ℤ) (x : Said) (xs : List Said) → stack_limit < length (numbers_of width x) → HasMore width (x ∷ xs)
+  here : (width : Option ℤ) (x : Said) (xs : List Said) → IsHint (kind x.operator) → stack_limit < length (numbers_of width x) →
+      HasMore width (x ∷ xs)
   later : (width : Option ℤ) (x : Said) (xs : List Said) → HasMore None xs → HasMore width (x ∷ xs)
 
 -- there is a width, and the first operator may not have it before its operands
@@ -20,14 +29,8 @@ abbrev pub LacksMove : Option ℤ → List Said → Type 0
 LacksMove (Some width) (x ∷ xs) = bears_width x.operator ≡ false
 LacksMove width xs = ⊥
 
--- why what is said is not written
-abbrev pub IsUnwritten : (width : Option ℤ) → List Said → Error → Type 0
-IsUnwritten width says (errors.Font e) = e ≡ causes.Memory
-IsUnwritten width says errors.TooManyOperands = HasMore width says
-IsUnwritten width says errors.NoMove = LacksMove width says
-IsUnwritten width says e = ⊥
-
--- The run is refused, an operator has too many operands, or the first may not have a width before its own; or memory is wanting.
+-- The run is refused, a hint operator has too many numbers before it, or the first may not have a width before its own; or memory is
+-- wanting.
 abbrev pub NotWritten : Charstring → (width : Option ℤ) → Error → Type 0
 NotWritten charstring width (errors.Font causes.Memory) = Unit {0}
 NotWritten charstring width (errors.Font e) = StopsWith charstring (refusal_of e)

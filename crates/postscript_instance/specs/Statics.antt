@@ -11,6 +11,7 @@ use Rattle.postscript_type2.specs.Program.Runs.{Answer, Finished, by}
 use Rattle.postscript_variable.specs.declared.charstring.Charstring.{Charstring}
 use Rattle.postscript_variable.specs.Sayings.{Said}
 use Rattle.postscript_variable.specs.Told.{Says}
+use Rattle.postscript_instance.specs.Pieces.{stack_limit, AreInPieces}
 use Rattle.postscript_instance.specs.Texts.{width_numbers, numbers_of}
 
 -- The phrases of a run: each has the numbers and the operator of what is said, and the bytes of its mask behind them; the width is before
@@ -35,10 +36,6 @@ pub record SaysSo (lists : Lists) (code : List ℕ) (width : Option ℤ) (says :
   pub phrases : AreSpelled width says run.trace
   pub end : run.end ≡ Finished [] width
 
--- how many operands a stack holds (Appendix B, "Type 2 Charstring Implementation Limits")
-abbrev pub stack_limit : ℕ
-stack_limit = 48
-
 -- each operator has at most so many numbers before it, the width with them
 abbrev pub Fits : Option ℤ → List Said → Type 0
 Fits width [] = Unit {0}
@@ -62,10 +59,13 @@ abbrev pub BearsWidth : Option ℤ → List Said → Type 0
 BearsWidth (Some width) (x ∷ xs) = bears_width x.operator ≡ true
 BearsWidth width xs = Unit {0}
 
--- A charstring of CFF2, a width, and a code of Type 2 that does the same with this width, whatever its subroutines are: it calls none.
+-- A charstring of CFF2, a width, and a code of Type 2 that does the same with this width, whatever its subroutines are: it calls none. What
+-- a stack does not hold of a path is written in pieces.
 pub record IsStaticOf (charstring : Charstring) (width : Option ℤ) (code : List ℕ) : Type 0 where
   pub says : List Said
   pub said : Says charstring says
-  pub does : (lists : Lists) → SaysSo lists code width says
-  pub fits : Fits width says
-  pub bears : BearsWidth width says
+  pub written : List Said
+  pub in_pieces : AreInPieces says written
+  pub does : (lists : Lists) → SaysSo lists code width written
+  pub fits : Fits width written
+  pub bears : BearsWidth width written

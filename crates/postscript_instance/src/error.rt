@@ -16,7 +16,8 @@ pub enum Error {
     /// The run of the charstring is refused; or memory was asked for and refused (`Memory`).
     #[error("{0}")]
     Font(Cause),
-    /// An operator has more than 48 numbers before it, the width with them (Technical Note 5177, Appendix B).
+    /// An operator that declares stems, or a mask, has more than 48 numbers before it, the width with them (Technical Note 5177,
+    /// Appendix B).
     #[error("an operator has more operands than a stack of 48 holds")]
     TooManyOperands,
     /// A width is wanted, and the first operator is a line or a curve, which may not have one before its operands (Technical Note

@@ -6,6 +6,7 @@ mod error;
 pub mod laws;
 mod layout;
 mod numbers;
+mod pieces;
 mod statics;
 mod tables;
 #[cfg(test)]

@@ -89,19 +89,93 @@ fn refusals(rt: HostRuntime) {
     assert!(rt; matches!(found, Err(Error::NoMove)), "hlineto");
     let found = charstring(rt.alloc(), over(&[0x95, 0x06], &tables), None);
     assert!(rt; matches!(found, Ok(_)), "hlineto");
-    // forty-eight operands, and forty-nine
-    for (count, is_written) in [(48usize, true), (49, false)] {
+    // the operands of 24 stems, and of 25; with a width beside the 24; implied by a mask, with its four bytes
+    let rows: [(usize, &[u8], Option<i16>, bool); 5] = [
+        (48, &[0x12], None, true),
+        (50, &[0x12], None, false),
+        (48, &[0x12], Some(1), false),
+        (48, &[0x13, 0, 0, 0], None, true),
+        (50, &[0x13, 0, 0, 0, 0], None, false),
+    ];
+    for (count, operator, width, is_written) in rows {
         let mut code = Vec::new(rt.alloc());
-        for _ in 0..count {
-            code.push(0x8c).expect(&rt, "memory");
-        }
-        code.push(0x06).expect(&rt, "memory");
-        let found = charstring(rt.alloc(), over(&code, &tables), None);
+        put_ones(&rt, &mut code, count);
+        code.extend_from_slice(operator).expect(&rt, "memory");
+        let width = width.map(|number: i16| Operand::from_int(number));
+        let found = charstring(rt.alloc(), over(&code, &tables), width);
         assert_eq!(rt; matches!(found, Ok(_)), is_written, "of {count}");
         assert_eq!(rt;
             matches!(found, Err(Error::TooManyOperands)),
             !is_written,
             "of {count}"
+        );
+    }
+}
+
+/// Appends the number 1, so many times.
+fn put_ones<R: Abort>(rt: &R, code: &mut Vec<u8>, count: usize) {
+    for _ in 0..count {
+        code.push(0x8c).expect(rt, "memory");
+    }
+}
+
+/// Appends the numbers from one on, one byte each (Technical Note 5177, "Charstring Number Encoding").
+fn put_rising<R: Abort>(rt: &R, code: &mut Vec<u8>, from: usize, count: usize) {
+    for number in from..from + count {
+        code.push(140 + number as u8).expect(rt, "memory");
+    }
+}
+
+/// Path operators with more operands than a stack holds. Each row: the operator, how many operands it has, and the pieces: how many
+/// operands each takes, and its operator. A piece of lines or curves has whole ones; those that turn have an even number of them, so
+/// that the next piece begins along the axis of its operator; the operand before the first curve of vvcurveto and hhcurveto is in the
+/// first piece, that behind the last curve of vhcurveto and hvcurveto in the last, and so are the line of rcurveline and the curve of
+/// rlinecurve.
+#[test]
+fn pieces(rt: HostRuntime) {
+    let tables = tables(&rt, rt.alloc());
+    let rows: [(u8, usize, &[(usize, u8)]); 18] = [
+        (0x05, 48, &[(48, 0x05)]),
+        (0x05, 50, &[(48, 0x05), (2, 0x05)]),
+        (0x06, 48, &[(48, 0x06)]),
+        (0x06, 49, &[(48, 0x06), (1, 0x06)]),
+        (0x07, 97, &[(48, 0x07), (48, 0x07), (1, 0x07)]),
+        (0x08, 54, &[(48, 0x08), (6, 0x08)]),
+        (0x18, 44, &[(44, 0x18)]),
+        (0x18, 50, &[(42, 0x08), (8, 0x18)]),
+        (0x18, 98, &[(42, 0x08), (42, 0x08), (14, 0x18)]),
+        (0x19, 50, &[(42, 0x05), (8, 0x19)]),
+        (0x1a, 48, &[(48, 0x1a)]),
+        (0x1a, 49, &[(45, 0x1a), (4, 0x1a)]),
+        (0x1a, 97, &[(45, 0x1a), (44, 0x1a), (8, 0x1a)]),
+        (0x1b, 52, &[(44, 0x1b), (8, 0x1b)]),
+        (0x1b, 53, &[(45, 0x1b), (8, 0x1b)]),
+        (0x1e, 49, &[(40, 0x1e), (9, 0x1e)]),
+        (0x1f, 52, &[(40, 0x1f), (12, 0x1f)]),
+        (0x1f, 101, &[(40, 0x1f), (40, 0x1f), (21, 0x1f)]),
+    ];
+    for (operator, count, parts) in rows {
+        // 2 hmoveto, and the operator
+        let mut code = Vec::from_array(rt.alloc(), [0x8d, 0x16]).expect(&rt, "memory");
+        put_rising(&rt, &mut code, 0, count);
+        code.push(operator).expect(&rt, "memory");
+        // the width 1, and the same in pieces
+        let mut wanted = Vec::from_array(rt.alloc(), [0x8c, 0x8d, 0x16]).expect(&rt, "memory");
+        let mut from = 0;
+        for (many, part) in parts {
+            put_rising(&rt, &mut wanted, from, *many);
+            wanted.push(*part).expect(&rt, "memory");
+            from += *many;
+        }
+        wanted.push(0x0e).expect(&rt, "memory");
+        let found = charstring(rt.alloc(), over(&code, &tables), Some(Operand::from_int(1))).expect(
+            &rt,
+            "a charstring",
+        );
+        assert_eq!(rt;
+            found.as_slice(),
+            wanted.as_slice(),
+            "{operator} of {count}"
         );
     }
 }

@@ -1,23 +1,22 @@
 //! What is said, written as Type 2.
-ghost use Rattle.std.specs.Prelude.{◌≡◌, ◌++◌, nat_le, length, map, IfOk, OnOk, IfErr};
+ghost use Rattle.std.specs.Prelude.{◌≡◌, [], ◌∷◌, ◌++◌, ◌||◌, ℕ, List, None, nat_le, length, map, IfOk, OnOk, IfErr};
 ghost use Rattle.postscript_base.specs.declared.error.Error.TheVariants as causes;
 ghost use Rattle.postscript_variable.specs.Defaults.{AreHeld};
+ghost use Rattle.postscript_variable.specs.Sayings.{Said};
 ghost use Rattle.postscript_variable.specs.Told.{said_of};
 ghost use Rattle.postscript_instance.specs.declared.error.Error.TheVariants as errors;
-ghost use Rattle.postscript_instance.specs.Refusals.{HasMore, LacksMove, IsUnwritten};
-ghost use Rattle.postscript_instance.specs.Statics.{Fits, BearsWidth, bears_width as may_bear};
-ghost use Rattle.postscript_instance.specs.Texts.{operator_text, width_numbers, numbers_of, phrase_text, code_text};
+ghost use Rattle.postscript_instance.specs.Refusals.{LacksMove};
+ghost use Rattle.postscript_instance.specs.Statics.{BearsWidth, bears_width as may_bear};
+ghost use Rattle.postscript_instance.specs.Texts.{operator_text, width_numbers, numbers_of, phrase_text};
 ghost use Rattle.postscript_instance.specs.Numbers.{numbers_text};
-ghost use Rattle.postscript_instance.specs.Private.{AreHeldIn};
+ghost use Rattle.postscript_instance.specs.Private.{said_by, is_cut as may_be_cut, AreHeldOrCut, HasMoreUncut, IsUnwritten, IsWritten};
 
 use crate::error::{Error, Result};
 use crate::numbers::{put_number, put_numbers};
+use crate::pieces::{OPERANDS, Piece, is_cut};
 use postscript_type2::{Operand, Operator};
 use postscript_variable::Saying;
 use std::alloc::Global;
-
-/// How many operands a stack holds (Technical Note 5177, Appendix B, "Type 2 Charstring Implementation Limits").
-const OPERANDS: usize = 48;
 
 /// The bytes of an operator that draws, declares stems or masks (Technical Note 5177, Appendix A).
 fn code_of(operator: Operator) -> &'static [u8]
@@ -88,16 +87,23 @@ fn is_held(width: Option<Operand>, saying: &Saying<'_>) -> bool
     stems <= OPERANDS && operands <= OPERANDS && width_count(width) + stems + operands <= OPERANDS
 }
 
-/// Nothing, where each operator has no more numbers before it than a stack holds.
+/// Whether an operator is cut where a stack does not hold its operands, or a stack holds the numbers before it.
+fn has_room(width: Option<Operand>, saying: &Saying<'_>) -> bool
+    ensures { let x = said_of saying.now in result ≡ (may_be_cut x.operator || nat_le (length (numbers_of width x)) 48) }
+{
+    is_cut(saying.operator) || is_held(width, saying)
+}
+
+/// Nothing, where each operator that is not cut has no more numbers before it than a stack holds.
 ///
 /// Refused: `TooManyOperands`.
 fn counted(width: &Option<Operand>, sayings: &[Saying<'_>]) -> Result<()>
-    ensures fits { OnOk result (Fits width.now (map said_of sayings.now)) }
-    ensures refused { IfErr result (λ e. (e ≡ errors.TooManyOperands) × HasMore width.now (map said_of sayings.now)) }
+    ensures fits { OnOk result (AreHeldOrCut width.now (map said_of sayings.now)) }
+    ensures refused { IfErr result (λ e. (e ≡ errors.TooManyOperands) × HasMoreUncut width.now (map said_of sayings.now)) }
 {
     let mut width = *width;
     for saying in sayings {
-        if !is_held(width, saying) {
+        if !has_room(width, saying) {
             return Err(Error::TooManyOperands);
         }
         width = None;
@@ -133,24 +139,39 @@ fn put_width(out: &mut Vec<u8>, width: Option<Operand>) -> Result<()>
     }
 }
 
-/// Appends what is said at an operator.
-fn put_saying(out: &mut Vec<u8>, width: Option<Operand>, saying: &Saying<'_>) -> Result<()>
-    ensures ok { let x = said_of saying.now in OnOk result (out.new.items ≡ out.old.items ++ (phrase_text width x ++ x.mask)) }
-    ensures held { OnOk result (AreHeld (numbers_of width (said_of saying.now))) }
+/// Appends a piece: its numbers, its operator and its mask.
+fn put_piece(out: &mut Vec<u8>, width: Option<Operand>, piece: Piece<'_>) -> Result<()>
+    ensures ok { let x = said_by piece.entry in OnOk result (out.new.items ≡ out.old.items ++ (phrase_text width x ++ x.mask)) }
+    ensures held { OnOk result (AreHeld (numbers_of width (said_by piece.entry))) }
     ensures err { IfErr result (λ e. e ≡ errors.Font causes.Memory) }
 {
     put_width(out, width)?;
-    put_numbers(out, &saying.stems)?;
-    put_numbers(out, &saying.operands)?;
-    out.extend_from_slice(code_of(saying.operator))?;
-    out.extend_from_slice(saying.mask)?;
+    put_numbers(out, piece.stems)?;
+    put_numbers(out, piece.operands)?;
+    out.extend_from_slice(code_of(piece.operator))?;
+    out.extend_from_slice(piece.mask)?;
     Ok(())
+}
+
+/// Appends what is said at an operator, in pieces where a stack does not hold it.
+fn put_saying(out: &mut Vec<u8>, width: Option<Operand>, saying: &Saying<'_>) -> Result<()>
+    ensures ok { OnOk result ((xs : List Said) (end : List ℕ) → IsWritten None xs out.new.items end →
+        IsWritten width (said_of saying.now ∷ xs) out.old.items end) }
+    ensures err { IfErr result (λ e. e ≡ errors.Font causes.Memory) }
+{
+    let mut width = width;
+    let mut rest = Piece::of(saying);
+    while let Some((first, behind)) = rest.cut() {
+        put_piece(out, width, first)?;
+        width = None;
+        rest = behind;
+    }
+    put_piece(out, width, rest)
 }
 
 /// Appends all that is said, the width before the first, and endchar behind the last.
 fn put_sayings(out: &mut Vec<u8>, width: Option<Operand>, sayings: &[Saying<'_>]) -> Result<()>
-    ensures ok { OnOk result (out.new.items ≡ out.old.items ++ code_text width (map said_of sayings.now)) }
-    ensures held { OnOk result (AreHeldIn width (map said_of sayings.now)) }
+    ensures ok { OnOk result (IsWritten width (map said_of sayings.now) out.old.items out.new.items) }
     ensures err { IfErr result (λ e. e ≡ errors.Font causes.Memory) }
 {
     let mut width = width;
@@ -165,20 +186,19 @@ fn put_sayings(out: &mut Vec<u8>, width: Option<Operand>, sayings: &[Saying<'_>]
 
 /// All that is said as a charstring of Type 2, with a width before the first operator.
 ///
-/// Refused: `TooManyOperands`, `NoMove`, `Font` with `Memory`.
+/// Refused: `NoMove`, `TooManyOperands`, `Font` with `Memory`.
 pub(crate) fn written(
     alloc: Global,
     width: Option<Operand>,
     sayings: &[Saying<'_>],
 ) -> Result<Vec<u8>>
-    ensures ok { IfOk result (λ code. code.items ≡ code_text width (map said_of sayings.now)) }
-    ensures held { OnOk result (AreHeldIn width (map said_of sayings.now)) }
-    ensures fits { OnOk result (Fits width (map said_of sayings.now)) }
+    ensures ok { IfOk result (λ code. IsWritten width (map said_of sayings.now) [] code.items) }
+    ensures fits { OnOk result (AreHeldOrCut width (map said_of sayings.now)) }
     ensures bears { OnOk result (BearsWidth width (map said_of sayings.now)) }
     ensures refused { IfErr result (λ e. IsUnwritten width (map said_of sayings.now) e) }
 {
-    counted(&width, sayings)?;
     begun(&width, sayings)?;
+    counted(&width, sayings)?;
     let mut code = Vec::new(alloc);
     put_sayings(&mut code, width, sayings)?;
     Ok(code)

@@ -1,12 +1,9 @@
-use Rattle.std.proofs.Common.{◌≡◌, ◌++◌, drop, map}
+use Rattle.std.proofs.Common.{ℕ, List, drop, map}
 use Rattle.postscript_variable.specs.Told.{said_of}
-use Rattle.postscript_instance.specs.Private.{AreHeldIn}
-use Rattle.postscript_instance.specs.Texts.{code_text}
+use Rattle.postscript_instance.specs.Private.{IsWritten}
 use Rattle.postscript_instance.proofs.texts.put_sayings.Given as goal
 
--- what was written, and what is written of the rest, is all that is to be written
+-- whatever is to be written of the rest: with it, all is written
 abbrev pub invariant-loop-saying : goal.invariant-loop-saying
-invariant-loop-saying l = record {
-  text : l.out.items ++ code_text l.width (map said_of (drop l.saying-index l.sayings)) ≡ l.fn.out.items ++ code_text l.fn.width (map said_of l.fn.sayings);
-  held : AreHeldIn l.width (map said_of (drop l.saying-index l.sayings)) → AreHeldIn l.fn.width (map said_of l.fn.sayings);
-}
+invariant-loop-saying l =
+    (end : List ℕ) → IsWritten l.width (map said_of (drop l.saying-index l.sayings)) l.out.items end → IsWritten l.fn.width (map said_of l.fn.sayings) l.fn.out.items end
