@@ -9,8 +9,10 @@ their glyphs call subroutines, name a second item variation data by vsindex, and
 
 At the default, at the named instances, at each end of each axis and at PLACES random places the charstring of each glyph is written, and
 the table `CFF ` of each font. As fontTools reads it, each charstring's operators and operands must be exactly those that the charstring of
-CFF2 says in 16.16 bits; its width must be the one that was given; it calls nothing and ends with endchar; and its masks must be those of
-the charstring of CFF2, as fontTools reads that. Only glyphs with an operator of 48 operands or more may be refused. Where a table is written,
+CFF2 says in 16.16 bits; where one of these has more than 48 operands none of its own may have more, and its lines and curves, one by one as
+fontTools' generalizeCommands tells them, must be those; its width must be the one that was given; it calls nothing and ends with endchar;
+and its masks must be those of the charstring of CFF2, as fontTools reads that. Only glyphs with an operator of 48 operands or more that
+declares stems may be refused. Where a table is written,
 a file is made of it; its charstrings must be those; the outlines that fontTools draws are compared with those that it draws of the variable
 font by floats: no coordinate may be further off than 1/16 unit; and those of FreeType with its own of the variable font: none may be further
 off than a unit. Needs `rt` on the path and Debian's python3-fonttools and libfreetype6. The program is tools/instance_main.txt, proved in a
@@ -27,6 +29,7 @@ import tempfile
 
 sys.dont_write_bytecode = True
 
+from fontTools.cffLib.specializer import generalizeCommands
 from fontTools.misc.psCharStrings import T2CharString
 from fontTools.pens.recordingPen import RecordingPen
 from fontTools.ttLib import TTFont
@@ -36,8 +39,10 @@ from fontTools.varLib.models import normalizeLocation, piecewiseLinearMap
 import building
 from variable import NEAR, NO_HINTING, FreeType, drawn_by_fonttools, files_in, mixed, places_of, shapes_of, variable
 
-USES = ("postscript_sfnt postscript_base postscript_items postscript_compact1 postscript_type2 postscript_view postscript_variation postscript_cff2"
+USES = ("postscript_sfnt postscript_base postscript_items postscript_compact1 postscript_type2 postscript_view postscript_outline"
+        " postscript_drawing postscript_variation postscript_cff2"
         " postscript_variable postscript_variable_font postscript_instance anyhow")
+STACK = 48
 GONE = ["CFF2", "fvar", "avar", "HVAR", "MVAR", "VVAR", "STAT"]
 
 
@@ -130,6 +135,14 @@ def farthest(ours, theirs):
     return max((abs(a - b) for p, q in zip(ours, theirs) for s, t in zip(p, q) for a, b in zip(s, t)), default=0)
 
 
+def is_same(found, wanted):
+    """Whether operations are those that are wanted, in pieces where one of these has more operands than a stack holds."""
+    if all(len(operands) <= STACK for _, operands in wanted):
+        return found == wanted
+    alone = [[(word, tuple(operands)) for word, operands in generalizeCommands([(w, list(o)) for w, o in both])] for both in (found, wanted)]
+    return all(len(operands) <= STACK for _, operands in found) and alone[0] == alone[1]
+
+
 def says_same(name, string, wanted, width, masks, faults):
     """Compares a static charstring with the operations, the width and the masks that it must have."""
     string.decompile()
@@ -152,7 +165,7 @@ def says_same(name, string, wanted, width, masks, faults):
         if word != "endchar":
             found.append((word, () if word in ("hintmask", "cntrmask") else tuple(numbers)))
         numbers = []
-    if found != wanted:
+    if not is_same(found, wanted):
         faults.append(f"{name}: its operations")
     if told_width != width * 65536:
         faults.append(f"{name}: its width {told_width}")
@@ -169,10 +182,11 @@ def compare_glyphs(font, glyphs, counts):
         counts["glyphs"] += 1
         if code is None:
             counts["refused"] += 1
-            if all(len(operands) < 48 for _, operands in wanted):
+            if all(len(operands) < STACK for word, operands in wanted if "stem" in word):
                 faults.append(f"{number}: it is refused")
             continue
         counts["operations"] += len(wanted)
+        counts["pieces"] += any(len(operands) > STACK for _, operands in wanted)
         counts["masks"] += len(masks)
         says_same(f"{number}", T2CharString(bytecode=code), wanted, number, masks, faults)
     return faults
@@ -218,7 +232,7 @@ def compare_font(program, path, chance, count, folder, freetype):
         differ += len(faults)
         for fault in faults[:5]:
             print(f"{path.name} {place} {fault}", file=sys.stderr)
-    print(f"{path.name}: {len(places)} places, {counts['glyphs']} glyphs, {counts['refused']} of them refused for more than 48 operands, {counts['operations']} operations"
+    print(f"{path.name}: {len(places)} places, {counts['glyphs']} glyphs, {counts['refused']} of them refused, {counts['pieces']} with operators in pieces, {counts['operations']} operations"
           f" and {counts['masks']} masks; {counts['outlines']} outlines of whole tables; {differ} differ;"
           f" worst from fontTools {counts['worst'] / 65536:.5f} unit, from FreeType {counts['apart'] / 128:.5f} unit")
     return differ
