@@ -119,53 +119,60 @@ fn put_ones<R: Abort>(rt: &R, code: &mut Vec<u8>, count: usize) {
     }
 }
 
-/// Appends the numbers from one on, one byte each (Technical Note 5177, "Charstring Number Encoding").
-fn put_rising<R: Abort>(rt: &R, code: &mut Vec<u8>, from: usize, count: usize) {
-    for number in from..from + count {
-        code.push(140 + number as u8).expect(rt, "memory");
-    }
+/// The numbers from 1 to 101, one byte each (Technical Note 5177, "Charstring Number Encoding").
+const RISING: &[u8] = &[
+    0x8c, 0x8d, 0x8e, 0x8f, 0x90, 0x91, 0x92, 0x93, 0x94, 0x95, 0x96, 0x97, 0x98, 0x99, 0x9a, 0x9b,
+    0x9c, 0x9d, 0x9e, 0x9f, 0xa0, 0xa1, 0xa2, 0xa3, 0xa4, 0xa5, 0xa6, 0xa7, 0xa8, 0xa9, 0xaa, 0xab,
+    0xac, 0xad, 0xae, 0xaf, 0xb0, 0xb1, 0xb2, 0xb3, 0xb4, 0xb5, 0xb6, 0xb7, 0xb8, 0xb9, 0xba, 0xbb,
+    0xbc, 0xbd, 0xbe, 0xbf, 0xc0, 0xc1, 0xc2, 0xc3, 0xc4, 0xc5, 0xc6, 0xc7, 0xc8, 0xc9, 0xca, 0xcb,
+    0xcc, 0xcd, 0xce, 0xcf, 0xd0, 0xd1, 0xd2, 0xd3, 0xd4, 0xd5, 0xd6, 0xd7, 0xd8, 0xd9, 0xda, 0xdb,
+    0xdc, 0xdd, 0xde, 0xdf, 0xe0, 0xe1, 0xe2, 0xe3, 0xe4, 0xe5, 0xe6, 0xe7, 0xe8, 0xe9, 0xea, 0xeb,
+    0xec, 0xed, 0xee, 0xef, 0xf0,
+];
+
+/// Appends the numbers from one place to another, and an operator.
+fn put_numbers<R: Abort>(rt: &R, code: &mut Vec<u8>, from: usize, to: usize, operator: u8) {
+    let numbers = RISING.get(from..to).expect(rt, "numbers");
+    code.extend_from_slice(numbers).expect(rt, "memory");
+    code.push(operator).expect(rt, "memory");
 }
 
-/// Path operators with more operands than a stack holds. Each row: the operator, how many operands it has, and the pieces: how many
-/// operands each takes, and its operator. A piece of lines or curves has whole ones; those that turn have an even number of them, so
-/// that the next piece begins along the axis of its operator; the operand before the first curve of vvcurveto and hhcurveto is in the
-/// first piece, that behind the last curve of vhcurveto and hvcurveto in the last, and so are the line of rcurveline and the curve of
-/// rlinecurve.
+/// Path operators with more operands than a stack holds. Each row: the operator, how many operands it has, and the pieces: from which
+/// operand to which each goes, and its operator. A piece of lines or curves has whole ones; those that turn have an even number of
+/// them, so that the next piece begins along the axis of its operator; the operand before the first curve of vvcurveto and hhcurveto is
+/// in the first piece, that behind the last curve of vhcurveto and hvcurveto in the last, and so are the line of rcurveline and the
+/// curve of rlinecurve.
 #[test]
 fn pieces(rt: HostRuntime) {
     let tables = tables(&rt, rt.alloc());
-    let rows: [(u8, usize, &[(usize, u8)]); 18] = [
-        (0x05, 48, &[(48, 0x05)]),
-        (0x05, 50, &[(48, 0x05), (2, 0x05)]),
-        (0x06, 48, &[(48, 0x06)]),
-        (0x06, 49, &[(48, 0x06), (1, 0x06)]),
-        (0x07, 97, &[(48, 0x07), (48, 0x07), (1, 0x07)]),
-        (0x08, 54, &[(48, 0x08), (6, 0x08)]),
-        (0x18, 44, &[(44, 0x18)]),
-        (0x18, 50, &[(42, 0x08), (8, 0x18)]),
-        (0x18, 98, &[(42, 0x08), (42, 0x08), (14, 0x18)]),
-        (0x19, 50, &[(42, 0x05), (8, 0x19)]),
-        (0x1a, 48, &[(48, 0x1a)]),
-        (0x1a, 49, &[(45, 0x1a), (4, 0x1a)]),
-        (0x1a, 97, &[(45, 0x1a), (44, 0x1a), (8, 0x1a)]),
-        (0x1b, 52, &[(44, 0x1b), (8, 0x1b)]),
-        (0x1b, 53, &[(45, 0x1b), (8, 0x1b)]),
-        (0x1e, 49, &[(40, 0x1e), (9, 0x1e)]),
-        (0x1f, 52, &[(40, 0x1f), (12, 0x1f)]),
-        (0x1f, 101, &[(40, 0x1f), (40, 0x1f), (21, 0x1f)]),
+    let rows: [(u8, usize, &[(usize, usize, u8)]); 18] = [
+        (0x05, 48, &[(0, 48, 0x05)]),
+        (0x05, 50, &[(0, 48, 0x05), (48, 50, 0x05)]),
+        (0x06, 48, &[(0, 48, 0x06)]),
+        (0x06, 49, &[(0, 48, 0x06), (48, 49, 0x06)]),
+        (0x07, 97, &[(0, 48, 0x07), (48, 96, 0x07), (96, 97, 0x07)]),
+        (0x08, 54, &[(0, 48, 0x08), (48, 54, 0x08)]),
+        (0x18, 44, &[(0, 44, 0x18)]),
+        (0x18, 50, &[(0, 42, 0x08), (42, 50, 0x18)]),
+        (0x18, 98, &[(0, 42, 0x08), (42, 84, 0x08), (84, 98, 0x18)]),
+        (0x19, 50, &[(0, 42, 0x05), (42, 50, 0x19)]),
+        (0x1a, 48, &[(0, 48, 0x1a)]),
+        (0x1a, 49, &[(0, 45, 0x1a), (45, 49, 0x1a)]),
+        (0x1a, 97, &[(0, 45, 0x1a), (45, 89, 0x1a), (89, 97, 0x1a)]),
+        (0x1b, 52, &[(0, 44, 0x1b), (44, 52, 0x1b)]),
+        (0x1b, 53, &[(0, 45, 0x1b), (45, 53, 0x1b)]),
+        (0x1e, 49, &[(0, 40, 0x1e), (40, 49, 0x1e)]),
+        (0x1f, 52, &[(0, 40, 0x1f), (40, 52, 0x1f)]),
+        (0x1f, 101, &[(0, 40, 0x1f), (40, 80, 0x1f), (80, 101, 0x1f)]),
     ];
     for (operator, count, parts) in rows {
         // 2 hmoveto, and the operator
         let mut code = Vec::from_array(rt.alloc(), [0x8d, 0x16]).expect(&rt, "memory");
-        put_rising(&rt, &mut code, 0, count);
-        code.push(operator).expect(&rt, "memory");
+        put_numbers(&rt, &mut code, 0, count, operator);
         // the width 1, and the same in pieces
         let mut wanted = Vec::from_array(rt.alloc(), [0x8c, 0x8d, 0x16]).expect(&rt, "memory");
-        let mut from = 0;
-        for (many, part) in parts {
-            put_rising(&rt, &mut wanted, from, *many);
-            wanted.push(*part).expect(&rt, "memory");
-            from += *many;
+        for (from, to, part) in parts {
+            put_numbers(&rt, &mut wanted, *from, *to, *part);
         }
         wanted.push(0x0e).expect(&rt, "memory");
         let found = charstring(rt.alloc(), over(&code, &tables), Some(Operand::from_int(1))).expect(
