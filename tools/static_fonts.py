@@ -7,7 +7,7 @@
 Each WORD is an OpenType file with a table `CFF2`, or a Debian package, which is downloaded (not installed) and of which each such file
 is taken; pango1.0-tests has Cantarell-VF.otf. Besides, the fonts of tools/variable.py are made of EB Garamond (Debian's fonts-ebgaramond), with
 two and three axes, with and without subroutines, and with positions of each kind that vary; and once more with operators of fewer than 48
-operands, since a font with a glyph of more has to be refused by the number of that glyph.
+operands. None may be refused.
 
 A file is written at each named instance, at each end of each axis, and at PLACES random places. It must be read by fontTools, each table
 of it, and pass ots-sanitize; FreeType must load each glyph. By `psotf glyph --all --json` each glyph must have the segments and the advance
@@ -232,7 +232,7 @@ def compare_place(path, font, words, values, name, folder, freetype, lines, coun
 
 
 def refused(path, words, folder):
-    """What a refusal says, where one of the glyphs has too many operands."""
+    """What a refusal says, where the file is refused."""
     done = subprocess.run([str(PSOTF), "instance", str(path), *words, "-o", str(folder / "none.otf")], capture_output=True, text=True, check=False)
     return done.stderr if done.returncode else None
 
@@ -245,7 +245,7 @@ def compare_font(path, chance, count, folder, freetype):
     for words, values, name in places:
         if (said := refused(path, words, folder)) is not None:
             refusals[said.strip().rsplit(": ", 1)[-1]] += 1
-            faults = [] if ": glyph " in said and not (folder / "none.otf").exists() else [said]
+            faults = [said]
         else:
             (folder / "none.otf").unlink()
             faults = compare_place(path, font, words, values, name, folder, freetype, lines, counts)
