@@ -88,6 +88,11 @@ def font(cff2, glyphs, fvar=axes_of(), **others):
     return file_of(cff2, glyphs, tag=b"CFF2", others=tables)
 
 
+def plain(routines):
+    """Routines of Type 2 without their last byte, which returns: in `CFF2` they end where they are used up."""
+    return [routine[:-1] for routine in routines]
+
+
 def sums(regions):
     """A blend of as many numbers as the stack of 513 has room for, and lines along them."""
     many = min(512 // (regions + 1), 200)
@@ -99,15 +104,15 @@ def runs():
     start = BEGIN + call(0, 10)
     work = {"": b"", ", lines": (ONE * 2 + b"\x8a" * 2) * 120 + LINES, ", moves": (ONE + MOVE) * 750}
     for name, leaf in work.items():
-        yield f"nested calls{name}", font(outlines([b"", start], nested(leaf)), 2)
+        yield f"nested calls{name}", font(outlines([b"", start], plain(nested(leaf))), 2)
     for regions in (1, 16, 511):
         store = store_of(regions_of(regions), range(regions))
-        yield f"nested calls, blends of {regions} regions", font(outlines([b"", start], nested(sums(regions)), store), 2)
+        yield f"nested calls, blends of {regions} regions", font(outlines([b"", start], plain(nested(sums(regions))), store), 2)
         glyphs = [b"", *[BEGIN + call(0, 3)] * (MANY - 1)]
-        near = outlines(glyphs, squared(sums(regions), 19_000_000), store)
+        near = outlines(glyphs, plain(squared(sums(regions), 19_000_000)), store)
         yield f"65,535 glyphs near the limit, blends of {regions} regions", font(near, MANY)
     glyphs = [b"", *[BEGIN + call(0, 3)] * (MANY - 1)]
-    yield "65,535 glyphs near the limit, lines", font(outlines(glyphs, squared(work[", lines"], 19_000_000)), MANY)
+    yield "65,535 glyphs near the limit, lines", font(outlines(glyphs, plain(squared(work[", lines"], 19_000_000))), MANY)
     glyphs = [b"", *[call(0, 1)] * (MANY - 1)]
     yield "65,535 glyphs refused behind 513 numbers", font(outlines(glyphs, [ONE * 513 + b"\x02"]), MANY)
     choosing = operand(5_999) + VS_INDEX + BEGIN
@@ -117,14 +122,14 @@ def runs():
 
 def searched():
     """Fonts whose tables are long to search, or many."""
-    plain = [b""] * MANY
+    empty = [b""] * MANY
     select = b"\x03" + short(MANY) + b"".join(short(i) + bytes([i % 2]) for i in range(MANY)) + short(MANY)
-    yield "FDSelect of 65,535 ranges", font(outlines(plain, select=select, parts=2), MANY)
+    yield "FDSelect of 65,535 ranges", font(outlines(empty, select=select, parts=2), MANY)
     wide = b"\x04" + long(MANY) + b"".join(long(i) + short(i % 2) for i in range(MANY)) + long(MANY)
-    yield "FDSelect of 65,535 wide ranges", font(outlines(plain, select=wide, parts=2), MANY)
+    yield "FDSelect of 65,535 wide ranges", font(outlines(empty, select=wide, parts=2), MANY)
     falling = b"\x04" + long(60_000) + b"".join(long(MANY - i) + short(i % 2) for i in range(60_000)) + long(MANY)
-    yield "FDSelect of 60,000 ranges that fall", font(outlines(plain, select=falling, parts=2), MANY)
-    yield "65,535 glyphs of a private dictionary of 300,000 bytes", font(outlines(plain, private=b"\x8b\x0c\x09" * 100_000), MANY)
+    yield "FDSelect of 60,000 ranges that fall", font(outlines(empty, select=falling, parts=2), MANY)
+    yield "65,535 glyphs of a private dictionary of 300,000 bytes", font(outlines(empty, private=b"\x8b\x0c\x09" * 100_000), MANY)
     store = store_of(regions_of(60_000), range(60_000), times=60_000)
     yield "a store of 60,000 data, each of 60,000 regions", font(outlines([b""] * 2, store=store), 2)
     widths = (b"\x8b\x0c\x09") * 200_000
@@ -148,10 +153,10 @@ def searched():
         # entries of four bytes, whose lower half is the row
         mapped = b"\x01\x3f" + long(MANY) + b"".join(short(i % times) + short(0) for i in range(MANY))
         advances = short(1) + short(0) + long(20) + long(20 + len(store)) + long(0) + long(0) + store + mapped
-        yield f"65,535 glyphs whose advances are {times} times the same {deltas} deltas", font(outlines(plain), MANY, HVAR=advances)
+        yield f"65,535 glyphs whose advances are {times} times the same {deltas} deltas", font(outlines(empty), MANY, HVAR=advances)
     pairs = b"".join(short(0x10000 - 0x4000 + i // 2) * 2 for i in range(1, 30_000)) + short(0) * 2 + short(0x4000) * 2
     bent = short(1) + short(0) + short(0) + short(1) + short(len(pairs) // 4) + pairs
-    yield "an axis of 30,000 pairs", font(outlines(plain), MANY, avar=bent)
+    yield "an axis of 30,000 pairs", font(outlines(empty), MANY, avar=bent)
 
 
 if __name__ == "__main__":

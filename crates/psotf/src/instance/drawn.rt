@@ -90,26 +90,20 @@ fn frame_of(
     );
     let taken = share.saturating_sub(left);
     budget.spend_whole(taken);
+    if let Err(error) = drawn {
+        let refusal = refusal_of(error, face, share, budget);
+        return Err(Failure::Glyph { gid, refusal });
+    }
     let most = budget.limit / HELD;
     if taken > most {
-        return Err(Failure::Glyph {
-            gid,
-            refusal: Refusal::TooLong(most),
-        });
+        let refusal = Refusal::Held(most);
+        return Err(Failure::Glyph { gid, refusal });
     }
-    match drawn {
-        Ok(()) => {
-            let outline = Outline {
-                segments,
-                width: None,
-            };
-            Ok(outline.tight_bounds().map(Frame::round))
-        }
-        Err(error) => Err(Failure::Glyph {
-            gid,
-            refusal: refusal_of(error, face, share, budget),
-        }),
-    }
+    let outline = Outline {
+        segments,
+        width: None,
+    };
+    Ok(outline.tight_bounds().map(Frame::round))
 }
 
 /// The advance of a glyph, where a charstring has room for it.
