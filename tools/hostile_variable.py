@@ -15,9 +15,9 @@ import sys
 sys.dont_write_bytecode = True
 
 from hostile import CHAR_STRINGS, PRIVATE, SUBRS, number
-from hostile_files import FD_ARRAY, FD_SELECT, MANY, ONE, MOVE, call, file_of, long, nested, operand, short, squared, table
+from hostile_files import BACK, FD_ARRAY, FD_SELECT, MANY, ONE, MOVE, call, file_of, long, nested, operand, short, squared, table
 
-STORE, BLEND, LINES, VS_INDEX = b"\x18", b"\x10", b"\x06", b"\x0f"
+STORE, BLEND, LINES, VS_INDEX, ZERO = b"\x18", b"\x10", b"\x06", b"\x0f", b"\x8b"
 BEGIN = ONE * 2 + b"\x15"
 PLACE = ["--variations", "wght=650"]
 COMMANDS = {
@@ -96,13 +96,13 @@ def plain(routines):
 def sums(regions):
     """A blend of as many numbers as the stack of 513 has room for, and lines along them."""
     many = min(512 // (regions + 1), 200)
-    return (ONE * (many * (regions + 1)) + operand(many) + BLEND + LINES) * max(1, 1500 // (many * (regions + 1)))
+    return (ZERO * (many * (regions + 1)) + operand(many) + BLEND + LINES) * max(1, 1500 // (many * (regions + 1)))
 
 
 def runs():
     """Fonts whose runs cost time: a name, and the file."""
     start = BEGIN + call(0, 10)
-    work = {"": b"", ", lines": (ONE * 2 + b"\x8a" * 2) * 120 + LINES, ", moves": (ONE + MOVE) * 750}
+    work = {"": b"", ", lines": (ONE * 2 + BACK * 2) * 120 + LINES, ", moves": (ONE + MOVE + BACK + MOVE) * 375}
     for name, leaf in work.items():
         yield f"nested calls{name}", font(outlines([b"", start], plain(nested(leaf))), 2)
     for regions in (1, 16, 511):
@@ -113,6 +113,8 @@ def runs():
         yield f"65,535 glyphs near the limit, blends of {regions} regions", font(near, MANY)
     glyphs = [b"", *[BEGIN + call(0, 3)] * (MANY - 1)]
     yield "65,535 glyphs near the limit, lines", font(outlines(glyphs, plain(squared(work[", lines"], 19_000_000))), MANY)
+    tenth = plain(squared((ONE + LINES + BACK + LINES) * 375, 1_900_000))
+    yield "a glyph near a tenth of the limit, lines one by one", font(outlines([b"", BEGIN + call(0, 3)], tenth), 2)
     glyphs = [b"", *[call(0, 1)] * (MANY - 1)]
     yield "65,535 glyphs refused behind 513 numbers", font(outlines(glyphs, [ONE * 513 + b"\x02"]), MANY)
     choosing = operand(5_999) + VS_INDEX + BEGIN
