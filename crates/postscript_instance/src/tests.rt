@@ -137,6 +137,13 @@ fn put_numbers<R: Abort>(rt: &R, code: &mut Vec<u8>, from: usize, to: usize, ope
     code.push(operator).expect(rt, "memory");
 }
 
+/// Appends pieces: the numbers from one place to another of each, and its operator.
+fn put_pieces<R: Abort>(rt: &R, code: &mut Vec<u8>, pieces: &[(usize, usize, u8)]) {
+    for (from, to, operator) in pieces {
+        put_numbers(rt, code, *from, *to, *operator);
+    }
+}
+
 /// Path operators with more operands than a stack holds. Each row: the operator, how many operands it has, and the pieces: from which
 /// operand to which each goes, and its operator. A piece of lines or curves has whole ones; those that turn have an even number of
 /// them, so that the next piece begins along the axis of its operator; the operand before the first curve of vvcurveto and hhcurveto is
@@ -171,9 +178,7 @@ fn pieces(rt: HostRuntime) {
         put_numbers(&rt, &mut code, 0, count, operator);
         // the width 1, and the same in pieces
         let mut wanted = Vec::from_array(rt.alloc(), [0x8c, 0x8d, 0x16]).expect(&rt, "memory");
-        for (from, to, part) in parts {
-            put_numbers(&rt, &mut wanted, *from, *to, *part);
-        }
+        put_pieces(&rt, &mut wanted, parts);
         wanted.push(0x0e).expect(&rt, "memory");
         let found = charstring(rt.alloc(), over(&code, &tables), Some(Operand::from_int(1))).expect(
             &rt,
