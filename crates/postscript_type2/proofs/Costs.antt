@@ -1,18 +1,13 @@
 -- Each phrase of a run has a byte, and the one at which it is refused is the last.
-use Rattle.std.proofs.Common.{◌≡◌, refl, subst, sym, ℕ, zero, suc, ◌+◌, ◌<◌, ℤ, List, [], ◌∷◌, take, drop, length, Option, Some, None, Result, Ok, Err, add-one, arith}
+use Rattle.std.proofs.Common.{◌≡◌, subst, sym, ℕ, zero, suc, ◌+◌, ◌<◌, List, [], ◌∷◌, take, drop, length, Some, None, add-one, arith}
 use Rattle.postscript_type2.specs.declared.operation.Operator.{Operator}
-use Rattle.postscript_base.specs.Refusal.{Refusal}
-use Rattle.postscript_type2.specs.declared.operation.Operator.TheVariants.{Roll, Sqrt}
-use Rattle.postscript_type2.specs.Program.Effects.{State, Move, Keeps, Clears, Calls, Returns, Ends, Refuses, pushed, work_move, effect}
-use Rattle.postscript_type2.specs.Program.FixedPoint.{root}
-use Rattle.postscript_type2.specs.Program.Stacks.{one_to_one, roll}
+use Rattle.postscript_type2.specs.Program.Effects.{State, Move, Keeps, Clears, Calls, Returns, Ends, Refuses, pushed}
 use Rattle.postscript_type2.specs.Program.Evaluation.{with_phrase, Stride, On, Into, Back, Over, Faults, moved, stride_by, stride}
-use Rattle.postscript_type2.specs.Program.Limit.{cost_beside, cost_of}
+use Rattle.postscript_type2.specs.Program.Limit.{cost_of}
 use Rattle.postscript_type2.specs.Program.Parsing.{Phrase, Complete, NoPhrase, phrase}
 use Rattle.postscript_type2.specs.Program.Routines.{Lists}
 use Rattle.postscript_type2.specs.Program.Runs.{Said, Run}
 use Rattle.postscript_type2.specs.declared.program.machine.Machine.{Machine}
-use Rattle.postscript_type2.specs.Private.Callers.{rests}
 use Rattle.postscript_type2.specs.Private.Machines.{still_of}
 use Rattle.postscript_type2.specs.Private.Remaining.{still, next_still}
 use Rattle.postscript_type2.specs.Private.Working.{state_of}
@@ -63,21 +58,9 @@ has-byte lists left (b ∷ r) cs st =
     subst (λ (run : Run). HasByte run.trace) (sym (still_step lists left b r cs st)) (next-has lists left (λ more. drop more r) cs (stride lists (b ∷ r) st) (stride-by-has lists b r st (phrase (b ∷ r))))
 
 pub has : (machine : Machine) → HasByte (still_of machine).trace
-has machine = has-byte (lists_of machine.lists) machine.left machine.routine (rests machine.callers) (state_of machine.state)
+has machine = has-byte (lists_of machine.lists) machine.left machine.routine machine.callers (state_of machine.state)
 
 -- so it costs something
 pub costs-some : {before rest : Run} {said : Said} → HasByte before.trace → before ≡ with_phrase said rest → 0 < cost_of said
 costs-some {before} {rest} {said} has is =
     let some : 0 < length said.bytes = subst (λ (run : Run). HasByte run.trace) is has in omega (arith, some)
-
--- an operator that clears the stack costs nothing beside its bytes
-works-plainly : (stored : List ℤ) (done : Result (Unit {0} × List ℤ) Refusal) {taken : List ℤ} {stems : ℕ} {width : Option ℤ} {mask : ℕ} {n : ℕ} →
-    work_move stored done ≡ Clears taken stems width mask → n ≡ 0
-works-plainly stored (Ok done) is = grind (arith, is)
-works-plainly stored (Err e) is = grind (arith, is)
-
-pub clears-plainly : (op : Operator) (lists : Lists) (behind : List ℕ) (st : State) {taken : List ℤ} {stems : ℕ} {width : Option ℤ} {mask : ℕ} →
-    effect lists op behind st ≡ Clears taken stems width mask → cost_beside op ≡ 0
-clears-plainly Roll lists behind st is = works-plainly st.stored (roll st.stack) is
-clears-plainly Sqrt lists behind st is = works-plainly st.stored (one_to_one root st.stack) is
-clears-plainly op lists behind st is = refl

@@ -3,4 +3,5 @@
 pub mod Number
 pub mod Operation
 pub mod Program
+pub mod Refused
 pub mod Private

@@ -1,18 +1,18 @@
-//! What the machine is refused with: a small type, since an error may hold a fault of a tape.
+//! What the machine is refused with.
 ghost use Rattle.std.specs.Prelude.{◌≡◌};
-ghost use Rattle.postscript_type2.specs.Private.Refused.{error_of};
+ghost use Rattle.postscript_type2.specs.Refused.{error_of};
 ghost use Rattle.postscript_type2.specs.declared.refused.Refused.TheVariants as cases;
 
 use postscript_base::Error;
 use postscript_base::error::Part;
 use std::alloc::{AllocError, AllocFailed};
 
-/// What a call of the machine answers, or what it is refused with.
-pub(crate) type Result<T> = std::result::Result<T, Refused>;
+/// What is answered, or what it is refused with.
+pub type Result<T> = std::result::Result<T, Refused>;
 
-/// A refusal, by the name that its error has.
+/// What a program is refused with, by the name that its error has: a small type, since an error may hold a fault of a tape.
 #[derive(Drop)]
-pub(crate) enum Refused {
+pub enum Refused {
     Memory,
     UnexpectedEof,
     MalformedNumber,

@@ -3,7 +3,7 @@ use Rattle.std.proofs.Common.{◌≡◌, ap, sym, subst, ◌∙◌, ℕ, suc, �
 use Rattle.postscript_variable.specs.declared.command.Command.{Command}
 use Rattle.postscript_variable.specs.declared.machine.Event.{Event}
 use Rattle.postscript_variable.specs.declared.machine.Machine.{Machine}
-use Rattle.postscript_variable.specs.declared.refused.Refused.{Refused}
+use Rattle.postscript_type2.specs.declared.refused.Refused.{Refused}
 use Rattle.postscript_variable.specs.declared.routine.Token.{Token}
 use Rattle.postscript_variable.specs.declared.routine.Token.TheVariants as tokens
 use Rattle.postscript_variable.specs.Costs.{cost_beside}
@@ -11,7 +11,7 @@ use Rattle.postscript_variable.specs.Effects.{Font, State, effect}
 use Rattle.postscript_variable.specs.Evaluation.{Run, at_end}
 use Rattle.postscript_variable.specs.Meaning.{Stopped}
 use Rattle.postscript_variable.specs.Private.Machines.{Advances}
-use Rattle.postscript_variable.specs.Private.Refused.{reason}
+use Rattle.postscript_type2.specs.Refused.{reason}
 use Rattle.postscript_variable.specs.Private.Remaining.{still, still_number, still_moved}
 use Rattle.postscript_variable.specs.Private.Working.{ReadsFront}
 use Rattle.postscript_variable.proofs.Remains.{still-number, still-operator, still-unread}

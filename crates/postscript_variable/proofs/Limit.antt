@@ -1,10 +1,10 @@
 -- A limit that is spent on numbers and operators.
-use Rattle.std.proofs.Common.{◌≡◌, ◌≢◌, refl, subst, sym, ◌∙◌, ℕ, ◌+◌, ◌-◌, ◌<◌, ◌≤◌, List, [], ◌∷◌, ◌++◌, Ok, Err, inl, inr, append_assoc, arith}
+use Rattle.std.proofs.Common.{◌≡◌, ◌≢◌, refl, subst, sym, ◌∙◌, ℕ, ◌+◌, ◌-◌, ◌<◌, List, [], ◌∷◌, ◌++◌, Ok, Err, inl, inr, append_assoc, arith}
 use Rattle.postscript_base.specs.declared.error.Error.TheVariants.{AlreadyFailed}
 use Rattle.postscript_type2.specs.declared.program.within.Within.TheVariants.{End}
 use Rattle.postscript_variable.specs.declared.machine.Machine.{Machine}
-use Rattle.postscript_variable.specs.declared.program.Phase.{Phase}
-use Rattle.postscript_variable.specs.declared.program.Phase.TheVariants as phases
+use Rattle.postscript_type2.specs.declared.program.Phase.{Phase}
+use Rattle.postscript_type2.specs.declared.program.Phase.TheVariants as phases
 use Rattle.postscript_variable.specs.Evaluation.{Run, with_step}
 use Rattle.postscript_variable.specs.Limit.{cost, Spends, nothing, one_more, LimitIsCost, LimitLasts, LimitBoundsSteps}
 use Rattle.postscript_variable.specs.Private.Views.{pending_of}
@@ -20,10 +20,6 @@ pub paid : {limit left after price : ℕ} {costs : List ℕ} {before rest : Run}
 paid {limit} {left} {after} {price} {costs} {before} {rest} spends h is positive pays =
     let there : Spends limit costs left (price ∷ rest.costs) = subst (λ (run : Run). Spends limit costs left run.costs) is spends in
     subst (λ n. Spends limit costs n rest.costs) (sym pays) (one_more left price rest.costs there (some left h) positive)
-
--- and leaves less of the limit
-pub falls-so : {limit left after price : ℕ} → left ≤ limit → left ≢ 0 → 0 < price → after ≡ left - price → after < limit
-falls-so {limit} {left} {after} {price} less h positive pays = omega (arith, less, h, positive, pays)
 
 -- one spending after another
 pub spends-on : {limit : ℕ} {costs : List ℕ} {between : ℕ} {half : List ℕ} {left : ℕ} {rest : List ℕ} → Spends limit costs between half → Spends between half left rest →

@@ -1,9 +1,9 @@
 -- How far sums of rounded products are from the exact ones.
-use Rattle.std.proofs.Common.{◌≡◌, refl, ap, sym, subst, ◌∙◌, ℕ, suc, ◌+◌, ◌*◌, ◌/◌, ◌<◌, ◌≤◌, ℤ, pos, negsuc, neg_ℤ, ◌+ℤ◌, ◌*ℤ◌, ◌≤ℤ◌, List, [], ◌∷◌, length, arith}
+use Rattle.std.proofs.Common.{ℕ, suc, ◌+◌, ◌*◌, ◌/◌, ℤ, pos, negsuc, neg_ℤ, ◌+ℤ◌, ◌*ℤ◌, [], ◌∷◌, length, arith}
 use Rattle.std.proofs.lemmas.Int.{ints}
 use Rattle.postscript_variable.specs.Blending.{scaled, sum_of}
 use Rattle.postscript_variable.specs.Nearness.{exact_sum, IsWithinHalves, SumsAreNear}
-use Rattle.postscript_variable.proofs.BlendLaws.{above-zero, below-zero}
+use Rattle.postscript_variable.proofs.BlendLaws.{above-zero}
 
 -- one product
 near-size : (m : ℕ) → IsWithinHalves (pos ((m + 32768) / 65536)) (pos m) 1

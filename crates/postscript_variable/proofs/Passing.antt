@@ -1,15 +1,15 @@
 -- What a machine passes within its limit, one thing after another.
-use Rattle.std.proofs.Common.{◌≡◌, ◌≢◌, refl, ap, sym, subst, ◌∙◌, ◌⊎◌, inl, inr, ℕ, ◌-◌, ◌<◌, ◌≤◌, List, [], arith}
+use Rattle.std.proofs.Common.{◌≡◌, ◌≢◌, refl, ap, sym, subst, ◌∙◌, ◌⊎◌, inl, inr, ℕ, ◌-◌, ◌<◌, List, [], arith}
 use Rattle.postscript_variable.specs.declared.machine.Machine.{Machine}
-use Rattle.postscript_variable.specs.declared.refused.Refused.{Refused}
-use Rattle.postscript_variable.specs.declared.refused.Refused.TheVariants.{Memory}
+use Rattle.postscript_type2.specs.declared.refused.Refused.{Refused}
+use Rattle.postscript_type2.specs.declared.refused.Refused.TheVariants.{Memory}
 use Rattle.postscript_variable.specs.Effects.{State}
 use Rattle.postscript_variable.specs.Evaluation.{Run, at_end, with_step}
 use Rattle.postscript_variable.specs.Limit.{Spends, nothing}
 use Rattle.postscript_variable.specs.Meaning.{UsedUp, Stopped}
 use Rattle.postscript_variable.specs.Private.Limited.{Passes}
 use Rattle.postscript_variable.specs.Private.Machines.{still_of, work_of}
-use Rattle.postscript_variable.specs.Private.Refused.{reason}
+use Rattle.postscript_type2.specs.Refused.{reason}
 use Rattle.postscript_variable.proofs.Limit.{paid, spends-on}
 
 pub at-first : (machine : Machine) (limit : ℕ) → Passes (still_of machine) (work_of (still_of machine) machine) limit machine limit

@@ -8,10 +8,10 @@ use Rattle.postscript_base.specs.Tape.Outcome.{Got, after}
 use Rattle.postscript_type2.specs.Number.{number, spelled}
 use Rattle.postscript_type2.specs.Program.Parsing.{is_number}
 use Rattle.postscript_variable.specs.declared.command.Command.{Command}
-use Rattle.postscript_variable.specs.declared.refused.Refused.{Refused}
-use Rattle.postscript_variable.specs.declared.refused.Refused.TheVariants.{UnknownOperator}
+use Rattle.postscript_type2.specs.declared.refused.Refused.{Refused}
+use Rattle.postscript_type2.specs.declared.refused.Refused.TheVariants.{UnknownOperator}
 use Rattle.postscript_variable.specs.Commands.{command_of}
-use Rattle.postscript_variable.specs.Private.Refused.{reason}
+use Rattle.postscript_type2.specs.Refused.{reason}
 use Rattle.postscript_variable.specs.Private.Working.{EndsAt}
 use Rattle.postscript_variable.specs.Tokens.{Number, NoToken, numbered, commanded, token}
 use Rattle.postscript_type2.proofs.Bytes.{got-later}

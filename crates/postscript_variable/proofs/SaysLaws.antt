@@ -7,15 +7,15 @@ use Rattle.postscript_base.specs.Refusal.{refusal_of}
 use Rattle.postscript_type2.specs.Program.Runs.{Answer}
 use Rattle.postscript_variable.specs.declared.charstring.Charstring.{Charstring}
 use Rattle.postscript_variable.specs.declared.machine.Machine.{Machine}
-use Rattle.postscript_variable.specs.declared.refused.Refused.{Refused}
-use Rattle.postscript_variable.specs.declared.refused.Refused.TheVariants.{Memory}
+use Rattle.postscript_type2.specs.declared.refused.Refused.{Refused}
+use Rattle.postscript_type2.specs.declared.refused.Refused.TheVariants.{Memory}
 use Rattle.postscript_variable.specs.Charstrings.{font_from, run_from, IsRunFrom}
 use Rattle.postscript_variable.specs.Effects.{Font, State, Keeps, Clears, Calls, Refuses}
 use Rattle.postscript_variable.specs.Evaluation.{Run, followed, after_call, mean}
 use Rattle.postscript_variable.specs.Meaning as rules
 use Rattle.postscript_variable.specs.Meaning.{End, UsedUp, Stopped, Means}
 use Rattle.postscript_variable.specs.Private.Machines.{still_of}
-use Rattle.postscript_variable.specs.Private.Refused.{error_of, reason}
+use Rattle.postscript_type2.specs.Refused.{error_of, reason}
 use Rattle.postscript_variable.specs.Sayings.{Said, said}
 use Rattle.postscript_variable.specs.Told.{told, answer_of, ToldIsComputed, ToldIsAnswered, Says, StopsWith}
 use Rattle.postscript_variable.proofs.MeaningLaws.{mean-number, mean-operator, mean-unread, with-room, without-room, sound, run-means}

@@ -1,5 +1,4 @@
 -- Named by private contracts and proofs alone.
-pub mod Refused
 pub mod Working
 pub mod Remaining
 pub mod Machines

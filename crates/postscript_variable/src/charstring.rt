@@ -6,8 +6,9 @@ ghost use Rattle.postscript_variable.specs.Meaning.{End};
 ghost use Rattle.postscript_variable.specs.Programs.{begun, end_of};
 
 use crate::machine::Machine;
-use crate::program::{Phase, Program};
+use crate::program::Program;
 use postscript_type2::Subroutines;
+use postscript_type2::shared::Phase;
 use std::alloc::Global;
 
 /// What a charstring blends with: for each item variation data of the variation store (ItemVariationData), in their order,

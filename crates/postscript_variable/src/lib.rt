@@ -2,13 +2,11 @@
 #![tactic(auto)]
 
 mod blend;
-mod callers;
 mod charstring;
 mod command;
 pub mod laws;
 mod machine;
 mod program;
-mod refused;
 mod routine;
 mod sayings;
 mod state;

@@ -1,19 +1,18 @@
 //! The machine of a program: one number or operator at a time.
 ghost use Rattle.std.specs.Prelude.{◌≡◌, ◌<◌, ◌+◌, ◌-◌, ◌^◌, length, [], ◌∷◌, suc, Ok, OnOk, IfOk, IfErr, IfSome};
-ghost use Rattle.postscript_variable.specs.declared.refused.Refused.TheVariants as cases;
+ghost use Rattle.postscript_type2.specs.declared.refused.Refused.TheVariants as cases;
 ghost use Rattle.postscript_type2.specs.Program.Effects.{last_of};
 ghost use Rattle.postscript_variable.specs.Charstrings.{run_from};
 ghost use Rattle.postscript_variable.specs.Costs.{cost_beside};
 ghost use Rattle.postscript_variable.specs.Private.Machines.{IsNested, still_of, still_emptied, still_with, still_by, work_of, cost_of, Advances, Reaches};
 ghost use Rattle.postscript_variable.specs.Private.Limited.{Passes, ReachesWithin};
-ghost use Rattle.postscript_variable.specs.Private.Working.{font_of, state_of, rests};
+ghost use Rattle.postscript_variable.specs.Private.Working.{font_of, state_of};
 
-use crate::callers::Callers;
 use crate::charstring::Charstring;
 use crate::command::Command;
-use crate::refused::{Refused, Result};
-use crate::routine::{OPERANDS, Routine, Token};
+use crate::routine::{self, OPERANDS, Token};
 use crate::state::{Effect, Font, State};
+use postscript_type2::shared::{Callers, Refused, Result, Routine};
 use postscript_type2::{Operand, Operator};
 use std::alloc::Global;
 use std::mem;
@@ -134,7 +133,7 @@ impl<'l> Machine<'l> {
     fn enter(&mut self, code: &'l [u8]) -> Result<()>
         requires { 0 < self.old.left }
         ensures routine { OnOk result (self.new.routine ≡ code.now) }
-        ensures callers { OnOk result (rests self.new.callers ≡ self.old.routine ∷ rests self.old.callers) }
+        ensures callers { OnOk result (self.new.callers ≡ self.old.routine ∷ self.old.callers) }
         ensures left { OnOk result (self.old.left ≡ suc self.new.left) }
         ensures font { font_of self.new.font ≡ font_of self.old.font }
         ensures state { state_of self.new.state ≡ state_of self.old.state }
@@ -165,7 +164,7 @@ impl<'l> Machine<'l> {
             Effect::Keeps => Ok(Event::Went(cost)),
             Effect::Clears(operator, count, mask) => {
                 let bytes = size + mask;
-                let mask = self.routine.take(mask);
+                let mask = routine::take(&mut self.routine, mask);
                 Ok(Event::Answered(operator, count, mask, Cost { bytes, beside }))
             }
             Effect::Calls(code) => {
@@ -203,7 +202,7 @@ impl<'l> Machine<'l> {
         ensures advances { Advances (still_of self.old) (work_of (still_of self.old) self.old) result self.new }
         ensures nested { IfOk result (λ event. IsNested self.new) }
     {
-        let Some((token, size)) = self.routine.token()? else {
+        let Some((token, size)) = routine::next_token(&mut self.routine)? else {
             return Ok(self.leave());
         };
         match token {
@@ -231,7 +230,7 @@ impl<'l> Machine<'l> {
         ensures nested { OnOk result (IsNested self.new) }
         ensures refused { IfErr result (λ e. (e ≡ cases.Memory) × (limit.new ≡ limit.old)) }
     {
-        let left = self.routine.numbers(&mut self.state.stack, *limit)?;
+        let left = routine::numbers(&mut self.routine, &mut self.state.stack, *limit)?;
         *limit = left;
         Ok(())
     }

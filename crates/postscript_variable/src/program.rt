@@ -8,17 +8,9 @@ ghost use Rattle.postscript_variable.specs.Programs.{ended, failed};
 
 use crate::machine::Machine;
 use postscript_base::{Error, Result};
+use postscript_type2::shared::Phase;
 use postscript_type2::{Operand, Operator};
 use std::marker::Model;
-
-/// How far a program has come.
-#[derive(Clone, Copy)]
-pub(crate) enum Phase {
-    Running,
-    Paused,
-    Ended,
-    Failed,
-}
 
 /// A program: a charstring of CFF2 that is run, one operation at a time.
 #[derive(Drop)]
@@ -38,7 +30,7 @@ impl<'l> Model for Program<'l> {
 
     ghost use Rattle.std.specs.Prelude.{◌≡◌};
     ghost use Rattle.postscript_variable.specs.Private.Machines.{IsNested};
-    ghost use Rattle.postscript_variable.specs.declared.program.Phase.TheVariants as phases;
+    ghost use Rattle.postscript_type2.specs.declared.program.Phase.TheVariants as phases;
 
     ghost invariant = { λ program. (program.phase ≡ phases.Running → IsNested program.machine) ×
         (program.phase ≡ phases.Paused → IsNested program.machine) };

@@ -1,17 +1,14 @@
 //! A routine: code, and the place that is reached in it.
 ghost use Rattle.std.specs.Option.{ok_or};
 ghost use Rattle.std.specs.Prelude.{◌≡◌, ◌∷◌, ◌+◌, ◌-◌, ◌<◌, ◌≤◌, ◌^◌, OnOk, IfOk, IfErr, IfSome, length, take, drop, option_map};
-ghost use Rattle.postscript_type2.specs.Private.Alone.{is_alone as the_is_alone};
-ghost use Rattle.postscript_type2.specs.Program.Parsing.{is_number};
-ghost use Rattle.postscript_variable.specs.declared.refused.Refused.TheVariants as cases;
+ghost use Rattle.postscript_type2.specs.declared.refused.Refused.TheVariants as cases;
 ghost use Rattle.postscript_variable.specs.Commands.{command_of};
 ghost use Rattle.postscript_variable.specs.Private.Numbers.{IsNumberAt, PutsNumbers};
 ghost use Rattle.postscript_variable.specs.Private.Working.{EndsAt, ReadsTokenAt, ReadsFront};
 
 use crate::command::Command;
-use crate::refused::{Refused, Result};
+use postscript_type2::shared::{Refused, Result, Routine, begins_number, is_alone, make_room};
 use postscript_type2::{Operand, number};
-use std::marker::Model;
 
 /// What is read at a place, and the place behind it.
 type At<T> = (T, usize);
@@ -21,23 +18,6 @@ type At<T> = (T, usize);
 pub(crate) enum Token {
     Number(i32),
     Operator(Command),
-}
-
-/// A routine, seen as its bytes that are not read yet.
-#[derive(Drop)]
-pub(crate) struct Routine<'l> {
-    code: &'l [u8],
-    place: usize,
-}
-
-impl<'l> Model for Routine<'l> {
-    ghost use Rattle.std.specs.Prelude.{ℕ, List, ◌≤◌, length, drop};
-
-    ghost Value = { List ℕ };
-
-    ghost view = { λ routine. drop routine.place routine.code.now };
-
-    ghost invariant = { λ routine. routine.place ≤ length routine.code.now };
 }
 
 /// The operator of a code, which ends just before a place.
@@ -67,14 +47,6 @@ fn command_at(code: &[u8], first: u8, place: usize) -> Result<At<Command>>
     }
 }
 
-/// Whether a number begins with this byte.
-#[inline(always)]
-fn begins_number(first: u8) -> bool
-    ensures { result ≡ is_number first }
-{
-    first > 0x1f || first == 0x1c
-}
-
 /// Reads the number or the operator that stands at a place, where its first byte is this one.
 #[inline(always)]
 fn token_at(code: &[u8], first: u8, place: usize) -> Result<At<Token>>
@@ -97,28 +69,8 @@ fn token_at(code: &[u8], first: u8, place: usize) -> Result<At<Token>>
 /// How many operands a stack holds ("CFF2 CharString Implementation Limits").
 pub(crate) const OPERANDS: usize = 513;
 
-/// For how many operands a stack takes memory at once, before its first one: few glyphs have more at a time.
+/// For how many operands a stack takes memory at once, before its first one.
 const ROOM: usize = 256;
-
-/// Takes memory for operands, where a stack has none yet.
-#[inline(always)]
-fn make_room(stack: &mut Vec<Operand>) -> Result<()>
-    ensures ok { OnOk result (stack.new.items ≡ stack.old.items) }
-    ensures err { IfErr result (λ e. e ≡ cases.Memory) }
-{
-    if stack.capacity() == 0 {
-        stack.reserve(ROOM)?;
-    }
-    Ok(())
-}
-
-/// Whether a byte is a number by itself, as most are ("CharString Encoding").
-#[inline(always)]
-fn is_alone(first: u8) -> bool
-    ensures { result ≡ the_is_alone first }
-{
-    32 <= first && first < 247
-}
 
 /// The number that stands at a place, and the place behind it. None where an operator stands there, or nothing that is whole.
 #[inline(always)]
@@ -173,60 +125,47 @@ fn numbers_at(code: &[u8], place: usize, stack: &mut Vec<Operand>, limit: u64) -
     Ok(next)
 }
 
-impl<'l> Routine<'l> {
-    pub(crate) fn new(code: &'l [u8]) -> Self
-        ensures { result ≡ code.now }
-    {
-        Routine { code, place: 0 }
-    }
+/// Takes so many bytes, which are there.
+#[inline(always)]
+pub(crate) fn take<'l>(routine: &mut Routine<'l>, count: usize) -> &'l [u8]
+    requires { count ≤ length routine.old }
+    ensures taken { result.now ≡ take count routine.old }
+    ensures left { routine.new ≡ drop count routine.old }
+{
+    let (code, place) = routine.reached();
+    *routine = Routine::at(code, place + count);
+    &code[place..place + count]
+}
 
-    /// How many bytes are not read yet.
-    #[inline(always)]
-    pub(crate) fn len(&self) -> usize
-        ensures { result ≡ length self.now }
-    {
-        self.code.len() - self.place
-    }
+/// Reads what stands at the front, and how many bytes it has, if bytes are left.
+#[inline(always)]
+pub(crate) fn next_token(routine: &mut Routine<'_>) -> Result<Option<(Token, usize)>>
+    ensures reads { ReadsFront routine.old result routine.new }
+    ensures room { IfOk result (λ token. IfSome token (λ read. read.1 + length routine.new < 2 ^ 63)) }
+{
+    let (code, place) = routine.reached();
+    let Some(first) = code.get(place) else {
+        return Ok(None);
+    };
+    let (token, next) = token_at(code, *first, place)?;
+    *routine = Routine::at(code, next);
+    Ok(Some((token, next - place)))
+}
 
-    /// Takes so many bytes, which are there.
-    #[inline(always)]
-    pub(crate) fn take(&mut self, count: usize) -> &'l [u8]
-        requires { count ≤ length self.old }
-        ensures taken { result.now ≡ take count self.old }
-        ensures left { self.new ≡ drop count self.old }
-    {
-        let code = self.code;
-        let place = self.place;
-        self.place = place + count;
-        &code[place..place + count]
-    }
-
-    /// Reads what stands at the front, and how many bytes it has, if bytes are left.
-    #[inline(always)]
-    pub(crate) fn token(&mut self) -> Result<Option<(Token, usize)>>
-        ensures reads { ReadsFront self.old result self.new }
-        ensures room { IfOk result (λ token. IfSome token (λ read. read.1 + length self.new < 2 ^ 63)) }
-    {
-        let Some(first) = self.code.get(self.place) else {
-            return Ok(None);
-        };
-        let (token, place) = token_at(self.code, *first, self.place)?;
-        let size = place - self.place;
-        self.place = place;
-        Ok(Some((token, size)))
-    }
-
-    /// Puts the numbers at the front onto the stack, one after another, while it has room and the limit lasts. Answers what is left of
-    /// the limit.
-    #[inline(always)]
-    pub(crate) fn numbers(&mut self, stack: &mut Vec<Operand>, limit: u64) -> Result<u64>
-        ensures puts { IfOk result (λ left. PutsNumbers self.old stack.old.items limit self.new stack.new.items left) }
-        ensures refused { IfErr result (λ e. e ≡ cases.Memory) }
-    {
-        make_room(stack)?;
-        let next = numbers_at(self.code, self.place, stack, limit)?;
-        let left = limit.saturating_sub((next - self.place) as u64);
-        self.place = next;
-        Ok(left)
-    }
+/// Puts the numbers at the front onto the stack, one after another, while it has room and the limit lasts. Answers what is left of
+/// the limit.
+#[inline(always)]
+pub(crate) fn numbers(
+    routine: &mut Routine<'_>,
+    stack: &mut Vec<Operand>,
+    limit: u64,
+) -> Result<u64>
+    ensures puts { IfOk result (λ left. PutsNumbers routine.old stack.old.items limit routine.new stack.new.items left) }
+    ensures refused { IfErr result (λ e. e ≡ cases.Memory) }
+{
+    make_room(stack, ROOM)?;
+    let (code, place) = routine.reached();
+    let next = numbers_at(code, place, stack, limit)?;
+    *routine = Routine::at(code, next);
+    Ok(limit.saturating_sub((next - place) as u64))
 }

@@ -5,20 +5,19 @@ ghost use Rattle.postscript_base.specs.Error.{IsListed};
 ghost use Rattle.postscript_base.specs.Refusal.{refusal_of};
 ghost use Rattle.postscript_type2.specs.Operation.Kinds.{kind};
 ghost use Rattle.postscript_type2.specs.Program.Effects.{last_of};
-ghost use Rattle.postscript_variable.specs.declared.refused.Refused.TheVariants as cases;
+ghost use Rattle.postscript_type2.specs.declared.refused.Refused.TheVariants as cases;
 ghost use Rattle.postscript_variable.specs.Effects.{State as ProgramState};
 ghost use Rattle.postscript_variable.specs.Endings.{sayings_refusals};
 ghost use Rattle.postscript_variable.specs.Meaning.{UsedUp, Stopped};
 ghost use Rattle.postscript_variable.specs.Private.Machines.{IsNested, still_of};
-ghost use Rattle.postscript_variable.specs.Private.Refused.{reason};
+ghost use Rattle.postscript_type2.specs.Refused.{reason};
 ghost use Rattle.postscript_variable.specs.Sayings.{implied_by, said};
 ghost use Rattle.postscript_variable.specs.Told.{Says, StopsWith, said_of};
 
 use crate::charstring::Charstring;
 use crate::machine::{Event, Machine};
-use crate::refused;
 use postscript_base::{Error, Result};
-use postscript_type2::{Operand, Operator};
+use postscript_type2::{Operand, Operator, shared};
 use std::alloc::Global;
 
 /// An operator that is answered, with all that it says: its operands, and the hints of a mask.
@@ -36,7 +35,7 @@ pub struct Saying<'l> {
 
 impl<'l> Machine<'l> {
     /// The last so many operands on the stack, copied.
-    fn copied(&self, alloc: Global, count: usize) -> refused::Result<Vec<Operand>>
+    fn copied(&self, alloc: Global, count: usize) -> shared::Result<Vec<Operand>>
         ensures ok { IfOk result (λ operands. operands.items ≡ last_of self.now.state.stack.items count) }
         ensures err { IfErr result (λ e. e ≡ cases.Memory) }
     {
@@ -45,7 +44,7 @@ impl<'l> Machine<'l> {
     }
 
     /// The operands of the stems that an operator implies.
-    fn stems(&self, alloc: Global, operator: Operator) -> refused::Result<Vec<Operand>>
+    fn stems(&self, alloc: Global, operator: Operator) -> shared::Result<Vec<Operand>>
         ensures ok { IfOk result (λ stems. stems.items ≡ implied_by (kind operator) self.now.state.stack.items) }
         ensures err { IfErr result (λ e. e ≡ cases.Memory) }
     {
@@ -63,7 +62,7 @@ impl<'l> Machine<'l> {
         operator: Operator,
         count: usize,
         mask: &'l [u8],
-    ) -> refused::Result<Saying<'l>>
+    ) -> shared::Result<Saying<'l>>
         ensures ok { let stack = self.now.state.stack.items in
             IfOk result (λ saying. said_of saying ≡ said operator stack (last_of stack count) mask.now) }
         ensures err { IfErr result (λ e. e ≡ cases.Memory) }
@@ -78,7 +77,7 @@ impl<'l> Machine<'l> {
 }
 
 /// All that a machine still says.
-fn all_sayings<'l>(alloc: Global, machine: &mut Machine<'l>) -> refused::Result<Vec<Saying<'l>>>
+fn all_sayings<'l>(alloc: Global, machine: &mut Machine<'l>) -> shared::Result<Vec<Saying<'l>>>
     requires { IsNested machine.old }
     ensures told { IfOk result (λ sayings. map said_of sayings.items ≡ (still_of machine.old).says) }
     ensures faultless { OnOk result ((last : ProgramState) × ((still_of machine.old).end ≡ UsedUp last)) }

@@ -1,16 +1,14 @@
 //! What an operator does with the stack.
-ghost use Rattle.std.specs.Prelude.{◌≡◌, ◌≤◌, ◌*◌, ◌^◌, ℕ, suc, List, length, nat_lt, Ok, Err, IfOk, if◌then◌else◌};
-ghost use Rattle.postscript_variable.specs.declared.refused.Refused.TheVariants as cases;
+ghost use Rattle.std.specs.Prelude.{◌≡◌, ◌≤◌, ◌*◌, ℕ, suc, List, length, nat_lt, IfOk};
 ghost use Rattle.postscript_type2.specs.Program.Charstrings.{lists_of};
-ghost use Rattle.postscript_type2.specs.Program.StackWork.{whole_operand as the_whole_operand};
-ghost use Rattle.postscript_variable.specs.Effects.{effect, path_move, stem_move, mask_move, answer_move, index_move, blend_over, call_move, stems_after as the_stems_after};
+ghost use Rattle.postscript_variable.specs.Effects.{effect, path_move, stem_move, mask_move, answer_move, index_move, blend_over, call_move};
 ghost use Rattle.postscript_type2.specs.Operation.Kinds.{kind};
 ghost use Rattle.postscript_variable.specs.Programs.{tables_of};
-ghost use Rattle.postscript_variable.specs.Private.Working.{font_of, state_of, mask_of, Performs, Does, Leaves};
+ghost use Rattle.postscript_variable.specs.Private.Working.{font_of, state_of, mask_of, Does, Leaves};
 
 use crate::blend::blend;
 use crate::command::Command;
-use crate::refused::{Refused, Result};
+use postscript_type2::shared::{Refused, Result, stems_after, whole_operand};
 use postscript_type2::{Operand, Operator, Subroutines};
 
 /// What a charstring is run over: the subroutines, and the scalars of the regions of each item variation data.
@@ -38,20 +36,6 @@ pub(crate) enum Effect<'l> {
     Calls(&'l [u8]),
 }
 
-/// The whole number on top, which is popped.
-#[inline(always)]
-fn whole_operand(stack: &mut Vec<Operand>) -> Result<i16>
-    ensures { Performs the_whole_operand stack.old.items result stack.new.items }
-{
-    let Some(top) = stack.pop() else {
-        return Err(Refused::ExpectedInteger);
-    };
-    match top.to_int() {
-        Some(number) => Ok(number),
-        None => Err(Refused::ExpectedInteger),
-    }
-}
-
 /// Whether operands are fewer than n defaults and a delta of each for each region.
 #[inline(always)]
 fn has_fewer(operands: usize, n: usize, regions: usize) -> bool
@@ -61,20 +45,6 @@ fn has_fewer(operands: usize, n: usize, regions: usize) -> bool
 }
 
 impl<'l> State<'l> {
-    /// The stems, where each two operands of the stack are one more.
-    #[inline(always)]
-    fn stems_after(&self) -> Result<u32>
-        ensures { let stems = the_stems_after (state_of self.now) in
-            result ≡ (if nat_lt stems (2 ^ 32) then Ok stems else Err cases.TooManyStems) }
-    {
-        let stems = self.stems;
-        let more = self.stack.len() / 2;
-        if more > (u32::MAX - stems) as usize {
-            return Err(Refused::TooManyStems);
-        }
-        Ok(stems + more as u32)
-    }
-
     /// An operator that draws.
     fn path(&mut self, operator: Operator) -> Result<Effect<'l>>
         ensures value { Does (path_move operator (state_of self.old)) result self.new }
@@ -94,7 +64,7 @@ impl<'l> State<'l> {
         ensures room { IfOk result (λ effect. mask_of effect ≡ 0) }
         ensures stays { IfOk result (λ effect. Leaves effect self.old.stack.items self.new.stack.items) }
     {
-        let stems = self.stems_after()?;
+        let stems = stems_after(self.stems, self.stack.len())?;
         let Some(count) = operator.taken(self.stack.len()) else {
             return Err(Refused::MalformedOperands);
         };
@@ -109,7 +79,7 @@ impl<'l> State<'l> {
         ensures room { IfOk result (λ effect. mask_of effect ≤ behind) }
         ensures stays { IfOk result (λ effect. Leaves effect self.old.stack.items self.new.stack.items) }
     {
-        let stems = self.stems_after()?;
+        let stems = stems_after(self.stems, self.stack.len())?;
         let mask = (stems as usize).div_ceil(8);
         if behind < mask {
             return Err(Refused::UnexpectedEof);

@@ -8,9 +8,10 @@ ghost use Rattle.postscript_variable.specs.Programs.{ended, failed};
 ghost use Rattle.postscript_variable.specs.Within.{LendsWithin, IsHeadWithin};
 
 use crate::machine::Reach;
-use crate::program::{Phase, Program};
+use crate::program::Program;
 use postscript_base::{Error, Result};
 use postscript_type2::Within;
+use postscript_type2::shared::Phase;
 
 impl<'l> Program<'l> {
     /// The next operation, as `step` lends it, where the limit lasts up to it. Each number and each operator that is read takes

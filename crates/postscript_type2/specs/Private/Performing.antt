@@ -3,7 +3,7 @@ use Rattle.std.specs.Prelude.{◌≡◌, ◌⊎◌, ℤ, List, Option, Some, Non
 use Rattle.postscript_type2.specs.declared.refused.Refused.{Refused}
 use Rattle.postscript_type2.specs.declared.refused.Refused.TheVariants.{Memory}
 use Rattle.postscript_base.specs.Refusal.{Refusal}
-use Rattle.postscript_type2.specs.Private.Refused.{reason}
+use Rattle.postscript_type2.specs.Refused.{reason}
 use Rattle.postscript_type2.specs.Operation.Kinds.{Kind, Draws, IsRefused, Stores, Works}
 use Rattle.postscript_type2.specs.Program.StackWork.{Work}
 

@@ -1,7 +1,7 @@
 -- Readings of a slice at a place.
 use Rattle.std.specs.Prelude.{◌≡◌, ℕ, Result, Ok, Err}
 use Rattle.postscript_type2.specs.declared.refused.Refused.{Refused}
-use Rattle.postscript_type2.specs.Private.Refused.{reason}
+use Rattle.postscript_type2.specs.Refused.{reason}
 use Rattle.postscript_base.specs.Tape.Outcome.{Outcome, Got, Fault}
 
 -- the value and the next place are the outcome's, and so is the refusal

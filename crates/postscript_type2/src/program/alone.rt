@@ -1,6 +1,6 @@
 //! Numbers of one byte, eight bytes at a time.
 ghost use Rattle.std.specs.List.{prefix_len};
-ghost use Rattle.std.specs.Prelude.{◌≡◌, ◌≤◌, ◌+◌, ◌∷◌, ◌++◌, true, length, take, drop, map, IfOk, IfErr};
+ghost use Rattle.std.specs.Prelude.{◌≡◌, ◌≤◌, ◌+◌, ◌∷◌, ◌++◌, ◌&&◌, nat_lt, true, length, take, drop, map, IfOk, IfErr};
 ghost use Rattle.postscript_type2.specs.declared.refused.Refused.TheVariants as cases;
 ghost use Rattle.postscript_type2.specs.Private.Alone.{alone as the_alone, is_alone as the_is_alone, PutsAlone};
 
@@ -11,10 +11,10 @@ use std::simd::prelude::*;
 /// How many bytes are looked at at once.
 const AT_ONCE: usize = 8;
 
-/// Whether a byte is a number by itself, as most are (Technical Note 5177, "Charstring Number Encoding").
+/// Whether a byte is a number by itself, as most are (Technical Note 5177, "Charstring Number Encoding"). Never refused.
 #[inline(always)]
-pub(super) fn is_alone(first: u8) -> bool
-    ensures { result ≡ the_is_alone first }
+pub fn is_alone(first: u8) -> bool
+    ensures { result ≡ (nat_lt 0x1f first && nat_lt first 0xf7) }
 {
     32 <= first && first < 247
 }

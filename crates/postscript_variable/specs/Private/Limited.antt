@@ -1,7 +1,7 @@
 -- What the machine of a program does within its limit.
 use Rattle.std.specs.Prelude.{◌≡◌, ◌⊎◌, ◌<◌, ◌≤◌, ℕ, List, [], Some, None, Result, Ok, Err}
-use Rattle.postscript_variable.specs.declared.refused.Refused.{Refused}
-use Rattle.postscript_variable.specs.declared.refused.Refused.TheVariants.{Memory}
+use Rattle.postscript_type2.specs.declared.refused.Refused.{Refused}
+use Rattle.postscript_type2.specs.declared.refused.Refused.TheVariants.{Memory}
 use Rattle.postscript_variable.specs.declared.machine.Machine.{Machine}
 use Rattle.postscript_variable.specs.declared.machine.Reach.{Reach}
 use Rattle.postscript_variable.specs.declared.machine.Reach.TheVariants as reaches

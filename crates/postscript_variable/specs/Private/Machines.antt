@@ -7,43 +7,43 @@ use Rattle.postscript_variable.specs.declared.machine.Cost.{Cost}
 use Rattle.postscript_variable.specs.declared.machine.Event.{Event}
 use Rattle.postscript_variable.specs.declared.machine.Event.TheVariants as events
 use Rattle.postscript_variable.specs.declared.machine.Machine.{Machine}
-use Rattle.postscript_variable.specs.declared.refused.Refused.{Refused}
-use Rattle.postscript_variable.specs.declared.refused.Refused.TheVariants.{Memory}
+use Rattle.postscript_type2.specs.declared.refused.Refused.{Refused}
+use Rattle.postscript_type2.specs.declared.refused.Refused.TheVariants.{Memory}
 use Rattle.postscript_variable.specs.Costs.{cost_beside}
 use Rattle.postscript_variable.specs.Effects.{State, cleared, effect}
 use Rattle.postscript_variable.specs.Evaluation.{Run, at_end, with_step, with_answer}
 use Rattle.postscript_variable.specs.Meaning.{UsedUp, Stopped, answer}
-use Rattle.postscript_variable.specs.Private.Refused.{reason}
+use Rattle.postscript_type2.specs.Refused.{reason}
 use Rattle.postscript_variable.specs.Private.Remaining.{still, still_number, still_moved}
-use Rattle.postscript_variable.specs.Private.Working.{font_of, state_of, rests}
+use Rattle.postscript_variable.specs.Private.Working.{font_of, state_of}
 use Rattle.postscript_variable.specs.Sayings.{said}
 
 -- ten calls may nest, and those that do are the callers
 abbrev pub IsNested : Machine → Type 0
-IsNested machine = machine.left + length (rests machine.callers) ≡ 10
+IsNested machine = machine.left + length machine.callers ≡ 10
 
 abbrev pub still_of : Machine → Run
-still_of machine = still (font_of machine.font) machine.left machine.routine (rests machine.callers) (state_of machine.state)
+still_of machine = still (font_of machine.font) machine.left machine.routine machine.callers (state_of machine.state)
 
 -- what it still answers once the stack is cleared
 abbrev pub still_emptied : Machine → Run
 still_emptied machine =
-    still (font_of machine.font) machine.left machine.routine (rests machine.callers) (cleared machine.state.stems (state_of machine.state))
+    still (font_of machine.font) machine.left machine.routine machine.callers (cleared machine.state.stems (state_of machine.state))
 
 -- what it still answers where it has just read a number, and an operator, of so many bytes
 abbrev pub still_with : Machine → (size : ℕ) → ℤ → Run
 still_with machine size x =
-    still_number (font_of machine.font) machine.left machine.routine (rests machine.callers) (state_of machine.state) size x
+    still_number (font_of machine.font) machine.left machine.routine machine.callers (state_of machine.state) size x
 
 abbrev pub still_by : Machine → (size : ℕ) → Command → Run
 still_by machine size command =
     let st = state_of machine.state in
-    still_moved (font_of machine.font) machine.left machine.routine (rests machine.callers) st.stack
+    still_moved (font_of machine.font) machine.left machine.routine machine.callers st.stack
     (size + cost_beside command st.stack) (effect (font_of machine.font) command machine.routine st)
 
 -- what falls with each event: a call costs something, and adds a caller
 abbrev pub work_of : Run → Machine → ℕ
-work_of run machine = 2 * length run.costs + length (rests machine.callers)
+work_of run machine = 2 * length run.costs + length machine.callers
 
 -- what an event costs
 abbrev pub cost_of : Cost → ℕ

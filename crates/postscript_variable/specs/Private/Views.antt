@@ -1,6 +1,6 @@
 -- What a program still answers, by its fields.
-use Rattle.postscript_variable.specs.declared.program.Phase.{Phase}
-use Rattle.postscript_variable.specs.declared.program.Phase.TheVariants as phases
+use Rattle.postscript_type2.specs.declared.program.Phase.{Phase}
+use Rattle.postscript_type2.specs.declared.program.Phase.TheVariants as phases
 use Rattle.postscript_variable.specs.declared.machine.Machine.{Machine}
 use Rattle.postscript_variable.specs.Private.Machines.{still_of, still_emptied}
 use Rattle.postscript_variable.specs.Programs.{Pending, begun, ended, failed}

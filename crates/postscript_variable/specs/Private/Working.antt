@@ -1,12 +1,9 @@
 -- What the code of operators does, as moves.
-use Rattle.std.specs.Prelude.{◌≡◌, ◌+◌, ◌*◌, ◌-◌, ℕ, suc, ℤ, List, [], ◌∷◌, ◌++◌, reverse, drop, take, length, Option, Some, None, option_map, Result, Ok, Err}
-use Rattle.postscript_base.specs.Refusal.{Refusal}
+use Rattle.std.specs.Prelude.{◌≡◌, ◌+◌, ◌*◌, ◌-◌, ℕ, suc, ℤ, List, [], ◌∷◌, ◌++◌, drop, take, length, Option, Some, None, option_map, Result, Ok, Err}
 use Rattle.postscript_type2.specs.Program.Effects.{last_of}
 use Rattle.postscript_type2.specs.Program.Charstrings.{lists_of}
-use Rattle.postscript_type2.specs.Program.StackWork.{Work}
-use Rattle.postscript_variable.specs.declared.callers.Callers.{Callers}
 use Rattle.postscript_variable.specs.declared.command.Command.{Command}
-use Rattle.postscript_variable.specs.declared.refused.Refused.{Refused}
+use Rattle.postscript_type2.specs.declared.refused.Refused.{Refused}
 use Rattle.postscript_variable.specs.declared.routine.Token as code_token
 use Rattle.postscript_variable.specs.declared.routine.Token.TheVariants as tokens
 use Rattle.postscript_variable.specs.declared.state.Effect.{Effect}
@@ -15,7 +12,7 @@ use Rattle.postscript_variable.specs.declared.state.State as code
 use Rattle.postscript_variable.specs.declared.state.Font as code_font
 use Rattle.postscript_variable.specs.Blending.{values}
 use Rattle.postscript_variable.specs.Effects.{Font, State, Move, Keeps, Clears, Calls, Refuses, cleared}
-use Rattle.postscript_variable.specs.Private.Refused.{reason}
+use Rattle.postscript_type2.specs.Refused.{reason}
 use Rattle.postscript_variable.specs.Programs.{tables_of}
 use Rattle.postscript_variable.specs.Tokens.{Token, Number, Operator, NoToken, commanded, token}
 
@@ -29,10 +26,6 @@ state_of st = record {
   scalars = option_map (λ scalars. scalars.now) st.scalars;
   is_blended = st.is_blended;
 }
-
--- the rests of the callers, the innermost first: they are kept the outermost first
-abbrev pub rests : Callers → List (List ℕ)
-rests callers = reverse callers.frames.items
 
 -- an operator that a first byte begins, and the place behind it, where its second byte would stand at a place
 abbrev pub EndsAt : (first : ℕ) → (behind : List ℕ) → (place : ℕ) → Result (Command × ℕ) Refused → Type 0
@@ -55,15 +48,6 @@ ReadsFront old (Ok None) new = (old ≡ []) × (new ≡ [])
 ReadsFront old (Ok (Some read)) new = (first : ℕ) × (behind : List ℕ) × (more : ℕ) × (old ≡ first ∷ behind) ×
     (token first behind ≡ token_of read.0 more) × (read.1 ≡ suc more) × (new ≡ drop more behind)
 ReadsFront old (Err e) new = (first : ℕ) × (behind : List ℕ) × (old ≡ first ∷ behind) × (token first behind ≡ NoToken (reason e))
-
--- the code gives what it is to give, or refuses likewise
-abbrev pub Gives : {A : Type 0} → Result A Refusal → Result A Refused → Type 0
-Gives wanted (Ok x) = wanted ≡ Ok x
-Gives wanted (Err e) = wanted ≡ Err (reason e)
-
-abbrev pub Performs : {A : Type 0} → Work A → List ℤ → Result A Refused → List ℤ → Type 0
-Performs work old (Ok x) new = work old ≡ Ok (x, new)
-Performs work old (Err e) new = work old ≡ Err (reason e)
 
 -- the values stand in place of the defaults
 abbrev pub BlendsEach : (defaults deltas : List ℤ) → (scalars : List ℕ) → Result (Unit {0}) Refused → List ℤ → Type 0

@@ -1,6 +1,6 @@
 use Rattle.std.proofs.Common.{◌≡◌, option_map, drop}
 use Rattle.std.specs.Option.{ok_or}
-use Rattle.postscript_variable.specs.declared.refused.Refused.TheVariants.{UnknownOperator}
+use Rattle.postscript_type2.specs.declared.refused.Refused.TheVariants.{UnknownOperator}
 use Rattle.postscript_variable.specs.Commands.{command_of}
 use Rattle.postscript_variable.proofs.Reading.{operator-one}
 use Rattle.postscript_variable.proofs.routine.command_at.Goals as goal

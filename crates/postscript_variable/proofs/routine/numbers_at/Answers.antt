@@ -1,4 +1,4 @@
-use Rattle.std.proofs.Common.{◌-◌, ap, List, [], ◌∷◌, drop, length, length-append, arith}
+use Rattle.std.proofs.Common.{◌-◌, ap, [], ◌∷◌, drop, length, length-append, arith}
 use Rattle.postscript_variable.specs.Private.Numbers.{none}
 use Rattle.postscript_variable.proofs.Numbers.{nothing-passed, put-more}
 use Rattle.postscript_variable.proofs.routine.numbers_at.Goals as goal

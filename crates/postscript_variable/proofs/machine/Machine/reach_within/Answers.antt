@@ -1,7 +1,8 @@
 use Rattle.std.proofs.Common.{ap, sym, ◌∙◌, subst, Ok}
 use Rattle.postscript_variable.specs.Evaluation.{Run}
 use Rattle.postscript_variable.specs.Private.Machines.{Advances, still_of, work_of}
-use Rattle.postscript_variable.proofs.Limit.{paid, falls-so}
+use Rattle.postscript_type2.proofs.Limit.{falls-so}
+use Rattle.postscript_variable.proofs.Limit.{paid}
 use Rattle.postscript_variable.proofs.Passing.{at-first, passes-on, goes-back, goes-on, used-up, refused}
 use Rattle.postscript_variable.proofs.machine.Machine.reach_within.Goals as goal
 

@@ -1,5 +1,5 @@
 use Rattle.std.proofs.Common.{◌≡◌, arith, rules, refl}
-use Rattle.postscript_variable.specs.declared.program.Phase.TheVariants as phases
+use Rattle.postscript_type2.specs.declared.program.Phase.TheVariants as phases
 use Rattle.postscript_variable.specs.Private.Machines.{still_of, still_emptied}
 use Rattle.postscript_variable.specs.Programs.{begun}
 use Rattle.postscript_variable.proofs.EndingLaws.{machine-ends}

@@ -1,5 +1,5 @@
 use Rattle.std.proofs.Common.{◌≡◌, ap, subst, sym, arith, rules, refl, Ok}
-use Rattle.postscript_variable.specs.declared.program.Phase.TheVariants as phases
+use Rattle.postscript_type2.specs.declared.program.Phase.TheVariants as phases
 use Rattle.postscript_variable.specs.Limit.{Spends}
 use Rattle.postscript_variable.specs.Private.Limited.{ReachesWithin}
 use Rattle.postscript_variable.specs.Private.Machines.{still_of, still_emptied}

@@ -1,7 +1,7 @@
 use Rattle.std.proofs.lemmas.Result.{err_from_is_err_and}
 use Rattle.std.proofs.Common.{sym, ◌∙◌}
 use Rattle.postscript_variable.proofs.Bytes.{front-at}
-use Rattle.postscript_variable.proofs.routine.Routine.token.Goals as goal
+use Rattle.postscript_variable.proofs.routine.next_token.Goals as goal
 
 pub returns-in_err-token : goal.returns-in_err-token
 returns-in_err-token c =
@@ -11,7 +11,7 @@ returns-in_err-token c =
       reads = (
         c.in-Some.first.now,
         _,
-        sym c.self.view_is ∙ front-at c.self.inside.code.now c.self.inside.place c.in-Some.first.now there.3.0 there.1,
+        sym c.reached-place.ensures.rest ∙ front-at c.reached-place.result.0.now c.reached-place.result.1 c.in-Some.first.now there.3.0 there.1,
         c.in_err-token.ensures.exact,
       );
       room = tt;
