@@ -1,31 +1,16 @@
 -- How far blended values at a place are from the exact ones.
-use Rattle.std.proofs.Common.{◌≡◌, ap, sym, subst, ◌∙◌, ◌⊎◌, inl, inr, ℕ, suc, ◌+◌, ◌*◌, ◌/◌, ◌<◌, ◌≤◌, nat_lt, if◌then◌else◌, ℤ, pos, negsuc, neg_ℤ, ◌+ℤ◌, ◌*ℤ◌, ◌≤ℤ◌, List, [], ◌∷◌, length, slice_get, Some, unsigned_abs, arith}
-use Rattle.std.proofs.lemmas.Bool.Decides.{nat_tests}
+use Rattle.std.proofs.Common.{◌≡◌, ap, sym, subst, ◌∙◌, ℕ, suc, ◌+◌, ◌*◌, ◌/◌, ◌<◌, ◌≤◌, ℤ, pos, negsuc, neg_ℤ, ◌+ℤ◌, ◌*ℤ◌, List, [], ◌∷◌, length, slice_get, Some, unsigned_abs, arith}
 use Rattle.std.proofs.lemmas.Int.{ints}
 use Rattle.std.proofs.Math.Nat.{mul-le-mul_right, mul-pos}
-use borrow.Author.Differences.{up, down}
 use Rattle.postscript_variable.specs.Blending.{scaled, sum_of}
 use Rattle.postscript_variable.proofs.BlendLaws.{above-zero, below-zero}
 use Rattle.postscript_variation.specs.ScalarLaws.{IsWithinHalves}
-use Rattle.postscript_variation.specs.Lent.{region_of, scalar_at}
+use Rattle.postscript_variation.specs.Lent.{scalar_at}
+use Rattle.postscript_variation.specs.SumLaws.{IsNear}
 use Rattle.postscript_variation.specs.declared.store.Data.{Data}
-use Rattle.postscript_variation.proofs.NearScalars as regions
-use Rattle.postscript_variable_font.specs.Nearness.{IsExactScalar, of_region, of_none, IsExactSum, none, more, IsNear, BlendsAreNear, ExactSumsAre}
-
--- ---- one region
-
-listed : (region count s : ℕ) → region < count → (if nat_lt region count then s else 0) ≡ s
-listed region count s h = grind (arith, nat_tests)
-
-unlisted : (region count s : ℕ) → count ≤ region → (if nat_lt region count then s else 0) ≡ 0
-unlisted region count s h = grind (arith, nat_tests)
-
-scalar-near : (table : Data) (coordinates : List ℤ) (j part whole rounded : ℕ) → IsExactScalar table coordinates j part whole rounded →
-    IsWithinHalves (scalar_at table coordinates j) part whole rounded
-scalar-near table coordinates j part whole rounded (of_region _ _ _ there is) =
-    subst (λ s. IsWithinHalves s part whole rounded) (sym (listed (region_of table j) table.regions.count _ there)) (regions.near _ _ _ _ _ _ part whole rounded is)
-scalar-near table coordinates j _ _ _ (of_none past) =
-    subst (λ s. IsWithinHalves s 0 1 0) (sym (unlisted (region_of table j) table.regions.count _ past)) (record { some = omega arith; above = omega arith; below = omega arith })
+use Rattle.postscript_variation.proofs.Fractions.{above, below, opposite}
+use Rattle.postscript_variation.proofs.NearSums.{exact_scalar, scalar_near}
+use Rattle.postscript_variable_font.specs.Nearness.{IsExactSum, none, more, BlendsAreNear, ExactSumsAre}
 
 -- ---- a delta times a scalar that is near
 
@@ -41,28 +26,6 @@ from-size size m scalar part whole rounded high low near =
 size-near : (m scalar part whole rounded : ℕ) → IsWithinHalves scalar part whole rounded →
     IsNear (pos ((m * scalar + 32768) / 65536)) (pos (m * part)) whole (65536 + m * rounded)
 size-near m scalar part whole rounded near = from-size ((m * scalar + 32768) / 65536) m scalar part whole rounded (omega arith) (omega arith) near
-
--- products of whole numbers
-opposite : (a : ℤ) (k : ℕ) → neg_ℤ a *ℤ pos k ≡ neg_ℤ (a *ℤ pos k)
-opposite a k =
-    let other : up (neg_ℤ a) + up a ≡ down (neg_ℤ a) + down a = omega (arith, ints) in
-    let scaled-so = ap (λ n. n * k) other in
-    omega (arith, ints, scaled-so)
-
-distribute : (a b : ℤ) (k : ℕ) → (a +ℤ b) *ℤ pos k ≡ (a *ℤ pos k) +ℤ (b *ℤ pos k)
-distribute a b k =
-    let sum : up (a +ℤ b) + (down a + down b) ≡ down (a +ℤ b) + (up a + up b) = omega (arith, ints) in
-    let scaled-so = ap (λ n. n * k) sum in
-    omega (arith, ints, scaled-so)
-
-associate : (a : ℤ) (j k : ℕ) → (a *ℤ pos j) *ℤ pos k ≡ a *ℤ pos (j * k)
-associate a j k =
-    let product : up (a *ℤ pos j) + down a * j ≡ down (a *ℤ pos j) + up a * j = omega (arith, ints) in
-    let scaled-so = ap (λ n. n * k) product in
-    omega (arith, ints, scaled-so)
-
-exchange : (a : ℤ) (j k : ℕ) → (a *ℤ pos j) *ℤ pos k ≡ (a *ℤ pos k) *ℤ pos j
-exchange a j k = associate a j k ∙ ap (λ n. a *ℤ pos n) (omega arith) ∙ sym (associate a k j)
 
 turned : (a x : ℤ) (w k : ℕ) → IsNear a x w k → IsNear (neg_ℤ a) (neg_ℤ x) w k
 turned a x w k near =
@@ -81,64 +44,20 @@ delta-near (negsuc n) scalar part whole rounded near =
 
 -- ---- several
 
--- both sides of an inequality, so many times
-times : (k : ℕ) (a b : ℤ) → a ≤ℤ b → (a *ℤ pos k) ≤ℤ (b *ℤ pos k)
-times k a b h =
-    let n : up a + down b ≤ up b + down a = omega (arith, ints, h) in
-    let m : (up a + down b) * k ≤ (up b + down a) * k = mul-le-mul_right k n in
-    omega (arith, ints, m)
-
-wider : (a : ℤ) (v w : ℕ) → (a *ℤ pos (131072 * v)) *ℤ pos w ≡ a *ℤ pos (131072 * (v * w))
-wider a v w = associate a (131072 * v) w ∙ ap (λ n. a *ℤ pos n) (omega arith)
-
 both : (a x b y : ℤ) (v w k l : ℕ) → IsNear a x v k → IsNear b y w l → IsNear (a +ℤ b) ((x *ℤ pos w) +ℤ (y *ℤ pos v)) (v * w) (k + l)
-both a x b y v w k l one others =
-    let p = times w (a *ℤ pos (131072 * v)) ((x *ℤ pos 131072) +ℤ pos (k * v)) one.above in
-    let q = times v (b *ℤ pos (131072 * w)) ((y *ℤ pos 131072) +ℤ pos (l * w)) others.above in
-    let r = times w (x *ℤ pos 131072) ((a *ℤ pos (131072 * v)) +ℤ pos (k * v)) one.below in
-    let s = times v (y *ℤ pos 131072) ((b *ℤ pos (131072 * w)) +ℤ pos (l * w)) others.below in
-    let a-whole = wider a v w in
-    let same : w * v ≡ v * w = omega arith in
-    let b-whole = wider b w v ∙ ap (λ n. b *ℤ pos (131072 * n)) same in
-    let sums = distribute a b (131072 * (v * w)) in
-    let parts = distribute (x *ℤ pos w) (y *ℤ pos v) 131072 in
-    let x-part = exchange x 131072 w in
-    let y-part = exchange y 131072 v in
-    let x-more = distribute (x *ℤ pos 131072) (pos (k * v)) w in
-    let y-more = distribute (y *ℤ pos 131072) (pos (l * w)) v in
-    let a-more = distribute (a *ℤ pos (131072 * v)) (pos (k * v)) w in
-    let b-more = distribute (b *ℤ pos (131072 * w)) (pos (l * w)) v in
-    record {
-      some = mul-pos one.some others.some;
-      above = omega (arith, ints, p, q, a-whole, b-whole, sums, parts, x-part, y-part, x-more, y-more);
-      below = omega (arith, ints, r, s, a-whole, b-whole, sums, parts, x-part, y-part, a-more, b-more);
-    }
+both a x b y v w k l one others = record {
+  some = mul-pos one.some others.some;
+  above = above 131072 131072 a x b y v w k l one.above others.above;
+  below = below 131072 131072 a x b y v w k l one.below others.below;
+}
 
 pub law : BlendsAreNear
 law table coordinates j _ _ _ _ _ (none _) = record { some = omega arith; above = omega (arith, ints); below = omega (arith, ints) }
 law table coordinates j _ _ _ _ _ (more _ scalars delta deltas part whole halves p w rounded is others) =
     both (scaled delta (scalar_at table coordinates j)) (delta *ℤ pos p) (sum_of deltas scalars) part w whole (65536 + unsigned_abs delta * rounded) halves
-    (delta-near delta (scalar_at table coordinates j) p w rounded (scalar-near table coordinates j p w rounded is)) (law table coordinates (suc j) scalars deltas part whole halves others)
+    (delta-near delta (scalar_at table coordinates j) p w rounded (scalar_near table coordinates j p w rounded is)) (law table coordinates (suc j) scalars deltas part whole halves others)
 
 -- ---- there is an exact sum
-
-record HasExactScalar (table : Data) (coordinates : List ℤ) (j : ℕ) : Type 0 where
-  part : ℕ
-  whole : ℕ
-  rounded : ℕ
-  is : IsExactScalar table coordinates j part whole rounded
-
-in-order : (a b : ℕ) → (a < b) ⊎ (b ≤ a)
-in-order a b = grind arith
-
-exact-scalar : (table : Data) (coordinates : List ℤ) (j : ℕ) → HasExactScalar table coordinates j
-exact-scalar table coordinates j = by_place (in-order (region_of table j) table.regions.count)
-  where
-    by_place : (region_of table j < table.regions.count) ⊎ (table.regions.count ≤ region_of table j) → HasExactScalar table coordinates j
-    by_place (inl there) =
-        let one = regions.exact table.regions.bytes.now table.regions.place table.regions.axes (region_of table j) coordinates table.regions.axes in
-        record { part = one.part; whole = one.whole; rounded = one.rounded; is = of_region one.part one.whole one.rounded there one.is }
-    by_place (inr past) = record { part = 0; whole = 1; rounded = 0; is = of_none past }
 
 record HasSumFrom (table : Data) (coordinates : List ℤ) (j : ℕ) (scalars : List ℕ) (deltas : List ℤ) : Type 0 where
   part : ℤ
@@ -155,7 +74,7 @@ from table coordinates j [] [] each same = record { part = pos 0; whole = 1; hal
 from table coordinates j [] (delta ∷ deltas) each same = absurd (omega arith)
 from table coordinates j (scalar ∷ scalars) [] each same = absurd (omega arith)
 from table coordinates j (scalar ∷ scalars) (delta ∷ deltas) each same =
-    let one = exact-scalar table coordinates j in
+    let one = exact_scalar table coordinates j in
     let others = from table coordinates (suc j) scalars deltas (λ i room. each (suc i) (omega (arith, room)) ∙ ap (λ k. Some (scalar_at table coordinates k)) (omega arith)) (omega (arith, same)) in
     let head : scalar_at table coordinates j ≡ scalar =
     ap (scalar_at table coordinates) (omega arith) ∙ first-scalar scalar (scalar_at table coordinates (j + 0)) (each 0 (omega arith)) in

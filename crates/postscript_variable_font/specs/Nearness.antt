@@ -1,20 +1,11 @@
 -- How far blended values at a place are from the exact interpolated ones (OpenType 1.9, "OpenType Font Variations Overview", "Algorithm for
 -- interpolation of instance values"). Deltas are in units of 1 / 65536, as scalars are.
-use Rattle.std.specs.Prelude.{◌≡◌, ℕ, suc, ◌+◌, ◌*◌, ◌<◌, ◌≤◌, ℤ, pos, ◌+ℤ◌, ◌*ℤ◌, ◌≤ℤ◌, unsigned_abs, List, [], ◌∷◌, length}
+use Rattle.std.specs.Prelude.{◌≡◌, ℕ, suc, ◌+◌, ◌*◌, ℤ, pos, ◌+ℤ◌, ◌*ℤ◌, unsigned_abs, List, [], ◌∷◌, length}
 use Rattle.postscript_variable.specs.Blending.{sum_of}
-use Rattle.postscript_variation.specs.Lent.{delta_count, region_of, scalar_at}
-use Rattle.postscript_variation.specs.ScalarLaws.{IsProduct}
+use Rattle.postscript_variation.specs.Lent.{delta_count, scalar_at}
+use Rattle.postscript_variation.specs.SumLaws.{IsExactScalar, IsNear}
 use Rattle.postscript_variation.specs.declared.store.Data.{Data}
 use Rattle.postscript_variable_font.specs.Places.{AreScalars}
-
--- The exact scalar of the region that delta j belongs to is part / whole: the product of its axis scalars, of which so many are
--- fractions; 0 where the list has no such region.
-pub data IsExactScalar (table : Data) (coordinates : List ℤ) (j : ℕ) : (part whole rounded : ℕ) → Type 0 where
-  of_region : (part whole rounded : ℕ) → region_of table j < table.regions.count →
-      IsProduct table.regions.bytes.now table.regions.place table.regions.axes (region_of table j) coordinates table.regions.axes
-      part whole rounded →
-      IsExactScalar table coordinates j part whole rounded
-  of_none : table.regions.count ≤ region_of table j → IsExactScalar table coordinates j 0 1 0
 
 -- Deltas from delta j on, and the computed scalars of their regions. The sum of each delta times the exact scalar is part / whole.
 -- halves: 65536 for each region, and how large its delta is for each fraction among its axis scalars.
@@ -26,12 +17,6 @@ pub data IsExactSum (table : Data) (coordinates : List ℤ) :
       IsExactSum table coordinates (suc j) scalars deltas part whole halves →
       IsExactSum table coordinates j (scalar_at table coordinates j ∷ scalars) (delta ∷ deltas)
       (((delta *ℤ pos p) *ℤ pos whole) +ℤ (part *ℤ pos w)) (w * whole) (65536 + unsigned_abs delta * rounded + halves)
-
--- Twice the distance of sum from part / whole is no more than halves / 65536 units of 1 / 65536: the inequality times 65536 * whole.
-pub record IsNear (sum part : ℤ) (whole halves : ℕ) : Type 0 where
-  pub some : 0 < whole
-  pub above : (sum *ℤ pos (131072 * whole)) ≤ℤ ((part *ℤ pos 131072) +ℤ pos (halves * whole))
-  pub below : (part *ℤ pos 131072) ≤ℤ ((sum *ℤ pos (131072 * whole)) +ℤ pos (halves * whole))
 
 -- A law of the definitions: what n deltas add to a blended value is away from the exact sum by n / 2 units of 1 / 65536 at most, and for
 -- each delta and each fraction among the axis scalars of its region by half a unit for each 65536 of the delta.

@@ -1,6 +1,7 @@
 //! Tables as fontTools 4.38 writes them, and what it computes of them; coordinates in 16.16 are computed by hand.
 use crate::{
-    AdvanceVariations, Axes, Error, Maps, MetricVariations, Result, Setting, Store, in_whole,
+    AdvanceVariations, Axes, Error, FULL, Maps, MetricVariations, Result, Setting, Span, Store,
+    in_whole,
 };
 use std::alloc::Global;
 use std::process::Abort;
@@ -129,6 +130,12 @@ fn variations(rt: HostRuntime) {
         (data.scalar(0, &coordinates), data.scalar(1, &coordinates)),
         (Some(32768), Some(16384))
     );
+    let span = Span {
+        start: 0,
+        peak: 16209,
+        end: 16384,
+    };
+    assert_eq!(rt; span.scaled(FULL, 3346), 13528);
     let rows = [(HVAR, [0, 1, 2]), (HVAR_MAP, [1, 0, 1])];
     for (table, items) in rows {
         let advances = AdvanceVariations::read(table).expect(&rt, "advances");
