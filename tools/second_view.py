@@ -136,6 +136,8 @@ class Font:
             return None
         count = number_at(self.data, place + 1, 2)
         ranges = Cursor(self.data, place + 3).take(3 * count + 2)
+        if any(number_at(ranges, 3 * r + 3, 2) < number_at(ranges, 3 * r, 2) for r in range(count)):
+            return None
         for r in range(count):
             if number_at(ranges, 3 * r, 2) <= glyph < number_at(ranges, 3 * r + 3, 2):
                 return ranges[3 * r + 2]

@@ -1,5 +1,5 @@
 -- The part that is read is that of the glyph's font dictionary.
-use Rattle.std.proofs.Common.{◌≡◌, inl, inr, ℕ, ◌+◌, ◌*◌, ◌<◌, List, length, Bor, sym, ap, ◌∙◌, arith}
+use Rattle.std.proofs.Common.{◌≡◌, inl, inr, ℕ, ◌<◌, List, length, Bor, sym, ap, ◌∙◌}
 use Rattle.std.specs.Prelude.{IfNone, IfOk, IfSome, Option, option_map, Result, Ok, Err, Some, None, slice_get}
 use Rattle.postscript_base.specs.Compact1.Dictionary.{Dictionary}
 use Rattle.postscript_base.specs.Tape.Outcome.{Got, Answers}
@@ -10,34 +10,20 @@ use Rattle.postscript_c.specs.Widths.{AreWidths}
 use Rattle.postscript_c.specs.declared.font.PsfFont.{PsfFont}
 use Rattle.postscript_c.specs.declared.part.PsfPart.{PsfPart}
 use Rattle.postscript_compact1.specs.Kinds.{map_of}
-use Rattle.postscript_items.specs.Items.{number_at}
-use Rattle.postscript_view.specs.Select.{IsFirstRange, Selects}
+use Rattle.postscript_view.proofs.Selecting.{one_selected}
+use Rattle.postscript_view.specs.Select.{Selects}
 
 pub of_map : (bytes item : List ℕ) (map : Dictionary) (answer : Result PsfPart Error) → map_of item bytes 0 ≡ Got map 0 → Answers (λ part. part.local_subroutines) answer 0 (told.part map bytes 0)
     → IfOk answer (λ part. AreWidths bytes map part.default_width part.nominal_width) → IfOk answer (λ part. IsPartOf bytes item part)
 of_map bytes item map (Ok part) spelled reads widths = record { map = map; spelled = spelled; subroutines = reads; widths = widths }
 of_map bytes item map (Err e) spelled reads widths = tt
 
--- FDSelect gives a glyph one font dictionary
-one-range : (bytes : List ℕ) (start count glyph r q : ℕ) → IsFirstRange bytes start count glyph r → IsFirstRange bytes start count glyph q → r ≡ q
-one-range bytes start count glyph r q a b =
-    let above : r < q → ⊥ = λ h. b.none_before r h a.lies in
-    let below : q < r → ⊥ = λ h. a.none_before q h b.lies in
-    omega (arith, above, below)
-
-one-selected : (bytes : List ℕ) (place glyphs glyph a b : ℕ) → Selects bytes place glyphs glyph a → Selects bytes place glyphs glyph b → a ≡ b
-one-selected bytes place glyphs glyph a b (inl x) (inl y) = x.dictionary ∙ sym y.dictionary
-one-selected bytes place glyphs glyph a b (inl x) (inr y) = let never : 0 ≡ 3 = sym x.format ∙ y.format in absurd (omega (arith, never))
-one-selected bytes place glyphs glyph a b (inr x) (inl y) = let never : 0 ≡ 3 = sym y.format ∙ x.format in absurd (omega (arith, never))
-one-selected bytes place glyphs glyph a b (inr x) (inr y) =
-    let same : x.range.range ≡ y.range.range = one-range bytes _ _ glyph x.range.range y.range.range x.range.first y.range.first in
-    x.range.dictionary ∙ ap (λ r. number_at bytes (place + 3 + r * 3 + 2) 1) same ∙ sym y.range.dictionary
-
+-- a glyph has one font dictionary
 one-number : (bytes : List ℕ) (font : PsfFont) (dictionaries glyph a b : ℕ) → HasNumber bytes font dictionaries glyph a → HasNumber bytes font dictionaries glyph b → a ≡ b
 one-number bytes font dictionaries glyph a b (inl x) (inl y) = x.1 ∙ sym y.1
 one-number bytes font dictionaries glyph a b (inl x) (inr y) = absurd (y.0 x.0)
 one-number bytes font dictionaries glyph a b (inr x) (inl y) = absurd (x.0 y.0)
-one-number bytes font dictionaries glyph a b (inr x) (inr y) = one-selected bytes font.selection font.glyphs glyph a b x.2 y.2
+one-number bytes font dictionaries glyph a b (inr x) (inr y) = one_selected bytes font.selection font.glyphs glyph a b x.2 y.2
 
 -- the item of the number that is found is the glyph's, and where there is none, the glyph has none
 pub item-found : (bytes : List ℕ) (font : PsfFont) (items : List (List ℕ)) (glyph fd : ℕ) (found : Option (Bor (List ℕ))) → glyph < font.glyphs → HasNumber bytes font (length items) glyph fd

@@ -6,7 +6,8 @@ use crate::fonts::TWO_DICTIONARIES;
 use postscript::compact1::FontSet;
 use postscript_view::{Advance, FontView};
 use rows::{
-    BROKEN, CID, CIDS_OF_LETTERS, CODES, GLYPHS, LASTS, MATRICES, PLAIN, RANGE, REFUSED, SELECTIONS,
+    BROKEN, CID, CIDS_OF_LETTERS, CODES, FALLING, GLYPHS, LASTS, MATRICES, PLAIN, RANGE, REFUSED,
+    SELECTIONS,
 };
 use std::alloc::Global;
 use std::io::Cursor;
@@ -74,6 +75,17 @@ fn glyphs_of_a_cid_keyed_font(rt: HostRuntime) {
             let text = told(&rt, alloc, &font, glyph);
             is_text(&rt, text.as_str(), wanted, selection);
         }
+    }
+}
+
+#[test]
+fn ranges_that_fall_give_no_part(rt: HostRuntime) {
+    let alloc = rt.alloc();
+    let bytes = joined(&rt, alloc, CID, FALLING);
+    let font = FontView::read(alloc, bytes.as_slice()).expect(&rt, "a font");
+    for glyph in 0..4 {
+        let is_none = font.part_of(glyph).is_none() && font.glyph(glyph).is_none();
+        holds_at(&rt, is_none, "glyph", glyph);
     }
 }
 

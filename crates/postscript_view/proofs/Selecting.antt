@@ -1,5 +1,5 @@
 -- Ranges of glyphs in order.
-use Rattle.std.proofs.Common.{◌≡◌, ℕ, zero, suc, ◌+◌, ◌-◌, ◌<◌, ◌≤◌, List, inl, inr, sym, subst, ap, arith}
+use Rattle.std.proofs.Common.{◌≡◌, ℕ, zero, suc, ◌+◌, ◌-◌, ◌*◌, ◌<◌, ◌≤◌, List, inl, inr, sym, subst, ap, ◌∙◌, arith}
 use Rattle.std.specs.Prelude.{Option, Some, None, IfNone}
 use Rattle.postscript_base.specs.Compact1.Dictionary.{Dictionary}
 use Rattle.postscript_base.specs.declared.compact1.operator.Operator.TheVariants as operators
@@ -8,7 +8,7 @@ use Rattle.postscript_view.specs.Selecting.{IsOf, StandsAt}
 use Rattle.postscript_view.specs.declared.select.Ranges.{Ranges}
 use Rattle.postscript_view.specs.declared.select.Select.{Select}
 use Rattle.postscript_view.specs.declared.select.Select.TheVariants.{Listed, InRanges, Unknown}
-use Rattle.postscript_view.specs.Select.{offset_of, IsInRanges, IsSelected, Selects, first_glyph, AreInOrder, LiesIn, IsFirstRange}
+use Rattle.postscript_view.specs.Select.{offset_of, IsInRanges, IsSelected, Selects, first_glyph, AreInOrder, LiesIn}
 
 -- what does not fall from each to the next does not fall
 rise : (f : ℕ → ℕ) (count : ℕ) → ((r : ℕ) → r < count → f r ≤ f (r + 1)) → (i k : ℕ) → k + i ≤ count → f i ≤ f (k + i)
@@ -38,18 +38,28 @@ behind_all bytes start count glyph order behind r there lies =
     let h = risen (first_glyph bytes start) count order (r + 1) count (omega (arith, there)) (omega arith) in
     absurd (omega (arith, h, behind, lies.1))
 
--- the range that is left is the first that the glyph lies in
-pub is_first : (bytes : List ℕ) (start count glyph low high : ℕ) → AreInOrder bytes start count → low < high → high ≤ count → high ≤ low + 1
-    → first_glyph bytes start low ≤ glyph → glyph < first_glyph bytes start high → IsFirstRange bytes start count glyph low
-is_first bytes start count glyph low high order some within one from to =
-    let next : first_glyph bytes start high ≡ first_glyph bytes start (low + 1) = ap (first_glyph bytes start) (omega (arith, some, one)) in
-    record {
-      there = omega (arith, some, within);
-      lies = (from, omega (arith, to, next));
-      none_before = λ q below lies.
-          let h = risen (first_glyph bytes start) count order (q + 1) low (omega (arith, below)) (omega (arith, some, within)) in
-          absurd (omega (arith, h, from, lies.1));
-    }
+-- a glyph lies in one range at most
+one-range : (bytes : List ℕ) (start count glyph r q : ℕ) → AreInOrder bytes start count → r < count → q < count → LiesIn bytes start r glyph → LiesIn bytes start q glyph → r ≡ q
+one-range bytes start count glyph r q order r_there q_there r_lies q_lies =
+    let above : r < q → ⊥ = λ h. omega (arith, risen (first_glyph bytes start) count order (r + 1) q (omega (arith, h)) (omega (arith, q_there)), r_lies.1, q_lies.0) in
+    let below : q < r → ⊥ = λ h. omega (arith, risen (first_glyph bytes start) count order (q + 1) r (omega (arith, h)) (omega (arith, r_there)), q_lies.1, r_lies.0) in
+    omega (arith, above, below)
+
+-- FDSelect gives a glyph one font dictionary
+pub one_selected : (bytes : List ℕ) (place glyphs glyph a b : ℕ) → Selects bytes place glyphs glyph a → Selects bytes place glyphs glyph b → a ≡ b
+one_selected bytes place glyphs glyph a b (inl x) (inl y) = x.dictionary ∙ sym y.dictionary
+one_selected bytes place glyphs glyph a b (inl x) (inr y) = let never : 0 ≡ 3 = sym x.format ∙ y.format in absurd (omega (arith, never))
+one_selected bytes place glyphs glyph a b (inr x) (inl y) = let never : 0 ≡ 3 = sym y.format ∙ x.format in absurd (omega (arith, never))
+one_selected bytes place glyphs glyph a b (inr x) (inr y) =
+    let same : x.range.range ≡ y.range.range = one-range bytes (place + 3) _ glyph x.range.range y.range.range x.order x.range.there y.range.there x.range.lies y.range.lies in
+    x.range.dictionary ∙ ap (λ r. number_at bytes (place + 3 + r * 3 + 2) 1) same ∙ sym y.range.dictionary
+
+pub one_named : (bytes : List ℕ) (map : Dictionary) (glyphs glyph a b : ℕ) → IsSelected bytes map glyphs glyph a → IsSelected bytes map glyphs glyph b → a ≡ b
+one_named bytes map glyphs glyph a b x y =
+    let here = x.1 in
+    let there = y.1 in
+    let same : x.0 ≡ y.0 = cc in
+    one_selected bytes y.0 glyphs glyph a b (subst (λ place. Selects bytes place glyphs glyph a) same x.2) y.2
 
 -- what stands at the place that a dictionary names is what it names
 pub named : (s : Select) (bytes : List ℕ) (map : Dictionary) (place glyphs : ℕ) → offset_of map operators.FDSelect ≡ Some place → StandsAt s bytes place glyphs → IsOf s bytes map glyphs

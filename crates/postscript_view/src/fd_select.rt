@@ -20,8 +20,8 @@ pub struct FdSelect<'l> {
 }
 
 impl<'l> FdSelect<'l> {
-    /// What stands at a place of the bytes, for a font of so many glyphs. Never refused: where FDSelect is cut there, or of another
-    /// format than 0 and 3, it gives no glyph a font dictionary.
+    /// What stands at a place of the bytes, for a font of so many glyphs. Never refused: where FDSelect is cut there, of another
+    /// format than 0 and 3, or of ranges whose first glyphs fall, it gives no glyph a font dictionary.
     pub fn at(bytes: &'l [u8], place: usize, glyphs: usize) -> FdSelect<'l>
         ensures bytes { result.bytes.now ≡ bytes.now }
         ensures place { result.place ≡ place }
@@ -35,7 +35,7 @@ impl<'l> FdSelect<'l> {
         }
     }
 
-    /// The number of a glyph's font dictionary, counted from 0: in format 0 the byte of the glyph, in format 3 that of the first
+    /// The number of a glyph's font dictionary, counted from 0: in format 0 the byte of the glyph, in format 3 that of the
     /// range that the glyph lies in. None where it gives the glyph none. Whether the font has so many font dictionaries is for the
     /// caller to see. Never refused.
     pub fn part_of(&self, glyph: usize) -> Option<usize>

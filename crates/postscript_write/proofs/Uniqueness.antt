@@ -1,20 +1,20 @@
 -- A glyph has one code, one part and one run; a code has one glyph; and a run names one accent.
-use Rattle.std.proofs.Common.{◌≡◌, ◌≢◌, sym, ap, subst, ◌∙◌, inl, inr, ℕ, ◌+◌, ◌*◌, ◌<◌, ℤ, pos, List, [], ◌∷◌, length, slice_get, arith}
+use Rattle.std.proofs.Common.{◌≡◌, ◌≢◌, sym, ap, subst, ◌∙◌, inl, inr, ℕ, ◌+◌, ◌<◌, ℤ, pos, List, [], ◌∷◌, length, slice_get, arith}
 use Rattle.std.specs.Prelude.{◌⊎◌, Option, Some}
 use Rattle.postscript_drawing.specs.Accents.{IsAccent, IsCode}
 use Rattle.postscript_drawing.specs.Components.{IsComponent, glyphs_of, standard_identifier}
 use Rattle.postscript_drawing.specs.declared.accent.Accent.{Accent}
 use Rattle.postscript_base.specs.Compact1.Dictionary.{Dictionary}
 use Rattle.postscript_items.specs.Lent.{items_of}
-use Rattle.postscript_items.specs.Items.{number_at}
 use Rattle.postscript_type2.specs.Number.{to_int}
 use Rattle.postscript_type2.specs.Program.Evaluation.{run_of}
 use Rattle.postscript_type2.specs.Program.Routines.{lent}
 use Rattle.postscript_type2.specs.Program.Runs.{Run}
+use Rattle.postscript_view.proofs.Selecting.{one_named}
 use Rattle.postscript_view.specs.Advances.{HasRun}
 use Rattle.postscript_view.specs.CharSets.{IsCharSetOf, IsNamedBy, StandsAt}
 use Rattle.postscript_view.specs.Naming.{IsFirstNamed, Names, NamesFrom}
-use Rattle.postscript_view.specs.Select.{IsFirstRange, IsSelected, Selects}
+use Rattle.postscript_view.specs.Select.{IsSelected}
 use Rattle.postscript_view.specs.declared.char_set.CharSetView.{CharSetView}
 use Rattle.postscript_view.specs.declared.char_set.Identifiers.{Identifiers}
 use Rattle.postscript_view.specs.declared.char_set.Identifiers.TheVariants.{ISOAdobe, Expert, ExpertSubset, Listed, Ranges1, Ranges2}
@@ -24,32 +24,13 @@ use Rattle.postscript_view.specs.declared.part.Part.{Part}
 one-value : {A : Type 0} → (o : Option A) (a b : A) → o ≡ Some a → o ≡ Some b → a ≡ b
 one-value o a b is was = let both : Some a ≡ Some b = sym is ∙ was in cc
 
--- FDSelect gives a glyph one font dictionary
-one-range : (bytes : List ℕ) (start count glyph r q : ℕ) → IsFirstRange bytes start count glyph r → IsFirstRange bytes start count glyph q → r ≡ q
-one-range bytes start count glyph r q a b =
-    let above : r < q → ⊥ = λ h. b.none_before r h a.lies in
-    let below : q < r → ⊥ = λ h. a.none_before q h b.lies in
-    omega (arith, above, below)
-
-one-selected-at : (bytes : List ℕ) (place glyphs glyph a b : ℕ) → Selects bytes place glyphs glyph a → Selects bytes place glyphs glyph b → a ≡ b
-one-selected-at bytes place glyphs glyph a b (inl x) (inl y) = x.dictionary ∙ sym y.dictionary
-one-selected-at bytes place glyphs glyph a b (inl x) (inr y) = let never : 0 ≡ 3 = sym x.format ∙ y.format in absurd (omega (arith, never))
-one-selected-at bytes place glyphs glyph a b (inr x) (inl y) = let never : 0 ≡ 3 = sym y.format ∙ x.format in absurd (omega (arith, never))
-one-selected-at bytes place glyphs glyph a b (inr x) (inr y) =
-    let same : x.range.range ≡ y.range.range = one-range bytes _ _ glyph x.range.range y.range.range x.range.first y.range.first in
-    x.range.dictionary ∙ ap (λ r. number_at bytes (place + 3 + r * 3 + 2) 1) same ∙ sym y.range.dictionary
-
-pub one-selected : (bytes : List ℕ) (map : Dictionary) (glyphs glyph a b : ℕ) → IsSelected bytes map glyphs glyph a → IsSelected bytes map glyphs glyph b → a ≡ b
-one-selected bytes map glyphs glyph a b x y =
-    let same : x.0 ≡ y.0 = one-value _ x.0 y.0 x.1 y.1 in
-    one-selected-at bytes y.0 glyphs glyph a b (subst (λ p. Selects bytes p glyphs glyph a) same x.2) y.2
-
+-- a glyph has one font dictionary
 pub one-number : (bytes : List ℕ) (map : Dictionary) (parts glyphs glyph a b : ℕ) → ((parts ≡ 1) × (a ≡ 0)) ⊎ ((parts ≢ 1) × IsSelected bytes map glyphs glyph a) →
     ((parts ≡ 1) × (b ≡ 0)) ⊎ ((parts ≢ 1) × IsSelected bytes map glyphs glyph b) → a ≡ b
 one-number bytes map parts glyphs glyph a b (inl x) (inl y) = x.1 ∙ sym y.1
 one-number bytes map parts glyphs glyph a b (inl x) (inr y) = absurd (y.0 x.0)
 one-number bytes map parts glyphs glyph a b (inr x) (inl y) = absurd (x.0 y.0)
-one-number bytes map parts glyphs glyph a b (inr x) (inr y) = one-selected bytes map glyphs glyph a b x.1 y.1
+one-number bytes map parts glyphs glyph a b (inr x) (inr y) = one_named bytes map glyphs glyph a b x.1 y.1
 
 pub one-run : (font : FontView) (glyph : ℕ) (p q : Part) (run other : Run) → HasRun font glyph p run → HasRun font glyph q other → other ≡ run
 one-run font glyph p q run other a b =

@@ -1,7 +1,7 @@
 //! Faces of files.
 use crate::failure::{Failure, Unread};
 use crate::refused::{rule_of, spot_of};
-use crate::weight::{is_too_much, looks_too_often};
+use crate::weight::is_too_much;
 use postscript_sfnt::{Advances, CharacterMap, FontFile, Names, faces, glyphs, units_per_em};
 use postscript_view::{CharSetView, FontView};
 use std::alloc::Global;
@@ -60,9 +60,6 @@ fn advances_of<'l>(file: &FontFile<'l>) -> Result<Advances<'l>, Failure> {
 fn opened<'l>(alloc: Global, cff: &'l [u8]) -> Result<FontView<'l>, Failure> {
     if is_too_much(alloc, cff) {
         return Err(Failure::Unread(Unread::Dictionaries));
-    }
-    if looks_too_often(alloc, cff) {
-        return Err(Failure::Unread(Unread::Heavy("CFF")));
     }
     match FontView::read(alloc, cff) {
         Ok(font) => Ok(font),

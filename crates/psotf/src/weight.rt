@@ -1,7 +1,6 @@
 //! How much work a table `CFF ` makes, before it is read.
 use postscript_base::compact1::{Operations, Operator};
 use postscript_items::Items;
-use postscript_items::number::number_within;
 use postscript_view::operands::{bounds, place_at};
 use postscript_view::tables::{header_size, operations_of};
 use std::alloc::Global;
@@ -9,9 +8,6 @@ use std::alloc::Global;
 /// How many bytes the font dictionaries and their private dictionaries may have together: each is read for itself, also where they
 /// share bytes.
 const MOST: u64 = 20_000_000;
-
-/// The most ranges of FDSelect that may be looked at for all glyphs together. Those that are in order are searched by halves.
-const LOOKS: u64 = 1_000_000_000;
 
 /// The dictionary of the first font.
 pub fn dictionary_of(alloc: Global, cff: &[u8]) -> Option<Operations> {
@@ -42,39 +38,6 @@ fn font_dictionaries<'l>(cff: &'l [u8], dictionary: &Operations) -> Option<Items
         return None;
     }
     items_of(cff, dictionary, Operator::FDArray)
-}
-
-/// How many ranges FDSelect has at a place that are looked at one by one: all, where their first glyphs fall somewhere.
-fn ranges_one_by_one(cff: &[u8], place: usize) -> u64 {
-    let first = |r: usize| {
-        let at = place.saturating_add(3).saturating_add(r.saturating_mul(3));
-        number_within(cff, at, 2).unwrap_or(0)
-    };
-    if number_within(cff, place, 1).unwrap_or(0) != 3 {
-        return 0;
-    }
-    let count = number_within(cff, place.saturating_add(1), 2).unwrap_or(0);
-    for r in 0..count {
-        if first(r.saturating_add(1)) < first(r) {
-            return count as u64;
-        }
-    }
-    0
-}
-
-/// Whether the font dictionaries of all glyphs take too long to be looked up.
-pub fn looks_too_often(alloc: Global, cff: &[u8]) -> bool {
-    let Some(dictionary) = dictionary_of(alloc, cff) else {
-        return false;
-    };
-    let Some(place) = named(cff, &dictionary, Operator::FDSelect) else {
-        return false;
-    };
-    let glyphs = match items_of(cff, &dictionary, Operator::CharStrings) {
-        Some(codes) => codes.len() as u64,
-        None => 0,
-    };
-    ranges_one_by_one(cff, place).saturating_mul(glyphs) > LOOKS
 }
 
 /// How many bytes the private dictionary has that a font dictionary names.

@@ -13,6 +13,9 @@ pub const CID: &str =
 /// FDSelect of format 3 and of format 0: the glyphs 0 and 1 have the first font dictionary, the others the second.
 pub const SELECTIONS: &[&str] = &["03 0002 000000 000201 0004", "00 00000101"];
 
+/// FDSelect whose ranges are not in the order of their first glyphs, which the Note has them in.
+pub const FALLING: &str = "03 0002 000201 000000 0004";
+
 /// What is told of each glyph of the CID-keyed font, and of none behind them. The CIDs, parts and advances are those that
 /// fontTools 4.38 reads; it computes no advance of a char string of no bytes, which by the Note has the default one.
 pub const GLYPHS: &[&str] = &[

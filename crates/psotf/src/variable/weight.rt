@@ -39,18 +39,9 @@ fn longest_dictionary(face: &VariableFace<'_>) -> u64 {
     longest
 }
 
-/// How many bytes are read to find the font dictionary of a glyph, at most: 1 of a list, few of ranges in order, and else all of them.
-fn select_size(face: &VariableFace<'_>) -> u64 {
-    match face.font.select {
-        Some(select) if !select.is_ordered() => face.font.bytes.len() as u64,
-        _ => 1,
-    }
-}
-
 /// Whether the dictionaries that are read for the glyphs have too many bytes together.
 fn reads_too_much(face: &VariableFace<'_>, glyphs: u64) -> bool {
-    let each = longest_dictionary(face).saturating_add(select_size(face));
-    each.saturating_mul(glyphs) > STEPS
+    longest_dictionary(face).saturating_mul(glyphs) > STEPS
 }
 
 /// Whether a place has too many scalars, or takes too many steps.

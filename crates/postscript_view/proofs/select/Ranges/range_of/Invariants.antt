@@ -1,6 +1,6 @@
 use Rattle.std.proofs.Common.{◌+◌, ◌-◌, ◌<◌, ◌≤◌}
 use Rattle.postscript_view.specs.Select.{first_glyph}
-use Rattle.postscript_view.proofs.select.Ranges.halved.Given as goal
+use Rattle.postscript_view.proofs.select.Ranges.range_of.Given as goal
 
 -- the glyph lies behind the first glyph of one range and before that of another
 abbrev pub invariant-loop-high : goal.invariant-loop-high
