@@ -19,8 +19,9 @@
  * which the caller may change. Of the 20,000,000 units that psf_font_open tells it reads at most as many bytes of phrases (operators
  * with the numbers before them; a roll counts as 4096 more, and a square root as 8) and one phrase besides, which takes well under a
  * second. What psf_glyph_flat and psf_glyph_operations keep is in proportion. psf_font_flat and psf_font_subset are handed a limit for
- * the runs of all glyphs together, and go through these six times at most. docs/LINKED.md tells what of this is proved, and what is
- * tested.
+ * the runs of all glyphs together, and go through these six times at most; the phrase at which the run of a glyph is refused takes no
+ * units, so that there is one more for each such glyph. docs/BOUNDS.md tells what else takes time, and docs/LINKED.md what of this is
+ * proved, and what is tested.
  *
  * The library is built for 64-bit machines only.
  *
@@ -159,6 +160,12 @@ typedef struct psf_operation {
     uint32_t operator_code;  /* its code; that of two bytes is 0x0c00 and the second, as 0x0c23 for flex */
 } psf_operation;
 
+/* A character that has a glyph. */
+typedef struct psf_character {
+    uint32_t character; /* its number in Unicode */
+    uint32_t glyph;     /* its glyph, which is not 0 */
+} psf_character;
+
 /* What is told of a font that is not written, besides the status. */
 typedef struct psf_refusal {
     uint64_t glyph; /* the glyph that is meant; 0 where none is */
@@ -186,6 +193,10 @@ int32_t psf_file_table(const uint8_t *file, size_t length, size_t face, uint32_t
  * On PSF_OK *glyph is the glyph, or 0 where the character has none. Also answered: PSF_NO_MAP. */
 int32_t psf_map_glyph(const uint8_t *cmap, size_t length, uint32_t character, size_t *glyph);
 
+/* All characters that have a glyph, in ascending order, by the same map, to the front of characters[0..room].
+ * On PSF_OK and PSF_NO_ROOM *count is how many they are. Also answered: PSF_NO_MAP and PSF_MEMORY; then nothing is written. */
+int32_t psf_map_characters(const uint8_t *cmap, size_t length, psf_character *characters, size_t room, size_t *count);
+
 /* Opens the font that the bytes of a table CFF begin with.
  * On PSF_OK *font tells where its parts stand. Else the status is an error from 1 to 15, and *font is as it was. */
 int32_t psf_font_open(const uint8_t *cff, size_t length, psf_font *font);
@@ -206,7 +217,7 @@ int32_t psf_font_fits(const uint8_t *cff, size_t length, uint64_t *limit);
  * (Technical Note 5176, section 19); where there is one font dictionary, it is that of all glyphs, and FDSelect is not asked.
  * On PSF_OK and PSF_NO_ROOM *count and *info are told, and on PSF_OK segments[0..*count] is the outline: contours, each from
  * a PSF_MOVE to a PSF_CLOSE. With a room of 0 the call tells how much room is needed.
- * Also answered: PSF_NO_GLYPH; PSF_NO_PART, also where FDSelect is cut or of another format; PSF_TOO_LONG where the limit is used
+ * Also answered: PSF_NO_GLYPH; PSF_NO_PART, also where FDSelect is cut, of another format, or of ranges that fall; PSF_TOO_LONG where the limit is used
  * up; of an accented glyph PSF_NO_CODE, PSF_NO_ACCENTS, PSF_NO_COMPONENT and PSF_NESTED_ACCENT; and errors from 1 to 30, also of the
  * base and the accent. Then segments, *count and *info are all as they were. */
 int32_t psf_glyph_outline(const uint8_t *cff, size_t length, const psf_font *font, size_t glyph,
@@ -254,6 +265,16 @@ int32_t psf_font_subset(const uint8_t *cff, size_t length, const size_t *glyphs,
  * name[0..room]. A CID-keyed font has CIDs in place of names.
  * On PSF_OK and PSF_NO_ROOM *count is how many bytes it has. Also answered: PSF_NO_NAME, and errors from 1 to 15. */
 int32_t psf_glyph_name(const uint8_t *cff, size_t length, size_t glyph, uint8_t *name, size_t room, size_t *count);
+
+/* The identifiers of all glyphs of the font that the bytes of a table CFF begin with, by its char set, to the front of
+ * identifiers[0..room]: of their names, which psf_font_string has, or in a CID-keyed font the CIDs; -1 of a glyph that has none.
+ * On PSF_OK and PSF_NO_ROOM *count is how many glyphs there are. Also answered: errors from 1 to 15. */
+int32_t psf_font_identifiers(const uint8_t *cff, size_t length, int32_t *identifiers, size_t room, size_t *count);
+
+/* The string of an identifier in the font that the bytes of a table CFF begin with, a standard string or one of its own, without a byte 0 at
+ * its end, to the front of string[0..room].
+ * On PSF_OK and PSF_NO_ROOM *count is how many bytes it has. Also answered: PSF_NO_NAME, and errors from 1 to 15. */
+int32_t psf_font_string(const uint8_t *cff, size_t length, uint16_t identifier, uint8_t *string, size_t room, size_t *count);
 
 /* The first glyph that has a name, in the font that the bytes of a table CFF begin with.
  * On PSF_OK *glyph is the glyph. Also answered: PSF_NO_GLYPH, and errors from 1 to 15. */

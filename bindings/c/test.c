@@ -363,7 +363,25 @@ int main(int argc, char **argv) {
     holds(psf_map_glyph(file + place, size, 0x2698, &glyph) == PSF_OK && glyph == 3, "another character");
     holds(psf_map_glyph(file + place, size, 'B', &glyph) == PSF_OK && glyph == 0, "a character without a glyph");
     holds(psf_map_glyph(file + place, 3, 'A', &glyph) == PSF_NO_MAP, "a cut map");
+    psf_character characters[3];
+    size_t known = 9;
+    holds(psf_map_characters(file + place, 3, characters, 3, &known) == PSF_NO_MAP && known == 9, "no characters of a cut map");
+    holds(psf_map_characters(file + place, size, characters, 2, &known) == PSF_NO_ROOM && known == 3, "more characters than the room");
+    holds(psf_map_characters(file + place, size, characters, 3, &known) == PSF_OK && known == 3, "three characters");
+    holds(characters[0].character == ' ' && characters[0].glyph == 1 && characters[1].character == 'A' && characters[1].glyph == 2
+          && characters[2].character == 0x2698 && characters[2].glyph == 3, "their glyphs");
     holds(psf_file_table(file, length, 0, PSF_TAG('C', 'F', 'F', ' '), &place, &size) == PSF_OK, "the font");
+
+    int32_t identifiers[4];
+    uint8_t string[8];
+    known = 9;
+    holds(psf_font_identifiers(file + place, 2, identifiers, 4, &known) == PSF_UNEXPECTED_EOF && known == 9, "no identifiers of a cut font");
+    holds(psf_font_identifiers(file + place, size, identifiers, 3, &known) == PSF_NO_ROOM && known == 4, "more identifiers than the room");
+    holds(psf_font_identifiers(file + place, size, identifiers, 4, &known) == PSF_OK && known == 4, "four identifiers");
+    holds(identifiers[0] == 0 && identifiers[1] == 1 && identifiers[2] == 34 && identifiers[3] == 391, "which they are");
+    holds(psf_font_string(file + place, size, 391, string, sizeof string, &known) == PSF_OK && known == 6 && memcmp(string, "flower", 6) == 0, "a string");
+    holds(psf_font_string(file + place, size, 1, string, sizeof string, &known) == PSF_OK && known == 5 && memcmp(string, "space", 5) == 0, "a standard string");
+    holds(psf_font_string(file + place, size, 60000, string, sizeof string, &known) == PSF_NO_NAME && known == 5, "no such string");
 
     psf_font font;
     holds(psf_font_open(file + place, size, &font) == PSF_OK && font.glyphs == 4 && font.is_cid == 0, "four glyphs");

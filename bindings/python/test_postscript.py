@@ -178,6 +178,7 @@ class Small(Case):
             font = Font(CID + bytes.fromhex(selection))
             self.assertTrue(font.is_cid_keyed)
             self.assertEqual([glyph.advance for glyph in font], [500, 596, -23, 250])
+            self.assertEqual((font.cids, font.names), ([0, 10, 11, 100], [None] * 4))
             self.assertEqual([glyph.svg_path() for glyph in font], ["", "M20 0Z", "M50 0Z", ""])
 
     def test_selections(self):
@@ -190,8 +191,8 @@ class Small(Case):
             ("0000000201", [500, 596, none, 250]),
             # the first range begins with glyph 1
             ("0300020001000002010004", [none, 596, -23, 250]),
-            # of ranges that are not in order the first one holds no glyph, and the second one all
-            ("0300020002010000000004", [500, 596, 607, 500]),
+            # ranges that are not in order
+            ("0300020002010000000004", [none, none, none, none]),
         ]
         for selection, advances in rows:
             font = Font(CID + bytes.fromhex(selection))
@@ -262,6 +263,7 @@ class Small(Case):
 
     def test_names_of_all(self):
         self.assertEqual(self.font.names, [".notdef", "space", "A", "flower"])
+        self.assertEqual((self.font.names, self.font.cids), ([glyph.name for glyph in self.font], [None] * 4))
         self.assertEqual(repr(self.font), "<Font of 4 glyphs>")
 
     def test_segments_to_a_pen_and_back(self):

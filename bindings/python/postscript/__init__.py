@@ -34,9 +34,10 @@ import ctypes
 import enum
 import mmap
 import os
-from ctypes import POINTER, Structure, byref, c_char_p, c_int, c_int32, c_int64, c_size_t, c_ssize_t, c_uint8, c_uint32, c_uint64, c_void_p
+from ctypes import POINTER, Structure, byref, c_char_p, c_int, c_int32, c_int64, c_size_t, c_ssize_t
+from ctypes import c_uint8, c_uint16, c_uint32, c_uint64, c_void_p
 from pathlib import Path
-from typing import Any, Callable, Iterable, Iterator, List, Mapping, NamedTuple, Optional, Protocol, Tuple, Type, Union
+from typing import Any, Callable, Dict, Iterable, Iterator, List, Mapping, NamedTuple, Optional, Protocol, Tuple, Type, Union
 
 __all__ = [
     "LIMIT", "VERSION", "Bounds", "Buffer", "CharacterMap", "Error", "Font", "Glyph", "Operation", "Pen", "Point", "Segment", "SegmentPen",
@@ -257,6 +258,10 @@ class _Operation(Structure):
     _fields_ = [("first", c_uint64), ("count", c_uint64), ("operator_code", c_uint32)]
 
 
+class _Character(Structure):
+    _fields_ = [("character", c_uint32), ("glyph", c_uint32)]
+
+
 class _Refusal(Structure):
     _fields_ = [("glyph", c_uint64), ("cause", c_int32)]
 
@@ -354,6 +359,7 @@ for _name, _arguments in {
     "psf_file_faces": [_bytes, _size, _sizes],
     "psf_file_table": [_bytes, _size, _size, c_uint32, _sizes, _sizes],
     "psf_map_glyph": [_bytes, _size, c_uint32, _sizes],
+    "psf_map_characters": [_bytes, _size, POINTER(_Character), _size, _sizes],
     "psf_font_open": [_bytes, _size, POINTER(_Font)],
     "psf_font_fits": [_bytes, _size, POINTER(c_uint64)],
     "psf_glyph_outline": [_bytes, _size, POINTER(_Font), _size, POINTER(_Segment), _size, _sizes, POINTER(_Glyph)],
@@ -363,14 +369,16 @@ for _name, _arguments in {
     "psf_font_flat": [_bytes, _size, c_uint64, _room, _size, _sizes, POINTER(_Refusal)],
     "psf_font_subset": [_bytes, _size, _sizes, _size, c_uint32, c_uint64, _room, _size, _sizes, POINTER(_Refusal)],
     "psf_glyph_name": [_bytes, _size, _size, _room, _size, _sizes],
+    "psf_font_identifiers": [_bytes, _size, POINTER(c_int32), _size, _sizes],
+    "psf_font_string": [_bytes, _size, c_uint16, _room, _size, _sizes],
     "psf_named_glyph": [_bytes, _size, _bytes, _size, _sizes],
 }.items():
     getattr(_library, _name).argtypes = _arguments
     getattr(_library, _name).restype = c_int32
 
 
-def _bytes_of(call: Callable[..., int], glyph: int) -> bytes:
-    """The bytes that a call about a glyph writes into the room that it is lent: more is lent where it is too small."""
+def _bytes_of(call: Callable[..., int], glyph: Optional[int] = None) -> bytes:
+    """The bytes that a call writes into the room that it is lent: more is lent where it is too small."""
     room, count = 64, c_size_t()
     while True:
         text = (c_uint8 * room)()
@@ -380,6 +388,16 @@ def _bytes_of(call: Callable[..., int], glyph: int) -> bytes:
         if status != Status.NO_ROOM:
             raise Error(status, glyph=glyph)
         room = count.value
+
+
+def _name_of(call: Callable[..., int], glyph: Optional[int] = None) -> Optional[str]:
+    """The name that a call writes. None where it tells that there is none."""
+    try:
+        return _bytes_of(call, glyph).decode("ascii", "backslashreplace")
+    except Error as e:
+        if e.status == Status.NO_NAME:
+            return None
+        raise
 
 
 def _font_of(least: int, call: Callable[..., int]) -> bytes:
@@ -392,6 +410,21 @@ def _font_of(least: int, call: Callable[..., int]) -> bytes:
             return bytes(memoryview(font)[: count.value])
         if status != Status.NO_ROOM:
             raise WriteError(status, int(refusal.glyph), int(refusal.cause))
+        room = count.value
+
+
+def _rows_of(cmap: _View) -> List[_Character]:
+    """All characters of a table `cmap` that have a glyph; none where it has no map that is read."""
+    room, count = 1024, c_size_t()
+    while True:
+        rows = (_Character * room)()
+        status = _library.psf_map_characters(*cmap.told, rows, room, byref(count))
+        if status == Status.OK:
+            return list(rows[: count.value])
+        if status == Status.NO_MAP:
+            return []
+        if status != Status.NO_ROOM:
+            raise Error(status)
         room = count.value
 
 
@@ -428,11 +461,11 @@ def _table(file: _View, face: int, tag: bytes) -> _View:
 class CharacterMap(Mapping[int, int]):
     """The characters of a font and their glyphs, by the best map of its table `cmap`: numbers of Unicode, and numbers of glyphs from 1 on.
 
-    Looking a character up is one call of the library. To list them, all 1,114,112 are looked up once, which takes a second or two."""
+    Looking a character up is one call of the library, and so is listing all of them, after which they are held."""
 
     def __init__(self, cmap: Optional[_View]) -> None:
         self._cmap = cmap
-        self._listed: Optional[List[int]] = None
+        self._listed: Optional[Dict[int, int]] = None
 
     def _glyph(self, character: int) -> int:
         """The glyph of a character, or 0. Refused with `Status.NO_MAP` where the font has no map that is read."""
@@ -443,6 +476,8 @@ class CharacterMap(Mapping[int, int]):
         return glyph.value
 
     def __getitem__(self, character: int) -> int:
+        if self._listed is not None:
+            return self._listed[character]
         try:
             glyph = self._glyph(character) if 0 <= character < 0x110000 else 0
         except Error as e:
@@ -453,14 +488,9 @@ class CharacterMap(Mapping[int, int]):
             raise KeyError(character)
         return glyph
 
-    def _characters(self) -> List[int]:
+    def _characters(self) -> Dict[int, int]:
         if self._listed is None:
-            try:
-                self._glyph(0)
-                self._listed = [character for character in range(0x110000) if self._glyph(character) != 0]
-            except Error:
-                # there is no map
-                self._listed = []
+            self._listed = {row.character: row.glyph for row in _rows_of(self._cmap)} if self._cmap is not None else {}
         return self._listed
 
     def __iter__(self) -> Iterator[int]:
@@ -518,7 +548,32 @@ class Font:
     @property
     def names(self) -> List[Optional[str]]:
         """The name of each glyph, as `Glyph.name`."""
-        return [glyph.name for glyph in self]
+        if self.is_cid_keyed:
+            return [None] * len(self)
+        identifiers = self._identifiers()
+        strings = {identifier: self._string(identifier) for identifier in set(identifiers)}
+        return [strings[identifier] for identifier in identifiers]
+
+    @property
+    def cids(self) -> List[Optional[int]]:
+        """The CID of each glyph of a CID-keyed font: its number in the character collection. None of a glyph that has none, as each of any
+        other font."""
+        if not self.is_cid_keyed:
+            return [None] * len(self)
+        return [identifier if identifier >= 0 else None for identifier in self._identifiers()]
+
+    def _identifiers(self) -> List[int]:
+        """The identifier of each glyph, or -1."""
+        room, count = len(self), c_size_t()
+        identifiers = (c_int32 * room)()
+        _checked(_library.psf_font_identifiers(*self._view.told, identifiers, room, byref(count)))
+        return identifiers[: count.value]
+
+    def _string(self, identifier: int) -> Optional[str]:
+        """The string of an identifier. None where there is none."""
+        if identifier < 0:
+            return None
+        return _name_of(lambda *lent: _library.psf_font_string(*self._view.told, identifier, *lent))
 
     def __getitem__(self, glyph: int) -> Glyph:
         if not 0 <= glyph < len(self):
@@ -642,13 +697,7 @@ class Glyph:
     def name(self) -> Optional[str]:
         """The name, where it has one. A byte that is no ASCII is written as `\\x` and its two digits."""
         cff = self.font._view
-        try:
-            text = _bytes_of(lambda *lent: _library.psf_glyph_name(*cff.told, self.number, *lent), self.number)
-        except Error as e:
-            if e.status == Status.NO_NAME:
-                return None
-            raise
-        return text.decode("ascii", "backslashreplace")
+        return _name_of(lambda *lent: _library.psf_glyph_name(*cff.told, self.number, *lent), self.number)
 
     def flat_code(self) -> bytes:
         """The code without calls of subroutines: over any subroutines it has the operations and the width of the glyph. Refused with

@@ -65,6 +65,14 @@ pub struct Bounds {
     pub has_bounds: u32,
 }
 
+/// `psf_character`.
+#[repr(C)]
+#[derive(Clone, Copy, Debug, Default)]
+pub struct Character {
+    pub character: u32,
+    pub glyph: u32,
+}
+
 /// `psf_operation`.
 #[repr(C)]
 #[derive(Clone, Copy, Debug, Default)]
@@ -105,6 +113,13 @@ extern "C" {
         size: *mut usize,
     ) -> i32;
     fn psf_map_glyph(cmap: *const u8, length: usize, character: u32, glyph: *mut usize) -> i32;
+    fn psf_map_characters(
+        cmap: *const u8,
+        length: usize,
+        characters: *mut Character,
+        room: usize,
+        count: *mut usize,
+    ) -> i32;
     fn psf_font_open(cff: *const u8, length: usize, font: *mut Font) -> i32;
     fn psf_font_fits(cff: *const u8, length: usize, limit: *mut u64) -> i32;
     fn psf_glyph_outline(
@@ -171,6 +186,21 @@ extern "C" {
         length: usize,
         glyph: usize,
         name: *mut u8,
+        room: usize,
+        count: *mut usize,
+    ) -> i32;
+    fn psf_font_identifiers(
+        cff: *const u8,
+        length: usize,
+        identifiers: *mut i32,
+        room: usize,
+        count: *mut usize,
+    ) -> i32;
+    fn psf_font_string(
+        cff: *const u8,
+        length: usize,
+        identifier: u16,
+        string: *mut u8,
         room: usize,
         count: *mut usize,
     ) -> i32;
@@ -270,6 +300,14 @@ pub fn map_glyph(cmap: &[u8], character: u32) -> Result<usize> {
     answered(status, glyph)
 }
 
+pub fn characters(cmap: &[u8]) -> Result<Vec<Character>> {
+    let mut characters = Vec::new();
+    with_room(&mut characters, 1024, Character::default(), |room, count| unsafe {
+        psf_map_characters(cmap.as_ptr(), cmap.len(), room.as_mut_ptr(), room.len(), count)
+    })?;
+    Ok(characters)
+}
+
 pub fn open(cff: &[u8]) -> Result<Font> {
     is_own(version())?;
     let mut font = Font::default();
@@ -310,6 +348,22 @@ pub fn glyph_name(cff: &[u8], glyph: usize) -> Result<Vec<u8>> {
         psf_glyph_name(cff.as_ptr(), cff.len(), glyph, room.as_mut_ptr(), room.len(), count)
     })?;
     Ok(name)
+}
+
+pub fn identifiers(cff: &[u8], glyphs: usize) -> Result<Vec<i32>> {
+    let mut identifiers = Vec::new();
+    with_room(&mut identifiers, glyphs, 0, |room, count| unsafe {
+        psf_font_identifiers(cff.as_ptr(), cff.len(), room.as_mut_ptr(), room.len(), count)
+    })?;
+    Ok(identifiers)
+}
+
+pub fn string(cff: &[u8], identifier: u16) -> Result<Vec<u8>> {
+    let mut string = Vec::new();
+    with_room(&mut string, 32, 0, |room, count| unsafe {
+        psf_font_string(cff.as_ptr(), cff.len(), identifier, room.as_mut_ptr(), room.len(), count)
+    })?;
+    Ok(string)
 }
 
 pub fn named_glyph(cff: &[u8], name: &[u8]) -> Result<usize> {

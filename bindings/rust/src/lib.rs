@@ -89,6 +89,14 @@ pub struct Font<'a> {
     font: c::Font,
 }
 
+/// A name that was asked for; `None` where there is none.
+fn name_of(answer: Result<Vec<u8>>) -> Result<Option<Vec<u8>>> {
+    match answer {
+        Err(Error::NoName) => Ok(None),
+        answer => answer.map(Some),
+    }
+}
+
 impl<'a> Font<'a> {
     /// A face of an OpenType file, counted from 0.
     ///
@@ -420,10 +428,7 @@ impl<'a> Font<'a> {
     ///
     /// Where the font has no char set: see [`Error`].
     pub fn glyph_name(&self, glyph: usize) -> Result<Option<Vec<u8>>> {
-        match c::glyph_name(self.cff, glyph) {
-            Err(Error::NoName) => Ok(None),
-            answer => answer.map(Some),
-        }
+        name_of(c::glyph_name(self.cff, glyph))
     }
 
     /// The first glyph that has a name.
@@ -450,28 +455,61 @@ impl<'a> Font<'a> {
     /// ```
     /// # let bytes = std::fs::read("examples/small.otf")?;
     /// # let font = postscript::Font::from_file(&bytes, 0)?;
-    /// let names: Result<Vec<_>, _> = font.names().collect();
+    /// let names: Result<Vec<_>, _> = font.names()?.collect();
     /// assert_eq!(names?[3].as_deref(), Some(b"flower".as_slice()));
     /// # Ok::<(), Box<dyn std::error::Error>>(())
     /// ```
-    pub fn names(&self) -> impl ExactSizeIterator<Item = Result<Option<Vec<u8>>>> + 'a {
+    ///
+    /// # Errors
+    ///
+    /// Where the font has no char set: see [`Error`].
+    pub fn names(&self) -> Result<impl ExactSizeIterator<Item = Result<Option<Vec<u8>>>> + 'a> {
         let font = *self;
-        (0..self.glyph_count()).map(move |glyph| font.glyph_name(glyph))
+        let named = c::identifiers(self.cff, self.glyph_count())?.into_iter();
+        Ok(named.map(move |told| match u16::try_from(told) {
+            Ok(identifier) if !font.is_cid_keyed() => name_of(c::string(font.cff, identifier)),
+            _ => Ok(None),
+        }))
     }
 
-    /// The characters that the character map has glyphs for, ascending, with their glyphs. Each character of Unicode is looked up, which
-    /// takes some tenths of a second.
+    /// The CIDs of all glyphs of a CID-keyed font, in their order: their numbers in its character collection. `None` of a glyph that has
+    /// none, as each of any other font.
     ///
     /// ```
     /// # let bytes = std::fs::read("examples/small.otf")?;
     /// # let font = postscript::Font::from_file(&bytes, 0)?;
-    /// assert_eq!(font.characters().collect::<Vec<_>>(), [(' ', 1), ('A', 2), ('\u{2698}', 3)]);
+    /// assert_eq!(font.cids()?, [None; 4]);
     /// # Ok::<(), Box<dyn std::error::Error>>(())
     /// ```
-    pub fn characters(&self) -> impl Iterator<Item = (char, usize)> + 'a {
-        let font = *self;
-        let all = if font.cmap.is_some() { '\0'..=char::MAX } else { '\u{1}'..='\0' };
-        all.filter_map(move |character| Some((character, font.glyph_index(character)?)))
+    ///
+    /// # Errors
+    ///
+    /// Where the font has no char set: see [`Error`].
+    pub fn cids(&self) -> Result<Vec<Option<u16>>> {
+        let told = c::identifiers(self.cff, self.glyph_count())?;
+        let is_cid_keyed = self.is_cid_keyed();
+        Ok(told.into_iter().map(|told| u16::try_from(told).ok().filter(|_| is_cid_keyed)).collect())
+    }
+
+    /// The characters that the character map has glyphs for, ascending, with their glyphs. None where there is no map. Numbers of
+    /// surrogates, which are no characters, are left out.
+    ///
+    /// # Errors
+    ///
+    /// [`Error::Memory`].
+    ///
+    /// ```
+    /// # let bytes = std::fs::read("examples/small.otf")?;
+    /// # let font = postscript::Font::from_file(&bytes, 0)?;
+    /// assert_eq!(font.characters()?.collect::<Vec<_>>(), [(' ', 1), ('A', 2), ('\u{2698}', 3)]);
+    /// # Ok::<(), Box<dyn std::error::Error>>(())
+    /// ```
+    pub fn characters(&self) -> Result<impl Iterator<Item = (char, usize)>> {
+        let rows = match self.cmap.map(c::characters) {
+            None | Some(Err(Error::NoMap)) => Vec::new(),
+            Some(answer) => answer?,
+        };
+        Ok(rows.into_iter().filter_map(|row| Some((char::from_u32(row.character)?, row.glyph as usize))))
     }
 
     /// The outlines of all glyphs, in their order.

@@ -4,7 +4,7 @@ use Rattle.postscript_base.specs.Error.{code}
 use Rattle.postscript_base.specs.Tape.Outcome.{Got, RefusedAs}
 use Rattle.postscript_base.specs.declared.error.Error.{Error}
 use Rattle.postscript_base.specs.declared.error.Error.TheVariants.{Memory}
-use Rattle.postscript_c.specs.Texts.{Bytes, HandsBytes}
+use Rattle.postscript_c.specs.Texts.{HandsOver, Lent}
 use Rattle.postscript_view.specs.CharSets.{IsCharSetOf}
 use Rattle.postscript_view.specs.Order.{View, view}
 use Rattle.postscript_view.specs.Strings.{HasName, IsFirstWithName}
@@ -27,13 +27,13 @@ abbrev pub OfFirst : List ℕ → (View → Type 0) → (status : ℤ) → (same
 OfFirst bytes tells status same = ((v : View) × (next : ℕ) × (view bytes 0 ≡ Got v next) × tells v) ⊎ (LacksFont bytes status × same)
 
 -- the name of a glyph of a font is handed over, or it has none, as each glyph of a CID-keyed font
-abbrev pub TellsNameIn : List ℕ → View → (glyph : ℕ) → (status : ℤ) → (old new : Bytes) → Type 0
+abbrev pub TellsNameIn : List ℕ → View → (glyph : ℕ) → (status : ℤ) → (old new : Lent ℕ) → Type 0
 TellsNameIn bytes view glyph status old new =
-    ((set : CharSetView) × (name : List ℕ) × IsSetOf bytes view set × HasName view set glyph name × HandsBytes name status old new)
+    ((set : CharSetView) × (name : List ℕ) × IsSetOf bytes view set × HasName view set glyph name × HandsOver name status old new)
     ⊎ (((set : CharSetView) × IsSetOf bytes view set × (status ≡ pos 38) × ((name : List ℕ) → HasName view set glyph name → ⊥) × (new ≡ old))
     ⊎ (LacksSet bytes view status × (new ≡ old)))
 
-abbrev pub TellsName : List ℕ → (glyph : ℕ) → (status : ℤ) → (old new : Bytes) → Type 0
+abbrev pub TellsName : List ℕ → (glyph : ℕ) → (status : ℤ) → (old new : Lent ℕ) → Type 0
 TellsName bytes glyph status old new = OfFirst bytes (λ view. TellsNameIn bytes view glyph status old new) status (new ≡ old)
 
 -- the first glyph of a font that has a name, or none has it

@@ -1,20 +1,16 @@
--- Bytes that C is handed.
+-- What C is handed.
 use Rattle.std.specs.Prelude.{◌≡◌, ◌⊎◌, ℕ, ◌<◌, ℤ, pos, List, ◌++◌, length, drop}
 
--- what C lends to be filled with bytes, as it stands at one time
-pub record Bytes : Type 0 where
-  pub room : List ℕ
+-- what C lends to be filled with items, as it stands at one time
+pub record Lent (A : Type 0) : Type 0 where
+  pub room : List A
   pub count : ℕ
 
-abbrev pub lent : List ℕ → ℕ → Bytes
+abbrev pub lent : {A : Type 0} → List A → ℕ → Lent A
 lent room count = record { room = room; count = count }
 
--- How many bytes there are is told. On 0 they stand at the front of the room, and what is behind them stays; on 32 they are more than
+-- How many items there are is told. On 0 they stand at the front of the room, and what is behind them stays; on 32 they are more than
 -- the room, which stays.
-pub record HandsBytes (bytes : List ℕ) (status : ℤ) (old new : Bytes) : Type 0 where
-  pub counted : new.count ≡ length bytes
-  pub handed : ((status ≡ pos 0) × (new.room ≡ bytes ++ drop (length bytes) old.room)) ⊎ ((status ≡ pos 32) × (length old.room < new.count) × (new.room ≡ old.room))
-
--- a text is handed over, or there is none
-abbrev pub TellsText : (status : ℤ) → (old new : Bytes) → Type 0
-TellsText status old new = ((text : List ℕ) × HandsBytes text status old new) ⊎ ((status ≡ pos 39) × (new ≡ old))
+pub record HandsOver {A : Type 0} (items : List A) (status : ℤ) (old new : Lent A) : Type 0 where
+  pub counted : new.count ≡ length items
+  pub handed : ((status ≡ pos 0) × (new.room ≡ items ++ drop (length items) old.room)) ⊎ ((status ≡ pos 32) × (length old.room < new.count) × (new.room ≡ old.room))

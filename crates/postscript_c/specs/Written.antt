@@ -4,7 +4,7 @@ use Rattle.std.specs.declared.alloc.Global.{Global}
 use Rattle.postscript_base.specs.Error.{code}
 use Rattle.postscript_base.specs.Tape.Outcome.{Got}
 use Rattle.postscript_c.specs.Fitting.{FirstFits, TellsFits}
-use Rattle.postscript_c.specs.Texts.{Bytes, HandsBytes}
+use Rattle.postscript_c.specs.Texts.{HandsOver, Lent}
 use Rattle.postscript_c.specs.declared.written.PsfRefusal.{PsfRefusal}
 use Rattle.postscript_view.specs.Order.{View, view}
 use Rattle.postscript_write.specs.Components.{IsSubset as IsSubsetFont}
@@ -43,13 +43,13 @@ refusal_of NotReadBack = refusal 0 (pos 0)
 refusal_of TooLarge = refusal 0 (pos 0)
 
 -- the font is handed over, or a refusal is told by its number, its glyph and its cause; what is not told is as it was
-abbrev pub TellsWritten : Result (Vec ℕ Global) Error → (status : ℤ) → (old new : Bytes) → (was told : PsfRefusal) → Type 0
-TellsWritten (Ok flat) status old new was told = HandsBytes flat.items status old new × (told ≡ was)
+abbrev pub TellsWritten : Result (Vec ℕ Global) Error → (status : ℤ) → (old new : Lent ℕ) → (was told : PsfRefusal) → Type 0
+TellsWritten (Ok flat) status old new was told = HandsOver flat.items status old new × (told ≡ was)
 TellsWritten (Err e) status old new was told = (status ≡ pos (written_code e)) × (told ≡ refusal_of e) × (new ≡ old)
 
 -- Within a limit: where all runs of the font come to their ends within it, an answer is told; else why nothing is asked for, with glyph and
 -- cause 0, and what was lent stays.
-abbrev pub TellsWithin : (bytes : List ℕ) (limit : ℕ) (status : ℤ) (IsAnswer : Result (Vec ℕ Global) Error → Type 0) (old new : Bytes) (was told : PsfRefusal) → Type 0
+abbrev pub TellsWithin : (bytes : List ℕ) (limit : ℕ) (status : ℤ) (IsAnswer : Result (Vec ℕ Global) Error → Type 0) (old new : Lent ℕ) (was told : PsfRefusal) → Type 0
 TellsWithin bytes limit status IsAnswer old new was told =
     (FirstFits bytes limit × ((answer : Result (Vec ℕ Global) Error) × IsAnswer answer × TellsWritten answer status old new was told))
     ⊎ (((left : ℕ) × TellsFits bytes limit status left) × (status ≢ pos 0) × (told ≡ refusal 0 (pos 0)) × (new ≡ old))

@@ -9,7 +9,7 @@ use crate::glyph::program;
 use crate::limit::Kept;
 use crate::part::PsfPart;
 use crate::status::{NO_GLYPH, TOO_LONG};
-use crate::texts::hand_bytes;
+use crate::texts::hand_over;
 use crate::told::status;
 use postscript_base::Result;
 use postscript_type2::Program;
@@ -64,7 +64,7 @@ pub(crate) fn tell_flat_by(
     ensures { TellsFlatBy bytes.now font.now part.now glyph result (lends room.old count.old) (lends room.new count.new) }
 {
     match flat_glyph(alloc, bytes, font, part, glyph) {
-        Ok(Kept::Told(flat)) => hand_bytes(&flat.code, room, count),
+        Ok(Kept::Told(flat)) => hand_over(&flat.code, room, count),
         Ok(Kept::NoGlyph) => NO_GLYPH,
         Ok(Kept::TooLong) => TOO_LONG,
         Err(e) => status(&e),

@@ -5,7 +5,7 @@ ghost use Rattle.postscript_c.specs.Texts.{lent};
 ghost use Rattle.postscript_view.specs.Value.{view_shown};
 
 use crate::status::{NO_GLYPH, NO_NAME};
-use crate::texts::hand_bytes;
+use crate::texts::hand_over;
 use crate::told::status;
 use postscript_view::FontView;
 use std::alloc::Global;
@@ -16,7 +16,7 @@ fn tell_name_in(view: &FontView<'_>, glyph: usize, room: &mut [u8], count: &mut 
 {
     match view.char_set() {
         Ok(set) => match view.name(&set, glyph) {
-            Some(name) => hand_bytes(name, room, count),
+            Some(name) => hand_over(name, room, count),
             None => NO_NAME,
         },
         Err(e) => status(&e),

@@ -7,7 +7,7 @@ ghost use Rattle.postscript_write.specs.Sources.{chosen, keeping};
 use crate::status::{
     NO_GLYPH, NO_GLYPHS, NO_NAME, NO_PART, NOT_READ_BACK, REFUSED_GLYPH, SEVERAL_FONTS, TOO_LARGE,
 };
-use crate::texts::hand_bytes;
+use crate::texts::hand_over;
 use crate::told::status;
 use postscript_write::{Error, Result, flat_font, subset, subset_keeping};
 use std::alloc::Global;
@@ -79,7 +79,7 @@ pub(crate) fn tell_written(
     ensures { TellsWritten answer.now result (lent room.old count.old) (lent room.new count.new) refusal.old refusal.new }
 {
     match answer {
-        Ok(flat) => hand_bytes(flat, room, count),
+        Ok(flat) => hand_over(flat, room, count),
         Err(e) => {
             *refusal = refusal_of(e);
             written_status(e)
