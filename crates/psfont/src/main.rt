@@ -13,6 +13,9 @@ use std::process::ExitCode;
 use std::rt::Files;
 use std::{env, io};
 
+#[cfg(test)]
+mod tests;
+
 /// `start` on the standard input and output.
 fn start_here<R: Input + Print + Files + AllocGlobal, E: Write>(
     rt: &R,
