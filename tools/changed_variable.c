@@ -4,7 +4,8 @@
  * their hints, where it is told not to, ours cut to a unit, or the next unit where ours is less than 1/1024 below it. Three kinds are told
  * apart: glyphs that are so without lines that go nowhere, those with a coordinate that FreeType does not hold at this size, and those with a
  * contour that comes back nearly to where it began, whose last point may be the first one or another. Each other glyph is a line `unlike` on
- * standard error, with its case. The answer is how many of which kind there were. */
+ * standard error, with its case; so is each coordinate and each advance that is not FreeType's, with both. The answer is how many of which
+ * kind there were. */
 #include <ft2build.h>
 #include FT_FREETYPE_H
 #include FT_MULTIPLE_MASTERS_H
@@ -234,25 +235,45 @@ static void open_user(const char *line) {
     FT_Fixed at[AXES];
     int count = numbers(line, found, AXES);
     counts[OTHER_TABLES]++;
+    snprintf(asked, sizeof asked, "%s", line);
     for (int i = 0; i < count; i++) at[i] = found[i];
     face = opened(now);
     if (face && FT_Set_Var_Design_Coordinates(face, count, at)) FT_Done_Face(face), face = NULL;
     if (!face) counts[OTHER_UNOPENED]++;
 }
 
+/* the coordinates of a case of another table */
 static void compare_coordinates(const char *line) {
     long found[AXES];
     FT_Fixed at[AXES];
     int count = numbers(line, found, AXES);
     if (!face || FT_Get_Var_Blend_Coordinates(face, count, at)) return;
-    for (int i = 0; i < count; i++) counts[labs(found[i] * 4 - at[i]) <= 4 ? COORDINATES : OTHER_COORDINATES]++;
+    for (int i = 0; i < count; i++) {
+        int kind = labs(found[i] * 4 - at[i]) <= 4 ? COORDINATES : OTHER_COORDINATES;
+        counts[kind]++;
+        if (kind == OTHER_COORDINATES) fprintf(stderr, "unlike %d %d%s |%s | %ld %ld\n", kind, i, told, asked, found[i], at[i]);
+    }
+}
+
+/* behind the two advances stand what a glyph has where nothing is asked for, and the coordinates of FreeType */
+static void show_advance(int kind, const long *found, long theirs) {
+    FT_Fixed at[AXES];
+    long words[AXES];
+    int count = numbers(asked, words, AXES);
+    fprintf(stderr, "unlike %d %ld%s |%s | %ld %ld %ld", kind, found[0], told, asked, found[1], theirs, now->advances[found[0]]);
+    if (!FT_Get_Var_Blend_Coordinates(face, count, at))
+        for (int i = 0; i < count; i++) fprintf(stderr, " %ld", at[i]);
+    fprintf(stderr, "\n");
 }
 
 static void compare_advance(const char *line) {
     long found[2];
     if (!face || numbers(line, found, 2) < 2 || FT_Load_Glyph(face, found[0], FT_LOAD_NO_SCALE | FT_LOAD_NO_HINTING)) return;
-    long off = labs(face->glyph->metrics.horiAdvance - now->advances[found[0]] - found[1]);
-    counts[off == 0 ? ADVANCES : off == 1 ? BY_ONE : OTHER_ADVANCES]++;
+    long theirs = face->glyph->metrics.horiAdvance - now->advances[found[0]];
+    long off = labs(theirs - found[1]);
+    int kind = off == 0 ? ADVANCES : off == 1 ? BY_ONE : OTHER_ADVANCES;
+    counts[kind]++;
+    if (off) show_advance(kind, found, theirs);
 }
 
 static void segment(const char *line) {

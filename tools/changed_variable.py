@@ -5,32 +5,42 @@
 
 Each WORD is an OpenType file with a table `CFF2`, or a Debian package, which is downloaded (not installed) and of which each such file
 is taken; pango1.0-tests has Cantarell-VF.otf. The four fonts that tools/variable.py makes of EB Garamond, of two and three axes, come behind
-them. Each of the CASES is one to sixteen changed bytes, by chance from SEED: in the code of a glyph (half of them), in the table
+them, each with tables `avar` and `HVAR` of its own. Each of the CASES is one to sixteen changed bytes, by chance from SEED: in the code of a glyph (half of them), in the table
 `CFF2` (a quarter), in its first 200 bytes, or in `fvar`, `avar` or `HVAR` (an eighth each). One process (tools/changed_variable_main.txt, proved in
 a copy, or PROGRAM of the environment) reads each table and draws two glyphs at a random place, within a limit; another one
 (tools/changed_variable.c) loads them by FreeType from memory. The script ends with status 1 where one of the two does not end with
-status 0, and where a glyph that both draw is drawn otherwise for none of the reasons below.
+status 0, and where a glyph that both draw is drawn otherwise, a normalized coordinate is more than 2^-14 away or an advance is another for
+none of the reasons below.
 
-A reason is what a small reader in this file finds in the changed table at that glyph. Needs `rt` and `gcc` on the path and Debian's
+A reason of a glyph is what a small reader in this file finds in the changed table at that glyph; one of a coordinate or an advance is the
+way of FreeType with which tools/other_tables.py comes to FreeType's from the changed tables. Needs `rt` and `gcc` on the path and Debian's
 python3-fonttools and libfreetype-dev.
 """
 
 import collections
 import os
 import pathlib
+import random
 import subprocess
 import sys
 import tempfile
+import types
 
 sys.dont_write_bytecode = True
 
+from fontTools.ttLib import TTFont
+
+import axes
 import building
+import other_tables
 import variable
 
 USES = variable.USES
-FACE_REFUSED, OTHERWISE, THERE_REFUSED, HERE_REFUSED = 3, 6, 7, 8
+FACE_REFUSED, OTHERWISE, THERE_REFUSED, HERE_REFUSED, COORDINATE, BY_ONE, ADVANCE = 3, 6, 7, 8, 18, 20, 21
+EXPLAINED = {OTHERWISE, COORDINATE, BY_ONE, ADVANCE}
+NONE = "none of these"
 SAID = {FACE_REFUSED: "drawn here, the face refused by FreeType", OTHERWISE: "drawn otherwise", THERE_REFUSED: "drawn here, refused by FreeType",
-        HERE_REFUSED: "refused here, drawn by FreeType"}
+        HERE_REFUSED: "refused here, drawn by FreeType", COORDINATE: "another coordinate", BY_ONE: "an advance one unit away", ADVANCE: "another advance"}
 
 # what is odd in a run, the first reason first
 ORDER = ["an operator with more operands than it takes", "stems behind a mask or a path", "more than 96 stems", "vsindex behind a blend or an operator",
@@ -264,17 +274,25 @@ class Run:
         return int(self.stack.pop())
 
 
-def reason(font, span, line):
-    """The reason of an unlike glyph, which is told by the words of its line."""
-    told, at, refused = line.split("|")
+def reason(font, spans, line):
+    """The reason of an unlike glyph, coordinate or advance, which is told by the words of its line."""
+    told, at, answers = line.split("|")
     _, kind, glyph, number, *changes = told.split()
     if int(kind) == HERE_REFUSED:
-        why = refused.strip()
+        why = answers.strip()
         return "there is no such glyph" if why.startswith("there is no glyph") else why
     data = bytearray(font)
     places = list(map(int, changes[::2]))
     for place, value in zip(places, changes[1::2]):
         data[place] = int(value)
+    if int(kind) in (COORDINATE, BY_ONE, ADVANCE):
+        why = other_tables.why_coordinate if int(kind) == COORDINATE else other_tables.why_advance
+        return why(data, spans, int(glyph), list(map(int, at.split())), list(map(int, answers.split()))) or NONE
+    return outline_reason(data, spans[b"CFF2"], int(glyph), places)
+
+
+def outline_reason(data, span, glyph, places):
+    """The reason of an unlike outline."""
     own = bytes(data[span[0]:span[0] + span[1]])
     try:
         table = Table(own)
@@ -288,15 +306,30 @@ def reason(font, span, line):
         return f"bytes changed in {offsets[0]}"
     run = Run(table)
     try:
-        if int(glyph) >= len(table.glyphs):
+        if glyph >= len(table.glyphs):
             return "no such glyph"
-        run.run(table.glyphs[int(glyph)])
+        run.run(table.glyphs[glyph])
     except Odd as why:
         return f"{why}"
     for name in sorted(where):
         if name in ("the header and the Top DICT", "a Private DICT", "the variation store", "Font DICTs"):
             return f"bytes changed in {name}" if not run.odd else run.odd[0]
-    return run.odd[0] if run.odd else "none of these"
+    return run.odd[0] if run.odd else NONE
+
+
+def spans_of(font):
+    """Where each table of a file stands, and its length."""
+    records = [font[12 + 16 * i:28 + 16 * i] for i in range(int.from_bytes(font[4:6], "big"))]
+    return {bytes(record[:4]): (int.from_bytes(record[8:12], "big"), int.from_bytes(record[12:], "big")) for record in records}
+
+
+def with_variations(path):
+    """The same font with a segment map for each axis, and with advances that vary."""
+    font = TTFont(path)
+    tags = [axis.axisTag for axis in font["fvar"].axes]
+    axes.with_variations(random.Random(path.name), types.SimpleNamespace(font=font), font.getGlyphOrder(), tags)
+    font.save(path.with_name(f"varied_{path.name}"))
+    return path.with_name(f"varied_{path.name}")
 
 
 def main():
@@ -308,7 +341,7 @@ def main():
         fonts = [path for word in words for path in variable.files_in(folder, word)]
         for count in (2, 3):
             made = variable.variable(folder / "fonts", count)
-            fonts += [made, variable.mixed(made)]
+            fonts += [with_variations(made), with_variations(variable.mixed(made))]
         program = os.environ.get("PROGRAM") or building.proved(folder / "program", "changed_variable", USES)
         flags = building.printed("pkg-config", "--cflags", "--libs", "freetype2").split()
         building.printed("gcc", "-O2", building.TOOLS / "changed_variable.c", "-o", folder / "freetype", *flags)
@@ -321,11 +354,7 @@ def main():
         if status or theirs.returncode:
             sys.exit(f"the program ended with status {status}, that of FreeType with {theirs.returncode}")
         data = [path.read_bytes() for path in fonts]
-        spans = []
-        for font in data:
-            records = {bytes(font[12 + 16 * i:16 + 16 * i]): 12 + 16 * i for i in range(int.from_bytes(font[4:6], "big"))}
-            record = records[b"CFF2"]
-            spans.append(tuple(int.from_bytes(font[record + k:record + k + 4], "big") for k in (8, 12)))
+        spans = [spans_of(font) for font in data]
         counts = collections.Counter()
         for line in open(folder / "unlike", encoding="utf-8"):
             number = int(line.split()[3])
@@ -336,8 +365,8 @@ def main():
                 print(line.strip())
         for (kind, why), count in sorted(counts.items(), key=lambda item: (item[0][0], -item[1])):
             print(f"{SAID[kind]}: {count}: {why}")
-        unexplained = sum(count for (kind, why), count in counts.items() if why == "none of these" and kind == OTHERWISE)
-        print(f"{unexplained} drawn otherwise for no reason")
+        unexplained = sum(count for (kind, why), count in counts.items() if why == NONE and kind in EXPLAINED)
+        print(f"{unexplained} outlines, coordinates and advances that are otherwise for no reason")
     sys.exit(unexplained > 0)
 
 

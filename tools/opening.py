@@ -2,11 +2,17 @@
 """Times the opening of fonts: in place, by `FontSet::read_lenient`, by FreeType and by `ttf-parser`, in one run.
 
     tools/opening.py WORD..
+    tools/opening.py variable WORD..
 
-Each WORD is a folder or an installed Debian package, of which each file .otf is taken, or a font file. Each font is its table `CFF ` alone.
+Each WORD of the first line is a folder or an installed Debian package, of which each file .otf is taken, or a font file. Each font is its table `CFF ` alone.
 Needs `rt`, `cargo` and `gcc` on the path, and Debian's python3-fonttools, librust-ttf-parser-dev and libfreetype-dev. The program over
 this repository is tools/opening_main.txt, proved in a copy with what the crates keep in out/; the others are tools/opening_ft.c and
 tools/opening_ttf.txt.
+
+The second line times variable fonts with a table `CFF2`, from the bytes of the whole file: opening, and a place two thirds of the way from
+the default to the maximum of each axis (to the minimum where that is the default), by tools/opening_variable_main.txt, proved so too, and
+by tools/opening_variable_ft.c. Each WORD is such a file, or a Debian package, which is downloaded and not installed; pango1.0-tests has
+Cantarell-VF.otf. Fonts of two and three axes that tools/variable.py makes of EB Garamond come behind them.
 """
 
 import pathlib
@@ -17,10 +23,14 @@ import tempfile
 sys.dont_write_bytecode = True
 
 import building
+import variable
 from building import printed
 from font_files import fonts_of
+from fontTools.ttLib import TTFont
 
 USES = "postscript_view postscript_compact1 postscript_base postscript_items anyhow"
+VARIABLE_USES = ("postscript_sfnt postscript_base postscript_items postscript_type2 postscript_variation postscript_cff2 postscript_variable"
+                 " postscript_variable_font anyhow")
 SHOWN = ("EBGaramond12-Regular", "FreeSerif", "unifont")
 
 
@@ -35,10 +45,10 @@ def write_tables(folder, words):
     return folder / "lines"
 
 
-def freetype(folder):
-    """tools/opening_ft.c, built."""
+def freetype(folder, name="opening_ft.c"):
+    """The program of FreeType, built."""
     flags = printed("pkg-config", "--cflags", "--libs", "freetype2").split()
-    printed("gcc", "-O2", building.TOOLS / "opening_ft.c", "-o", folder / "freetype", *flags)
+    printed("gcc", "-O2", building.TOOLS / name, "-o", folder / "freetype", *flags)
     return folder / "freetype"
 
 
@@ -81,9 +91,36 @@ def print_told(all_rows):
     print(f"a glyph's code: {sum(font[4] for font in opened) / sum(font[1] for font in opened):.1f} ns, most in a font of 50 glyphs and more {max(per_glyph):.1f} ns")
 
 
+def asked_of(path):
+    """A place of a font, in 16.16."""
+    ends = [(axis.defaultValue, axis.minValue if axis.defaultValue == axis.maxValue else axis.maxValue) for axis in TTFont(path, lazy=True)["fvar"].axes]
+    return [round((default + (end - default) * 2 / 3) * 65536) for default, end in ends]
+
+
+def compare_variable(words):
+    """Prints how long variable fonts take, and FreeType."""
+    with tempfile.TemporaryDirectory() as name:
+        folder = pathlib.Path(name)
+        (folder / "fonts").mkdir()
+        fonts = [path for word in words for path in variable.files_in(folder, word)]
+        fonts += [variable.variable(folder / "fonts", count) for count in (2, 3)]
+        (folder / "lines").write_text("".join(f"{' '.join(map(str, asked_of(path)))} {path}\n" for path in fonts))
+        programs = [building.proved(folder / "ours", "opening_variable", VARIABLE_USES), freetype(folder, "opening_variable_ft.c")]
+        print("| font | glyphs | `CFF2` alone | the file | a place | FreeType: the file | a place | opened and placed, of FreeType's time |")
+        print("|---|---|---|---|---|---|---|---|")
+        for path, own, other in zip(fonts, *(rows_of(program, folder / "lines") for program in programs)):
+            if own[0] != other[0]:
+                sys.exit(f"{path} has other counts of glyphs")
+            table, read, place, theirs, set_there = map(int, (*own[1:4], *other[1:3]))
+            told = " µs | ".join(f"{nanos / 1000:.2f}" for nanos in (table, read, place, theirs, set_there))
+            print(f"| {path.stem} | {own[0]} | {told} µs | {(read + place) / (theirs + set_there):.2f} |")
+
+
 def main(words):
-    if not words:
+    if not words or words == ["variable"]:
         sys.exit(__doc__)
+    if words[0] == "variable":
+        return compare_variable(words[1:])
     with tempfile.TemporaryDirectory() as name:
         folder = pathlib.Path(name)
         lines = write_tables(folder, words)
