@@ -237,6 +237,17 @@ return [cells.length, cells.filter((cell) => cell.querySelector("path, .why") ==
 """
 
 
+def drawn_by(driver, many):
+    """How many cells there are and how many of them are empty, once all are drawn, or after ten seconds: the change of the medium is told to
+    the page with its next frame."""
+    until = time.monotonic() + 10
+    while True:
+        cells, undrawn = driver.execute_script(UNDRAWN)
+        if (cells, undrawn) == (many, 0) or time.monotonic() > until:
+            return cells, undrawn
+        time.sleep(0.1)
+
+
 def look_at_print(driver, page, told, faults):
     """On paper each glyph has its cell, and each cell its picture or its reason, the last ones too: by the event before printing, and by
     the change of the medium alone. The driver waits for ten seconds for the paper, too short for that of more glyphs, or on a machine with
@@ -250,7 +261,7 @@ def look_at_print(driver, page, told, faults):
         except TimeoutException:
             print(f"{page.name}: not printed on paper within ten seconds", file=sys.stderr)
             continue
-        cells, undrawn = driver.execute_script(UNDRAWN)
+        cells, undrawn = drawn_by(driver, many)
         if (cells, undrawn) != (many, 0):
             faults.append(f"{cells} cells are printed of {many}, {undrawn} of them empty")
         driver.execute_cdp_cmd("Emulation.setEmulatedMedia", {"media": ""})
