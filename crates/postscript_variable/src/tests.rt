@@ -132,6 +132,56 @@ fn refusals(rt: HostRuntime) {
     }
 }
 
+/// What the first step of a charstring over global subroutines is refused with.
+fn refused_with(
+    alloc: Global,
+    code: &[u8],
+    global: &[Vec<u8>],
+    tables: &[Vec<u32>],
+) -> Option<Error> {
+    let mut program = Charstring {
+        code,
+        subroutines: Subroutines::lists(global, &[]),
+        blends: Blends { tables, index: 0 },
+    }
+    .program(alloc);
+    program.step().err()
+}
+
+/// Two subroutines: 0 calls itself, 1 says 100 50 rmoveto.
+fn routines<R: Abort>(rt: &R, alloc: Global) -> Vec<Vec<u8>> {
+    let mut global = Vec::new(alloc);
+    let own = Vec::from_array(alloc, [0x20, 0x1d]).expect(rt, "memory");
+    global.push(own).expect(rt, "memory");
+    let moves = Vec::from_array(alloc, [0xef, 0xbd, 0x15]).expect(rt, "memory");
+    global.push(moves).expect(rt, "memory");
+    global
+}
+
+#[test]
+fn operands_and_calls_at_their_limits(rt: HostRuntime) {
+    let alloc = rt.alloc();
+    let tables = tables(&rt, alloc);
+    let global = routines(&rt, alloc);
+    let mut full = [0x8b; 514];
+    full[513] = 0x06;
+    let found = refused_with(alloc, &full, &global, &tables);
+    assert!(rt; found.is_none(), "hlineto over 513 operands");
+    let mut more = [0x8b; 515];
+    more[514] = 0x06;
+    let found = refused_with(alloc, &more, &global, &tables);
+    assert!(rt; matches!(found, Some(Error::Overflow)), "and one more");
+    let found = refused_with(alloc, &[0x20, 0x1d], &global, &tables);
+    assert!(rt;
+        matches!(found, Some(Error::TooDeep)),
+        "a routine that calls itself"
+    );
+    // -107 10 -16 1 blend callgsubr: -107 + 5 - 4 is the number of the subroutine 1
+    let code = [0x20, 0x95, 0x7b, 0x8c, 0x10, 0x1d];
+    let found = refused_with(alloc, &code, &global, &tables);
+    assert!(rt; found.is_none(), "a blended number of a subroutine");
+}
+
 #[test]
 fn a_limit(rt: HostRuntime) {
     let tables = tables(&rt, rt.alloc());
