@@ -19,9 +19,8 @@
  * which the caller may change. Of the 20,000,000 units that psf_font_open tells it reads at most as many bytes of phrases (operators
  * with the numbers before them; a roll counts as 4096 more, and a square root as 8) and one phrase besides, which takes well under a
  * second. What psf_glyph_flat and psf_glyph_operations keep is in proportion. psf_font_flat and psf_font_subset are handed a limit for
- * the runs of all glyphs together, and go through these six times at most; the phrase at which the run of a glyph is refused takes no
- * units, so that there is one more for each such glyph. docs/BOUNDS.md tells what else takes time, and docs/LINKED.md what of this is
- * proved, and what is tested.
+ * the runs of all glyphs together, of which a refusal takes as many units as the longest code has bytes, and go through these six times
+ * at most. docs/BOUNDS.md tells what else takes time, and docs/LINKED.md what of this is proved, and what is tested.
  *
  * The library is built for 64-bit machines only.
  *
@@ -45,7 +44,7 @@ enum {
     PSF_OK = 0,
     PSF_UNEXPECTED_EOF = 1,               /* bytes are wanting: something is cut, or its place is past the end */
     PSF_IO = 2,                           /* not answered by a call of this header */
-    PSF_MEMORY = 3,                       /* memory was asked for and refused */
+    PSF_MEMORY = 3,                       /* memory was asked for and refused; or private dictionaries of over 20,000,000 bytes */
     PSF_TAPE_STUCK = 4,                   /* not answered by a call of this header */
     PSF_MALFORMED_OFFSET = 5,             /* offsets of an INDEX of no byte, or of more than four */
     PSF_MALFORMED_INDEX = 6,              /* not answered by a call of this header */
@@ -203,8 +202,9 @@ int32_t psf_font_open(const uint8_t *cff, size_t length, psf_font *font);
 
 /* Whether the runs of all glyphs of a font come to their ends within a limit, which they share. A font of a few bytes may
  * name more calls of subroutines than can be run in years. An operator takes a unit of the limit for each of its bytes, with the
- * numbers before it, a roll 4096 more, and a square root 8 more.
- * On PSF_OK each glyph's run ends, or is refused, with the *limit that was given, and *limit is what is left. On PSF_TOO_LONG runs of
+ * numbers before it, a roll 4096 more, and a square root 8 more. A run that is refused takes as many more as the longest code has bytes,
+ * its own or a subroutine, and one for each subroutine.
+ * On PSF_OK each glyph's run ends, or is refused, with the *limit that was given, and *limit is what is left. On PSF_TOO_LONG the
  * glyphs cost the limit, at least, and *limit is 0. Else the font is refused, and *limit is as it was, or memory is. */
 int32_t psf_font_fits(const uint8_t *cff, size_t length, uint64_t *limit);
 

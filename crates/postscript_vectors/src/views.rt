@@ -6,7 +6,7 @@ use crate::fonts::TWO_DICTIONARIES;
 use postscript::compact1::FontSet;
 use postscript_view::{Advance, FontView};
 use rows::{
-    BROKEN, CID, CIDS_OF_LETTERS, CODES, FALLING, GLYPHS, LASTS, MATRICES, PLAIN, RANGE, REFUSED,
+    BROKEN, CID, CIDS_OF_LETTERS, CODES, FALLING, FITTING, GLYPHS, LASTS, MATRICES, PLAIN, RANGE, REFUSED,
     SELECTIONS,
 };
 use std::alloc::Global;
@@ -86,6 +86,18 @@ fn ranges_that_fall_give_no_part(rt: HostRuntime) {
     for glyph in 0..4 {
         let is_none = font.part_of(glyph).is_none() && font.glyph(glyph).is_none();
         holds_at(&rt, is_none, "glyph", glyph);
+    }
+}
+
+#[test]
+fn fonts_that_fit_a_limit(rt: HostRuntime) {
+    let alloc = rt.alloc();
+    for (font, selection, given, fits, left) in FITTING {
+        let bytes = joined(&rt, alloc, font, selection);
+        let font = FontView::read(alloc, bytes.as_slice()).expect(&rt, "a font");
+        let mut limit = *given;
+        let told = font.fits(alloc, &mut limit).expect(&rt, "memory");
+        holds(&rt, told == *fits && limit == *left, selection);
     }
 }
 

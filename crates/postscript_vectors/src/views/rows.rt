@@ -31,6 +31,24 @@ pub const PLAIN: &str = "01000401 000101010250 0001010112 1c00310f 1c004910 1c00
         0002 0101060a 616c706861 62657461 0000 00 0022 0187 0023 0188 \
         0005 010102030405 05 0e0e0e0e 9514";
 
+/// The same font, whose second glyph is `0 0` and an operator that the Note reserves.
+pub const RESERVED: &str = "01000401 000101010250 0001010112 1c00310f 1c004b10 1c003a11 8d1c004912 \
+        0002 0101060a 616c706861 62657461 0000 00 0022 0187 0023 0188 \
+        0005 010102050607 07 0e8b8b020e0e 9514";
+
+/// Fonts, their FDSelect, a limit, whether the glyphs fit it, and what is left of it. By hand: `endchar` takes a unit; in the CID-keyed
+/// font the runs take 1, 4 and 2, and 3, 2 and 2 units. A refusal takes as many as the longest code has bytes, and one for each
+/// subroutine. A glyph that has no part takes none.
+pub const FITTING: &[(&str, &str, u64, bool, u64)] = &[
+    (PLAIN, "", 10, true, 6),
+    (PLAIN, "", 3, false, 0),
+    (RESERVED, "", 10, true, 4),
+    (RESERVED, "", 4, false, 0),
+    (CID, "03 0002 000000 000201 0004", 20, true, 6),
+    (CID, "03 0002 000000 000201 0004", 13, false, 0),
+    (CID, FALLING, 20, true, 20),
+];
+
 /// Encodings, and the codes that have a glyph by them, or the refusal. Those without supplements are as fontTools 4.38 reads
 /// them, but where a code stands twice or has no such glyph.
 pub const CODES: &[(&str, &str)] = &[

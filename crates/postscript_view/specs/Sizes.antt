@@ -1,0 +1,30 @@
+-- How many bytes private dictionaries have (Technical Note 5176, section 15, and Table 9, "Private": its size and its offset).
+use Rattle.std.specs.Prelude.{ℕ, ℤ, pos, negsuc, List, Option, Some, None}
+use Rattle.std.specs.List.{sum_by}
+use Rattle.postscript_base.specs.Compact1.Decimal.{Decimal, to_i32}
+use Rattle.postscript_base.specs.Compact1.Defaults.{look, first_two_of}
+use Rattle.postscript_base.specs.Compact1.Dictionary.{Dictionary}
+use Rattle.postscript_base.specs.declared.compact1.operator.Operator.TheVariants as operators
+use Rattle.postscript_view.specs.declared.part.Part.{Part}
+
+-- a number that is none below 0 is none of bytes
+abbrev pub size_in : Option ℤ → ℕ
+size_in (Some (pos size)) = size
+size_in (Some (negsuc n)) = 0
+size_in None = 0
+
+abbrev pub size_named : Option (Decimal × Decimal) → ℕ
+size_named (Some (size, offset)) = size_in (to_i32 size)
+size_named None = 0
+
+-- the bytes of the private dictionary that a font dictionary names
+abbrev pub size_of : Option Dictionary → ℕ
+size_of (Some font_dictionary) = size_named (first_two_of (look font_dictionary operators.Private))
+size_of None = 0
+
+abbrev pub private_size : Part → ℕ
+private_size part = size_of part.font_dictionary
+
+-- those of all parts together, also where they name the same bytes
+abbrev pub private_bytes : List Part → ℕ
+private_bytes parts = sum_by private_size parts
