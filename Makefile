@@ -11,9 +11,9 @@ dist:
 	tools/dist/all.sh
 
 check:
-	tools/version.sh
+	tools/gate/version.sh
 	rt ci
-	tools/bindings.sh
+	tools/bindings/bindings.sh
 
 install:
 	tools/dist/install.sh '$(DESTDIR)$(PREFIX)'

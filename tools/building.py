@@ -12,7 +12,9 @@ import sys
 
 TOOLS = pathlib.Path(__file__).resolve().parent
 TOP = TOOLS.parent
+PROGRAMS = TOOLS / "programs"
 PSFONT = TOP / "crates" / "psfont" / "out" / "psfont"
+PSOTF = os.environ.get("PSOTF") or TOP / "crates" / "psotf" / "out" / "psotf"
 
 
 def printed(*words, folder=None, given=os.devnull, **variables):
@@ -54,14 +56,14 @@ def write_crate(folder, line, file, text):
 
 
 def proved(folder, name, uses, top=TOP, changed=str):
-    """The program tools/NAME_main.txt, its text changed by a function, proved and built in a folder, over copies of the crates below TOP
-    that it uses."""
+    """The program tools/programs/NAME.rt.txt, its text changed by a function, proved and built in a folder, over copies of the crates
+    below TOP that it uses."""
     crates = crates_of(top)
     libraries = below(crates, uses.split())
     for library in libraries:
         shutil.copytree(top / "crates" / library, folder / "crates" / library)
     (folder / "crates.txt").write_text("".join(f"{crates[library][0]}\n" for library in libraries))
-    own = write_crate(folder, f"{name}: {uses}", "main.rt", changed((TOOLS / f"{name}_main.txt").read_text()))
+    own = write_crate(folder, f"{name}: {uses}", "main.rt", changed((PROGRAMS / f"{name}.rt.txt").read_text()))
     printed("rt", "run", folder=own)
     return own / "out" / name
 
@@ -74,24 +76,24 @@ def cargo(folder, name, more="", version="0.1.0", words=()):
 
 
 def rival(folder, crate, name, feature="whole"):
-    """The program tools/NAME_rust.txt, built in a folder over a copy of the source of the Rust crate `postscript`, with a feature."""
+    """The program tools/programs/NAME.rs, built in a folder over a copy of the source of the Rust crate `postscript`, with a feature."""
     shutil.copytree(pathlib.Path(crate) / "src", folder / "src")
     (folder / "src" / "bin").mkdir()
-    shutil.copyfile(TOOLS / f"{name}_rust.txt", folder / "src" / "bin" / f"{name}.rs")
+    shutil.copyfile(PROGRAMS / f"{name}.rs", folder / "src" / "bin" / f"{name}.rs")
     return cargo(folder, "postscript", f"[features]\n{feature} = []\n", "0.14.1", ["--features", feature]) / name
 
 
 def parser_program(folder, name):
-    """The program tools/NAME_ttf.txt, built in a folder over Debian's crate `ttf-parser`."""
+    """The program tools/programs/NAME_ttf.rs, built in a folder over Debian's crate `ttf-parser`."""
     (folder / "src").mkdir(parents=True)
-    shutil.copyfile(TOOLS / f"{name}_ttf.txt", folder / "src" / "main.rs")
+    shutil.copyfile(PROGRAMS / f"{name}_ttf.rs", folder / "src" / "main.rs")
     listed = printed("dpkg", "-L", "librust-ttf-parser-dev").splitlines()
     parser = next(path for path in listed if path.endswith("/Cargo.toml")).removesuffix("/Cargo.toml")
     return cargo(folder, name, f'[dependencies]\nttf-parser = {{ path = "{parser}" }}\n') / name
 
 
 def memory(folder):
-    """tools/memory.c, built in a folder: a library for LD_PRELOAD."""
+    """tools/programs/memory.c, built in a folder: a library for LD_PRELOAD."""
     library = folder / "memory.so"
-    printed("gcc", "-shared", "-fPIC", "-O2", TOOLS / "memory.c", "-o", library)
+    printed("gcc", "-shared", "-fPIC", "-O2", PROGRAMS / "memory.c", "-o", library)
     return str(library)

@@ -4,8 +4,8 @@
     tools/font_files.py FOLDER
 
 Each package fonts-* that holds a file .otf is downloaded and unpacked below FOLDER; nothing is installed. The other scripts take the
-folder, as tools/view.py 38 3000 FOLDER. What is there already is kept. Needs Debian's python3-fonttools and apt-file, once updated, and
-some 300 MB.
+folder, as tools/evidence/view.py 38 3000 FOLDER. What is there already is kept. Needs Debian's python3-fonttools and apt-file, once
+updated, and some 300 MB.
 
 As a module it finds the font files that the words of another script name, and gives the glyphs of a font as lines.
 """

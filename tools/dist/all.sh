@@ -15,10 +15,10 @@ done
 }
 work=$(mktemp -d)
 trap 'rm -r "$work"' EXIT
-"$top/tools/version.sh"
+"$top/tools/gate/version.sh"
 "$top/tools/dist/prove.sh" "$work/PROOF.txt"
 "$top/tools/dist/tree.sh" "$work/PROOF.txt" "$work/tree"
-"$top/tools/version.sh" "$work/tree"
+"$top/tools/gate/version.sh" "$work/tree"
 rm -rf "$top/dist"
 mkdir "$work/dist"
 for kind in archive wheel crate deb; do "$top/tools/dist/$kind.sh" "$work/tree" "$work/dist"; done

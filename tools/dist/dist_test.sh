@@ -1,0 +1,188 @@
+#!/bin/bash
+# Installs what `make dist` makes in a clean Debian without `rt`: the archive, the CMake project, the wheel, the crate and Debian's packages.
+# Draws one glyph by each, and compares.
+#
+#     tools/dist/dist_test.sh
+#
+# Needs root, Debian's debootstrap and the network's Debian packages. dist/ is made where it is not there. DIST_TEST_ROOT may name an archive
+# (.tar) of a clean root of Debian 12, which is then unpacked in place of a new one. The glyph is A of EB Garamond, and of the font of the
+# bindings' tests, whose outline was added up by hand. The last line is 'N passed, M failed', and the status is 1 where one failed.
+set -euo pipefail
+top=$(cd "$(dirname "$0")/../.." && pwd)
+version=$(cat "$top/VERSION")
+name=postscript-proved-$version-x86_64-linux
+if [ ! -f "$top/dist/SHA256SUMS" ]; then make -C "$top" dist; fi
+
+work=$(mktemp -d)
+root=$work/root
+trap 'rm -rf --one-file-system "$work"' EXIT
+mkdir "$root"
+if [ -n "${DIST_TEST_ROOT:-}" ]; then tar -xf "$DIST_TEST_ROOT" -C "$root"; else
+    debootstrap --variant=minbase bookworm "$root" http://deb.debian.org/debian > "$work/debootstrap.log"
+fi
+cp /etc/resolv.conf "$root/etc/resolv.conf"
+mkdir -p "$root/t/out"
+cp -r "$top/dist" "$root/t/dist"
+mkdir "$root/t/tests"
+cp "$top/bindings/python/test_postscript.py" "$root/t/tests"
+cp "$top/bindings/font.hex" "$top/bindings/accents.hex" "$root/t"
+passed=0 failed=0
+font=/usr/share/fonts/opentype/ebgaramond/EBGaramond12-Regular.otf
+
+# inside SCRIPT: runs it in the clean root, in /t; there `refused COMMAND` ends it where the command does not fail
+inside() {
+    unshare --mount --pid --fork --mount-proc="$root/proc" chroot "$root" /usr/bin/env -i PATH=/usr/sbin:/usr/bin:/sbin:/bin HOME=/root \
+        LC_ALL=C.UTF-8 DEBIAN_FRONTEND=noninteractive V="$version" N="/t/$name" F="$font" S="/t/$name/examples/small.otf" sh -euc "refused() { if \"\$@\"; then exit 1; fi; }; cd /t; $1"
+}
+
+# case WHAT SCRIPT: whether the script ends well in the clean root
+case_of() {
+    if inside "$2" > "$work/log" 2>&1; then
+        echo "passed: $1"
+        passed=$((passed + 1))
+    else
+        echo "FAILED: $1"
+        sed 's/^/    /' "$work/log" | tail -n 40
+        failed=$((failed + 1))
+    fi
+}
+
+# got PACKAGE..: Debian's packages
+got() { inside "apt-get install -y -qq --no-install-recommends $*" > "$work/log" 2>&1 || { cat "$work/log"; exit 1; }; }
+
+inside 'apt-get update -qq' > "$work/log" 2>&1 || { cat "$work/log"; exit 1; }
+got fonts-ebgaramond
+
+case_of 'no rt, no compiler and no Python' 'refused command -v rt; refused command -v cc; refused command -v python3'
+case_of 'the checksums' 'cd dist && sha256sum --quiet -c SHA256SUMS'
+
+# --- the archive
+case_of 'the archive: psotf draws' 'tar -xzf dist/$(basename $N).tar.gz; $N/bin/psotf glyph $F --char A --json > out/archive.json'
+case_of 'the archive: psotf draws a text' '$N/bin/psotf svg $F --text Hamburgefonts > text.svg; grep -q "<svg" text.svg'
+case_of 'the archive: versions' 'test "$($N/bin/psotf --version)" = "psotf $V"; test "$(sed -n "s/^Version: //p" $N/lib/pkgconfig/postscript.pc)" = "$V"'
+case_of 'the archive: psfont' 'test "$(printf "code 8e8c8d150e\nrun\n" | $N/bin/psfont | tr "\n" ,)" = "ok,RMoveTo 1 2,end,width 3,"'
+case_of 'the archive: what is proved is said' 'grep -q "LLVM, and put together" $N/PROOF.txt; test $(grep -c "^[a-z_0-9]*: logic=proved" $N/PROOF.txt) -ge 10;
+    test $(grep -c "^[a-z_0-9]*: logic=" $N/PROOF.txt) = $(grep -c "^[a-z_0-9]*: logic=proved " $N/PROOF.txt); grep -q "^## What is proved" $N/docs/LINKED.md'
+got gcc libc6-dev pkg-config
+case_of 'the archive: a program in C, by pkg-config' 'export PKG_CONFIG_PATH=$N/lib/pkgconfig
+    cc -Wall -Werror $N/examples/svg_glyph.c $(pkg-config --cflags --libs postscript) -o svg_glyph
+    ./svg_glyph $F 0x41 > out/archive_c.svg; ./svg_glyph $S 0x41 > out/small_archive_c.svg'
+
+# --- CMake
+got cmake make
+case_of 'CMake: the static library' 'cmake -S $N/examples -B cmake -DCMAKE_PREFIX_PATH=$N > /dev/null; cmake --build cmake > /dev/null
+    cmake/svg_glyph $F 0x41 > out/cmake.svg; cmake/svg_glyph $S 0x41 > out/small_cmake.svg'
+case_of 'CMake: the shared library' 'test "$(cmake/advance_shared $S 0x41)" = 500; test "$(cmake/advance $S 0x41)" = 500'
+case_of 'CMake: another version is refused' 'mkdir other; printf "cmake_minimum_required(VERSION 3.13)\nproject(p C)\nfind_package(postscript 0.1 REQUIRED)\n" \
+    > other/CMakeLists.txt; refused cmake -S other -B other/b -DCMAKE_PREFIX_PATH=$N > log 2>&1; grep -q "version: $V" log'
+case_of 'CMake: another processor is refused' 'sed -i "s/0.1/$V/" other/CMakeLists.txt; rm -r other/b
+    refused cmake -S other -B other/b -DCMAKE_PREFIX_PATH=$N -DCMAKE_SYSTEM_NAME=Linux -DCMAKE_SYSTEM_PROCESSOR=aarch64 > log 2>&1
+    tr -s "\n " " " < log | grep -q "is for x86_64 and Linux, and not for aarch64"'
+
+# --- the wheel
+got python3-venv
+case_of 'the wheel: installed, and draws' 'python3 -m venv v; v/bin/pip -q install --no-index dist/*.whl
+    v/bin/python3 -c "import postscript, sys; print(\"d=\\\"%s\\\"\" % postscript.Font.open(sys.argv[1]).glyph_of(\"A\").svg_path())" $F > out/wheel.svg
+    v/bin/python3 -c "import postscript, sys; print(\"d=\\\"%s\\\"\" % postscript.Font.open(sys.argv[1]).glyph_of(\"A\").svg_path())" $S > out/small_wheel.svg'
+case_of 'the wheel: its tests' 'cd tests; ../v/bin/python3 -m unittest --quiet'
+case_of 'the wheel: types, and the version' 'cd v/lib/python3*/site-packages; test -f postscript/py.typed; test -d postscript_proved-$V.dist-info'
+case_of 'the wheel: another processor is refused' 'refused v/bin/pip download --no-index --find-links dist --no-deps --only-binary :all: \
+    --platform manylinux2014_aarch64 -d x postscript-proved > log 2>&1; grep -q "No matching distribution" log'
+case_of 'the wheel: an older C library is refused' 'refused v/bin/pip download --no-index --find-links dist --no-deps --only-binary :all: \
+    --platform manylinux1_x86_64 -d x postscript-proved > log 2>&1; grep -q "No matching distribution" log'
+case_of 'the wheel: a library of another version is refused' 'echo "unsigned psf_version(void) { return 0x010203; }" > other.c; cc -shared -o other.so other.c
+    refused env POSTSCRIPT_LIBRARY=/t/other.so v/bin/python3 -c "import postscript" 2> log
+    test "$(tail -n 1 log)" = "ImportError: postscript $V wants a library of its own version: /t/other.so is 1.2.3"'
+
+# --- the crate
+got cargo
+main='fn main() -> Result<(), Box<dyn std::error::Error>> {
+    let bytes = std::fs::read(std::env::args().nth(1).ok_or("a font is wanted")?)?;
+    let font = postscript::Font::from_file(&bytes, 0)?;
+    let path = font.outline(font.glyph_index(char::from(65)).ok_or("no such glyph")?)?.svg_path();
+    println!("d={}{path}{}", char::from(34), char::from(34));
+    Ok(())
+}'
+case_of 'the crate: cargo add --path' "tar -xzf dist/*.crate; cargo init -q --vcs none --name app app; cd app
+    cargo add -q --offline --path ../postscript-proved-\$V; echo '$main' > src/main.rs
+    cargo build -q --offline; ./target/debug/app \$F > ../out/crate.svg; ./target/debug/app \$S > ../out/small_crate.svg"
+case_of 'the crate: a vendored registry' 'mkdir -p vendor vendored/.cargo; cp -r postscript-proved-$V vendor; cp -r app/src vendored
+    echo "{\"files\":{},\"package\":\"$(sha256sum dist/*.crate | cut -d " " -f 1)\"}" > vendor/postscript-proved-$V/.cargo-checksum.json
+    printf "[source.crates-io]\nreplace-with = \"vendored\"\n[source.vendored]\ndirectory = \"/t/vendor\"\n" > vendored/.cargo/config.toml
+    printf "[package]\nname = \"app\"\nversion = \"0.1.0\"\nedition = \"2021\"\n[dependencies]\npostscript-proved = \"$V\"\n" > vendored/Cargo.toml
+    cd vendored; cargo build -q --offline; ./target/debug/app $F > ../out/vendored.svg'
+case_of 'the crate: its tests and its examples' 'cd postscript-proved-$V; cargo test -q --offline'
+case_of 'the crate: without std' 'cd postscript-proved-$V; cargo build -q --offline --no-default-features'
+case_of 'the crate: its documents have no warning' 'cd postscript-proved-$V; RUSTDOCFLAGS="-D warnings" cargo doc -q --offline'
+case_of 'the crate: a library of another version is refused' "mkdir -p other_lib; sed -n 's/.*fn \(psf_[a-z_]*\)(.*/\1/p' postscript-proved-\$V/src/c.rs |
+    sort -u | grep -v psf_version | sed 's/.*/int &(void) { return 39; }/' >> other.c; cc -c other.c -o other.o; ar rc other_lib/libpostscript.a other.o
+    cd app; refused env POSTSCRIPT_LIB_DIR=/t/other_lib CARGO_TARGET_DIR=/t/other_target cargo run -q --offline -- \$F 2> ../log
+    grep -q OtherVersion ../log"
+case_of 'the crate: another processor is refused' 'rustc -o build_rs postscript-proved-$V/build.rs
+    refused env CARGO_MANIFEST_DIR=/t/postscript-proved-$V CARGO_CFG_TARGET_ARCH=aarch64 CARGO_CFG_TARGET_OS=linux ./build_rs > log 2>&1
+    grep -q "is for x86_64 and linux, and not for aarch64 and linux" log'
+
+# --- Debian's packages
+case_of 'the packages: what they want' 'for deb in dist/psotf_*.deb dist/lib*.deb; do test "$(dpkg-deb -f $deb Architecture)" = amd64; done
+    for deb in dist/psotf_*.deb dist/libpostscript-proved0_*.deb; do dpkg-deb -f $deb Depends | grep -q "^libc6 (>= 2\.[0-9]*)"; done'
+case_of 'the packages: installed' 'apt-get install -y -qq --no-install-recommends ./dist/*.deb; psotf glyph $F --char A --json > out/packages.json'
+case_of 'the packages: a program in C' 'cc $N/examples/svg_glyph.c $(pkg-config --cflags --libs postscript) -o shared; ldd shared | grep -q libpostscript.so.0
+    ./shared $F 0x41 > out/packages_c.svg; ./shared $S 0x41 > out/small_packages_c.svg'
+case_of 'the packages: Python' 'python3 -c "import postscript, sys; print(\"d=\\\"%s\\\"\" % postscript.Font.open(sys.argv[1]).glyph_of(\"A\").svg_path())" \
+    $F > out/packages_python.svg; cd tests; python3 -m unittest --quiet'
+case_of 'the packages: CMake' 'cmake -S $N/examples -B cmake_packages > /dev/null; cmake --build cmake_packages > /dev/null
+    test "$(cmake_packages/advance_shared $S 0x41)" = 500; grep -q "^postscript_DIR:PATH=/usr/lib" cmake_packages/CMakeCache.txt'
+case_of 'the lines of README' 'sed -n "/^To install it without/,/^Proved is/s/^    //p" $N/README.md > lines; test $(wc -l < lines) = 4
+    cargo init -q --vcs none --name reader reader; cp dist/* reader; cp $F reader/Font.otf; cd reader
+    for n in 1 2 3 4; do sed -n ${n}p ../lines > line; PATH=/t/v/bin:$PATH DEBIAN_FRONTEND=noninteractive sh -eu line > told$n; done
+    grep -q "<svg" hello.svg; grep -q "^top FullName" told2; grep -q "^M.*Z$" told3; cargo build -q --offline'
+got man-db bash zsh fish
+case_of 'manual pages: no warning' 'for page in $N/share/man/man*/*; do MANROFFSEQ= man --warnings -E UTF-8 -l -Tutf8 -Z $page > /dev/null 2> log; cat log; refused test -s log; done'
+case_of 'manual pages: each option' 'for c in inspect glyph svg sheet report flat instance subset; do psotf $c --help | grep -o -e "--[a-z-]*" | sort -u | while read -r o; do
+    sed "s/\\\\-/-/g" $N/share/man/man1/psotf.1 | grep -q -e "$o"; done; done'
+case_of 'completions: bash' 'cat > complete.bash << "END"
+source /usr/share/bash-completion/completions/psotf
+COMP_WORDS=(psotf glyph --) COMP_CWORD=2; _psotf; echo "${COMPREPLY[*]}"
+END
+    test "$(bash complete.bash | tr " " "\n" | sort)" = "$(psotf glyph --help | grep -o -e "^ .*--[a-z]*" | grep -o -e "--[a-z]*" | sort)"'
+case_of 'completions: fish' 'test "$(fish --no-config -c "source /usr/share/fish/vendor_completions.d/psotf.fish; complete -C \"psotf glyph --\"" | cut -f 1 | sort)" = \
+    "$(psotf glyph --help | grep -o -e "^ .*--[a-z]*" | grep -o -e "--[a-z]*" | sort)"'
+case_of 'completions: zsh' 'zsh -n /usr/share/zsh/vendor-completions/_psotf; zsh -n /usr/share/zsh/vendor-completions/_psfont'
+case_of 'the packages: removed' 'apt-get purge -y -qq psotf libpostscript-proved0; refused test -e /usr/bin/psotf; refused test -e /usr/include/postscript.h
+    refused test -e /usr/lib/python3/dist-packages/postscript'
+
+# --- the same glyph by each
+if python3 - "$root/t/out" << 'END'; then passed=$((passed + 1)); else failed=$((failed + 1)); fi
+import json, pathlib, re, sys
+
+WANTED = 'M0 0L250 700L500 0Z'
+
+
+def path(file):
+    """Letters and numbers of a path, from an SVG or from what psotf tells."""
+    text = file.read_text()
+    if file.suffix == ".json":
+        pieces = [piece for segment in json.loads(text)["segments"] for piece in segment]
+        text = " ".join(pieces)
+    else:
+        text = re.search(r'\bd="([^"]*)"', text)[1]
+    return [word if word.isalpha() else float(word) for word in re.findall(r"[MLCZ]|-?[\d.]+(?:e-?\d+)?", text)]
+
+
+files = sorted(pathlib.Path(sys.argv[1]).iterdir())
+small = [file for file in files if file.name.startswith("small_")]
+real = [file for file in files if file not in small]
+wanted = path(pathlib.Path(sys.argv[1]) / "archive.json")
+print(f"one glyph: by {', '.join(file.stem for file in real)}: {len(wanted)} letters and numbers")
+differ = [file.name for file in real if path(file) != wanted] + [file.name for file in small if path(file) != [
+    word if word.isalpha() else float(word) for word in re.findall(r"[MLCZ]|-?[\d.]+", WANTED)]]
+print(f"FAILED: {differ} differ" if differ else "passed: the same outline by each")
+sys.exit(1 if differ or len(real) < 8 or len(small) < 5 or len(wanted) < 50 else 0)
+END
+
+# --- on this machine
+for check in "$top/tools/gate/version.sh" "$top/tools/dist/leaks.sh $top/dist"; do
+    if $check; then echo "passed: ${check#"$top/"}"; passed=$((passed + 1)); else echo "FAILED: $check"; failed=$((failed + 1)); fi
+done
+echo "$passed passed, $failed failed"
+[ "$failed" = 0 ]

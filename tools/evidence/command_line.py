@@ -1,0 +1,420 @@
+#!/usr/bin/python3
+"""Tries what people ask of psotf at the command line, and what it says then.
+
+    (cd crates/psotf && rt run -- --help)
+    tools/evidence/command_line.py
+
+crates/psotf/out/psotf is run, or the program that the variable PSOTF names. Each case is a line: what is tried, and `as told` or what is
+otherwise. Of `subset` the size of a file of `Hello` beside what hb-subset 6.0.0 makes of it with its layout kept, 3,044 bytes; the
+records of its table `name`, which fontTools reads, beside those of the font: which are there, and that Macintosh tells none that Windows
+tells; what is said on standard error, once, and nothing with --quiet. Of `sheet` the size of its labels where the picture has its own
+size, that they are no wider than their cells, and why a glyph is refused, in its cell. Of words that are no subcommand the nearest one,
+and the status; of no words the help, and of a file alone what it holds. Of characters that the font has no glyph for which they are, by
+`svg` and by `subset`. Of files of other kinds the line that says what each is. Of `inspect` the memory that it takes of Noto Sans CJK.
+Of `report` the pages of more glyphs than one holds. Of `instance` what is refused and how it is said: axes, instances
+and words, files that are not variable, runs past the limit, damaged tables, a disk that is full; which tables are left out, and the names of a
+place. Needs Debian's python3-fonttools, fonts-ebgaramond and time, and, where it is there, takes
+fonts-noto-cjk. The status is 1 where something is otherwise.
+"""
+
+import functools
+import pathlib
+import resource
+import subprocess
+import sys
+import tempfile
+import xml.etree.ElementTree
+
+sys.dont_write_bytecode = True
+sys.path.insert(0, str(pathlib.Path(__file__).resolve().parents[1]))
+
+import fontTools.varLib.cff
+from fontTools.ttLib import TTFont, newTable
+from fontTools.ttLib.tables._f_v_a_r import NamedInstance
+from fontTools.varLib.featureVars import addFeatureVariations
+
+from hostile_files import END, ONE, PSOTF, call, file_of, plain_font
+from variable_fonts import variable
+
+FONT = "/usr/share/fonts/opentype/ebgaramond/EBGaramond12-Regular.otf"
+LARGE = pathlib.Path("/usr/share/fonts/opentype/noto/NotoSansCJK-Regular.ttc")
+READ, LICENCE = {1, 2, 3, 4, 5, 6, 16, 17, 21, 22, 25}, {0, 7, 13, 14}
+SVG = "{http://www.w3.org/2000/svg}"
+CASES = []
+
+
+def case(what):
+    def kept(test):
+        CASES.append((what, test))
+        return test
+
+    return kept
+
+
+def run(*words, status=0):
+    done = subprocess.run([str(PSOTF), *map(str, words)], capture_output=True, check=False)
+    assert done.returncode == status, f"status {done.returncode}: {done.stderr.decode()[:200]}"
+    return done.stdout.decode(), done.stderr.decode()
+
+
+def subset(folder, *words, font=FONT):
+    out = folder / "out.otf"
+    _, said = run("subset", font, "--text", "Hello", *words, "-o", out)
+    return out, said
+
+
+def names(path):
+    return [(r.platformID, r.platEncID, r.langID, r.nameID, r.toUnicode()) for r in TTFont(path)["name"].names]
+
+
+def wanted(records, kept):
+    """The records of these identifiers, without those of Macintosh in Roman whose text Windows tells too."""
+    windows = {(record[3], record[4]) for record in records if record[0] == 3}
+    return [record for record in records if record[3] in kept and (record[0] != 1 or (record[3], record[4]) not in windows)]
+
+
+def with_names(records, folder):
+    """EB Garamond with another table name."""
+    font = TTFont(FONT)
+    font["name"].names = []
+    for platform, encoding, language, identifier, text in records:
+        font["name"].setName(text, identifier, platform, encoding, language)
+    path = folder / "named.otf"
+    font.save(path)
+    return path
+
+
+@case("subset: Hello is smaller than hb-subset's file")
+def _(folder):
+    out, _ = subset(folder)
+    size = out.stat().st_size
+    assert size < 3044, f"{size} bytes"
+
+
+@case("subset: the names that systems read, in one encoding")
+def _(folder):
+    out, _ = subset(folder)
+    assert names(out) == wanted(names(FONT), READ), names(out)
+
+
+@case("subset: --keep-names keeps the licence too")
+def _(folder):
+    out, _ = subset(folder, "--keep-names")
+    assert names(out) == wanted(names(FONT), READ | LICENCE), names(out)
+
+
+@case("subset: texts that differ by platform stay, and other languages too")
+def _(folder):
+    records = [
+        (0, 3, 0, 1, "Family"), (0, 3, 0, 2, "Plain"), (1, 0, 0, 1, "Family"), (1, 0, 0, 2, "Regular"), (1, 0, 0, 4, "Only Macintosh é"), (1, 1, 11, 1, "家族"),
+        (3, 1, 0x409, 1, "Family"), (3, 1, 0x409, 2, "Roman"), (3, 1, 0x407, 1, "Familie"), (3, 1, 0x411, 1, "Family"), (3, 1, 0x409, 19, "Sample"),
+    ]  # fmt: skip
+    out, _ = subset(folder, font=with_names(records, folder))
+    left = [(0, 3, 0, 1, "Family"), (1, 0, 0, 1, "Family"), (3, 1, 0x409, 19, "Sample")]
+    assert sorted(names(out)) == sorted(record for record in records if record not in left), names(out)
+
+
+@case("subset: names of Unicode alone stay")
+def _(folder):
+    records = [(0, 3, 0, 1, "Family"), (0, 3, 0, 2, "Regular"), (1, 0, 0, 1, "Family")]
+    out, _ = subset(folder, font=with_names(records, folder))
+    assert names(out) == records[:2], names(out)
+
+
+@case("subset: what is left out is said once")
+def _(folder):
+    _, said = subset(folder)
+    assert said == "psotf: tables left out: FFTM GDEF GPOS GSUB; kerning and ligatures are lost\n", said
+
+
+@case("subset: without layout nothing is lost")
+def _(folder):
+    path, out = folder / "plain.otf", folder / "out.otf"
+    font = TTFont(FONT)
+    for tag in ("GDEF", "GPOS", "GSUB"):
+        del font[tag]
+    font.save(path)
+    assert subset(folder, font=path)[1] == "psotf: tables left out: FFTM\n"
+    run("subset", path, "--text", "Hello", "-o", out)
+    assert run("subset", out, "--text", "He", "-o", folder / "again.otf")[1] == ""
+
+
+@case("subset: --quiet says nothing")
+def _(folder):
+    out, said = subset(folder, "--quiet")
+    assert said == "", said
+    assert out.read_bytes() == subset(folder)[0].read_bytes()
+
+
+@case("svg: characters without a glyph are named, and nothing is drawn")
+def _(folder):
+    out = folder / "text.svg"
+    told = f"psotf: {FONT}: the face has no glyph for: U+6F22 U+1F600\n"
+    assert run("svg", FONT, "--text", "A漢B😀漢", "-o", out, status=1)[1] == told
+    assert not out.exists()
+    assert run("subset", FONT, "--text", "A漢B😀漢", "-o", out, status=1)[1] == told
+    assert not out.exists()
+
+
+@case("svg: --missing draw draws them all the same, and names them")
+def _(folder):
+    out = folder / "text.svg"
+    assert run("svg", FONT, "--text", "A漢", "--missing", "draw", "-o", out)[1] == "psotf: the face has no glyph for: U+6F22\n"
+    paths = lambda: [path.get("d") for path in xml.etree.ElementTree.parse(out).getroot().iter(f"{SVG}path")]
+    both = paths()
+    run("svg", FONT, "--text", "A", "-o", out)
+    assert len(both) == 2 and both[0] == paths()[0] and both[1], both
+
+
+def picture(folder, font, *words):
+    out = folder / "sheet.svg"
+    run("sheet", font, *words, "-o", out)
+    return xml.etree.ElementTree.parse(out).getroot()
+
+
+@case("sheet: labels of 12 pixels, no wider than their cells")
+def _(folder):
+    root = picture(folder, FONT)
+    width, units = float(root.get("width")), float(root.get("viewBox").split()[2])
+    pixels = float(root.get("font-size")) * width / units
+    assert 11.5 <= pixels <= 13, pixels
+    letters = max(len(text.text or "") for text in root.iter(f"{SVG}text"))
+    assert letters * 0.61 * pixels <= width / 16, letters
+    assert [text.text for text in root.iter(f"{SVG}text")][:6] == ["0", ".notdef", "1", "space", "2", "exclam"]
+
+
+@case("sheet: a cell names what refuses its glyph")
+def _(folder):
+    path = folder / "refused.otf"
+    path.write_bytes(file_of(plain_font([END, END, call(0, 1) + END], [ONE * 30]), 3)[0])
+    told = run("glyph", path, "--gid", "2", status=1)[0].split("refused: ", 1)[1].strip()
+    cells = [[text.text or "" for text in cell.iter(f"{SVG}text")] for cell in picture(folder, path).iter(f"{SVG}g")]
+    assert " ".join(cells[2][2:]) == told, cells[2]
+    assert not cells[1][2:], cells[1]
+
+
+@case("words: the nearest subcommand is named")
+def _(folder):
+    for word, nearest in (("inspct", "inspect"), ("glyphs", "glyph"), ("svgs", "svg"), ("sheets", "sheet"), ("rapport", "report"), ("flatt", "flat"), ("subsett", "subset"), ("instanc", "instance")):
+        said = run(word, FONT, status=2)[1]
+        assert f"'{word}'" in said and f"'{nearest}'" in said, said
+
+
+@case("words: none print the help, and a file alone is inspected")
+def _(folder):
+    out, said = run(status=2)
+    assert out == "" and "Usage:" in said and "Examples:" in said and "psotf report Font.otf" in said, said
+    assert run(FONT) == run("inspect", FONT)
+
+
+@case("files: of another kind, one line that says which and what is read")
+def _(folder):
+    path = folder / "font"
+    sound = file_of(plain_font([END, END]), 2)[0]
+    kinds = {
+        b"wOFF" + sound[4:]: "a WOFF file, which is packed", b"wOF2" + sound[4:]: "a WOFF2 file, which is packed",
+        b"%!PS-AdobeFont-1.0: A": "a Type 1 font", b"\x80\x01" + bytes(20): "a Type 1 font",
+        b"\x00\x01\x00\x00" + sound[4:].replace(b"CFF ", b"glyf", 1): "a TrueType font, whose outlines stand in the table glyf",
+    }  # fmt: skip
+    for data, kind in kinds.items():
+        path.write_bytes(data)
+        for words in (["inspect", path], ["report", path, "-o", folder / "report.html"]):
+            said = run(*words, status=1)[1]
+            assert said == f"psotf: {path}: {kind}: this program reads OpenType files with a table CFF or CFF2\n", said
+
+
+@case("inspect: of Noto Sans CJK no more memory than 1.5 times the file")
+def _(folder):
+    if not LARGE.is_file():
+        return
+    told = folder / "most"
+    # what begins from here counts this program's own memory as its own at first, so another one begins it
+    words = ["/usr/bin/time", "-f", "%M", "-o", told, str(PSOTF), "inspect", str(LARGE), "--json"]
+    subprocess.run(words, stdout=subprocess.DEVNULL, check=True)
+    most = int(told.read_text())
+    assert most * 1024 <= 1.5 * LARGE.stat().st_size, f"{most} KB"
+
+
+@case("words: a pipe that nobody reads is no failure")
+def _(folder):
+    for words in ("--help", f"inspect {FONT} --json"):
+        done = subprocess.run(f"'{PSOTF}' {words} | head -c 1", shell=True, capture_output=True, check=False)
+        assert done.stderr == b"", done.stderr
+
+
+@case("report: a table that is refused has a page that says why")
+def _(folder):
+    path, out = folder / "cut.otf", folder / "report.html"
+    path.write_bytes(file_of(plain_font([END, END])[:5], 2)[0])
+    said = run("report", path, "-o", out, status=1)[1]
+    assert "the table CFF, the names at byte 4: failed to fill whole buffer (refusal 1): " in said, said
+    page = out.read_text()
+    assert '"in_place":{"code":1,"message":"failed to fill whole buffer","part":"the names","place":4,"rule":' in page
+    assert '"strict":{"code":1,' in page and '"lenient":{"code":1,' in page
+
+
+@case("inspect: what a reading refuses, where and by which rule")
+def _(folder):
+    path = folder / "font.otf"
+    path.write_bytes(file_of(plain_font([END, END], char_set=b"\x07\x01\x87"), 2)[0])
+    lines = [line for line in run("inspect", path)[0].splitlines() if line.startswith("refused by")]
+    told = "reading: the char set at byte {}: found an unknown char-set format (refusal 11): a char set has the format 0, 1 or 2 "
+    place = TTFont(path).reader["CFF "].index(b"\x07\x01\x87") + 1
+    assert len(lines) == 2, lines
+    for line, reading in zip(lines, ("strict", "lenient"), strict=True):
+        assert line.startswith(f"refused by the {reading} {told.format(place)}"), line
+
+
+@case("report: more glyphs than a page holds make further pages")
+def _(folder):
+    path, out = folder / "many.otf", folder / "report.html"
+    path.write_bytes(file_of(plain_font([END] * 20_001), 20_001)[0])
+    run("report", path, "-o", out)
+    pages = {page.name: page.read_text() for page in folder.glob("report*.html")}
+    assert sorted(pages) == ["report-10000.html", "report-20000.html", "report.html"], sorted(pages)
+    assert '"pages":[["report.html",0,10000],["report-10000.html",10000,20000],["report-20000.html",20000,20001]]' in pages["report-10000.html"]
+
+
+@functools.cache
+def made():
+    """A variable font of two axes, made of EB Garamond, with an instance Bold."""
+    fontTools.varLib.cff.maxStackLimit = 48
+    with tempfile.TemporaryDirectory() as folder:
+        path = variable(pathlib.Path(folder), 2)
+        font = TTFont(path)
+        for name, weight in (("Bold", 700), ("Semi Bold", 600)):
+            instance = NamedInstance()
+            instance.subfamilyNameID, instance.coordinates = font["name"].addName(name), {"wght": weight, "wdth": 100}
+            font["fvar"].instances.append(instance)
+        font["name"].setName("Garamond", 1, 3, 1, 0x409)
+        font.save(path)
+        return path.read_bytes()
+
+
+def varied(folder, change=None):
+    """That font as a file, with a change."""
+    path = folder / "variable.otf"
+    path.write_bytes(made())
+    if change is not None:
+        font = TTFont(path)
+        change(font)
+        font.save(path)
+    return path
+
+
+def instance(folder, *words, change=None, status=0):
+    """What is said of the instance of words; the file that is written. Where it is refused, what stood there stays, alone."""
+    path, out = varied(folder, change), folder / "out.otf"
+    out.write_bytes(b"old")
+    said = run("instance", path, *words, "-o", out, status=status)[1].replace(f"{path}: ", "")
+    assert [file.name for file in folder.iterdir() if file.suffix == ".part"] == []
+    assert (out.read_bytes() == b"old") == (status != 0)
+    return out, said
+
+
+@case("instance: an axis, an instance or a number that is not there is refused by name")
+def _(folder):
+    for words, wanted in (
+        ("--variations opsz=12", "the face has no axis opsz"), ("--instance Thin", "the face has no instance Thin"),
+        ("--variations wght=heavy", "--variations: a list of tags and numbers, as wght=650,opsz=12"),
+    ):  # fmt: skip
+        assert instance(folder, *words.split(), status=2)[1] == f"psotf: {wanted}\n"
+
+
+@case("instance: one of both words has to be given")
+def _(folder):
+    for words in ([], ["--variations", "wght=700", "--instance", "Bold"]):
+        assert "--variations" in instance(folder, *words, status=2)[1]
+
+
+@case("instance: a value past the axis is said once, and its end is taken")
+def _(folder):
+    out, said = instance(folder, "--variations", "wght=2000")
+    assert said == "psotf: 2000 is past the end of the axis wght, which is taken instead\n", said
+    assert TTFont(out)["OS/2"].usWeightClass == 900
+
+
+@case("instance: a font that is not variable is named")
+def _(folder):
+    for path, wanted in ((FONT, "of one place, with outlines in the table CFF"), (folder / "cut.otf", "the header")):
+        (folder / "cut.otf").write_bytes(b"OTTO")
+        said = run("instance", path, "--variations", "wght=650", "-o", folder / "none.otf", status=1)[1]
+        assert wanted in said and said.count("\n") == 1 and not (folder / "none.otf").exists(), said
+
+
+@case("instance: a run past the limit is named, with the limit and the option")
+def _(folder):
+    said = instance(folder, "--instance", "Bold", "--limit", "20", status=1)[1]
+    assert said.startswith("psotf: glyph ") and said.endswith(": its run takes more than 20 units (--limit)\n"), said
+
+
+@case("instance: damaged tables of variations are named")
+def _(folder):
+    def cut(tag):
+        def change(font):
+            font[tag] = newTable(tag)
+            font[tag].decompile = lambda data, font: None
+            font[tag].compile = lambda font: b"\0\1\0"
+        return change
+
+    for tag in ("HVAR", "MVAR", "avar"):
+        said = instance(folder, "--instance", "Bold", change=cut(tag), status=1)[1]
+        assert said.startswith(f"psotf: the table {tag}: "), said
+
+
+@case("instance: where the disk is full the old file stays")
+def _(folder):
+    path, out = varied(folder), folder / "out.otf"
+    out.write_bytes(b"old")
+    done = subprocess.run(
+        [str(PSOTF), "instance", str(path), "--instance", "Bold", "-o", str(out)], capture_output=True, check=False, restore_signals=False,
+        preexec_fn=lambda: resource.setrlimit(resource.RLIMIT_FSIZE, (1000, 1000)),
+    )  # fmt: skip
+    assert done.returncode == 1 and b"writing" in done.stderr, done.stderr
+    assert out.read_bytes() == b"old" and not out.with_name("out.otf.part").exists()
+
+
+@case("instance: what is left out is said once, and not with --quiet")
+def _(folder):
+    def change(font):
+        font["XXXX"] = newTable("XXXX")
+        font["XXXX"].data = b"own"
+        addFeatureVariations(font, [([{"wght": (0.5, 1)}], {"A": "B"})])
+
+    out, said = instance(folder, "--instance", "Bold", change=change)
+    assert said == "psotf: tables left out: GSUB XXXX; lost are ligatures and other substitutes\n", said
+    assert not {"GSUB", "XXXX", "fvar", "STAT"} & set(TTFont(out).keys())
+    assert instance(folder, "--instance", "Bold", "--quiet", change=change)[1] == ""
+    assert instance(folder, "--instance", "Bold")[1] == ""
+
+
+@case("instance: the names of a place")
+def _(folder):
+    for words, wanted in (
+        ("--instance Bold", ["Garamond", "Bold", "Garamond Bold", "Garamond-Bold", None, None]),
+        ("--variations wght=700", ["Garamond", "Bold", "Garamond Bold", "Garamond-Bold", None, None]),
+        ("--variations wght=600", ["Garamond Semi Bold", "Regular", "Garamond Semi Bold", "Garamond-SemiBold", "Garamond", "Semi Bold"]),
+        ("--variations wght=650.5,wdth=80", ["Garamond 650.5wght 80wdth", "Regular", "Garamond 650.5wght 80wdth", "Garamond_650.5wght_80wdth", "Garamond", "650.5wght 80wdth"]),
+    ):  # fmt: skip
+        font = TTFont(instance(folder, *words.split())[0])
+        told = [font["name"].getDebugName(i) for i in (1, 2, 4, 6, 16, 17)]
+        assert told == wanted, told
+        assert font["CFF "].cff.fontNames == [wanted[3]]
+
+
+def main():
+    bad = 0
+    for what, test in CASES:
+        with tempfile.TemporaryDirectory() as folder:
+            try:
+                test(pathlib.Path(folder))
+                print(f"{what}: as told", flush=True)
+            except AssertionError as fault:
+                bad += 1
+                print(f"{what}: OTHERWISE: {fault}", flush=True)
+    print(f"{len(CASES)} cases, {bad} otherwise")
+    return 1 if bad else 0
+
+
+if __name__ == "__main__":
+    sys.exit(main())

@@ -1,0 +1,60 @@
+#!/usr/bin/env python3
+"""How much the runs of glyphs take of a limit: the costliest glyph of fonts, with its base and its accent where it is accented.
+
+    tools/evidence/costs.py FOLDER..
+
+Each font .otf and each first face .ttc below the folders is opened by the binding for Python (`make -C bindings/c` builds its library), and
+each glyph's bounds are asked for within less and less. It prints the fonts, their glyphs, and the most units that one takes, and of which.
+"""
+
+import pathlib
+import sys
+
+sys.path.insert(0, str(pathlib.Path(__file__).resolve().parents[2] / "bindings" / "python"))
+
+from postscript import Error, Font, Status  # noqa: E402
+
+
+def keeps_to(font, glyph, limit):
+    """Whether a glyph's runs take less than a limit. One that is refused does."""
+    font._font.limit = limit
+    try:
+        font[glyph].tight_bounds
+    except Error as e:
+        return e.status != Status.TOO_LONG
+    return True
+
+
+def cost_of(font, glyph, least):
+    """The least limit that a glyph keeps to, from one on that it does not."""
+    most = least * 2
+    while not keeps_to(font, glyph, most):
+        least, most = most, most * 2
+    while most - least > 1:
+        middle = (least + most) // 2
+        if keeps_to(font, glyph, middle):
+            most = middle
+        else:
+            least = middle
+    return most
+
+
+def main():
+    fonts = glyphs = 0
+    costliest, where = 1, "no glyph"
+    for folder in sys.argv[1:]:
+        for path in sorted(found for found in pathlib.Path(folder).rglob("*") if found.suffix in (".otf", ".ttc") and found.is_file()):
+            try:
+                font = Font.open(path)
+            except Error:
+                continue
+            fonts += 1
+            glyphs += len(font)
+            for glyph in range(len(font)):
+                if not keeps_to(font, glyph, costliest):
+                    costliest, where = cost_of(font, glyph, costliest), f"glyph {glyph} of {path.name}"
+    print(f"{fonts} fonts, {glyphs} glyphs: the costliest takes {costliest} units, {where}")
+
+
+if __name__ == "__main__":
+    main()

@@ -1,0 +1,91 @@
+#!/usr/bin/env python3
+"""Hands the libraries for C and Python OpenType files that cost time, and times each of their doors over each.
+
+    tools/evidence/hostile_doors.py [WORD..]
+
+The fonts are those of tools/evidence/hostile_files.py; with words, only those are made whose names have one of them.
+tools/programs/hostile_doors.c is linked with bindings/c/build/libpostscript.a, which make builds; Python's module is that of
+bindings/python. The table gives seconds of processor time, so that other work beside does not count: of C the columns that
+tools/programs/hostile_doors.c tells, and of Python a font opened with its names, its characters, and the subset of its glyphs. Rust calls
+the same functions as Python. Nothing is drawn at random. The status is 1 where a door takes more than ten seconds, or a program ends by a
+signal.
+"""
+
+import itertools
+import os
+import pathlib
+import resource
+import subprocess
+import sys
+import tempfile
+
+sys.dont_write_bytecode = True
+sys.path.insert(0, str(pathlib.Path(__file__).resolve().parents[1]))
+
+import hostile_files
+from building import PROGRAMS, TOP
+
+C, PYTHON = TOP / "bindings" / "c", TOP / "bindings" / "python"
+DOORS = ["open", "fits", "slowest of a glyph", "all outlines", "all names", "all characters", "flat", "subset", "Python: names", "characters", "subset"]
+MOST, LONGEST = 10, 60
+SCRIPT = """
+import sys, time
+import postscript
+def told(call):
+    since = time.process_time()
+    try:
+        call()
+    except postscript.Error:
+        pass
+    print(f"{time.process_time() - since:.2f} | ", end="", flush=True)
+font = postscript.Font.open(sys.argv[1])
+told(lambda: font.names)
+told(lambda: dict(font.cmap))
+told(lambda: font.subset(range(len(font))))
+"""
+
+
+def built(folder):
+    """The program of C."""
+    subprocess.run(["make", "--no-print-directory", "-s", "-C", C], check=True)
+    program = f"{folder}/hostile_doors"
+    words = ["-O2", "-Wall", "-Wextra", f"-I{C}", PROGRAMS / "hostile_doors.c", C / "build" / "libpostscript.a", "-o", program]
+    subprocess.run(["cc", *words], check=True)
+    return program
+
+
+def at_most():
+    resource.setrlimit(resource.RLIMIT_CPU, (LONGEST, LONGEST))
+
+
+def columns(words):
+    """What a program prints, and whether it ended by itself."""
+    told = subprocess.run(words, stdout=subprocess.PIPE, text=True, preexec_fn=at_most, env={**os.environ, "PYTHONPATH": str(PYTHON)})
+    return told.stdout.split(" | ")[:-1], told.returncode >= 0
+
+
+def row(program, name, data, path):
+    """Prints what a font takes, and tells whether it takes too long."""
+    pathlib.Path(path).write_bytes(data)
+    here, ended = columns([program, path])
+    there, went = columns([sys.executable, "-c", SCRIPT, path])
+    here += ["-"] * (DOORS.index("subset") + 1 - len(here))
+    there += ["-"] * (3 - len(there))
+    print(f"| {name} | {len(data)} |", " | ".join([*here, *there]), "|", flush=True)
+    return not ended or not went or any(cell != "-" and float(cell) > MOST for cell in [*here, *there])
+
+
+def main(words):
+    print("| font | bytes |", " | ".join(DOORS), "|")
+    print("|---" * (len(DOORS) + 2) + "|")
+    bad = False
+    with tempfile.TemporaryDirectory() as folder:
+        program = built(folder)
+        for name, (data, _) in itertools.chain(hostile_files.runs(), hostile_files.searched()):
+            if not words or any(word in name for word in words):
+                bad = row(program, name, data, f"{folder}/font.otf") or bad
+    return 1 if bad else 0
+
+
+if __name__ == "__main__":
+    sys.exit(main(sys.argv[1:]))

@@ -1,0 +1,286 @@
+#!/usr/bin/env python3
+"""Hands psotf OpenType files that cost time, and times each subcommand over each.
+
+    (cd crates/psotf && rt run -- --help)
+    tools/evidence/hostile_files.py [WORD..]
+
+Each font of at most 1 MB is made in a temporary folder: runs that multiply by nested calls, with and without work where they end, many
+glyphs that each cost about the limit, glyphs that are refused behind long numbers, and tables that are searched or are many. With
+words, only those fonts are made whose names have one of them. crates/psotf/out/psotf, or the program that the variable PSOTF names, is run
+over each. The table gives the bytes, the seconds of processor time of each subcommand, so that other work beside does not count, the most memory
+in MB, and the seconds of hb-view, ots-sanitize and ftbench where these are on the path, else a line. One that takes more than 20 of these seconds is
+ended. Nothing is drawn at random. The status is 1 where psotf takes more than ten seconds, or ends with another status than 0 and 1.
+"""
+
+import itertools
+import pathlib
+import resource
+import shutil
+import subprocess
+import sys
+import tempfile
+
+sys.dont_write_bytecode = True
+sys.path.insert(0, str(pathlib.Path(__file__).resolve().parents[1]))
+
+from building import PSOTF
+from hostile import CHAR_SET, CHAR_STRINGS, HEADER, PRIVATE, SUBRS, number
+
+MOST, LONGEST = 10, 20
+ROS, FD_ARRAY, FD_SELECT = b"\x0c\x1e", b"\x0c\x24", b"\x0c\x25"
+CALL, CALL_GLOBAL, RETURN, END = b"\x0a", b"\x1d", b"\x0b", b"\x0e"
+ONE, BACK, ROLL, LINES, MOVE, STEMS, MASK = b"\x8c", b"\x8a", b"\x0c\x1e", b"\x06", b"\x16", b"\x01", b"\x13"
+MANY = 65_535
+COMMANDS = {
+    "inspect": ["inspect"],
+    "inspect --json": ["inspect", "--json"],
+    "glyph --all": ["glyph", "--all"],
+    "glyph --all --json": ["glyph", "--all", "--json"],
+    "glyph --name": ["glyph", "--name", "none"],
+    "svg": ["svg", "--gid", "1"],
+    "sheet": ["sheet"],
+    "report": ["report", "-o", "OUT"],
+    "flat": ["flat", "-o", "OUT"],
+    "subset": ["subset", "--gids", "GIDS", "-o", "OUT"],
+    "subset --retain-gids": ["subset", "--gids", "GIDS", "--retain-gids", "-o", "OUT"],
+    "subset --unicodes": ["subset", "--unicodes", "0-10ffff", "-o", "OUT"],
+}
+OTHERS = {
+    "hb-view": ["hb-view", "--font-file=FILE", "--text=AB", "--output-format=svg", "--output-file=/dev/null"],
+    "ots-sanitize": ["ots-sanitize", "FILE", "/dev/null"],
+    "ftbench": ["ftbench", "-c", "1", "-b", "a", "FILE"],
+}
+
+
+def short(n):
+    return n.to_bytes(2, "big")
+
+
+def long(n):
+    return n.to_bytes(4, "big")
+
+
+def index(items):
+    """An INDEX with offsets of three bytes."""
+    if not items:
+        return short(0)
+    offsets, at = [], 1
+    for item in [b"", *items]:
+        at += len(item)
+        offsets.append(at.to_bytes(3, "big"))
+    return short(len(items)) + b"\x03" + b"".join(offsets) + b"".join(items)
+
+
+def operand(n):
+    """A whole number as an operand of a charstring."""
+    return bytes([n + 139]) if -107 <= n <= 107 else b"\x1c" + n.to_bytes(2, "big", signed=True)
+
+
+def call(n, many, operator=CALL_GLOBAL):
+    """A call of subroutine N of so many."""
+    return operand(n - (107 if many < 1240 else 1131 if many < 33900 else 32768)) + operator
+
+
+def plain_font(glyphs, routines=(), char_set=b"", strings=(), tops=1):
+    """A table CFF of glyphs over global subroutines."""
+    front = HEADER + index([b"A"])
+    behind = index(list(strings)) + index(list(routines))
+    codes, private = index(glyphs), b""
+
+    def top(place):
+        at = place + len(codes)
+        own = number(at) + CHAR_SET if char_set else b""
+        return own + number(place) + CHAR_STRINGS + number(len(private)) + number(at + len(char_set)) + PRIVATE
+
+    place = len(front) + len(index([top(0)] * tops)) + len(behind)
+    return front + index([top(place)] * tops) + behind + codes + char_set + private
+
+
+def keyed_font(glyphs, select, parts=2, routines=(), private=number(6) + SUBRS):
+    """A CID-keyed table CFF, whose font dictionaries have the same private dictionary, and so the same local subroutines."""
+    front = HEADER + index([b"A"])
+    codes, locals_ = index(glyphs), index(list(routines))
+
+    def dictionary(at):
+        return number(len(private)) + number(at) + PRIVATE
+
+    array = len(index([dictionary(0)] * parts))
+
+    def top(place):
+        at = place + len(codes)
+        return (
+            number(391) + number(392) + number(0) + ROS + number(place) + CHAR_STRINGS
+            + number(at) + FD_SELECT + number(at + len(select)) + FD_ARRAY
+        )
+
+    behind = index([b"Adobe", b"Identity"]) + index([])
+    place = len(front) + len(index([top(0)])) + len(behind)
+    at = place + len(codes) + len(select) + array
+    return front + index([top(place)]) + behind + codes + select + index([dictionary(at)] * parts) + private + locals_
+
+
+def segments(count):
+    """A table cmap of format 4, of segments of one character."""
+    ends = [3 * i + 1 for i in range(min(count, 20_000))]
+    many = len(ends) + 1
+    halves = lambda numbers: b"".join(short(n % 65_536) for n in numbers)
+    rows = halves([*ends, 65_535]) + short(0) + halves([*ends, 65_535]) + halves([1 - end for end in ends] + [1]) + bytes(2 * many)
+    return long(1) + long(0x00030001) + long(12) + short(4) + short(0) + short(0) + short(2 * many) + bytes(6) + rows
+
+
+def groups(rows):
+    """A table cmap of format 12."""
+    body = b"".join(long(first) + long(last) + long(glyph) for first, last, glyph in rows)
+    return long(1) + long(0x0003000A) + long(12) + short(12) + short(0) + long(16 + len(body)) + long(0) + long(len(rows)) + body
+
+
+LETTERS = groups([(65, 66, 1)])
+
+
+def file_of(outlines, glyphs, cmap=LETTERS, more=(), tag=b"CFF ", others=()):
+    """An OpenType file of a table of outlines and others, and how many glyphs it has. The tables of more tags are all others together."""
+    tables = {
+        tag: outlines,
+        b"OS/2": short(4) + bytes(94),
+        b"cmap": cmap,
+        b"head": long(0x00010000) + long(0x00010000) + long(0) + long(0x5F0F3CF5) + short(0) + short(1000) + bytes(34),
+        b"hhea": long(0x00010000) + short(800) + bytes(28) + short(1),
+        b"hmtx": short(500) + bytes(2 * glyphs),
+        b"maxp": long(0x00005000) + short(glyphs),
+        b"name": short(0) + short(0) + short(6),
+        b"post": long(0x00030000) + bytes(28),
+        **dict(others),
+    }
+    many = len(tables) + len(more)
+    at, body, records = 12 + 16 * many, b"", []
+    for tag in sorted(tables):
+        records.append((tag, at + len(body), len(tables[tag])))
+        body += tables[tag] + bytes(-len(tables[tag]) % 4)
+    records += [(tag, at, len(body)) for tag in more]
+    directory = b"".join(tag + long(0) + long(place) + long(size) for tag, place, size in sorted(records))
+    return b"OTTO" + short(many) + bytes(6) + directory + body, glyphs
+
+
+def nested(leaf, times=3000):
+    """Ten global subroutines, each of which calls the next one so many times, and the last of which is this."""
+    return [call(i + 1, 10) * times + RETURN for i in range(9)] + [leaf + RETURN]
+
+
+def squared(leaf, near):
+    """Three global subroutines whose runs cost nearly the limit: squares of calls of the last one, which is this."""
+    times = int((near / (len(leaf) + 3)) ** 0.5)
+    return [call(1, 3) * times + RETURN, call(2, 3) * times + RETURN, leaf + RETURN]
+
+
+WORK = {
+    "lines": (ONE * 2 + BACK * 2) * 750 + LINES,
+    "moves": (ONE + MOVE + BACK + MOVE) * 750,
+    "stems": ONE * 3000 + STEMS,
+    "hints one by one": (ONE * 2 + STEMS) * 1000,
+    "rolls of 48": ONE * 48 + (operand(48) + ONE + ROLL) * 1000 + LINES,
+    "rolls of 32,767": ONE * 32_767 + (operand(32_767) + ONE + ROLL) * 1000 + LINES,
+    "sums": (ONE * 2 + b"\x0c\x0a\x0c\x12") * 700,
+    "roots": ONE + b"\x0c\x1a" * 1500 + b"\x0c\x12",
+}
+BEGIN = ONE * 2 + b"\x15"
+
+
+def runs():
+    """Fonts whose runs cost time: a name, and the file."""
+    start = BEGIN + call(0, 10) + END
+    yield "nested calls", file_of(plain_font([END, start], nested(b"")), 2)
+    for name, leaf in WORK.items():
+        yield f"nested calls, {name}", file_of(plain_font([END, start], nested(leaf)), 2)
+    masks = ONE * 16 + STEMS + call(0, 10) + END
+    yield "nested calls, masks", file_of(plain_font([END, masks], nested((MASK + b"\xff") * 1500)), 2)
+    for name, leaf in {"": b"\x8c\x8c\x0c\x0a\x0c\x12" * 500, ", lines": WORK["lines"], ", moves": WORK["moves"], ", stems": WORK["stems"]}.items():
+        glyphs = [END, *[BEGIN + call(0, 3) + END] * (MANY - 1)]
+        yield f"65,535 glyphs near the limit{name}", file_of(plain_font(glyphs, squared(leaf, 19_000_000)), MANY)
+    glyphs = [END, *[call(0, 1) + END] * (MANY - 1)]
+    yield "65,535 glyphs refused behind 300,000 numbers", file_of(plain_font(glyphs, [ONE * 300_000]), MANY)
+
+
+def searched():
+    """Fonts whose tables are long to search, or many."""
+    plain = [END] * MANY
+    select = b"\x03" + short(MANY) + b"".join(short(i) + bytes([i % 2]) for i in range(MANY)) + short(MANY)
+    yield "FDSelect of 65,535 ranges", file_of(keyed_font(plain, select), MANY)
+    falling = b"\x03" + short(MANY) + b"".join(short(MANY - i) + bytes([i % 2]) for i in range(MANY)) + short(MANY)
+    yield "FDSelect of 65,535 ranges that fall", file_of(keyed_font(plain, falling), MANY)
+    ranges = b"\x01" + b"".join(short(MANY - i) + b"\x00" for i in range(1, MANY))
+    yield "a char set of 65,534 ranges", file_of(plain_font(plain, char_set=ranges), MANY)
+    listed = b"\x00" + short(1) * (MANY - 2) + short(34)
+    accented = [END, *[operand(0) * 2 + operand(65) * 2 + END] * (MANY - 2), END]
+    yield "65,535 accented glyphs", file_of(plain_font(accented, char_set=listed), MANY)
+    yield "a map of 20,000 segments", file_of(plain_font([END] * 2), 2, segments(20_000))
+    yield "a map of 65,535 groups", file_of(plain_font([END] * 2), 2, groups([(2 * i, 2 * i, 1) for i in range(1, MANY)]))
+    falling = [(2 * i, 2 * i, 1) for i in range(MANY, 0, -1)]
+    yield "a map of 65,535 groups that fall", file_of(plain_font([END] * 2), 2, groups(falling))
+    yield "a map of 65,535 groups behind all characters", file_of(plain_font([END] * 2), 2, groups([(0x10FFFF, 0x10FFFF, 1)] * MANY + [(0, 0x10FFFF, 1)]))
+    yield "20,000 dictionaries over 60,000 glyphs", file_of(plain_font([END] * 60_000, tops=20_000), 60_000)
+    yield "10,000 font dictionaries over 60,000 subroutines", file_of(
+        keyed_font([END] * 2, b"\x00\x00\x00", 10_000, [RETURN] * 60_000), 2,
+    )  # fmt: skip
+    widths = (b"\x8b\x14") * 300_000
+    yield "20,000 font dictionaries over one private dictionary of 600,000 bytes", file_of(
+        keyed_font([END] * 2, b"\x00\x00\x00", 20_000, private=widths), 2,
+    )  # fmt: skip
+    tags = [b"a" + bytes([65 + i // 676, 65 + i // 26 % 26, 65 + i % 26]) for i in range(10_000)]
+    yield "10,000 tables over the same bytes", file_of(plain_font([END] * 60_000), 60_000, more=tags)
+
+
+def at_most():
+    resource.setrlimit(resource.RLIMIT_CPU, (LONGEST, LONGEST))
+
+
+def timed(words):
+    """The seconds of processor time that a command takes, its most memory in MB, and its status; below zero where it is ended."""
+    with tempfile.NamedTemporaryFile() as told:
+        process = subprocess.Popen(
+            ["/usr/bin/time", "-q", "-f", "%U %S %M", "-o", told.name, *words],
+            stdin=subprocess.DEVNULL, stdout=subprocess.DEVNULL, stderr=subprocess.DEVNULL, preexec_fn=at_most,
+        )  # fmt: skip
+        status = process.wait()
+        user, system, most = told.read().split()[-3:]
+        return float(user) + float(system), int(most) / 1024, status
+
+
+def words_of(command, path, glyphs, out):
+    given = {"OUT": out, "GIDS": f"0-{glyphs - 1}"}
+    return [str(PSOTF), command[0], path, *(given.get(word, word) for word in command[1:])]
+
+
+def row(name, data, glyphs, folder, commands):
+    """Prints what a font takes, and tells whether it takes too long."""
+    path, out = f"{folder}/font.otf", f"{folder}/out.otf"
+    pathlib.Path(path).write_bytes(data)
+    cells, memory, bad = [], 0, False
+    for command in commands.values():
+        seconds, most, status = timed(words_of(command, path, glyphs, out))
+        memory, bad = max(memory, most), bad or seconds > MOST or status not in (0, 1)
+        cells.append(f"{seconds:.2f}" if status in (0, 1) else f"{seconds:.0f} (status {status})")
+    others = []
+    for command in OTHERS.values():
+        if shutil.which(command[0]) is None:
+            others.append("-")
+            continue
+        seconds, _, _ = timed([word.replace("FILE", path) for word in command])
+        others.append(f"{seconds:.2f}" if seconds < LONGEST else f"over {LONGEST}")
+    print(f"| {name} | {len(data)} |", " | ".join([*cells, f"{memory:.0f}", *others]), "|", flush=True)
+    return bad
+
+
+def table(fonts, commands, words):
+    """Prints the table of these fonts, or of those whose names have one of the words, and gives the status."""
+    print("| font | bytes |", " | ".join([*commands, "MB", *OTHERS]), "|")
+    print("|---" * (len(commands) + len(OTHERS) + 3) + "|")
+    bad = False
+    with tempfile.TemporaryDirectory() as folder:
+        for name, (data, glyphs) in fonts:
+            if not words or any(word in name for word in words):
+                bad = row(name, data, glyphs, folder, commands) or bad
+    return 1 if bad else 0
+
+
+if __name__ == "__main__":
+    sys.exit(table(itertools.chain(runs(), searched()), COMMANDS, sys.argv[1:]))

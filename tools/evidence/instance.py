@@ -1,0 +1,263 @@
+#!/usr/bin/python3
+"""Compares static tables of variable fonts with what the variable fonts are at the same places.
+
+    tools/evidence/instance.py SEED PLACES WORD..
+
+Each WORD is an OpenType file with a table `CFF2`, or a Debian package, which is downloaded (not installed) and of which each such file
+is taken; pango1.0-tests has Cantarell-VF.otf. Besides, the fonts of tools/variable_fonts.py are made of EB Garamond (Debian's
+fonts-ebgaramond): their glyphs call subroutines, name a second item variation data by vsindex, and have stems and masks.
+
+At the default, at the named instances, at each end of each axis and at PLACES random places the charstring of each glyph is written, and
+the table `CFF ` of each font. As fontTools reads it, each charstring's operators and operands must be exactly those that the charstring of
+CFF2 says in 16.16 bits; where one of these has more than 48 operands none of its own may have more, and its lines and curves, one by one as
+fontTools' generalizeCommands tells them, must be those; its width must be the one that was given; it calls nothing and ends with endchar;
+and its masks must be those of the charstring of CFF2, as fontTools reads that. Only glyphs with an operator of 48 operands or more that
+declares stems may be refused. Where a table is written,
+a file is made of it; its charstrings must be those; the outlines that fontTools draws are compared with those that it draws of the variable
+font by floats: no coordinate may be further off than 1/16 unit; and those of FreeType with its own of the variable font: none may be further
+off than a unit. Needs `rt` on the path and Debian's python3-fonttools and libfreetype6. The program is tools/programs/instance.rt.txt,
+proved in a copy with what the crates keep in out/; with PROGRAM in the environment that one is taken. The status is 1 where something
+differs.
+"""
+
+import collections
+import os
+import pathlib
+import random
+import subprocess
+import sys
+import tempfile
+
+sys.dont_write_bytecode = True
+sys.path.insert(0, str(pathlib.Path(__file__).resolve().parents[1]))
+
+from fontTools.cffLib.specializer import generalizeCommands
+from fontTools.misc.psCharStrings import T2CharString
+from fontTools.pens.recordingPen import RecordingPen
+from fontTools.ttLib import TTFont
+from fontTools.ttLib.tables.DefaultTable import DefaultTable
+from fontTools.varLib.models import normalizeLocation, piecewiseLinearMap
+
+import building
+from variable import NEAR, NO_HINTING, FreeType, drawn_by_fonttools, places_of, shapes_of
+from variable_fonts import files_in, mixed, variable
+
+USES = ("postscript_sfnt postscript_base postscript_items postscript_compact1 postscript_type2 postscript_view postscript_outline"
+        " postscript_drawing postscript_variation postscript_cff2"
+        " postscript_variable postscript_variable_font postscript_instance anyhow")
+STACK = 48
+GONE = ["CFF2", "fvar", "avar", "HVAR", "MVAR", "VVAR", "STAT"]
+
+
+def named(font):
+    """The places of the named instances, in units of 2 ^ -14."""
+    axes = {axis.axisTag: (axis.minValue, axis.defaultValue, axis.maxValue) for axis in font["fvar"].axes}
+    maps = font["avar"].segments if "avar" in font else {}
+    for instance in font["fvar"].instances:
+        place = normalizeLocation(instance.coordinates, axes)
+        yield tuple(round(piecewiseLinearMap(place[tag], maps[tag] if maps.get(tag) else {-1: -1, 0: 0, 1: 1}) * 16384) for tag in axes)
+
+
+def told(program, lines):
+    """What the program answers to lines: for each the table, if there is one, and the code and the operations of each glyph."""
+    done = subprocess.run([program], input="".join(f"{line}\n" for line in lines).encode(), capture_output=True, check=False)
+    if done.returncode:
+        sys.exit(f"the program ended with status {done.returncode}: {done.stderr.decode()}")
+    answers = []
+    for line in done.stdout.decode().splitlines():
+        word, *more = line.split()
+        if word == "font":
+            answers.append([None, []])
+        elif word == "table":
+            answers[-1][0] = bytes.fromhex(more[0])
+        elif word == "glyph":
+            answers[-1][1].append([None, []])
+        elif word == "code":
+            answers[-1][1][-1][0] = bytes.fromhex(more[0])
+        elif word == "op":
+            answers[-1][1][-1][1].append((more[0].lower(), tuple(map(int, more[1:]))))
+    return answers
+
+
+def static(path, table, folder):
+    """A font with a table `CFF ` in the place of what varies, as a file."""
+    font = TTFont(path, recalcBBoxes=False)
+    for tag in GONE:
+        if tag in font:
+            del font[tag]
+    made = DefaultTable("CFF ")
+    made.data = table
+    font["CFF "] = made
+    font.sfntVersion = "OTTO"
+    own = folder / f"static_{path.name}"
+    font.save(own)
+    return own
+
+
+def masks_of(string):
+    """The bytes of the masks of a charstring without subroutines."""
+    return [word for word in string.program if isinstance(word, bytes)]
+
+
+def masks_beneath(string, shared, local):
+    """The masks of a charstring, through its calls."""
+    string.decompile()
+    found, program = [], string.program
+    for before, word in zip([None, *program], program):
+        if isinstance(word, bytes):
+            found.append(word)
+        elif word in ("callsubr", "callgsubr"):
+            items = local if word == "callsubr" else shared
+            found += masks_beneath(items[before + items_bias(items)], shared, local)
+    return found
+
+
+def items_bias(items):
+    """What is added to the number of a subroutine."""
+    return 107 if len(items) < 1240 else 1131 if len(items) < 33900 else 32768
+
+
+def drawn(font):
+    """The contours of each glyph of a static font, in 16.16 bits."""
+    glyphs = font.getGlyphSet()
+    for name in font.getGlyphOrder():
+        pen, contours = RecordingPen(), []
+        glyphs[name].draw(pen)
+        for word, points in pen.value:
+            if word == "moveTo":
+                contours.append([])
+            if points:
+                contours[-1] += [(x * 65536, y * 65536) for x, y in points]
+        yield shapes_of(contours, NEAR)
+
+
+def farthest(ours, theirs):
+    """How far points are from points, or none where there are others."""
+    if list(map(len, ours)) != list(map(len, theirs)):
+        return None
+    return max((abs(a - b) for p, q in zip(ours, theirs) for s, t in zip(p, q) for a, b in zip(s, t)), default=0)
+
+
+def is_same(found, wanted):
+    """Whether operations are those that are wanted, in pieces where one of these has more operands than a stack holds."""
+    if all(len(operands) <= STACK for _, operands in wanted):
+        return found == wanted
+    alone = [[(word, tuple(operands)) for word, operands in generalizeCommands([(w, list(o)) for w, o in both])] for both in (found, wanted)]
+    return all(len(operands) <= STACK for _, operands in found) and alone[0] == alone[1]
+
+
+def says_same(name, string, wanted, width, masks, faults):
+    """Compares a static charstring with the operations, the width and the masks that it must have."""
+    string.decompile()
+    words = [word for word in string.program if isinstance(word, str)]
+    if words[-1] != "endchar" or words.count("endchar") != 1 or {"callsubr", "callgsubr", "return"} & set(words):
+        faults.append(f"{name}: how it ends")
+    numbers, found, told_width = [], [], None
+    for word in string.program:
+        if isinstance(word, bytes):
+            continue
+        if not isinstance(word, str):
+            numbers.append(word * 65536)
+            continue
+        many = len(wanted[len(found)][1]) if len(found) < len(wanted) else 0
+        if word in ("hintmask", "cntrmask"):
+            many = len(numbers) - len(numbers) % 2
+        if told_width is None:
+            told_width = numbers[0] if len(numbers) > many else "none"
+            numbers = numbers[1:] if len(numbers) > many else numbers
+        if word != "endchar":
+            found.append((word, () if word in ("hintmask", "cntrmask") else tuple(numbers)))
+        numbers = []
+    if not is_same(found, wanted):
+        faults.append(f"{name}: its operations")
+    if told_width != width * 65536:
+        faults.append(f"{name}: its width {told_width}")
+    if masks_of(string) != masks:
+        faults.append(f"{name}: its masks")
+
+
+def compare_glyphs(font, glyphs, counts):
+    """Compares the codes of glyphs with their operations; tells what is at fault."""
+    varying, faults = font["CFF2"].cff, []
+    for number, (name, (code, wanted)) in enumerate(zip(font.getGlyphOrder(), glyphs)):
+        string, _ = varying.topDictIndex[0].CharStrings.getItemAndSelector(name)
+        masks = masks_beneath(string, varying.GlobalSubrs, getattr(string.private, "Subrs", []))
+        counts["glyphs"] += 1
+        if code is None:
+            counts["refused"] += 1
+            if all(len(operands) < STACK for word, operands in wanted if "stem" in word):
+                faults.append(f"{number}: it is refused")
+            continue
+        counts["operations"] += len(wanted)
+        counts["pieces"] += any(len(operands) > STACK for _, operands in wanted)
+        counts["masks"] += len(masks)
+        says_same(f"{number}", T2CharString(bytecode=code), wanted, number, masks, faults)
+    return faults
+
+
+def compare_outlines(path, font, place, answer, folder, freetype, face, counts):
+    """Compares the outlines of the static table of a place, and its codes with those of the glyphs; tells what is at fault."""
+    table, glyphs = answer
+    own, faults = static(path, table, folder), []
+    made = TTFont(own)
+    strings = made["CFF "].cff.topDictIndex[0].CharStrings.charStringsIndex
+    if [strings[number].bytecode for number in range(len(strings))] != [code for code, _ in glyphs]:
+        faults.append("its charstrings")
+    own_face = freetype.face(own)
+    freetype.put(face, place)
+    for number, (ours, theirs) in enumerate(zip(drawn(made), drawn_by_fonttools(font, place))):
+        counts["outlines"] += 1
+        far = farthest(ours, theirs)
+        if far is None or far > NEAR:
+            faults.append(f"{number}: its outline {far}")
+        else:
+            counts["worst"] = max(counts["worst"], far)
+        here, there = (freetype.shapes(one, number, NO_HINTING) for one in (own_face, face))
+        apart = None if here is None or there is None else farthest(here, there)
+        if apart is None or apart > 128:
+            faults.append(f"{number}: its outline by FreeType {apart}")
+        else:
+            counts["apart"] = max(counts["apart"], apart)
+    freetype.calls.FT_Done_Face(own_face)
+    return faults
+
+
+def compare_font(program, path, chance, count, folder, freetype):
+    """Compares the static tables of a font; tells how much differs."""
+    font = TTFont(path)
+    places = list(dict.fromkeys([*places_of(chance, len(font["fvar"].axes), count), *named(font)]))
+    answers = told(program, [f"{' '.join(map(str, place))} {path}" for place in places])
+    counts, differ, face = collections.Counter(), 0, freetype.face(path)
+    for place, answer in zip(places, answers):
+        faults = compare_glyphs(font, answer[1], counts)
+        if answer[0] is not None:
+            faults += compare_outlines(path, font, place, answer, folder, freetype, face, counts)
+        differ += len(faults)
+        for fault in faults[:5]:
+            print(f"{path.name} {place} {fault}", file=sys.stderr)
+    print(f"{path.name}: {len(places)} places, {counts['glyphs']} glyphs, {counts['refused']} of them refused, {counts['pieces']} with operators in pieces, {counts['operations']} operations"
+          f" and {counts['masks']} masks; {counts['outlines']} outlines of whole tables; {differ} differ;"
+          f" worst from fontTools {counts['worst'] / 65536:.5f} unit, from FreeType {counts['apart'] / 128:.5f} unit")
+    return differ
+
+
+def main():
+    seed, places, *words = sys.argv[1:]
+    print(f"seed {seed}")
+    freetype, differ = FreeType(), 0
+    with tempfile.TemporaryDirectory() as name:
+        folder = pathlib.Path(name)
+        (folder / "fonts").mkdir()
+        fonts = [path for word in words for path in files_in(folder, word)]
+        for count in (2, 3):
+            made = variable(folder / "fonts", count)
+            fonts += [made, mixed(made)]
+        program = os.environ.get("PROGRAM") or building.proved(folder / "program", "instance", USES)
+        for path in fonts:
+            differ += compare_font(program, path, random.Random(f"{seed} {path.name}"), int(places), folder, freetype)
+    print(f"{differ} differ")
+    sys.exit(differ > 0)
+
+
+if __name__ == "__main__":
+    main()

@@ -1,0 +1,265 @@
+#!/usr/bin/python3
+"""Compares what psotf tells of fonts and of each glyph with what fontTools reads.
+
+    (cd crates/psotf && rt run -- --help)
+    /usr/bin/python3 tools/evidence/psotf.py WORD..
+
+Each WORD is a folder or an installed Debian package, of which each file .otf is taken, or a font file or a collection, of which each face is that
+has a table `CFF `.
+Needs Debian's python3-fonttools. For each glyph it compares the number, the name or the CID, the characters, the advance, the width
+of the charstring with the nominal or the default one, each operation and each segment, numbers as exact fractions, the bounds of all points, and
+the bounds of the curves, rounded outwards to 65536ths, which a side may leave by one more; glyphs that are made of two others are
+left out, since these are not followed. Of the face it compares each field of `inspect` but the refusals: operands of the
+dictionaries as floats, where fontTools reads numbers, and the glyphs with hints by its decompiler of charstrings. It prints each
+face and glyph that differs, and at the end how many were compared and how many differ. Nothing is drawn at random.
+"""
+
+import concurrent.futures
+import itertools
+import json
+import pathlib
+import re
+import subprocess
+import sys
+from fractions import Fraction
+
+sys.dont_write_bytecode = True
+sys.path.insert(0, str(pathlib.Path(__file__).resolve().parents[1]))
+
+from fontTools.misc.psCharStrings import SimpleT2Decompiler, T2WidthExtractor
+from fontTools.pens.recordingPen import RecordingPen
+from fontTools.ttLib import TTFont
+
+from building import PSOTF
+from font_files import files_of
+from outlines import is_accented, is_bounds, tightness
+from sfnt import faces_of, name_of
+
+LETTERS = {"moveTo": "M", "lineTo": "L", "curveTo": "C", "closePath": "Z", "endPath": "Z"}
+SETS = {0: "ISOAdobe", 1: "Expert", 2: "ExpertSubset"}
+TOP = {
+    "isFixedPitch": "IsFixedPitch", "ItalicAngle": "ItalicAngle", "UnderlinePosition": "UnderlinePosition",
+    "UnderlineThickness": "UnderlineThickness", "PaintType": "PaintType", "CharstringType": "CharStringType",
+    "FontMatrix": "FontMatrix", "FontBBox": "FontBBox", "StrokeWidth": "StrokeWidth",
+}  # fmt: skip
+PRIVATE = {
+    "StdHW": "StdHW", "StdVW": "StdVW", "BlueScale": "BlueScale", "BlueShift": "BlueShift", "BlueFuzz": "BlueFuzz",
+    "ForceBold": "ForceBold", "LanguageGroup": "LanguageGroup", "ExpansionFactor": "ExpansionFactor",
+    "initialRandomSeed": "InitialRandomSeed", "defaultWidthX": "DefaultWidthX", "nominalWidthX": "NominalWidthX",
+}  # fmt: skip
+DELTAS = ("BlueValues", "OtherBlues", "FamilyBlues", "FamilyOtherBlues", "StemSnapH", "StemSnapV")
+
+
+class Hints(SimpleT2Decompiler):
+    """Runs a charstring, and keeps whether it met a stem or a mask."""
+
+    met = False
+
+    def countHints(self):
+        self.met = True
+        super().countHints()
+
+    def op_hintmask(self, index):
+        self.met = True
+        return super().op_hintmask(index)
+
+    op_cntrmask = op_hintmask
+
+
+class Operations(T2WidthExtractor):
+    """Runs a charstring, and keeps each operation up to its end: its name, and its operands without the width."""
+
+    def __init__(self, char_string):
+        private = char_string.private
+        super().__init__(getattr(private, "Subrs", []), char_string.globalSubrs, 0, 0, private)
+        self.listed = []
+
+    def keep(self, name, operands):
+        self.listed.append((name, [Fraction(operand) for operand in operands]))
+
+    def countHints(self):
+        self.stems = self.popallWidth()
+        self.hintCount += len(self.stems) // 2
+
+    # stems that stand before a mask are counted, and are no operands of it
+    def op_hintmask(self, index):
+        self.keep("hintmask", [])
+        return super().op_hintmask(index)
+
+    def op_cntrmask(self, index):
+        self.keep("cntrmask", [])
+        return super().op_hintmask(index)
+
+
+def kept(name, operands_of):
+    def operator(self, index):
+        self.keep(name, operands_of(self))
+
+    return operator
+
+
+for name in ("rlineto hlineto vlineto rrcurveto hhcurveto vvcurveto hvcurveto vhcurveto rcurveline rlinecurve hflex flex hflex1 flex1").split():
+    setattr(Operations, f"op_{name}", kept(name, lambda run: run.popall()))
+for name in ("hmoveto", "vmoveto"):
+    setattr(Operations, f"op_{name}", kept(name, lambda run: run.popallWidth(1)))
+Operations.op_rmoveto = kept("rmoveto", lambda run: run.popallWidth())
+for name in ("hstem", "vstem", "hstemhm", "vstemhm"):
+    setattr(Operations, f"op_{name}", kept(name, lambda run: run.countHints() or run.stems))
+
+
+def operations_of(char_string):
+    run = Operations(char_string)
+    run.execute(char_string)
+    return run.listed
+
+
+def operation_of(text):
+    """An operation as psotf writes it."""
+    name, *operands = text.split()
+    return name.lower(), [Fraction(operand) for operand in operands]
+
+
+def has_hint(char_string):
+    hints = Hints(char_string.private and getattr(char_string.private, "Subrs", []), char_string.globalSubrs, char_string.private)
+    hints.execute(char_string)
+    return hints.met
+
+
+def told(*words):
+    """The objects that psotf prints, one a line."""
+    done = subprocess.run([PSOTF, *words, "--json"], capture_output=True, check=True)
+    return [json.loads(line) for line in done.stdout.splitlines()]
+
+
+def recorded(char_string):
+    """What fontTools draws."""
+    pen = RecordingPen()
+    char_string.draw(pen)
+    return pen
+
+
+def segments_of(drawing):
+    return [[LETTERS[kind], *(Fraction(x) for point in points for x in point)] for kind, points in drawing.value]
+
+
+def sides_of(texts):
+    return None if texts is None else [int(Fraction(text) * 65536) for text in texts]
+
+
+# What fontTools adds to a name that stands twice.
+ONCE_MORE = re.compile(r"#\d+$")
+
+
+def named_of(glyph, is_cid):
+    """The name of a glyph as fontTools makes it."""
+    return f"cid{glyph['cid']:05d}" if is_cid and glyph["name"] is None and glyph["gid"] else glyph["name"] or ".notdef"
+
+
+def drawing_differs(glyph, char_string, drawing):
+    return (
+        [[segment[0], *map(Fraction, segment[1:])] for segment in glyph["segments"]] != segments_of(drawing)
+        or Fraction(glyph["width"]) != Fraction(char_string.width)
+        or not is_bounds(sides_of(glyph["bounds"]), drawing)
+        or tightness(sides_of(glyph["tight_bounds"]), drawing) is None
+    )
+
+
+def glyph_differs(glyph, number, name, font, char_string, drawing, characters):
+    return (
+        "refused" in glyph
+        or glyph["gid"] != number
+        or named_of(glyph, "cid" in glyph) not in (name, ONCE_MORE.sub("", name))
+        or glyph["advance"] != font["hmtx"][name][0]
+        or sorted(glyph["chars"]) != (sorted(characters) if number else [])
+        or [operation_of(text) for text in glyph["operations"]] != operations_of(char_string)
+        or drawing_differs(glyph, char_string, drawing)
+    )
+
+
+def floats_of(texts):
+    return None if texts is None else [float(Fraction(text)) for text in texts]
+
+
+def values_of(value):
+    return None if value is None else [float(number) for number in (value if isinstance(value, list) else [value])]
+
+
+def private_differs(found, private):
+    """Whether the operands of a private dictionary differ from those that fontTools reads; deltas are added up."""
+    return any(floats_of(found.get(ours)) != values_of(getattr(private, theirs, None)) for theirs, ours in PRIVATE.items()) or any(
+        list(itertools.accumulate(floats_of(found.get(name, [])))) != (values_of(getattr(private, name, None)) or []) for name in DELTAS
+    )
+
+
+def text_of(font, *identifiers):
+    points = name_of(font, identifiers)
+    return points and "".join(map(chr, points))
+
+
+def facts_of(face):
+    """What psotf tells of a face that is compared as it stands."""
+    cff = face["cff"]
+    fields = ("name", "is_cid", "fds", "glyphs", "hinted", "encoding", "char_set", "global_subroutines", "local_subroutines")
+    return [face[field] for field in ("units_per_em", "glyphs", "family", "style", "version", "faces")] + [cff[field] for field in fields]
+
+
+def wanted_facts(path, font, top, privates):
+    cff = font["CFF "].cff
+    encoding = top.rawDict.get("Encoding", 0)
+    return [
+        font["head"].unitsPerEm, font["maxp"].numGlyphs, text_of(font, 16, 1), text_of(font, 17, 2), text_of(font, 5), faces_of(path),
+        cff.fontNames[0], hasattr(top, "ROS"), len(privates) if hasattr(top, "ROS") else 0, len(top.CharStrings),
+        sum(has_hint(top.CharStrings[name]) for name in font.getGlyphOrder()), {0: "Standard", 1: "Expert"}.get(encoding, "own"),
+        SETS.get(top.rawDict.get("charset", 0), "own"), len(cff.GlobalSubrs), [len(getattr(private, "Subrs", [])) for private in privates],
+    ]  # fmt: skip
+
+
+def face_differs(face, path, font, top):
+    privates = [font_dictionary.Private for font_dictionary in top.FDArray] if hasattr(top, "ROS") else [top.Private]
+    found = face["cff"].get("privates") or [face["cff"]["private"]]
+    return (
+        facts_of(face) != wanted_facts(path, font, top, privates)
+        or any(floats_of(face["cff"]["top"].get(ours)) != values_of(getattr(top, theirs, None)) for theirs, ours in TOP.items())
+        or any(private_differs(*pair) for pair in zip(found, privates, strict=True))
+    )
+
+
+def compare(face):
+    """How many glyphs a face has, how many segments these, how many of them are left out, and a line for each that differs."""
+    path, number = face
+    font = TTFont(path, lazy=True, fontNumber=number)
+    top = font["CFF "].cff.topDictIndex[0]
+    characters = {}
+    for code, name in (font.getBestCmap() or {}).items():
+        characters.setdefault(name, []).append(f"U+{code:04X}")
+    names = font.getGlyphOrder()
+    glyphs = told("glyph", path, "--face", str(number), "--all")
+    different, left_out = [f"{path}: {len(glyphs)} glyphs"] * (len(glyphs) != len(names)), 0
+    if face_differs(told("inspect", path, "--face", str(number))[0], path, font, top):
+        different.append(f"{path}: face {number}")
+    for gid, (name, glyph) in enumerate(zip(names, glyphs, strict=False)):
+        char_string = top.CharStrings[name]
+        drawing = recorded(char_string)
+        if is_accented(drawing):
+            left_out += 1
+        elif glyph_differs(glyph, gid, name, font, char_string, drawing, characters.get(name, [])):
+            different.append(f"{path}: {name}")
+    return len(names), sum(len(glyph["segments"] or []) for glyph in glyphs), left_out, different
+
+
+def main(words):
+    if not words:
+        sys.exit(__doc__)
+    faces = [(path, number) for path in files_of(*words) for number in range(faces_of(path))]
+    faces = [(path, number) for path, number in faces if "CFF " in TTFont(path, lazy=True, fontNumber=number).reader]
+    glyphs = segments = left_out = different = 0
+    with concurrent.futures.ProcessPoolExecutor() as pool:
+        for count, pieces, left, lines in pool.map(compare, faces):
+            glyphs, segments, left_out, different = glyphs + count, segments + pieces, left_out + left, different + len(lines)
+            print(*lines, sep="\n", end="\n" * bool(lines), flush=True)
+    print(f"{len(faces)} faces, {glyphs} glyphs, {segments} segments, {left_out} left out, {different} different")
+    sys.exit(different > 0)
+
+
+if __name__ == "__main__":
+    main(sys.argv[1:])

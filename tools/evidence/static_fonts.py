@@ -1,0 +1,291 @@
+#!/usr/bin/python3
+"""Compares the static fonts that `psotf instance` writes with the variable fonts that they are made of.
+
+    (cd crates/psotf && rt run -- --help)
+    tools/evidence/static_fonts.py SEED PLACES WORD..
+
+Each WORD is an OpenType file with a table `CFF2`, or a Debian package, which is downloaded (not installed) and of which each such file
+is taken; pango1.0-tests has Cantarell-VF.otf. Besides, the fonts of tools/variable_fonts.py are made of EB Garamond (Debian's
+fonts-ebgaramond), with two and three axes, with and without subroutines, and with positions of each kind that vary; and once more with
+operators of fewer than 48 operands. None may be refused.
+
+A file is written at each named instance, at each end of each axis, and at PLACES random places. It must be read by fontTools, each table
+of it, and pass ots-sanitize; FreeType must load each glyph. By `psotf glyph --all --json` each glyph must have the segments and the advance
+that the variable font has at the place. As fontTools reads it, the width of each charstring must be that of `hmtx`, the side bearing that of
+the outline, and no coordinate further than 1/16 unit from what it draws of the variable font by floats. hb-shape must set a line of text, and 300
+lines of random characters of the font, as it does of the variable font, kerning and marks with them. What fontTools' varLib.mutator makes of
+the font (its instancer takes no CFF2) must have advances, and the numbers that MVAR varies, no further off than a unit; the mutator
+rounds each difference of points, so that of its outlines the furthest is told. The names of a named instance must be those of its style. It
+prints each fault, and the sizes beside those of the mutator's files, which keep CFF2. crates/psotf/out/psotf is run, or the program that the variable PSOTF
+names. Needs Debian's python3-fonttools, libfreetype6, libharfbuzz-bin and opentype-sanitizer. The status is 1 where something differs.
+"""
+
+import collections
+import json
+import pathlib
+import random
+import subprocess
+import sys
+import tempfile
+
+sys.dont_write_bytecode = True
+sys.path.insert(0, str(pathlib.Path(__file__).resolve().parents[1]))
+
+from fontTools.misc.psCharStrings import T2WidthExtractor
+from fontTools.pens.boundsPen import BoundsPen
+from fontTools.pens.recordingPen import RecordingPen
+from fontTools.ttLib import TTFont
+import fontTools.varLib.cff
+from fontTools.feaLib.builder import addOpenTypeFeaturesFromString
+from fontTools.varLib import mutator
+from fontTools.varLib.mvar import MVAR_ENTRIES
+
+from building import PSOTF
+from instance import drawn, farthest
+from variable import NEAR, NO_HINTING, FreeType, shapes_of
+from variable_fonts import files_in, mixed, variable
+
+TEXT = "Hamburgefonts fi AVAToWa, 0123456789"
+LINES, LONG = 300, 12
+FEATURES = """
+languagesystem DFLT dflt;
+markClass [grave] <anchor (wght=100:90 wght=400:100 wght=900:160) 400> @TOP;
+markClass [asciicircum] <anchor 120 (wght=400:380 wght=900:430)> @TOP;
+feature kern {
+    pos T <(wght=400:10 wght=900:30) 0 (wght=400:20 wght=900:61) 0>;
+    pos A V (wght=100:-10 wght=400:-50 wght=900:-120);
+    pos A W <0 (wght=400:5 wght=900:9) (wght=400:-30 wght=900:-77) 0>;
+    pos [a e o] [v w y] (wght=100:-5 wght=400:-20 wght=900:-71);
+} kern;
+feature curs {
+    pos cursive n <anchor 0 (wght=400:10 wght=900:50)> <anchor 300 (wght=400:30 wght=900:90)>;
+    pos cursive u <anchor (wght=400:7 wght=900:11) 20> <anchor 310 (wght=400:40 wght=900:80)>;
+} curs;
+feature mark {
+    pos base [H b g] <anchor (wght=400:250 wght=900:400) 650> mark @TOP;
+    pos ligature [f] <anchor (wght=400:50 wght=900:90) 700> mark @TOP ligComponent <anchor 200 (wght=400:600 wght=900:666)> mark @TOP;
+} mark;
+feature mkmk {
+    pos mark [grave asciicircum] <anchor (wght=400:100 wght=900:140) (wght=400:500 wght=900:590)> mark @TOP;
+} mkmk;
+table GDEF {
+    GlyphClassDef [A-Z a b g n u v w y e o], [f], [grave asciicircum], ;
+} GDEF;
+"""
+LINKED = {"Regular", "Bold", "Italic", "Bold Italic"}
+
+
+def run(*words, status=0):
+    """What a program prints and says."""
+    done = subprocess.run([str(PSOTF), *map(str, words)], capture_output=True, check=False)
+    assert done.returncode == status, f"psotf {' '.join(map(str, words))}: status {done.returncode}: {done.stderr.decode()}"
+    return done.stdout.decode(), done.stderr.decode()
+
+
+def glyphs_of(path, *words):
+    """The advance and the segments of each glyph, as psotf tells them."""
+    lines = map(json.loads, run("glyph", path, "--all", "--json", *words)[0].splitlines())
+    return [(line["advance"], line["segments"]) for line in lines]
+
+
+def places_of(font, chance, count):
+    """The words of places, with the values along the axes and, of named instances, the name."""
+    axes = font["fvar"].axes
+    default = {axis.axisTag: axis.defaultValue for axis in axes}
+    for instance in font["fvar"].instances:
+        name = font["name"].getDebugName(instance.subfamilyNameID)
+        yield ["--instance", name], dict(instance.coordinates), name
+    for axis in axes:
+        for end in (axis.minValue, axis.maxValue):
+            yield ["--variations", f"{axis.axisTag}={end:g}"], {**default, axis.axisTag: end}, None
+    for _ in range(count):
+        values = {axis.axisTag: chance.randint(round(axis.minValue * 4), round(axis.maxValue * 4)) / 4 for axis in axes}
+        yield ["--variations", ",".join(f"{tag}={value:g}" for tag, value in values.items())], values, None
+
+
+def lines_of(font, chance):
+    """A line of text, and lines of random characters of the font."""
+    characters = [char for char in sorted(font.getBestCmap()) if chr(char).isprintable()]
+    some = [ord(char) for char in "AVWTaeovwynuHbgf`^`^" if ord(char) in characters]
+    lines = ["".join(map(chr, chance.choices(by_turns, k=LONG))) for by_turns in (characters, some) for _ in range(LINES // 2)]
+    return [TEXT, *lines]
+
+
+def set_by_harfbuzz(path, lines, *words):
+    """The glyphs of lines of text, with their places and advances."""
+    done = subprocess.run(
+        ["hb-shape", *words, "--no-glyph-names", "--no-clusters", str(path)], input="\n".join(lines), capture_output=True, text=True, check=True,
+    )
+    return done.stdout.splitlines()
+
+
+def names_are(static, font, name, faults):
+    """Compares the names with those of a style."""
+    family = font["name"].getBestFamilyName()
+    told = {i: static["name"].getDebugName(i) for i in (1, 2, 4, 6, 16, 17)}
+    linked = name in LINKED
+    wanted = {1: family if linked else f"{family} {name}", 2: name if linked else "Regular", 4: f"{family} {name}"}
+    wanted |= {16: None, 17: None} if linked else {16: family, 17: name}
+    for i, text in wanted.items():
+        if told[i] != text:
+            faults.append(f"name {i}: {told[i]}")
+    if static["CFF "].cff.fontNames != [told[6]] or " " in told[6]:
+        faults.append(f"the PostScript name {told[6]}")
+    bold, italic = "Bold" in wanted[2], "Italic" in wanted[2]
+    if static["head"].macStyle != bold + 2 * italic or static["OS/2"].fsSelection & 0x61 != (bold * 32 + italic or 64):
+        faults.append("the bits of the style")
+
+
+def widths_are(static, faults):
+    """Compares the widths of charstrings, bearings and boxes with the metrics."""
+    top = static["CFF "].cff.topDictIndex[0]
+    glyphs = static.getGlyphSet()
+    for number, name in enumerate(static.getGlyphOrder()):
+        string = top.CharStrings[name]
+        extractor = T2WidthExtractor([], string.globalSubrs, string.private.nominalWidthX, string.private.defaultWidthX, string.private)
+        extractor.execute(string)
+        pen = BoundsPen(glyphs)
+        glyphs[name].draw(pen)
+        bearing = pen.bounds[0] // 1 if pen.bounds else 0
+        if extractor.width != static["hmtx"][name][0]:
+            faults.append(f"{number}: its width")
+        if abs(bearing - static["hmtx"][name][1]) > (pen.bounds is not None and pen.bounds[0] % 1 < 0.001):
+            faults.append(f"{number}: its bearing {static['hmtx'][name][1]}, not {bearing}")
+
+
+def moved_metrics(static, made, faults):
+    """Compares what MVAR varies, and the weight, with what the mutator makes."""
+    for tag, field in [*MVAR_ENTRIES.values(), ("OS/2", "usWeightClass"), ("OS/2", "usWidthClass"), ("hhea", "ascent"), ("hhea", "descent")]:
+        if tag in made and tag in static:
+            ours, theirs = getattr(static[tag], field, None), getattr(made[tag], field, None)
+            if ours is not None and theirs is not None and abs(ours - theirs) > 1:
+                faults.append(f"{tag} {field}: {ours}, not {theirs}")
+
+
+def near_mutator(path, values, static, folder, faults):
+    """Compares with what fontTools' mutator makes of the place; the size of its file, and the furthest that points are off."""
+    made = mutator.instantiateVariableFont(TTFont(path), dict(values))
+    made.save(folder / "mutated.otf")
+    made = TTFont(folder / "mutated.otf")
+    moved_metrics(static, made, faults)
+    far = [farthest(ours, others) for ours, others in zip(drawn(static), drawn(made), strict=True)]
+    for number, (ours, others) in enumerate(zip(static.getGlyphOrder(), made.getGlyphOrder(), strict=True)):
+        if abs(static["hmtx"][ours][0] - made["hmtx"][others][0]) > 1:
+            faults.append(f"{number}: its advance is not the mutator's")
+    return (folder / "mutated.otf").stat().st_size, max((one for one in far if one is not None), default=0)
+
+
+def near_floats(font, values, static, faults):
+    """Compares with the outlines that fontTools draws at the place by floats; the furthest that points are off."""
+    glyphs, worst = font.getGlyphSet(location=values), 0
+    for number, (ours, name) in enumerate(zip(drawn(static), font.getGlyphOrder(), strict=True)):
+        pen, contours = RecordingPen(), []
+        glyphs[name].draw(pen)
+        for word, points in pen.value:
+            if word == "moveTo":
+                contours.append([])
+            if points:
+                contours[-1] += [(x * 65536, y * 65536) for x, y in points]
+        far = farthest(ours, shapes_of(contours, NEAR))
+        if far is None or far > NEAR:
+            faults.append(f"{number}: its outline is {far} from that of fontTools")
+        else:
+            worst = max(worst, far)
+    return worst
+
+
+def compare_place(path, font, words, values, name, folder, freetype, lines, counts):
+    """Compares the file of a place; tells what is at fault."""
+    out, faults = folder / "static.otf", []
+    _, said = run("instance", path, *words, "-o", out)
+    counts["said"] |= {said.strip()}
+    static = TTFont(out)
+    for tag in static.keys():
+        static[tag]
+    if {"fvar", "avar", "HVAR", "MVAR", "STAT", "CFF2"} & set(static.keys()):
+        faults.append("a table that varies")
+    done = subprocess.run(["ots-sanitize", str(out)], capture_output=True, text=True, check=False)
+    if done.returncode or done.stderr.strip():
+        faults.append(f"ots-sanitize: {done.stderr.strip()}")
+    place = ["--variations", ",".join(f"{tag}={value:g}" for tag, value in values.items())]
+    ours, theirs = glyphs_of(out), glyphs_of(path, *place)
+    counts["glyphs"] += len(ours)
+    for number, (one, other) in enumerate(zip(ours, theirs, strict=True)):
+        if one != other:
+            faults.append(f"{number}: its outline or its advance")
+    widths_are(static, faults)
+    face = freetype.face(out)
+    if face is None or any(freetype.shapes(face, number, NO_HINTING) is None for number in range(len(ours))):
+        faults.append("FreeType")
+    else:
+        freetype.calls.FT_Done_Face(face)
+    for ours, theirs, line in zip(set_by_harfbuzz(out, lines), set_by_harfbuzz(path, lines, f"--variations={place[1]}"), lines, strict=True):
+        if ours != theirs:
+            faults.append(f"hb-shape: {line!a}: {ours}, not {theirs}")
+    counts["lines"] += len(lines)
+    if name is not None:
+        names_are(static, font, name, faults)
+    counts["floats"] = max(counts["floats"], near_floats(font, values, static, faults))
+    size, worst = near_mutator(path, values, static, folder, faults)
+    counts["size"], counts["mutated"] = counts["size"] + out.stat().st_size, counts["mutated"] + size
+    counts["worst"] = max(counts["worst"], worst)
+    return faults
+
+
+def refused(path, words, folder):
+    """What a refusal says, where the file is refused."""
+    done = subprocess.run([str(PSOTF), "instance", str(path), *words, "-o", str(folder / "none.otf")], capture_output=True, text=True, check=False)
+    return done.stderr if done.returncode else None
+
+
+def compare_font(path, chance, count, folder, freetype):
+    """Compares the static fonts of a font; tells how much differs."""
+    font, differ, refusals = TTFont(path), 0, collections.Counter()
+    counts = {"glyphs": 0, "lines": 0, "size": 0, "mutated": 0, "worst": 0, "floats": 0, "said": set()}
+    places, lines = list(places_of(font, chance, count)), lines_of(font, chance)
+    for words, values, name in places:
+        if (said := refused(path, words, folder)) is not None:
+            refusals[said.strip().rsplit(": ", 1)[-1]] += 1
+            faults = [said]
+        else:
+            (folder / "none.otf").unlink()
+            faults = compare_place(path, font, words, values, name, folder, freetype, lines, counts)
+        differ += len(faults)
+        for fault in faults[:8]:
+            print(f"{path.name} {' '.join(words)}: {fault}", file=sys.stderr)
+    print(f"{path.name}: {len(places)} places, {counts['glyphs']} glyphs, {counts['lines']} lines; refused: {dict(refusals)}; {differ} differ; furthest from floats"
+          f" {counts['floats'] / 65536:.5f} unit, from the mutator {counts['worst'] / 65536:.3f}; {counts['size']} bytes, the mutator's {counts['mutated']};"
+          f" said: {sorted(counts['said'])}", flush=True)
+    return differ
+
+
+def with_features(path):
+    """The font with positions of each kind that vary."""
+    font = TTFont(path)
+    addOpenTypeFeaturesFromString(font, FEATURES)
+    assert font["GDEF"].table.VarStore and {lookup.LookupType for lookup in font["GPOS"].table.LookupList.Lookup} == {1, 2, 3, 4, 5, 6}
+    font.save(path)
+    return path
+
+
+def main():
+    seed, places, *words = sys.argv[1:]
+    print(f"seed {seed}")
+    freetype, differ = FreeType(), 0
+    with tempfile.TemporaryDirectory() as name:
+        folder = pathlib.Path(name)
+        fonts = [path for word in words for path in files_in(folder, word)]
+        for few in (False, True):
+            fontTools.varLib.cff.maxStackLimit = 48 if few else 513
+            (folder / f"fonts{few}").mkdir()
+            for count in (2, 3):
+                made = with_features(variable(folder / f"fonts{few}", count))
+                fonts += [made, mixed(made)]
+        for path in fonts:
+            differ += compare_font(path, random.Random(f"{seed} {path.name}"), int(places), folder, freetype)
+    print(f"{differ} differ")
+    sys.exit(differ > 0)
+
+
+if __name__ == "__main__":
+    main()

@@ -1,0 +1,134 @@
+#!/usr/bin/env python3
+"""Compares what psfont tells of real fonts with what fontTools reads of the same tables.
+
+    apt-get install -y python3-fonttools fonts-cantarell
+    (cd crates/psfont && rt run < stdin)
+    /usr/bin/python3 tools/evidence/summaries.py fonts-cantarell
+
+Each word is a folder or an installed Debian package, of which each file .otf is taken, or a font file. Each table `CFF ` is written to
+a file of its own, and `psfont font FILE` and `psfont lenient FILE` are asked what it holds. Where it answers, every line has to be
+what fontTools reads: the header's four bytes, the names, how many strings, global subroutines and dictionaries there are, and of each
+dictionary the encoding, the format of the char set, and how many glyphs and local subroutines it has. Where it refuses,
+the refusal has to be the first of these causes that fontTools sees, in the order of the reading: an item of no bytes among the
+strings or the global subroutines (6); of a dictionary, an encoding of the font's own (16), an item of no bytes among the char
+strings (6), no Private (14), no Subrs (14), an item of no bytes among the local subroutines (6).
+By `lenient` no Private and no Subrs are no causes: there are no local subroutines then. For either word the refusals are counted
+by their cause, and the fonts that are read by the formats of their char sets. The status is 1 where something differs.
+"""
+
+import collections
+import pathlib
+import subprocess
+import sys
+import tempfile
+
+sys.dont_write_bytecode = True
+sys.path.insert(0, str(pathlib.Path(__file__).resolve().parents[1]))
+
+from fontTools.ttLib import TTFont
+
+from building import PSFONT
+from font_files import files_of
+
+ENCODINGS = ["Standard", "Expert"]
+CHAR_SETS = ["ISOAdobe", "Expert", "ExpertSubset"]
+EMPTY = "an item of no bytes", 6
+
+
+def has_empty(index):
+    """Whether an INDEX has an item of no bytes."""
+    offsets = getattr(index, "offsets", [])
+    return any(low == high for low, high in zip(offsets, offsets[1:]))
+
+
+def private_of(top):
+    """The private dictionary; None where there is none."""
+    return top.Private if "Private" in top.rawDict else None
+
+
+def local_subroutines(top):
+    """The local subroutines; none where they are missing."""
+    private = private_of(top)
+    return private.Subrs if private is not None and "Subrs" in private.rawDict else []
+
+
+def cause_of(top, lenient):
+    """Why a dictionary's font is refused, and the refusal's number; None where it is not."""
+    if top.rawDict.get("Encoding", 0) not in (0, 1):
+        return "an encoding of its own", 16
+    if has_empty(top.CharStrings.charStringsIndex):
+        return EMPTY
+    if private_of(top) is None and not lenient:
+        return "no Private", 14
+    if private_of(top) is not None and "Subrs" not in top.Private.rawDict and not lenient:
+        return "no Subrs", 14
+    if has_empty(local_subroutines(top)):
+        return EMPTY
+    return None
+
+
+def set_of(top, table):
+    """The name of a dictionary's char set."""
+    char_set = top.rawDict.get("charset", 0)
+    return CHAR_SETS[char_set] if char_set < 3 else f"Format{table[char_set]}"
+
+
+def line_of(top, table):
+    """What psfont has to tell of a dictionary."""
+    encoding = ENCODINGS[top.rawDict.get("Encoding", 0)]
+    return f"font {encoding} {set_of(top, table)} glyphs {len(top.CharStrings)} locals {len(local_subroutines(top))}"
+
+
+def shown(name):
+    return "".join("?" if ord(c) < 0x20 or ord(c) == 0x7F else c for c in name)
+
+
+def expected(font, table, lenient):
+    """The lines that psfont has to print, the status, and the cause of a refusal."""
+    cff = font["CFF "].cff
+    tops = [cff.topDictIndex[i] for i in range(len(cff.topDictIndex))]
+    empty = "" in cff.strings.strings or has_empty(cff.GlobalSubrs)
+    for cause in [EMPTY if empty else None] + [cause_of(top, lenient) for top in tops]:
+        if cause:
+            return [f"psfont: fault {cause[1]}"], 1, cause[0]
+    lines = ["header {} {} {} {}".format(*table[:4]), f"names {len(cff.fontNames)}"]
+    lines += [f"name {shown(name)}" for name in cff.fontNames]
+    lines += [f"strings {len(cff.strings.strings)}", f"globals {len(cff.GlobalSubrs)}", f"dictionaries {len(tops)}"]
+    lines += [line_of(top, table) for top in tops]
+    return lines + ["end"], 0, "read, " + " ".join(set_of(top, table) for top in tops)
+
+
+def told(word, table, folder):
+    """The lines that psfont prints, on either output, and the status."""
+    path = pathlib.Path(folder) / "table"
+    path.write_bytes(table)
+    done = subprocess.run([PSFONT, word, path], capture_output=True, text=True)
+    return (done.stdout + done.stderr).splitlines(), done.returncode
+
+
+def main(words):
+    if not words:
+        sys.exit(__doc__)
+    causes, differ = {word: collections.Counter() for word in ("font", "lenient")}, 0
+    with tempfile.TemporaryDirectory() as folder:
+        for path in [path for word in words for path in files_of(word)]:
+            font = TTFont(path, lazy=True)
+            if "CFF " not in font:
+                continue
+            table = font.getTableData("CFF ")
+            for word, counts in causes.items():
+                lines, status, cause = expected(font, table, word == "lenient")
+                counts[cause] += 1
+                printed = told(word, table, folder)
+                if printed != (lines, status):
+                    differ += 1
+                    print(f"{path}: psfont {word}: {printed}, fontTools: {(lines, status)}")
+    for word, counts in causes.items():
+        for cause, count in counts.most_common():
+            print(f"{word}: {cause}: {count}")
+    print(f"all: {sum(causes['font'].values())} fonts, {differ} differ")
+    return 1 if differ else 0
+
+
+if __name__ == "__main__":
+    sys.exit(main(sys.argv[1:]))

@@ -1,0 +1,575 @@
+#!/usr/bin/env python3
+"""Prints the page of the library's public items, from its sources.
+
+    tools/gate/api.py > docs/API.md
+    tools/gate/api.py --check
+
+The first line writes the page. The second compares docs/API.md with what the first would print, and looks for each block of Rust in
+README.md and docs/RECIPES.md in a source, line for line: the status is 1 where a line differs, or where no source has a block, and
+that is printed.
+
+A public item is one that a user can name: from the root of a crate through `pub mod` and `pub use`. Its comment, its signature
+and the clauses of its contract are taken as they stand. The sources are in the formatter's layout, so an item is read by
+its lines: it begins at the indentation of its block, and ends there. What is not understood ends the script with a message.
+"""
+import dataclasses
+import difflib
+import pathlib
+import re
+import sys
+
+TOP = pathlib.Path(__file__).resolve().parents[2]
+PAGE = TOP / "docs" / "API.md"
+CRATES = (
+    "postscript",
+    "postscript_base",
+    "postscript_items",
+    "postscript_compact1",
+    "postscript_type2",
+    "postscript_view",
+    "postscript_outline",
+    "postscript_drawing",
+    "postscript_sfnt",
+    "postscript_sfnt_write",
+    "postscript_variation",
+    "postscript_cff2",
+    "postscript_variable",
+    "postscript_variable_font",
+    "postscript_variable_drawing",
+    "postscript_instance",
+    "postscript_write",
+)
+QUOTING = ("README.md", "docs/RECIPES.md")
+HEAD = """# The public items
+
+This page is printed by `tools/gate/api.py` from the sources. Do not edit it: change the comments in the sources, and print it again.
+
+Each item has its signature, its comment, and the clauses of its contract. `requires` is what a caller has to prove. `ensures` is
+what is proved of every call that meets this. A function that implements a trait's, and has no clauses here, has those of the trait.
+
+A clause is a statement about the definitions that [DEFINITIONS.md](DEFINITIONS.md) lists. In a clause `result` is the answer, and `x`
+an argument. `x.now` is what stands behind a reference; `x.old` and `x.new` are what stood there before the call and after it; `x.entry`
+is the argument as it was passed. `ensures*` tells of what an answer lends, and how the lender stands after that.
+"""
+SHOWN_ATTRIBUTES = ("#[derive", "#[error", "#[must_use", "#[non_exhaustive")
+KINDS = ("fn", "struct", "enum", "trait", "type", "const", "static")
+ITEM = re.compile(
+    r"(?P<pub>pub(?P<within>\([^)]*\))? )?(?:final |unsafe )*(?P<kind>fn|struct|enum|trait|type|const|static|mod|use|impl)\b(?P<rest>.*)"
+)
+CLAUSE = re.compile(r"(requires|ensures|decreases)\b\*? *(\w*)")
+
+
+@dataclasses.dataclass
+class Item:
+    """An item as it is written: its comment, its attributes, its lines, and what stands in its block."""
+
+    kind: str
+    name: str
+    public: bool
+    doc: list
+    attributes: list
+    lines: list
+    members: list
+    crate: str = ""
+    anchor: str = ""
+
+
+@dataclasses.dataclass
+class Module:
+    """A module: its comment, its items in their order, and its modules by their names."""
+
+    crate: str
+    path: tuple
+    above: object
+    public: bool
+    doc: list
+    items: list = dataclasses.field(default_factory=list)
+    modules: dict = dataclasses.field(default_factory=dict)
+
+    @property
+    def title(self):
+        return "::".join((self.crate, *self.path))
+
+    @property
+    def anchor(self):
+        return ".".join((self.crate, *self.path))
+
+
+# How items are read.
+
+
+def indentation(line):
+    return len(line) - len(line.lstrip())
+
+
+def attribute_end(lines, start):
+    """The line behind the attribute that begins on this line."""
+    depth = 0
+    for place in range(start, len(lines)):
+        depth += lines[place].count("[") - lines[place].count("]")
+        if depth == 0:
+            return place + 1
+    sys.exit(f"an attribute without an end: {lines[start]}")
+
+
+def item_end(lines, start):
+    """The line behind the item that begins on this line."""
+    indent = indentation(lines[start])
+    body = False
+    for place in range(start, len(lines)):
+        line = lines[place]
+        text = line.strip()
+        if indentation(line) == indent and text:
+            if text.startswith("}") and place > start and not text.endswith("{"):
+                return place + 1
+            if text.endswith(";") or text.endswith("{}"):
+                return place + 1
+            body = body or text.endswith("{")
+        elif not body and text.endswith(";"):
+            return place + 1
+    sys.exit(f"an item without an end: {lines[start]}")
+
+
+def name_of(kind, rest):
+    """The name of an item, of which this stands behind the word of its kind."""
+    if kind in ("use", "impl"):
+        return rest.strip()
+    found = re.match(r" (\w+)", rest)
+    return found.group(1) if found else sys.exit(f"no name: {kind}{rest}")
+
+
+def read_item(lines, doc, attributes):
+    """The item of these lines. None of what is for proofs alone and has no place on the page."""
+    text = lines[0].strip()
+    if text.startswith("ghost "):
+        declared = re.match(r"ghost (\w+):", text)
+        return Item("ghost", declared[1], True, doc, attributes, lines, []) if declared else None
+    found = ITEM.match(text)
+    if not found:
+        sys.exit(f"not an item: {lines[0]}")
+    kind = found["kind"]
+    public = bool(found["pub"]) and not found["within"]
+    item = Item(kind, name_of(kind, found["rest"]), public, doc, attributes, lines, [])
+    if kind in ("impl", "trait") or kind == "mod" and not text.endswith(";"):
+        item.members = [] if text.endswith("{}") else read_items(block_of(lines))[1]
+    return item
+
+
+def block_of(lines):
+    """The lines between the braces of an impl, a trait or a module."""
+    opened = next(place for place, line in enumerate(lines) if line.endswith("{"))
+    return lines[opened + 1 : -1]
+
+
+def read_items(lines):
+    """The comment of a block and its items."""
+    comment, items, doc, attributes = [], [], [], []
+    place = 0
+    while place < len(lines):
+        text = lines[place].strip()
+        end = place + 1
+        if text.startswith("//!"):
+            comment.append(text[3:].removeprefix(" "))
+        elif text.startswith("///"):
+            doc.append(text[3:].removeprefix(" "))
+        elif text.startswith("#"):
+            end = attribute_end(lines, place)
+            attributes.append(text)
+        elif text and not text.startswith("//"):
+            end = item_end(lines, place)
+            items.append(read_item(lines[place:end], doc, attributes))
+            doc, attributes = [], []
+        place = end
+    return comment, [item for item in items if item]
+
+
+def read_module(crate, path, above, public, doc, items):
+    """The module of these items, and the modules below it."""
+    module = Module(crate, path, above, public, doc, items)
+    for item in items:
+        item.crate = crate
+        if item.kind == "mod":
+            comment, inner = module_text(crate, path, item)
+            module.modules[item.name] = read_module(crate, (*path, item.name), module, item.public, comment, inner)
+    return module
+
+
+def module_text(crate, path, item):
+    """The comment and the items of a module that is declared here."""
+    if not item.lines[0].rstrip().endswith(";"):
+        return item.doc, item.members
+    return read_file(TOP.joinpath("crates", crate, "src", *path, f"{item.name}.rt"))
+
+
+def read_file(path):
+    return read_items(path.read_text(encoding="utf-8").splitlines())
+
+
+def read_crate(crate):
+    comment, items = read_file(TOP / "crates" / crate / "src" / "lib.rt")
+    return read_module(crate, (), None, True, comment, items)
+
+
+# What names mean.
+
+
+def used(text, front=()):
+    """The paths that a `use` names, and the names that they have here."""
+    text = text.strip().rstrip(";").strip()
+    if text.endswith("}"):
+        head, inner = text[:-1].split("{", 1)
+        front = (*front, *[word for word in head.split("::") if word])
+        return [one for part in parts_of(inner) for one in used(part, front)]
+    path, _, name = text.partition(" as ")
+    path = (*front, *path.split("::"))
+    return [(path, name or path[-1])]
+
+
+def parts_of(text):
+    """The parts between the commas that stand in no braces."""
+    parts, depth, part = [], 0, ""
+    for letter in text:
+        depth += (letter == "{") - (letter == "}")
+        if letter == "," and depth == 0:
+            parts.append(part)
+            part = ""
+        else:
+            part += letter
+    return [part for part in (*parts, part) if part.strip()]
+
+
+def text_of_use(item):
+    return " ".join(line.strip() for line in item.lines).split("use ", 1)[1]
+
+
+def find(crates, module, path):
+    """The item or the module that a path names in a module. None where it names nothing of these crates."""
+    first, *rest = path
+    if first == "crate":
+        return below(crates, crates[module.crate], rest)
+    if first in ("self", "super"):
+        return below(crates, module if first == "self" else module.above, rest)
+    if first in crates:
+        return below(crates, crates[first], rest)
+    return below(crates, module, path)
+
+
+def below(crates, module, path):
+    """What a path names that begins in a module."""
+    if not path:
+        return module
+    first, *rest = path
+    if first in module.modules and (rest or not has_item(module, first)):
+        return below(crates, module.modules[first], rest)
+    for item in module.items:
+        if item.name == first and item.kind in KINDS:
+            return item
+    for item in module.items:
+        if item.kind == "use" and item.public:
+            for target, name in used(text_of_use(item)):
+                if name == first:
+                    found = find(crates, module, target)
+                    return below(crates, found, rest) if isinstance(found, Module) else found
+    return None
+
+
+def has_item(module, name):
+    return any(item.name == name and item.kind in KINDS for item in module.items)
+
+
+def modules_below(module):
+    """A module and those below it that a user can name, in their order."""
+    yield module
+    for inner in module.modules.values():
+        if inner.public:
+            yield from modules_below(inner)
+
+
+def all_items(module):
+    """The items of a module and of those below it."""
+    yield from module.items
+    for inner in module.modules.values():
+        yield from all_items(inner)
+
+
+def entries(crates, module):
+    """What a module shows, and the name that it has there."""
+    for item in module.items:
+        if item.public and item.kind in KINDS:
+            yield item, item.name
+        elif item.public and item.kind == "use":
+            for path, name in used(text_of_use(item)):
+                found = find(crates, module, path)
+                if found is None:
+                    sys.exit(f"{module.title}: {'::'.join(path)} is not found")
+                yield found, name
+
+
+def name_homes(crates):
+    """Gives each item the anchor of the place where the page has it: the module it stands in, else the first that shows it."""
+    shown = [module for crate in crates.values() for module in modules_below(crate)]
+    for module in shown:
+        for item in module.items:
+            if item.public and item.kind in KINDS:
+                item.anchor = f"{module.anchor}.{item.name}"
+    for module in shown:
+        for entry, name in entries(crates, module):
+            if isinstance(entry, Item) and not entry.anchor and entry.crate == module.crate:
+                entry.anchor = f"{module.anchor}.{name}"
+
+
+# What impls say.
+
+
+def without_parameters(text):
+    """The text behind `<..>` at its beginning."""
+    if not text.startswith("<"):
+        return text
+    depth = 0
+    for place, letter in enumerate(text):
+        depth += (letter == "<") - (letter == ">" and text[place - 1] != "-")
+        if depth == 0:
+            return text[place + 1 :].strip()
+    return text
+
+
+def impl_parts(item):
+    """The trait of an impl, empty where it has none, and its type."""
+    text = re.sub(r" *\{\}?$| where .*", "", without_parameters(item.name))
+    trait, between, kind = text.rpartition(" for ")
+    return (trait, kind) if between else ("", text)
+
+
+def plain_name(text):
+    """The last name of a path, without parameters."""
+    return re.sub(r"<.*", "", text).split("::")[-1]
+
+
+def impls_of(crates, item):
+    """The impls of a type in its crate."""
+    impls = [one for one in all_items(crates[item.crate]) if one.kind == "impl"]
+    return [one for one in impls if plain_name(impl_parts(one)[1]) == item.name]
+
+
+def types_with(crates, trait):
+    """The types of these crates that have a trait, as they are written."""
+    impls = [one for crate in crates.values() for one in all_items(crate) if one.kind == "impl"]
+    return [impl_parts(one)[1] for one in impls if plain_name(impl_parts(one)[0]) == trait]
+
+
+# How the page is written.
+
+
+def dedented(lines):
+    least = min((indentation(line) for line in lines if line.strip()), default=0)
+    return [line[least:].rstrip() for line in lines]
+
+
+def code(language, lines):
+    return ["", f"```{language}", *lines, "```"]
+
+
+def signature(item):
+    """The lines of a function before its contract and its body."""
+    taken = []
+    indent = indentation(item.lines[0])
+    for line in item.lines:
+        text = line.strip()
+        if CLAUSE.match(text) or indentation(line) == indent and text in ("{", "{}"):
+            break
+        taken.append(line)
+        if indentation(line) == indent and text.endswith(("{", "{}", ";")):
+            break
+    taken[-1] = re.sub(r" *(\{\}?|;)$", "", taken[-1])
+    return dedented(taken)
+
+
+def contract(item):
+    """The lines of the clauses of a function, and the names of those that it ensures."""
+    indent = indentation(item.lines[0])
+    places = [place for place, line in enumerate(item.lines) if is_clause(line, indent + 4)]
+    if not places:
+        return [], []
+    end = places[-1] + 1
+    while end < len(item.lines) and indentation(item.lines[end]) > indent + 4:
+        end += 1
+    taken = dedented(item.lines[places[0] : end])
+    taken[-1] = taken[-1].removesuffix(";")
+    named = [CLAUSE.match(item.lines[place].strip()) for place in places]
+    return taken, [found[2] for found in named if found[1] == "ensures" and found[2]]
+
+
+def is_clause(line, indent):
+    return indentation(line) == indent and bool(CLAUSE.match(line.strip()))
+
+
+def attributes_of(item):
+    return [one for one in item.attributes if one.startswith(SHOWN_ATTRIBUTES)]
+
+
+def constant(item):
+    """A constant: as it stands where it has one line, else without its value."""
+    lines = dedented(item.lines)
+    return lines if len(lines) == 1 else [lines[0].split(" = ")[0] + ";"]
+
+
+def fields(item):
+    """A struct without what is private, and a line for that."""
+    lines, held, hidden = [item.lines[0]], [], False
+    for line in item.lines[1:-1]:
+        text = line.strip()
+        if text.startswith(("///", "#[")):
+            held.append(line)
+            continue
+        if text.startswith("pub "):
+            lines += [*held, line]
+        elif indentation(line) == 4 and not text.startswith("ghost "):
+            hidden = True
+        held = []
+    return [*lines, *(["    // and private fields"] if hidden else []), *item.lines[-1:]]
+
+
+def shape(item):
+    """The lines that show an item, without functions."""
+    if item.kind == "fn":
+        return signature(item)
+    if item.kind in ("const", "static"):
+        return constant(item)
+    if item.kind == "trait":
+        return [*attributes_of(item), signature(item)[0]]
+    if item.kind == "struct" and len(item.lines) > 1:
+        return [*attributes_of(item), *fields(item)]
+    return [*attributes_of(item), *item.lines]
+
+
+class Page:
+    """The lines of the page, and the crates that it is about."""
+
+    def __init__(self, crates):
+        self.crates = crates
+        self.lines = HEAD.splitlines()
+        name_homes(crates)
+        self.anchors = {item.anchor for crate in crates.values() for item in all_items(crate) if item.anchor}
+
+    def link(self, found, name):
+        return f"[`{name}`](#{found.anchor})" if found.anchor else f"`{name}`"
+
+    def text(self, module, doc):
+        """A comment, with the names in square brackets as links where the page has them."""
+
+        def linked(match):
+            path = tuple(match[1].split("::"))
+            owner = next((one for one in self.anchors if one.endswith("." + path[0]) and one.startswith(module.crate + ".")), "")
+            anchor = ".".join((owner, *path[1:]))
+            return f"[`{match[1]}`](#{anchor})" if owner else f"`{match[1]}`"
+
+        return [re.sub(r"\[`([\w:]+)`\](?!\()", linked, line) for line in doc]
+
+    def contents(self):
+        """The crates and their modules."""
+        self.lines.append("")
+        for crate in self.crates.values():
+            inner = [self.link(module, "::".join(module.path)) for module in modules_below(crate) if module.path]
+            self.lines.append(f"- {self.link(crate, crate.crate)}" + (": " if inner else "") + ", ".join(inner))
+
+    def module(self, module):
+        mark = "#" * (2 if not module.path else 3)
+        self.lines += ["", f'{mark} <a id="{module.anchor}"></a>`{module.title}`', ""]
+        self.lines += self.text(module, module.doc)
+        own, others = [], []
+        for entry, name in entries(self.crates, module):
+            home = f"{module.anchor}.{name}"
+            (own if entry.anchor == home else others).append((entry, name))
+        if own:
+            self.lines += ["", "Items: " + ", ".join(self.link(entry, name) for entry, name in own) + "."]
+        if others:
+            self.lines += ["", "Described elsewhere: " + ", ".join(self.link(entry, name) for entry, name in others) + "."]
+        for entry, _ in own:
+            self.item(module, entry)
+
+    def item(self, module, item):
+        self.lines += ["", f'#### <a id="{item.anchor}"></a>{item.kind} `{item.name}`']
+        if item.kind == "fn":
+            self.function(module, item)
+            return
+        self.described(module, item)
+        if item.kind == "trait":
+            self.trait(module, item)
+        if item.kind in ("struct", "enum"):
+            self.impls(module, item)
+
+    def described(self, module, item):
+        self.lines += code("rust", shape(item))
+        if item.doc:
+            self.lines += ["", *self.text(module, item.doc)]
+
+    def function(self, module, item):
+        """A function: its signature, its comment and its contract."""
+        self.described(module, item)
+        clauses, names = contract(item)
+        if clauses:
+            named = ": " + ", ".join(f"`{name}`" for name in names) if names else ""
+            self.lines += ["", f"Contract{named}."] if named else ["", "Contract."]
+            self.lines += code("text", clauses)
+
+    def member(self, module, owner, item):
+        self.lines += ["", f'##### <a id="{owner.anchor}.{item.name}"></a>`{owner.name}::{item.name}`']
+        self.function(module, item)
+
+    def trait(self, module, item):
+        for member in item.members:
+            if member.kind == "fn":
+                self.member(module, item, member)
+            elif member.kind in ("ghost", "type"):
+                self.lines += code("text", dedented(member.lines))
+                self.lines += ["", *self.text(module, member.doc)] if member.doc else []
+        types = types_with(self.crates, item.name)
+        if types:
+            self.lines += ["", "Implemented for " + ", ".join(f"`{one}`" for one in types) + "."]
+
+    def impls(self, module, item):
+        """The public functions and constants of a type, and the traits that it has."""
+        traits = []
+        for one in impls_of(self.crates, item):
+            trait = impl_parts(one)[0]
+            traits += [trait] if trait else []
+            for member in one.members:
+                if member.kind == "fn" and (member.doc if trait else member.public):
+                    self.member(module, item, member)
+                elif member.kind == "const" and member.public:
+                    self.lines += code("rust", constant(member)) + ["", *self.text(module, member.doc)]
+        if traits:
+            self.lines += ["", f"`{item.name}` has the traits " + ", ".join(f"`{one}`" for one in traits) + "."]
+
+    def whole(self):
+        self.contents()
+        for crate in self.crates.values():
+            for module in modules_below(crate):
+                self.module(module)
+        return "\n".join(self.lines) + "\n"
+
+
+def blocks_of_no_source():
+    """The first lines of the blocks of Rust in the documents that no source has."""
+    sources = [path.read_text(encoding="utf-8") for path in (TOP / "crates").glob("*/src/**/*.rt")]
+    for name in QUOTING:
+        text = (TOP / name).read_text(encoding="utf-8")
+        for block in re.findall(r"^```rust\n(.*?)^```$", text, re.MULTILINE | re.DOTALL):
+            if not any(block in source for source in sources):
+                yield f"{name}: no source has the block that begins with: {block.split(chr(10))[0]}\n"
+
+
+def main():
+    page = Page({crate: read_crate(crate) for crate in CRATES}).whole()
+    if sys.argv[1:] != ["--check"]:
+        sys.stdout.write(page)
+        return 0
+    stands = PAGE.read_text(encoding="utf-8") if PAGE.exists() else ""
+    sys.stdout.writelines(difflib.unified_diff(stands.splitlines(True), page.splitlines(True), "docs/API.md", "the sources"))
+    unknown = list(blocks_of_no_source())
+    sys.stdout.writelines(unknown)
+    return int(stands != page or bool(unknown))
+
+
+if __name__ == "__main__":
+    sys.exit(main())
