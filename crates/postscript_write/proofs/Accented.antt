@@ -1,7 +1,9 @@
 -- What is told of the components of glyphs.
-use Rattle.std.proofs.Common.{◌≡◌, ◌≢◌, refl, sym, ap, subst, ◌∙◌, inl, inr, ℕ, zero, suc, ◌<◌, ℤ, List, [], ◌∷◌, ◌++◌, append_assoc, slice_index_or, Option, Some, None, Result, Ok, Err, true, false, Bool, arith}
-use Rattle.std.specs.Prelude.{◌⊎◌, ◌||◌, IfOk, OnOk, option_to_list}
+use Rattle.std.proofs.Common.{◌≡◌, ◌≢◌, refl, sym, ap, subst, ◌∙◌, inl, inr, ℕ, zero, suc, ◌<◌, ℤ, List, [], ◌∷◌, ◌++◌, append_assoc, length, slice_index_or, slice_set, Option, Some, None, Result, Ok, Err, true, false, Bool, arith}
+use Rattle.std.specs.Prelude.{◌⊎◌, ◌||◌, ◌==◌, IfOk, OnOk, option_to_list}
 use Rattle.std.specs.List.{Contains}
+use Rattle.std.proofs.lemmas.Bool.{eqb-true}
+use Rattle.std.proofs.lemmas.List.{get_or-set_same, get_or-set_other, length-set}
 use Rattle.std.proofs.lemmas.List.Elements.{Contains-append_left, Contains-append_right, Contains-append_cases}
 use Rattle.postscript_drawing.specs.Accents.{IsAccent, IsAccentOf, run_by}
 use Rattle.postscript_drawing.specs.Components.{HasNoComponent, IsComponent, glyphs_of}
@@ -18,8 +20,9 @@ use Rattle.postscript_view.specs.Advances.{HasRun}
 use Rattle.postscript_view.specs.Glyphs.{HasGlyph}
 use Rattle.postscript_view.specs.declared.font.FontView.{FontView}
 use Rattle.postscript_view.specs.declared.font.Glyph.{Glyph}
-use Rattle.postscript_write.specs.Components.{AreComponentsOf, IsComponentOf, IsFound, IsSaid, IsSaidOf}
+use Rattle.postscript_write.specs.Components.{AreComponentsOf, AreKnown, IsComponentOf, IsFound, IsSaid, IsSaidOf}
 use Rattle.postscript_write.specs.declared.error.Error.{Error}
+use Rattle.postscript_write.proofs.Marks.{apart}
 use Rattle.postscript_write.proofs.Uniqueness.{first-of, one-accent, one-component, one-run}
 
 -- nothing is named where a run is refused
@@ -128,3 +131,23 @@ component-there font from glyph is = elim is.named [
   | inl h ↦ h.first.there
   | inr h ↦ h.first.there
 ]
+
+-- what is known once one more code was looked up
+known-by : (font : FontView) (known : List (Option (Option ℕ))) (code other : ℕ) (found told : Option ℕ) (same : Bool) → (code == other) ≡ same → code < length known →
+    ((code : ℕ) (found : Option ℕ) → slice_index_or known code None ≡ Some found → IsFound font code found) → IsFound font code found →
+    slice_index_or (slice_set known code (Some found)) other None ≡ Some told → IsFound font other told
+known-by font known code other found told true e less before is here =
+    let place : code ≡ other = eqb-true code other e in
+    let set : slice_index_or (slice_set known code (Some found)) other None ≡ Some found =
+    ap (λ k. slice_index_or (slice_set known code (Some found)) k None) (sym place) ∙ get_or-set_same known code (Some found) None less in
+    let both : Some found ≡ Some told = sym set ∙ here in
+    let one : found ≡ told = cc in
+    subst (λ k. IsFound font k told) place (subst (λ (o : Option ℕ). IsFound font code o) one is)
+known-by font known code other found told false e less before is here =
+    before other told (sym (get_or-set_other known code other (Some found) None (apart code other e)) ∙ here)
+
+pub known-more : (font : FontView) (known : List (Option (Option ℕ))) (code : ℕ) (found : Option ℕ) → code < 256 → AreKnown font known → IsFound font code found → AreKnown font (slice_set known code (Some found))
+known-more font known code found less before is = (
+  length-set known code (Some found) ∙ before.0,
+  λ other told here. known-by font known code other found told (code == other) refl (omega (arith, less, before.0)) before.1 is here,
+)

@@ -1,5 +1,5 @@
 -- A glyph has one code, one part and one run; a code has one glyph; and a run names one accent.
-use Rattle.std.proofs.Common.{◌≡◌, ◌≢◌, sym, ap, subst, ◌∙◌, inl, inr, ℕ, ◌+◌, ◌<◌, ℤ, pos, List, [], ◌∷◌, length, slice_get, arith}
+use Rattle.std.proofs.Common.{◌≡◌, ◌≢◌, sym, ap, subst, ◌∙◌, inl, inr, ℕ, ◌<◌, ℤ, pos, List, [], ◌∷◌, length, slice_get, arith}
 use Rattle.std.specs.Prelude.{◌⊎◌, Option, Some}
 use Rattle.postscript_drawing.specs.Accents.{IsAccent, IsCode}
 use Rattle.postscript_drawing.specs.Components.{IsComponent, glyphs_of, standard_identifier}

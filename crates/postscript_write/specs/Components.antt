@@ -1,6 +1,6 @@
 -- The components of accented glyphs, which are kept with them (Technical Note 5177, Appendix C, "Compatibility and Deprecated
 -- Operators").
-use Rattle.std.specs.Prelude.{◌≡◌, ◌≢◌, ◌⊎◌, ◌↔◌, ℕ, List, Bool, Option, true}
+use Rattle.std.specs.Prelude.{◌≡◌, ◌≢◌, ◌⊎◌, ◌↔◌, ℕ, List, Bool, Option, Some, None, true, length, slice_index_or}
 use Rattle.std.specs.List.{Contains}
 use Rattle.std.specs.Option.{MatchOption}
 use Rattle.postscript_drawing.specs.Accents.{IsAccentOf}
@@ -64,6 +64,10 @@ IsSaidOf font glyph found = MatchOption found ((accent : Accent) → IsAccented 
 -- what is told of a code: its glyph, or that the font has none
 abbrev pub IsFound : FontView → (code : ℕ) → Option ℕ → Type 0
 IsFound font code found = MatchOption found ((glyph : ℕ) → IsComponent font code glyph → ⊥) (λ glyph. IsComponent font code glyph)
+
+-- What is known of the 256 codes: of each one that was looked up, whether the font has a glyph for it, and which.
+abbrev pub AreKnown : FontView → List (Option (Option ℕ)) → Type 0
+AreKnown font known = (length known ≡ 256) × ((code : ℕ) (found : Option ℕ) → slice_index_or known code None ≡ Some found → IsFound font code found)
 
 -- these are the components of a glyph
 abbrev pub AreComponentsOf : FontView → (from : ℕ) → List ℕ → Type 0

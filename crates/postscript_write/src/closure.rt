@@ -4,12 +4,12 @@ ghost use Rattle.std.specs.List.{Contains};
 ghost use Rattle.postscript_drawing.specs.Components.{glyphs_of};
 ghost use Rattle.postscript_base.specs.declared.error.Error.TheVariants as causes;
 ghost use Rattle.postscript_write.specs.Closure.{AreMarkedAs, AreReached, Grow};
-ghost use Rattle.postscript_write.specs.Components.{AreComponentsOf, IsReached, IsUntold};
+ghost use Rattle.postscript_write.specs.Components.{AreComponentsOf, AreKnown, IsReached, IsUntold};
 ghost use Rattle.postscript_write.specs.Sources.{AreThere, is_kept};
 ghost use Rattle.postscript_write.specs.Steps.{IsNotChosen, IsNotClosed};
 ghost use Rattle.postscript_write.specs.declared.error.Error.TheVariants as errors;
 
-use crate::components::push_components;
+use crate::components::{none_known, push_components};
 use crate::error::{Error, Result};
 use crate::sources::unmarked;
 use postscript_view::FontView;
@@ -51,16 +51,19 @@ fn reach_components(
     alloc: Global,
     font: &FontView<'_>,
     glyph: usize,
+    known: &mut Vec<Option<Option<usize>>>,
     marks: &mut Vec<bool>,
     glyphs: &mut Vec<usize>,
 ) -> Result<()>
+    requires known { AreKnown font.now known.old.items }
     requires marked { AreMarkedAs marks.old.items glyphs.old.items }
     requires many { length marks.old.items ≡ glyphs_of font.now }
+    ensures known { OnOk result (AreKnown font.now known.new.items) }
     ensures grown { OnOk result ((added : List ℕ) × AreComponentsOf font.now glyph added × Grow marks.old.items glyphs.old.items added marks.new.items glyphs.new.items) }
     ensures untold { IfErr result (λ e. IsUntold font.now e) }
 {
     let mut components = Vec::new(alloc);
-    push_components(alloc, font, glyph, &mut components)?;
+    push_components(alloc, font, glyph, known, &mut components)?;
     reach_all(marks, glyphs, &components)
 }
 
@@ -78,10 +81,11 @@ fn follow(
     ensures there { OnOk result (AreThere glyphs.new.items (glyphs_of font.now)) }
     ensures untold { IfErr result (λ e. IsUntold font.now e) }
 {
+    let mut known = none_known(alloc)?;
     let mut next = 0usize;
     while next < glyphs.len() {
         let glyph = glyphs[next];
-        reach_components(alloc, font, glyph, marks, glyphs)?;
+        reach_components(alloc, font, glyph, &mut known, marks, glyphs)?;
         next += 1;
     }
     Ok(())

@@ -6,7 +6,8 @@ ghost use Rattle.postscript_base.specs.Refusal.{refusal_of};
 ghost use Rattle.postscript_base.specs.declared.error.Error.TheVariants as causes;
 ghost use Rattle.postscript_type2.specs.Program.Programs.{told_at_end};
 ghost use Rattle.postscript_type2.specs.Program.Runs.{fault_of, taken_by};
-ghost use Rattle.postscript_write.specs.Components.{AreComponentsOf, IsFound, IsSaid, IsSaidOf, IsUntold};
+ghost use Rattle.postscript_view.specs.declared.font.FontView.{FontView};
+ghost use Rattle.postscript_write.specs.Components.{AreComponentsOf, AreKnown, IsFound, IsSaid, IsSaidOf, IsUntold};
 ghost use Rattle.postscript_write.specs.declared.error.Error.TheVariants as errors;
 
 use crate::error::{Error, Result};
@@ -64,8 +65,8 @@ fn accent_of(alloc: Global, font: &FontView<'_>, glyph: usize) -> Result<Option<
     }
 }
 
-/// The glyph of a code, where the font has one.
-fn found_by(font: &FontView<'_>, code: u8) -> Result<Option<usize>>
+/// The glyph of a code, where the font has one: all names are looked through.
+fn look_up(font: &FontView<'_>, code: u8) -> Result<Option<usize>>
     ensures found { IfOk result (λ found. IsFound font.now code found) }
     ensures untold { IfErr result (λ e. IsUntold font.now e) }
 {
@@ -82,6 +83,34 @@ fn found_by(font: &FontView<'_>, code: u8) -> Result<Option<usize>>
     }
 }
 
+/// None of the codes has been looked up.
+pub(crate) fn none_known(alloc: Global) -> Result<Vec<Option<Option<usize>>>>
+    ensures known { IfOk result (λ known. (font : FontView) → AreKnown font known.items) }
+    ensures memory { IfErr result (λ e. e ≡ errors.Refused causes.Memory) }
+{
+    Ok(vec![in alloc; None; 256]?)
+}
+
+/// The glyph of a code, where the font has one. It is looked up once, and then known.
+fn found_by(
+    font: &FontView<'_>,
+    code: u8,
+    known: &mut Vec<Option<Option<usize>>>,
+) -> Result<Option<usize>>
+    requires known { AreKnown font.now known.old.items }
+    ensures known { OnOk result (AreKnown font.now known.new.items) }
+    ensures found { IfOk result (λ found. IsFound font.now code found) }
+    ensures untold { IfErr result (λ e. IsUntold font.now e) }
+{
+    let place = usize::from(code);
+    if let Some(found) = known[place] {
+        return Ok(found);
+    }
+    let found = look_up(font, code)?;
+    known[place] = Some(found);
+    Ok(found)
+}
+
 /// Appends a glyph, where there is one.
 fn push_some(components: &mut Vec<usize>, found: Option<usize>) -> Result<()>
     ensures pushed { OnOk result (components.new.items ≡ components.old.items ++ option_to_list found) }
@@ -94,13 +123,20 @@ fn push_some(components: &mut Vec<usize>, found: Option<usize>) -> Result<()>
 }
 
 /// Appends the base and the accent: those that the font has.
-fn push_both(font: &FontView<'_>, accent: &Accent, components: &mut Vec<usize>) -> Result<()>
+fn push_both(
+    font: &FontView<'_>,
+    accent: &Accent,
+    known: &mut Vec<Option<Option<usize>>>,
+    components: &mut Vec<usize>,
+) -> Result<()>
+    requires known { AreKnown font.now known.old.items }
+    ensures known { OnOk result (AreKnown font.now known.new.items) }
     ensures pushed { OnOk result ((base above : Option ℕ) × IsFound font.now accent.now.base base × IsFound font.now accent.now.accent above
         × (components.new.items ≡ components.old.items ++ (option_to_list base ++ option_to_list above))) }
     ensures untold { IfErr result (λ e. IsUntold font.now e) }
 {
-    let base = found_by(font, accent.base)?;
-    let above = found_by(font, accent.accent)?;
+    let base = found_by(font, accent.base, known)?;
+    let above = found_by(font, accent.accent, known)?;
     push_some(components, base)?;
     push_some(components, above)
 }
@@ -110,14 +146,17 @@ pub(crate) fn push_components(
     alloc: Global,
     font: &FontView<'_>,
     glyph: usize,
+    known: &mut Vec<Option<Option<usize>>>,
     components: &mut Vec<usize>,
 ) -> Result<()>
+    requires known { AreKnown font.now known.old.items }
+    ensures known { OnOk result (AreKnown font.now known.new.items) }
     ensures pushed { OnOk result ((added : List ℕ) × AreComponentsOf font.now glyph added × (components.new.items ≡ components.old.items ++ added)) }
     ensures untold { IfErr result (λ e. IsUntold font.now e) }
 {
     let said = accent_of(alloc, font, glyph)?;
     match said {
-        Some(accent) => push_both(font, &accent, components),
+        Some(accent) => push_both(font, &accent, known, components),
         None => Ok(()),
     }
 }

@@ -5,7 +5,10 @@ use Rattle.postscript_write.proofs.Reaching.{follows-all, follows-more, follows-
 use Rattle.postscript_write.proofs.closure.follow.Goals as goal
 
 pub loop-next-init : goal.loop-next-init
-loop-next-init c = follows-none c.args.font.now c.args.marks.now.items c.args.glyphs.now.items c.requires.many c.requires.marked
+loop-next-init c = record {
+  follows = follows-none c.args.font.now c.args.marks.now.items c.args.glyphs.now.items c.requires.many c.requires.marked;
+  known = c.in_ok-known.ensures.known c.args.font.now;
+}
 
 pub loop-next-preserved : goal.loop-next-preserved
 loop-next-preserved c =
@@ -15,14 +18,16 @@ loop-next-preserved c =
     let less : l.next < length l.glyphs.items = omega (arith, test, len) in
     let grown = c.in_ok-reach_components.ensures.grown in
     let is = c.index-glyph.ensures ∙ sym (get_or_default l.glyphs.items l.next 0 c.index-glyph.result.now less) in
-    follows-more c.args.font.now c.args.glyphs.now.items l.marks.items c.reach_components.new.marks.items l.glyphs.items c.reach_components.new.glyphs.items grown.0 l.next l.invariant less (subst (λ g. AreComponentsOf c.args.font.now g grown.0) is grown.1) grown.2
+    let more =
+    follows-more c.args.font.now c.args.glyphs.now.items l.marks.items c.reach_components.new.marks.items l.glyphs.items c.reach_components.new.glyphs.items grown.0 l.next l.invariant.follows less (subst (λ g. AreComponentsOf c.args.font.now g grown.0) is grown.1) grown.2 in
+    record { follows = more; known = c.in_ok-reach_components.ensures.known }
 
 pub returns-clause-reached : goal.returns-clause-reached
 returns-clause-reached c =
     let test = c.loop-next-test.false in
     let len = c.len.ensures in
     let past : length c.loop-next.glyphs.items ≤ c.loop-next.next = omega (arith, test, len) in
-    follows-all c.args.font.now c.args.glyphs.now.items c.loop-next.marks.items c.loop-next.glyphs.items c.loop-next.next c.loop-next.invariant past c.requires.notdef
+    follows-all c.args.font.now c.args.glyphs.now.items c.loop-next.marks.items c.loop-next.glyphs.items c.loop-next.next c.loop-next.invariant.follows past c.requires.notdef
 
 pub returns-clause-there : goal.returns-clause-there
-returns-clause-there c = marked-there c.loop-next.marks.items c.loop-next.glyphs.items _ c.loop-next.invariant.many c.loop-next.invariant.marked
+returns-clause-there c = marked-there c.loop-next.marks.items c.loop-next.glyphs.items _ c.loop-next.invariant.follows.many c.loop-next.invariant.follows.marked
