@@ -19,6 +19,7 @@ fonts-noto-cjk. The status is 1 where something is otherwise.
 
 import functools
 import pathlib
+import re
 import resource
 import subprocess
 import sys
@@ -332,6 +333,37 @@ def _(folder):
     out, said = instance(folder, "--variations", "wght=2000")
     assert said == "psotf: 2000 is past the end of the axis wght, which is taken instead\n", said
     assert TTFont(out)["OS/2"].usWeightClass == 900
+
+
+@case("sheet, report, flat and subset of a variable font are those of the file of the place")
+def _(folder):
+    static = instance(folder, "--variations", "wght=650,wdth=90")[0].rename(folder / "static.otf")
+    words = (("sheet",), ("report",), ("flat",), ("subset", "--text", "Hello"))
+    for name, *more in words:
+        of_static, of_place = folder / "of_static", folder / "of_place"
+        run(name, static, *more, "-o", of_static)
+        run(name, folder / "variable.otf", *more, "--variations", "wght=650,wdth=90", "-o", of_place)
+        assert of_static.read_bytes() == of_place.read_bytes(), name
+    said = run("sheet", static, "--variations", "wght=650", status=2)[1]
+    assert "--variations, --instance and --animate want a variable font" in said, said
+
+
+@case("svg --animate draws each glyph as at the places of the axis, there and back")
+def _(folder):
+    path = varied(folder)
+    out = run("svg", path, "--text", "Ham", "--animate", "wght")[0]
+    axis = next(axis for axis in TTFont(path)["fvar"].axes if axis.axisTag == "wght")
+    low, middle, high = axis.minValue, axis.defaultValue, axis.maxValue
+    stops = [low + (middle - low) * i / 4 for i in range(4) if low < middle] + [middle + (high - middle) * i / 4 for i in range(5)]
+    stops += stops[-2::-1]
+    shapes = [list(values.split(";")) for values in re.findall(r'attributeName="d"[^>]*values="([^"]*)"', out)]
+    places = [list(values.split(";")) for values in re.findall(r'type="translate"[^>]*values="([^"]*)"', out)]
+    assert len(shapes) == len(places) == 3
+    for i, value in enumerate(stops):
+        still = run("svg", path, "--text", "Ham", "--variations", f"wght={value:g}")[0]
+        found = re.findall(r'<path transform="translate\(([^)]*)\)" d="([^"]*)"/>', still)
+        assert found == [(places[glyph][i], shapes[glyph][i]) for glyph in range(3)], value
+    assert "the face has no axis opsz" in run("svg", path, "--text", "Ham", "--animate", "opsz", status=2)[1]
 
 
 @case("instance: a font that is not variable is named")

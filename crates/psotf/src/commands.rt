@@ -9,6 +9,7 @@ const EXAMPLES: &str = "Examples:
   psotf glyph Fonts.ttc --face 2 --all --json
   psotf svg Font.otf --text Hello -o hello.svg
   psotf svg Variable.otf --text Hello --variations wght=650 -o hello.svg
+  psotf svg Variable.otf --text Hello --animate wght -o moving.svg
   psotf sheet Font.otf --count 256 -o sheet.svg
   psotf report Font.otf -o report.html
   psotf flat Font.otf -o Flat.otf
@@ -108,6 +109,11 @@ const SUBCOMMANDS: &[Subcommand] = &[
                 "draw",
                 "With the word draw: characters that the face has no glyph for are drawn as .notdef",
             ),
+            Word::Text(
+                "animate",
+                "AXIS",
+                "A picture of a variable font that goes through this axis and back, as wght",
+            ),
             Word::Out(false, "Where to write it, by default standard output"),
         ],
         takes_place: true,
@@ -122,7 +128,7 @@ const SUBCOMMANDS: &[Subcommand] = &[
             Word::Given("count", "65535", "How many glyphs at most"),
             Word::Out(false, "Where to write it, by default standard output"),
         ],
-        takes_place: false,
+        takes_place: true,
     },
     Subcommand {
         name: "report",
@@ -137,7 +143,7 @@ const SUBCOMMANDS: &[Subcommand] = &[
                 "Where to write it; more than 10000 glyphs make further pages beside it",
             ),
         ],
-        takes_place: false,
+        takes_place: true,
     },
     Subcommand {
         name: "flat",
@@ -145,7 +151,7 @@ const SUBCOMMANDS: &[Subcommand] = &[
         group: "",
         one_of: &[],
         others: &[Word::Out(true, "Where to write it")],
-        takes_place: false,
+        takes_place: true,
     },
     Subcommand {
         name: "instance",
@@ -187,7 +193,7 @@ const SUBCOMMANDS: &[Subcommand] = &[
             Word::Flag("quiet", "Do not tell what is left out or comes along"),
             Word::Out(true, "Where to write it"),
         ],
-        takes_place: false,
+        takes_place: true,
     },
 ];
 

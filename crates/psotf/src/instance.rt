@@ -108,15 +108,13 @@ fn file_with(
     Ok(file_of(alloc, tables.as_slice())?)
 }
 
-/// Writes a file of the place that words name, where the run of each glyph keeps to the limit. It tells of the tables that are left
-/// out, unless it is to be quiet.
-pub fn write<W: Write>(
+/// A file of the place that words name, where the run of each glyph keeps to the limit, and what stays of its positions.
+fn made(
     rt: &HostRuntime,
     face: &VariableFace<'_>,
     words: &ArgMatches<'_>,
     budget: &mut Budget,
-    out: &mut W,
-) -> Result<(), Failure> {
+) -> Result<(Vec<u8>, Positions), Failure> {
     let alloc = rt.alloc();
     let chosen = Chosen::read(rt, face, words)?;
     let drawn = Drawn::of(rt, face, &chosen, budget)?;
@@ -125,6 +123,33 @@ pub fn write<W: Write>(
     let made = Made::of(alloc, face, &chosen, &drawn, &style)?;
     let positions = Positions::of(alloc, face, &chosen)?;
     let file = file_with(alloc, face, &font, &made, &positions)?;
+    Ok((file, positions))
+}
+
+/// A file of the place that words name, of which another is made. It tells of the tables that are left out, where it is to.
+pub fn file_at(
+    rt: &HostRuntime,
+    face: &VariableFace<'_>,
+    words: &ArgMatches<'_>,
+    budget: &mut Budget,
+    tells: bool,
+) -> Result<Vec<u8>, Failure> {
+    let (file, positions) = made(rt, face, words, budget)?;
+    if tells {
+        kept::tell(rt, face, &positions)?;
+    }
+    Ok(file)
+}
+
+/// Writes a file of the place that words name. It tells of the tables that are left out, unless it is to be quiet.
+pub fn write<W: Write>(
+    rt: &HostRuntime,
+    face: &VariableFace<'_>,
+    words: &ArgMatches<'_>,
+    budget: &mut Budget,
+    out: &mut W,
+) -> Result<(), Failure> {
+    let (file, positions) = made(rt, face, words, budget)?;
     if !words.get_flag("quiet") {
         kept::tell(rt, face, &positions)?;
     }

@@ -94,11 +94,44 @@ fn answer<W: Write>(
     let limit = words.get_one::<u64>("limit").unwrap_or(LIMIT);
     let mut budget = Budget::new(limit, weight_of(name, words));
     let told = match VariableFace::open(&file)? {
-        Some(face) => variable::write(rt, &face, name, words, &mut budget, out),
-        None => of_face(rt, bytes.as_slice(), file, name, words, &mut budget, out),
+        Some(face) => of_variable(rt, &face, name, words, &mut budget, out),
+        None => of_static(rt, bytes.as_slice(), file, name, words, &mut budget, out),
     };
     out.flush()?;
     told
+}
+
+/// Writes what is asked of a face of a variable font. What is about a table `CFF ` is about that of the file of the place.
+fn of_variable<W: Write>(
+    rt: &HostRuntime,
+    face: &VariableFace<'_>,
+    name: &str,
+    words: &ArgMatches<'_>,
+    budget: &mut Budget,
+    out: &mut W,
+) -> Result<(), Failure> {
+    if variable::is_asked(name) {
+        return variable::write(rt, face, name, words, budget, out);
+    }
+    let mut making = Budget::new(budget.limit, instance::RUNS);
+    let tells = matches!(name, "flat" | "subset") && !words.get_flag("quiet");
+    let bytes = instance::file_at(rt, face, words, &mut making, tells)?;
+    let file = file_of(bytes.as_slice(), 0)?;
+    of_face(rt, bytes.as_slice(), file, name, words, budget, out)
+}
+
+/// The same of a face of any other font, which has no places.
+fn of_static<W: Write>(
+    rt: &HostRuntime,
+    bytes: &[u8],
+    file: FontFile<'_>,
+    name: &str,
+    words: &ArgMatches<'_>,
+    budget: &mut Budget,
+    out: &mut W,
+) -> Result<(), Failure> {
+    variable::refuse(name, words)?;
+    of_face(rt, bytes, file, name, words, budget, out)
 }
 
 /// Writes what is asked of a face with a table `CFF `. Where that table is refused, a page is made that tells why.
@@ -131,7 +164,6 @@ fn write<W: Write>(
     budget: &mut Budget,
     out: &mut W,
 ) -> Result<(), Failure> {
-    variable::refuse(name, words)?;
     match name {
         "inspect" => inspect::write(rt, face, words.get_flag("json"), budget, out),
         "glyph" => glyph::write(rt, face, words, budget, out),

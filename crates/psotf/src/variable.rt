@@ -2,6 +2,7 @@
 mod fixed;
 mod glyphs;
 mod holds;
+mod moving;
 mod place;
 mod weight;
 
@@ -81,13 +82,22 @@ pub fn refuse(name: &str, words: &ArgMatches<'_>) -> Result<(), Failure> {
     if name == "instance" {
         return Err(Failure::Missing(Missing::Places));
     }
-    if words.get_str("variations").is_some() || words.get_str("instance").is_some() {
-        return Err(Failure::Usage("--variations and --instance want a variable font"));
+    for word in ["variations", "instance", "animate"] {
+        if words.get_str(word).is_some() {
+            return Err(Failure::Usage(
+                "--variations, --instance and --animate want a variable font",
+            ));
+        }
     }
     Ok(())
 }
 
-/// Writes what is asked of a face of a variable font.
+/// Whether a subcommand is about the face of a variable font itself.
+pub fn is_asked(name: &str) -> bool {
+    matches!(name, "inspect" | "glyph" | "svg" | "instance")
+}
+
+/// Writes what is asked of a face of a variable font itself.
 pub fn write<W: Write>(
     rt: &HostRuntime,
     face: &VariableFace<'_>,
@@ -100,10 +110,6 @@ pub fn write<W: Write>(
         "inspect" => holds::write(rt.alloc(), face, words.get_flag("json"), out),
         "glyph" => glyphs::write(rt, face, words, budget, out),
         "svg" => glyphs::write_picture(rt, face, words, budget, out),
-        "instance" => instance::write(rt, face, words, budget, out),
-        "flat" => Err(Failure::Missing(Missing::OnePlace("flat"))),
-        "subset" => Err(Failure::Missing(Missing::OnePlace("subset"))),
-        "report" => Err(Failure::Missing(Missing::OnePlace("report"))),
-        _ => Err(Failure::Missing(Missing::OnePlace("sheet"))),
+        _ => instance::write(rt, face, words, budget, out),
     }
 }

@@ -1,6 +1,6 @@
 //! Glyphs of variable fonts, at a place.
-use super::VariableFace;
 use super::place::Chosen;
+use super::{VariableFace, moving};
 use crate::characters::{Mapped, by_glyph, glyph_of, missing, of_glyph};
 use crate::drawing::SEGMENT;
 use crate::failure::{Failure, Missing, Refusal};
@@ -20,7 +20,7 @@ use std::io::Write;
 use std::ops::Range;
 
 /// How many glyphs a face has that have a charstring too.
-fn count(face: &VariableFace<'_>) -> u16 {
+pub fn count(face: &VariableFace<'_>) -> u16 {
     let charstrings = face.font.char_strings.len().min(65535) as u16;
     face.common.glyphs.min(charstrings)
 }
@@ -56,7 +56,7 @@ pub fn refusal_of(
 }
 
 /// The outline of a glyph at a place, while its share lasts.
-fn outline_of(
+pub fn outline_of(
     alloc: Global,
     face: &VariableFace<'_>,
     gid: u16,
@@ -298,6 +298,9 @@ pub fn write_picture<W: Write>(
     budget: &mut Budget,
     out: &mut W,
 ) -> Result<(), Failure> {
+    if let Some(axis) = words.get_str("animate") {
+        return moving::write(rt, face, axis, words, budget, out);
+    }
     let chosen = Chosen::read(rt, face, words)?;
     let (paths, width) = match words.get_one::<u16>("gid") {
         Some(gid) => {

@@ -45,6 +45,17 @@ fn axis_of(axes: &Axes<'_>, tag: u32) -> Option<Axis> {
     None
 }
 
+/// The axis of a face that a word names by its tag.
+pub fn axis_named(alloc: Global, face: &VariableFace<'_>, name: &str) -> Result<Axis, Failure> {
+    let axes = axes_of(face)?;
+    if let Some(tag) = tag_of(name) {
+        if let Some(axis) = axis_of(&axes, tag) {
+            return Ok(axis);
+        }
+    }
+    Err(Failure::Missing(Missing::Axis(String::from_str(alloc, name)?)))
+}
+
 /// The axes of a face.
 fn axes_of<'l>(face: &VariableFace<'l>) -> Result<Axes<'l>, Failure> {
     match face.axes {
@@ -155,6 +166,27 @@ fn asked(
 }
 
 impl Chosen {
+    /// The place of settings; along other axes it is at their defaults.
+    fn of(
+        alloc: Global,
+        face: &VariableFace<'_>,
+        settings: Vec<Setting>,
+        instance: Option<usize>,
+    ) -> Result<Chosen, Failure> {
+        let mut coordinates: Vec<i16> = Vec::new(alloc);
+        if let Some(axes) = face.axes {
+            coordinates.resize(axes.len(), 0)?;
+            axes.normalize(face.maps, settings.as_slice(), &mut coordinates);
+        }
+        let place = Place::of(alloc, face.font.store.as_ref(), coordinates.as_slice())?;
+        Ok(Chosen {
+            place,
+            coordinates,
+            settings,
+            instance,
+        })
+    }
+
     /// The place that words name: by default that of the defaults of all axes.
     pub fn read(
         rt: &HostRuntime,
@@ -162,18 +194,22 @@ impl Chosen {
         words: &ArgMatches<'_>,
     ) -> Result<Chosen, Failure> {
         let (settings, instance) = asked(rt, face, words)?;
-        let mut coordinates: Vec<i16> = Vec::new(rt.alloc());
-        if let Some(axes) = face.axes {
-            coordinates.resize(axes.len(), 0)?;
-            axes.normalize(face.maps, settings.as_slice(), &mut coordinates);
+        Chosen::of(rt.alloc(), face, settings, instance)
+    }
+
+    /// The same place but along one axis.
+    pub fn at(
+        &self,
+        alloc: Global,
+        face: &VariableFace<'_>,
+        along: Setting,
+    ) -> Result<Chosen, Failure> {
+        let mut settings = Vec::new(alloc);
+        for setting in &self.settings {
+            settings.push(*setting)?;
         }
-        let place = Place::of(rt.alloc(), face.font.store.as_ref(), coordinates.as_slice())?;
-        Ok(Chosen {
-            place,
-            coordinates,
-            settings,
-            instance,
-        })
+        settings.push(along)?;
+        Chosen::of(alloc, face, settings, None)
     }
 
     /// Where the place stands along an axis, in 65536ths: at the last setting of its tag, or else at its default.

@@ -1,0 +1,240 @@
+//! Pictures of a variable font that go through an axis.
+use super::VariableFace;
+use super::glyphs::{advance_of, count, outline_of};
+use super::place::{Chosen, axis_named};
+use crate::characters::{glyph_of, missing};
+use crate::failure::{Failure, Missing};
+use crate::limit::Budget;
+use crate::saving;
+use crate::svg::picture_of;
+use clap::ArgMatches;
+use postscript_variation::{Axis, Setting};
+use std::alloc::{AllocError, Global};
+use std::io::Write;
+
+/// How many steps there are from an end of the axis to its default.
+const STEPS: i64 = 4;
+
+/// How an element moves: how long it takes to go there and back, and that it does so again and again.
+const TIME: &str = "dur=\"8s\" repeatCount=\"indefinite\"";
+
+/// Glyphs at a place: the path of each, where it stands, and how wide all are.
+#[derive(Drop)]
+struct Frame {
+    paths: Vec<String>,
+    starts: Vec<i64>,
+    width: i64,
+}
+
+/// The value at a step on the way from one to another.
+fn between(from: i32, to: i32, step: i64) -> i32 {
+    let way = i64::from(to).saturating_sub(i64::from(from));
+    let gone = way.saturating_mul(step) / STEPS;
+    i32::try_from(i64::from(from).saturating_add(gone)).unwrap_or(to)
+}
+
+/// The values along an axis at which glyphs are drawn: from its least to its default, where what varies may turn, and to its greatest.
+fn stops(alloc: Global, axis: &Axis) -> Result<Vec<i32>, AllocError> {
+    let mut stops = Vec::new(alloc);
+    if axis.minimum < axis.default {
+        for step in 0..STEPS {
+            stops.push(between(axis.minimum, axis.default, step))?;
+        }
+    }
+    for step in 0..STEPS {
+        stops.push(between(axis.default, axis.maximum, step))?;
+    }
+    stops.push(axis.maximum)?;
+    Ok(stops)
+}
+
+/// The glyphs of a text, whose characters all have one.
+fn glyphs_of(alloc: Global, face: &VariableFace<'_>, text: &str) -> Result<Vec<u16>, Failure> {
+    let missing = missing(alloc, &face.common.map, text)?;
+    if !missing.is_empty() {
+        return Err(Failure::Missing(Missing::Chars(missing)));
+    }
+    let mut gids = Vec::new(alloc);
+    for char in text.chars() {
+        gids.push(glyph_of(&face.common.map, u32::from(char)))?;
+    }
+    Ok(gids)
+}
+
+/// The glyphs that words name.
+fn asked(
+    alloc: Global,
+    face: &VariableFace<'_>,
+    words: &ArgMatches<'_>,
+) -> Result<Vec<u16>, Failure> {
+    let gids = match words.get_one::<u16>("gid") {
+        Some(gid) => {
+            let mut gids = Vec::with_capacity(alloc, 1)?;
+            gids.push(gid)?;
+            gids
+        }
+        None => glyphs_of(alloc, face, words.get_str("text").unwrap_or(""))?,
+    };
+    for gid in &gids {
+        if *gid >= count(face) {
+            return Err(Failure::Missing(Missing::Glyph(*gid)));
+        }
+    }
+    Ok(gids)
+}
+
+/// Glyphs side by side at a place.
+fn frame_of(
+    alloc: Global,
+    face: &VariableFace<'_>,
+    gids: &[u16],
+    chosen: &Chosen,
+    budget: &mut Budget,
+) -> Result<Frame, Failure> {
+    let mut frame = Frame {
+        paths: Vec::new(alloc),
+        starts: Vec::new(alloc),
+        width: 0,
+    };
+    for gid in gids {
+        match outline_of(alloc, face, *gid, chosen, budget) {
+            Ok(outline) => frame.paths.push(format!(in alloc; "{outline}")?)?,
+            Err(refusal) => return Err(Failure::Glyph { gid: *gid, refusal }),
+        }
+        frame.starts.push(frame.width)?;
+        let advance = advance_of(face, *gid, chosen);
+        frame.width = frame.width.saturating_add(advance);
+    }
+    Ok(frame)
+}
+
+/// The glyphs at each stop of the axis.
+fn frames_of(
+    alloc: Global,
+    face: &VariableFace<'_>,
+    axis: &Axis,
+    gids: &[u16],
+    chosen: &Chosen,
+    budget: &mut Budget,
+) -> Result<Vec<Frame>, Failure> {
+    let mut frames = Vec::new(alloc);
+    for value in &stops(alloc, axis)? {
+        let along = Setting {
+            tag: axis.tag,
+            value: *value,
+        };
+        let place = chosen.at(alloc, face, along)?;
+        frames.push(frame_of(alloc, face, gids, &place, budget)?)?;
+    }
+    Ok(frames)
+}
+
+/// The frames there and back, by their numbers.
+fn there_and_back(alloc: Global, frames: usize) -> Result<Vec<usize>, AllocError> {
+    let mut order = Vec::new(alloc);
+    for i in 0..frames {
+        order.push(i)?;
+    }
+    for i in 1..frames {
+        order.push(frames - 1 - i)?;
+    }
+    Ok(order)
+}
+
+/// Adds the element that moves the path of a glyph.
+fn put_shapes(
+    picture: &mut String,
+    frames: &[Frame],
+    order: &[usize],
+    glyph: usize,
+) -> Result<(), AllocError> {
+    write!(picture, "<animate attributeName=\"d\" {TIME} values=\"")?;
+    let mut lead = "";
+    for i in order {
+        if let Some(frame) = frames.get(*i) {
+            if let Some(path) = frame.paths.get(glyph) {
+                write!(picture, "{lead}{path}")?;
+                lead = ";";
+            }
+        }
+    }
+    picture.push_str("\"/>\n")
+}
+
+/// Adds the element that moves the place of a glyph.
+fn put_starts(
+    picture: &mut String,
+    frames: &[Frame],
+    order: &[usize],
+    glyph: usize,
+) -> Result<(), AllocError> {
+    write!(
+        picture,
+        "<animateTransform attributeName=\"transform\" type=\"translate\" {TIME} values=\""
+    )?;
+    let mut lead = "";
+    for i in order {
+        if let Some(frame) = frames.get(*i) {
+            if let Some(start) = frame.starts.get(glyph) {
+                write!(picture, "{lead}{start} 0")?;
+                lead = ";";
+            }
+        }
+    }
+    picture.push_str("\"/>\n")
+}
+
+/// Adds a glyph as an element that moves. It begins as it is in the first frame.
+fn put_glyph(
+    picture: &mut String,
+    frames: &[Frame],
+    order: &[usize],
+    glyph: usize,
+) -> Result<(), AllocError> {
+    let Some(first) = frames.first() else {
+        return Ok(());
+    };
+    if let (Some(start), Some(path)) = (first.starts.get(glyph), first.paths.get(glyph)) {
+        writeln!(
+            picture,
+            "<path transform=\"translate({start} 0)\" d=\"{path}\">"
+        )?;
+        put_shapes(picture, frames, order, glyph)?;
+        put_starts(picture, frames, order, glyph)?;
+        picture.push_str("</path>\n")?;
+    }
+    Ok(())
+}
+
+/// The glyphs as elements that move, and how wide the widest frame is.
+fn elements(alloc: Global, frames: &[Frame], glyphs: usize) -> Result<(String, i64), AllocError> {
+    let order = there_and_back(alloc, frames.len())?;
+    let mut picture = String::new(alloc);
+    let mut width = 0i64;
+    for frame in frames {
+        width = width.max(frame.width);
+    }
+    for glyph in 0..glyphs {
+        put_glyph(&mut picture, frames, &order, glyph)?;
+    }
+    Ok((picture, width))
+}
+
+/// Writes a picture of the glyph or the text that words name, which goes through an axis and back.
+pub fn write<W: Write>(
+    rt: &HostRuntime,
+    face: &VariableFace<'_>,
+    name: &str,
+    words: &ArgMatches<'_>,
+    budget: &mut Budget,
+    out: &mut W,
+) -> Result<(), Failure> {
+    let alloc = rt.alloc();
+    let axis = axis_named(alloc, face, name)?;
+    let gids = asked(alloc, face, words)?;
+    let chosen = Chosen::read(rt, face, words)?;
+    let frames = frames_of(alloc, face, &axis, &gids, &chosen, budget)?;
+    let (paths, width) = elements(alloc, &frames, gids.len())?;
+    let picture = picture_of(alloc, face.common.units, &width, paths.as_str())?;
+    saving::put(rt, words, picture.as_bytes(), out)
+}
