@@ -29,7 +29,12 @@ COMMANDS = {
     "glyph --all at a place": ["glyph", "--all", *PLACE],
     "the same, --json": ["glyph", "--all", "--json", *PLACE],
     "svg at a place": ["svg", "--gid", "1", *PLACE],
+    "svg, moving": ["svg", "--gid", "1", "--animate", "wght"],
     "instance": ["instance", *PLACE, "-o", "OUT"],
+    "sheet at a place": ["sheet", *PLACE, "-o", "OUT"],
+    "report at a place": ["report", *PLACE, "-o", "OUT"],
+    "flat at a place": ["flat", *PLACE, "-o", "OUT"],
+    "subset at a place": ["subset", "--gids", "0-65534", *PLACE, "-o", "OUT"],
 }
 
 
