@@ -44,7 +44,7 @@ enum {
     PSF_OK = 0,
     PSF_UNEXPECTED_EOF = 1,               /* bytes are wanting: something is cut, or its place is past the end */
     PSF_IO = 2,                           /* not answered by a call of this header */
-    PSF_MEMORY = 3,                       /* memory was asked for and refused; or private dictionaries of over 20,000,000 bytes */
+    PSF_MEMORY = 3,                       /* memory was asked for and refused; or font dictionaries of over 20,000,000 bytes */
     PSF_TAPE_STUCK = 4,                   /* not answered by a call of this header */
     PSF_MALFORMED_OFFSET = 5,             /* offsets of an INDEX of no byte, or of more than four */
     PSF_MALFORMED_INDEX = 6,              /* not answered by a call of this header */

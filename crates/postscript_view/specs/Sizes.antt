@@ -1,10 +1,11 @@
--- How many bytes private dictionaries have (Technical Note 5176, section 15, and Table 9, "Private": its size and its offset).
-use Rattle.std.specs.Prelude.{ℕ, ℤ, pos, negsuc, List, Option, Some, None}
+-- How many bytes the dictionaries of a CID-keyed font have (Technical Note 5176, section 15, and Table 9, "Private": its size and its offset).
+use Rattle.std.specs.Prelude.{ℕ, ◌+◌, ◌≤◌, ℤ, pos, negsuc, List, length, Option, Some, None, IsSome}
 use Rattle.std.specs.List.{sum_by}
 use Rattle.postscript_base.specs.Compact1.Decimal.{Decimal, to_i32}
 use Rattle.postscript_base.specs.Compact1.Defaults.{look, first_two_of}
 use Rattle.postscript_base.specs.Compact1.Dictionary.{Dictionary}
 use Rattle.postscript_base.specs.declared.compact1.operator.Operator.TheVariants as operators
+use Rattle.postscript_view.specs.Layout.{NamesIndex}
 use Rattle.postscript_view.specs.declared.part.Part.{Part}
 
 -- a number that is none below 0 is none of bytes
@@ -28,3 +29,13 @@ private_size part = size_of part.font_dictionary
 -- those of all parts together, also where they name the same bytes
 abbrev pub private_bytes : List Part → ℕ
 private_bytes parts = sum_by private_size parts
+
+-- the font is CID-keyed
+abbrev pub IsKeyed : Dictionary → Type 0
+IsKeyed dictionary = IsSome (look dictionary operators.ROS)
+
+-- The font dictionaries that FDArray names ("CID-keyed Fonts"), and the private dictionaries that they name, have at most 20,000,000
+-- bytes together, those that several share as often as each of them is named.
+abbrev pub HoldFew : (bytes : List ℕ) → Dictionary → List Part → Type 0
+HoldFew bytes dictionary parts =
+    (items : List (List ℕ)) × NamesIndex bytes dictionary operators.FDArray items × (sum_by length items + private_bytes parts ≤ 20000000)
