@@ -6,8 +6,8 @@ use crate::fonts::TWO_DICTIONARIES;
 use postscript::compact1::FontSet;
 use postscript_view::{Advance, FontView};
 use rows::{
-    BROKEN, CID, CIDS_OF_LETTERS, CODES, FALLING, FITTING, GLYPHS, LASTS, MATRICES, PLAIN, RANGE, REFUSED,
-    SELECTIONS,
+    BROKEN, CID, CIDS_OF_LETTERS, CODES, FALLING, FITTING, GLYPHS, LASTS, MATRICES, PLAIN, RANGE,
+    REFUSED, SELECTIONS,
 };
 use std::alloc::Global;
 use std::io::Cursor;
