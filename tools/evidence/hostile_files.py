@@ -71,6 +71,12 @@ def index(items):
     return short(len(items)) + b"\x03" + b"".join(offsets) + b"".join(items)
 
 
+def sharing(items):
+    """An INDEX whose offsets rise and fall: each of the items has the bytes of the first one, and between each two is one without bytes."""
+    ends = [1, len(items[0]) + 1] * len(items)
+    return short(len(ends) - 1) + b"\x03" + b"".join(end.to_bytes(3, "big") for end in ends) + items[0]
+
+
 def operand(n):
     """A whole number as an operand of a charstring."""
     return bytes([n + 139]) if -107 <= n <= 107 else b"\x1c" + n.to_bytes(2, "big", signed=True)
@@ -96,15 +102,15 @@ def plain_font(glyphs, routines=(), char_set=b"", strings=(), tops=1):
     return front + index([top(place)] * tops) + behind + codes + char_set + private
 
 
-def keyed_font(glyphs, select, parts=2, routines=(), private=number(6) + SUBRS):
+def keyed_font(glyphs, select, parts=2, routines=(), private=number(6) + SUBRS, more=b"", listed=index):
     """A CID-keyed table CFF, whose font dictionaries have the same private dictionary, and so the same local subroutines."""
     front = HEADER + index([b"A"])
     codes, locals_ = index(glyphs), index(list(routines))
 
     def dictionary(at):
-        return number(len(private)) + number(at) + PRIVATE
+        return number(len(private)) + number(at) + PRIVATE + more
 
-    array = len(index([dictionary(0)] * parts))
+    array = len(listed([dictionary(0)] * parts))
 
     def top(place):
         at = place + len(codes)
@@ -116,7 +122,7 @@ def keyed_font(glyphs, select, parts=2, routines=(), private=number(6) + SUBRS):
     behind = index([b"Adobe", b"Identity"]) + index([])
     place = len(front) + len(index([top(0)])) + len(behind)
     at = place + len(codes) + len(select) + array
-    return front + index([top(place)]) + behind + codes + select + index([dictionary(at)] * parts) + private + locals_
+    return front + index([top(place)]) + behind + codes + select + listed([dictionary(at)] * parts) + private + locals_
 
 
 def segments(count):
@@ -224,6 +230,9 @@ def searched():
     widths = (b"\x8b\x14") * 300_000
     yield "20,000 font dictionaries over one private dictionary of 600,000 bytes", file_of(
         keyed_font([END] * 2, b"\x00\x00\x00", 20_000, private=widths), 2,
+    )  # fmt: skip
+    yield "20,000 font dictionaries over the same bytes of their INDEX", file_of(
+        keyed_font([END] * 2, b"\x00\x00\x00", 20_000, more=b"\x8b\x0c\x08" * 200_000, listed=sharing), 2,
     )  # fmt: skip
     tags = [b"a" + bytes([65 + i // 676, 65 + i // 26 % 26, 65 + i % 26]) for i in range(10_000)]
     yield "10,000 tables over the same bytes", file_of(plain_font([END] * 60_000), 60_000, more=tags)
