@@ -6,10 +6,12 @@ its dictionary, added up by hand.
 """
 
 import concurrent.futures
+import io
 import mmap
 import os
 import pathlib
 import pickle
+import random
 import struct
 import subprocess
 import sys
@@ -22,6 +24,8 @@ import postscript
 from postscript import LIMIT, Error, Font, Status, VariableFont, WriteError
 
 FONTS = pathlib.Path("/usr/share/fonts/opentype")
+#: a variable font of Debian's package pango1.0-tests
+CANTARELL = pathlib.Path("/usr/libexec/installed-tests/pango/fonts/Cantarell-VF.otf")
 FLOWER = [
     ("moveTo", ((100, -10),)),
     ("curveTo", ((300, -10), (400, 100), (400, 300))),
@@ -581,6 +585,32 @@ class Installed(unittest.TestCase):
         codes = cff.topDictIndex[0].CharStrings
         for glyph in list(Font.open(file))[::7]:
             self.assertEqual(glyph.operations(), operations_of(codes[glyph.name].program), glyph)
+
+
+    def test_variable_outlines(self):
+        """At random places: outlines to a 64th of a unit, since fontTools draws by floats, and advances to the nearest unit."""
+        try:
+            from fontTools.pens.recordingPen import RecordingPen
+            from fontTools.ttLib import TTFont
+        except ImportError:
+            self.skipTest("no fontTools")
+        files = [spelled("variable.hex")] + [file.read_bytes() for file in [CANTARELL] if file.exists()]
+        chosen = random.Random(1)
+        for file in files:
+            font, theirs = VariableFont.from_bytes(file), TTFont(io.BytesIO(file))
+            self.assertEqual([instance.coordinates for instance in font.instances], [i.coordinates for i in theirs["fvar"].instances])
+            order = theirs.getGlyphOrder()
+            for _ in range(20):
+                asked = {axis.tag: chosen.randint(round(axis.minimum), round(axis.maximum)) for axis in font.axes}
+                glyphs, place = theirs.getGlyphSet(location=asked), font.at(asked)
+                for number in range(0, len(order), 11 if len(order) > 11 else 1):
+                    pen, glyph = RecordingPen(), place[number]
+                    glyphs[order[number]].draw(pen)
+                    self.assertEqual([method for method, _ in glyph.segments], [method for method, _ in pen.value])
+                    for (_, points), (_, others) in zip(glyph.segments, pen.value):
+                        for (x, y), (a, b) in zip(points, others):
+                            self.assertLess(max(abs(x - a), abs(y - b)), 1 / 64)
+                    self.assertLess(abs(glyph.advance - glyphs[order[number]].width), 0.52)
 
 
 def operations_of(program):
