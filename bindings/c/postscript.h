@@ -25,6 +25,13 @@
  * The library is built for 64-bit machines only.
  *
  * Units: coordinates, widths and bounds are in 65536ths of a unit of the font. Glyphs, faces and bytes are counted from 0.
+ *
+ * Variable fonts: psf_variation_axis and the three calls beside it take a whole OpenType file, and a face of it, in place of the bytes of
+ * a table CFF. A place of the design space is named by coordinates[0..named], a user coordinate in 65536ths for each axis, in the order of the
+ * axes. An axis that has none of its own stands at its default, and a coordinate outside of its axis is taken for the end that it is
+ * past. A face without a table fvar has no axes, and its only place has no coordinates. A call on a place also answers
+ * PSF_TOO_MANY_COORDINATES, PSF_MEMORY, and PSF_CUT_FVAR, PSF_UNKNOWN_FVAR, PSF_CUT_AVAR or PSF_UNKNOWN_AVAR where that table is refused; and each
+ * of the four PSF_CUT_FILE, PSF_UNKNOWN_FILE and PSF_NO_FACE. Where one is refused, what it writes to is as it was.
  */
 #ifndef POSTSCRIPT_H
 #define POSTSCRIPT_H
@@ -91,7 +98,26 @@ enum {
     PSF_NO_CODE = 47,                     /* an accented glyph names no codes, whole numbers from 0 to 255 */
     PSF_NO_ACCENTS = 48,                  /* an accented glyph of a CID-keyed font, whose glyphs have no names */
     PSF_NO_COMPONENT = 49,                /* no glyph of the font is the base or the accent of an accented glyph */
-    PSF_NESTED_ACCENT = 50                /* the base or the accent of an accented glyph is accented itself */
+    PSF_NESTED_ACCENT = 50,               /* the base or the accent of an accented glyph is accented itself */
+    PSF_NO_AXIS = 51,                     /* the font has no such axis */
+    PSF_NO_INSTANCE = 52,                 /* the font has no such named instance */
+    PSF_TOO_MANY_COORDINATES = 53,        /* there are more coordinates than axes */
+    PSF_CUT_FVAR = 54,                    /* the table fvar is cut */
+    PSF_UNKNOWN_FVAR = 55,                /* the table fvar is of no format that is known */
+    PSF_CUT_AVAR = 56,                    /* the table avar is cut */
+    PSF_UNKNOWN_AVAR = 57,                /* the table avar is of no format that is known */
+    PSF_CUT_HVAR = 58,                    /* the table HVAR is cut */
+    PSF_UNKNOWN_HVAR = 59,                /* the table HVAR is of no format that is known */
+    PSF_NO_ADVANCES = 60,                 /* the tables hhea and hmtx tell no advances */
+    PSF_CFF2_HEADER = 61,                 /* the table CFF2 has no header */
+    PSF_CFF2_VERSION = 62,                /* the table CFF2 is of another version than 2 */
+    PSF_CFF2_DICTIONARY = 63,             /* the Top DICT of the table CFF2 is cut */
+    PSF_CFF2_SUBROUTINES = 64,            /* the Global Subr INDEX of the table CFF2 is cut or malformed */
+    PSF_CFF2_OFFSET = 65,                 /* the Top DICT of the table CFF2 tells no offset of a part */
+    PSF_CFF2_INDEX = 66,                  /* an INDEX that the Top DICT of the table CFF2 names is cut or malformed */
+    PSF_CFF2_SELECT = 67,                 /* FDSelect of the table CFF2 is cut, or of another format than 0, 3 and 4 */
+    PSF_CFF2_STORE = 68,                  /* the variation store of the table CFF2 is cut, or of another format than 1 */
+    PSF_CFF2_DATA = 69                    /* item variation data of the table CFF2 do not stand in its store */
 };
 
 /* What a segment is. */
@@ -164,6 +190,23 @@ typedef struct psf_character {
     uint32_t character; /* its number in Unicode */
     uint32_t glyph;     /* its glyph, which is not 0 */
 } psf_character;
+
+/* An axis of a variable font. Its values are user coordinates, in 65536ths. */
+typedef struct psf_axis {
+    uint32_t tag;           /* as PSF_TAG('w', 'g', 'h', 't') */
+    int32_t minimum;
+    int32_t default_value;
+    int32_t maximum;
+    uint32_t is_hidden;     /* 1 where it is not to be shown to users, else 0 */
+    uint32_t name;          /* the identifier of its name in the table name */
+} psf_axis;
+
+/* A named instance of a variable font, but for its coordinates. */
+typedef struct psf_instance {
+    uint32_t name;           /* the identifier of its name in the table name */
+    uint32_t flags;
+    int32_t postscript_name; /* the identifier of its PostScript name there, or -1 where it has none */
+} psf_instance;
 
 /* What is told of a font that is not written, besides the status. */
 typedef struct psf_refusal {
@@ -279,6 +322,34 @@ int32_t psf_font_string(const uint8_t *cff, size_t length, uint16_t identifier, 
 /* The first glyph that has a name, in the font that the bytes of a table CFF begin with.
  * On PSF_OK *glyph is the glyph. Also answered: PSF_NO_GLYPH, and errors from 1 to 15. */
 int32_t psf_named_glyph(const uint8_t *cff, size_t length, const uint8_t *name, size_t name_length, size_t *glyph);
+
+/* An axis of a variable font.
+ * On PSF_OK *axis is the axis, and on PSF_OK and PSF_NO_AXIS *count is how many axes there are.
+ * Also answered: PSF_NO_TABLE where the face has no table fvar; PSF_CUT_FVAR, PSF_UNKNOWN_FVAR. */
+int32_t psf_variation_axis(const uint8_t *file, size_t length, size_t face, size_t i, psf_axis *axis, size_t *count);
+
+/* A named instance of a variable font, and its user coordinates, one for each axis, to the front of coordinates[0..room].
+ * On PSF_OK and PSF_NO_ROOM *instance is the instance, and *count is how many axes there are.
+ * Also answered: PSF_NO_INSTANCE; PSF_NO_TABLE where the face has no table fvar; PSF_CUT_FVAR, PSF_UNKNOWN_FVAR; PSF_MEMORY. */
+int32_t psf_variation_instance(const uint8_t *file, size_t length, size_t face, size_t i, psf_instance *instance,
+                               int32_t *coordinates, size_t room, size_t *count);
+
+/* The outline of a glyph of a table CFF2 at a place, to the front of segments[0..room]; its number of segments, and the bounds of all
+ * points, control points too. PSF_LIMIT is a good limit. It bounds how long the run of the glyph may take: each number and each operator takes
+ * a unit for each of its bytes, and a blend one more for each number on the stack. And it bounds, by itself, what the place takes: for each
+ * region that the variation store's data name a unit, and one for each axis.
+ * On PSF_OK and PSF_NO_ROOM *count and *bounds are told, and on PSF_OK segments[0..*count] is the outline, as by psf_glyph_outline.
+ * Also answered: PSF_NO_GLYPH, also where the glyph has no Font DICT that stands; PSF_NO_TABLE where the face has no table CFF2; those
+ * from PSF_CFF2_HEADER to PSF_CFF2_DATA; PSF_TOO_LONG; and errors from 1 to 30 of the run. */
+int32_t psf_variable_outline(const uint8_t *file, size_t length, size_t face, const int32_t *coordinates, size_t named,
+                             size_t glyph, uint64_t limit, psf_segment *segments, size_t room, size_t *count, psf_bounds *bounds);
+
+/* The advance of a glyph at a place, in whole units of the font: that of the tables hhea and hmtx, and to the nearest unit what the table
+ * HVAR adds, where there is one. A glyph behind those of hmtx has the last one's.
+ * On PSF_OK *advance is told. Also answered: PSF_NO_GLYPH of a number above 65535; PSF_NO_TABLE where the face has no table hhea or hmtx;
+ * PSF_NO_ADVANCES; PSF_CUT_HVAR, PSF_UNKNOWN_HVAR; PSF_MEMORY. */
+int32_t psf_variable_advance(const uint8_t *file, size_t length, size_t face, const int32_t *coordinates, size_t named,
+                             size_t glyph, int64_t *advance);
 
 #ifdef __cplusplus
 }

@@ -1,4 +1,5 @@
-/* test FONT.hex ACCENTS.hex: calls each function of postscript.h over the fonts whose bytes are spelled there, and compares. */
+/* test FONT.hex ACCENTS.hex VARIABLE.hex: calls each function of postscript.h over the fonts whose bytes are spelled there, and
+ * compares. */
 #include <stdio.h>
 #include <stdlib.h>
 #include <string.h>
@@ -336,21 +337,165 @@ static void check_fits(const uint8_t *cff, size_t size) {
     holds(psf_font_fits(cff, 2, &limit) == PSF_UNEXPECTED_EOF, "nor where the font is cut");
 }
 
+/* What fontTools' instancer draws of glyph 1 of the variable font, in units: at the default, and where wght is 650, which avar takes to
+ * three quarters of the way to 900, and opsz 12, half way to 8. */
+static const int varied[2][4][7] = {
+    {{PSF_MOVE, 0, 0, 0, 0, 50, 0}, {PSF_LINE, 0, 0, 0, 0, 250, 700}, {PSF_LINE, 0, 0, 0, 0, 450, 0}, {PSF_CLOSE, 0, 0, 0, 0, 0, 0}},
+    {{PSF_MOVE, 0, 0, 0, 0, 65, 0}, {PSF_LINE, 0, 0, 0, 0, 255, 700}, {PSF_LINE, 0, 0, 0, 0, 445, 0}, {PSF_CLOSE, 0, 0, 0, 0, 0, 0}},
+};
+
+/* And of glyph 2, at the second place. */
+static const int curved[4][7] = {
+    {PSF_MOVE, 0, 0, 0, 0, 46, 250},
+    {PSF_CURVE, 46, 400, 146, 500, 246, 500},
+    {PSF_LINE, 0, 0, 0, 0, 309, 250},
+    {PSF_CLOSE, 0, 0, 0, 0, 0, 0},
+};
+
+static void check_axes(const uint8_t *file, size_t length) {
+    psf_axis axis;
+    size_t count = 9;
+    memset(&axis, 0xa5, sizeof axis);
+    holds(psf_variation_axis(file, length, 1, 0, &axis, &count) == PSF_NO_FACE && count == 9, "no axis of no face");
+    holds(psf_variation_axis(file, length, 0, 2, &axis, &count) == PSF_NO_AXIS && count == 2, "no third axis");
+    holds(is_blank(&axis, sizeof axis), "which tells nothing");
+    holds(psf_variation_axis(file, length, 0, 0, &axis, &count) == PSF_OK && count == 2, "an axis");
+    holds(axis.tag == PSF_TAG('w', 'g', 'h', 't') && axis.is_hidden == 0 && axis.name == 256, "its tag and its name");
+    holds(axis.minimum == 100 * 65536 && axis.default_value == 400 * 65536 && axis.maximum == 900 * 65536, "its values");
+    holds(psf_variation_axis(file, length, 0, 1, &axis, &count) == PSF_OK && axis.tag == PSF_TAG('o', 'p', 's', 'z'), "another axis");
+    holds(axis.minimum == 8 * 65536 && axis.default_value == 16 * 65536 && axis.maximum == 16 * 65536, "its own values");
+    holds(axis.is_hidden == 1 && axis.name == 257, "it is hidden");
+}
+
+static void check_instances(const uint8_t *file, size_t length) {
+    psf_instance instance = {7, 7, 7};
+    int32_t at[3] = {7, 7, 7};
+    size_t count = 9;
+    holds(psf_variation_instance(file, length, 0, 2, &instance, at, 3, &count) == PSF_NO_INSTANCE && count == 9, "no instance");
+    holds(instance.name == 7 && at[0] == 7, "which tells nothing");
+    holds(psf_variation_instance(file, length, 0, 0, &instance, at, 1, &count) == PSF_NO_ROOM && count == 2, "no room for an instance");
+    holds(instance.name == 258 && instance.postscript_name == -1 && instance.flags == 0 && at[0] == 7, "which is told all the same");
+    holds(psf_variation_instance(file, length, 0, 1, &instance, at, 3, &count) == PSF_OK && count == 2, "an instance");
+    holds(instance.name == 259 && instance.postscript_name == 260, "its names");
+    holds(at[0] == 900 * 65536 && at[1] == 25 * 32768 && at[2] == 7, "its coordinates");
+}
+
+/* What is lent to be told of an outline. */
+typedef struct drawn {
+    psf_segment segments[5];
+    psf_bounds bounds;
+    size_t count;
+} drawn;
+
+/* The outline of a glyph of a file of one face, into a room of so many segments. */
+static int32_t draw(const uint8_t *file, size_t length, const int32_t *place, size_t named, size_t glyph, uint64_t limit, size_t room,
+                    drawn *d) {
+    return psf_variable_outline(file, length, 0, place, named, glyph, limit, d->segments, room, &d->count, &d->bounds);
+}
+
+/* weight 650 and size 12; weight 900; a weight past the end, and a size past the end that is its default */
+static const int32_t places[][3] = {{650 * 65536, 12 * 65536, 0}, {900 * 65536, 0, 0}, {1000 * 65536, 99 * 65536, 0}};
+
+static void check_places(const uint8_t *file, size_t length) {
+    const int32_t *place = places[0];
+    drawn d;
+    memset(&d, 0xa5, sizeof d);
+    holds(draw(file, length, place, 3, 1, PSF_LIMIT, 5, &d) == PSF_TOO_MANY_COORDINATES, "three axes");
+    holds(draw(file, length, place, 2, 3, PSF_LIMIT, 5, &d) == PSF_NO_GLYPH, "no fourth glyph");
+    holds(draw(file, length, place, 2, 1, 12, 5, &d) == PSF_TOO_LONG, "a run past the limit");
+    holds(is_blank(&d, sizeof d), "nothing is told then");
+    holds(draw(file, length, place, 2, 1, PSF_LIMIT, 3, &d) == PSF_NO_ROOM && d.count == 4, "no room");
+    holds(is_blank(d.segments, sizeof d.segments), "nothing is written then");
+    for (int i = 0; i < 2; i++) {
+        /* at the default no coordinate is named, and at the other place both are */
+        holds(draw(file, length, place, i == 0 ? 0 : 2, 1, PSF_LIMIT, 5, &d) == PSF_OK && d.count == 4, "an outline");
+        for (int k = 0; k < 4; k++) holds(is_segment(&d.segments[k], varied[i][k]), "a segment at a place");
+        holds(d.bounds.has_bounds == 1 && d.bounds.left == varied[i][0][5] * 65536, "the bounds of its left side");
+        holds(d.bounds.right == varied[i][2][5] * 65536 && d.bounds.bottom == 0 && d.bounds.top == 700 * 65536, "and of the others");
+        holds(d.segments[4].kind == 0xa5a5a5a5u, "nothing behind the outline at a place");
+    }
+    holds(draw(file, length, place, 2, 2, PSF_LIMIT, 5, &d) == PSF_OK && d.count == 4, "a glyph of curves");
+    for (int k = 0; k < 4; k++) holds(is_segment(&d.segments[k], curved[k]), "a segment of it");
+    holds(draw(file, length, place, 2, 0, PSF_LIMIT, 0, &d) == PSF_OK && d.count == 0, "an empty glyph");
+    holds(d.bounds.has_bounds == 0 && d.bounds.left == 0 && d.bounds.top == 0, "has no bounds");
+    /* its run is empty, and its place has three regions of two axes: nine units */
+    holds(draw(file, length, place, 2, 0, 8, 0, &d) == PSF_TOO_LONG, "a place past the limit");
+    holds(draw(file, length, place, 2, 0, 9, 0, &d) == PSF_OK, "a place within the limit");
+    holds(draw(file, length, places[2], 2, 1, PSF_LIMIT, 5, &d) == PSF_OK && d.segments[2].x == 550 * 65536, "the ends of axes");
+}
+
+static void check_advances(const uint8_t *file, size_t length) {
+    const int32_t *place = places[0];
+    int64_t advance = 7;
+    holds(psf_variable_advance(file, length, 0, place, 0, 1, &advance) == PSF_OK && advance == 600, "the advance at the default");
+    holds(psf_variable_advance(file, length, 0, place, 2, 1, &advance) == PSF_OK && advance == 590, "an advance at a place");
+    holds(psf_variable_advance(file, length, 0, place, 1, 2, &advance) == PSF_OK && advance == 620, "where one axis is named");
+    holds(psf_variable_advance(file, length, 0, places[1], 1, 1, &advance) == PSF_OK && advance == 720, "an advance at an end");
+    holds(psf_variable_advance(file, length, 0, place, 2, 0, &advance) == PSF_OK && advance == 500, "an advance that does not vary");
+    holds(psf_variable_advance(file, length, 0, place, 3, 1, &advance) == PSF_TOO_MANY_COORDINATES, "three axes of an advance");
+    holds(psf_variable_advance(file, length, 0, place, 2, 65536, &advance) == PSF_NO_GLYPH && advance == 500, "no such advance");
+}
+
+/* What a call answers of a file with another byte at a place of a table: that of an advance, or of an outline. */
+static int32_t status_with(const uint8_t *file, size_t length, const char *tag, size_t at, uint8_t byte, int asks_advance) {
+    static uint8_t spoiled[1024];
+    drawn d;
+    int64_t advance = 0;
+    size_t place = 0, size = 0;
+    memcpy(spoiled, file, length);
+    holds(psf_file_table(file, length, 0, PSF_TAG(tag[0], tag[1], tag[2], tag[3]), &place, &size) == PSF_OK && at < size, "a table");
+    spoiled[place + at] = byte;
+    if (asks_advance) return psf_variable_advance(spoiled, length, 0, places[0], 0, 1, &advance);
+    return draw(spoiled, length, places[0], 0, 1, PSF_LIMIT, 5, &d);
+}
+
+/* Each table is refused by statuses of its own. */
+static void check_refused_tables(const uint8_t *file, size_t length) {
+    holds(status_with(file, length, "fvar", 1, 2, 0) == PSF_UNKNOWN_FVAR, "fvar 2.0");
+    holds(status_with(file, length, "fvar", 8, 1, 0) == PSF_UNKNOWN_FVAR, "instances too small for so many axes");
+    holds(status_with(file, length, "fvar", 12, 255, 0) == PSF_CUT_FVAR, "too many instances");
+    holds(status_with(file, length, "avar", 1, 2, 0) == PSF_UNKNOWN_AVAR, "avar 2.0");
+    holds(status_with(file, length, "avar", 8, 255, 1) == PSF_CUT_AVAR, "a segment map too long");
+    holds(status_with(file, length, "HVAR", 1, 2, 1) == PSF_UNKNOWN_HVAR, "HVAR 2.0");
+    holds(status_with(file, length, "HVAR", 4, 255, 1) == PSF_CUT_HVAR, "a store past the end");
+    holds(status_with(file, length, "HVAR", 1, 2, 0) == PSF_OK, "which an outline does not ask");
+    holds(status_with(file, length, "hhea", 34, 255, 1) == PSF_NO_ADVANCES, "too many advances");
+    holds(status_with(file, length, "CFF2", 0, 1, 0) == PSF_CFF2_VERSION, "CFF2 1.0");
+    holds(status_with(file, length, "CFF2", 2, 4, 0) == PSF_CFF2_HEADER, "a header too small");
+    holds(status_with(file, length, "CFF2", 3, 255, 0) == PSF_CFF2_DICTIONARY, "a Top DICT past the end");
+    holds(status_with(file, length, "CFF2", 0, 1, 1) == PSF_OK, "which an advance does not ask");
+}
+
+/* A file of a table CFF is no variable font. */
+static void check_not_variable(const uint8_t *file, size_t length) {
+    psf_axis axis;
+    psf_instance instance;
+    drawn d;
+    int64_t advance = 7;
+    int32_t coordinate = 0;
+    size_t count = 9;
+    holds(psf_variation_axis(file, length, 0, 0, &axis, &count) == PSF_NO_TABLE && count == 9, "no axes");
+    holds(psf_variation_instance(file, length, 0, 0, &instance, &coordinate, 1, &count) == PSF_NO_TABLE && count == 9, "no instances");
+    holds(draw(file, length, &coordinate, 0, 2, PSF_LIMIT, 5, &d) == PSF_NO_TABLE, "no CFF2");
+    holds(draw(file, 3, &coordinate, 0, 2, PSF_LIMIT, 5, &d) == PSF_CUT_FILE, "a cut file");
+    holds(psf_variable_advance(file, length, 0, &coordinate, 0, 2, &advance) == PSF_NO_TABLE && advance == 7, "no hmtx");
+}
+
 static void check_texts(void) {
     uint8_t text[80];
     size_t count = 0;
     holds(psf_version() == PSF_VERSION, "the version of the header");
-    for (int32_t status = 0; status <= PSF_NESTED_ACCENT; status++)
+    for (int32_t status = 0; status <= PSF_CFF2_DATA; status++)
         holds(psf_status_text(status, text, sizeof text, &count) == PSF_OK && count > 0, "a text");
     holds(psf_status_text(PSF_NO_GLYPH, text, sizeof text, &count) == PSF_OK && memcmp(text, "no such glyph", 13) == 0, "its words");
     holds(psf_status_text(PSF_NO_GLYPH, text, 3, &count) == PSF_NO_ROOM && count == 13, "no room for a text");
-    holds(psf_status_text(PSF_NESTED_ACCENT + 1, text, sizeof text, &count) == PSF_NO_STATUS, "no text");
+    holds(psf_status_text(PSF_CFF2_DATA + 1, text, sizeof text, &count) == PSF_NO_STATUS, "no text");
     holds(psf_status_text(-1, text, sizeof text, &count) == PSF_NO_STATUS, "no text below 0");
 }
 
 int main(int argc, char **argv) {
-    uint8_t file[1024], accents[256];
-    if (argc != 3) return 2;
+    uint8_t file[1024], accents[256], variable[1024];
+    if (argc != 4) return 2;
     size_t length = read_hex(argv[1], file, sizeof file), faces = 0, place = 0, size = 0, glyph = 99;
     holds(length == 228, "the length of the font");
     holds(psf_file_faces(file, length, &faces) == PSF_OK && faces == 1, "one face");
@@ -401,6 +546,14 @@ int main(int argc, char **argv) {
     check_accents(accents, length);
     check_refused_accents(accents, length);
     check_nested();
+    check_not_variable(file, 228);
+    length = read_hex(argv[3], variable, sizeof variable);
+    holds(length == 752, "the length of the variable font");
+    check_axes(variable, length);
+    check_instances(variable, length);
+    check_places(variable, length);
+    check_advances(variable, length);
+    check_refused_tables(variable, length);
     check_texts();
     printf("postscript.h: %s\n", failures ? "tests failed" : "all tests passed");
     return failures != 0;

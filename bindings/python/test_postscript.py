@@ -1,4 +1,4 @@
-"""Tests over the fonts whose bytes `bindings/font.hex` and `bindings/accents.hex` spell, and over fonts that are installed:
+"""Tests over the fonts whose bytes `bindings/font.hex`, `accents.hex` and `variable.hex` spell, and over fonts that are installed:
 python3 -m unittest.
 
 The first font has four glyphs, `.notdef`, `space`, `A` and `flower`. The expected values are the numbers of its char strings and of
@@ -6,10 +6,13 @@ its dictionary, added up by hand.
 """
 
 import concurrent.futures
+import io
 import mmap
 import os
 import pathlib
 import pickle
+import random
+import struct
 import subprocess
 import sys
 import tempfile
@@ -18,9 +21,11 @@ import time
 import unittest
 
 import postscript
-from postscript import LIMIT, Error, Font, Status, WriteError
+from postscript import LIMIT, Error, Font, Status, VariableFont, WriteError
 
 FONTS = pathlib.Path("/usr/share/fonts/opentype")
+#: a variable font of Debian's package pango1.0-tests
+CANTARELL = pathlib.Path("/usr/libexec/installed-tests/pango/fonts/Cantarell-VF.otf")
 FLOWER = [
     ("moveTo", ((100, -10),)),
     ("curveTo", ((300, -10), (400, 100), (400, 300))),
@@ -448,6 +453,86 @@ class Accented(Case):
         self.assertFalse([status for status in Status if str(Error(status)) == f"status {int(status)}"])
 
 
+class Variable(Case):
+    """The font that `bindings/variable.hex` spells. tools/bindings/small_variable.py makes it, and prints these rows, which are what fontTools'
+    instancer draws: at each place the advance of each glyph, and the path of `A` and of `o`."""
+
+    ROWS = [
+        ({}, (500, 600, 560), "M50 0L250 700L450 0Z", "M40 250C40 370 120 470 240 470L300 250Z"),
+        ({"wght": 900}, (500, 720, 640), "M70 0L310 700L550 0Z", "M48 250C48 410 168 510 288 510L360 250Z"),
+        ({"wght": 650}, (500, 690, 620), "M65 0L295 700L525 0Z", "M46 250C46 400 156 500 276 500L345 250Z"),
+        ({"wght": 100}, (500, 560, 540), "M40 0L200 700L360 0Z", "M36 250C36 350 116 450 224 450L284 250Z"),
+        ({"opsz": 8}, (500, 400, 400), "M50 0L170 700L290 0Z", "M40 250C40 370 100 470 180 470L228 250Z"),
+        ({"opsz": 12, "wght": 650}, (500, 590, 540), "M65 0L255 700L445 0Z", "M46 250C46 400 146 500 246 500L309 250Z"),
+    ]
+
+    def setUp(self):
+        self.file = spelled("variable.hex")
+        self.font = VariableFont.from_bytes(self.file)
+
+    def changed(self, tag, place, byte):
+        """A copy of the file, with another byte at a place of a table."""
+        file, (rows,) = bytearray(self.file), struct.unpack(">H", self.file[4:6])
+        records = {self.file[12 + 16 * i : 16 + 16 * i]: self.file[20 + 16 * i : 24 + 16 * i] for i in range(rows)}
+        file[int.from_bytes(records[tag], "big") + place] = byte
+        return bytes(file)
+
+    def test_axes_and_instances(self):
+        self.assertEqual(self.font.axes, (("wght", 100, 400, 900, False, 256), ("opsz", 8, 16, 16, True, 257)))
+        first, second = self.font.instances
+        self.assertEqual(first, ({"wght": 650, "opsz": 16}, 258, None))
+        self.assertEqual(second, ({"wght": 900, "opsz": 12.5}, 259, 260))
+        self.assertEqual(self.font.at(second.coordinates).coordinates, second.coordinates)
+
+    def test_places(self):
+        for asked, advances, path, curved in self.ROWS:
+            place = self.font.at(asked)
+            self.assertEqual(tuple(place.glyph(i).advance for i in range(3)), advances)
+            self.assertEqual([place[i].svg_path() for i in range(3)], ["", path, curved])
+        self.assertEqual(self.font.at(wght=650, opsz=12)[1].svg_path(), self.ROWS[5][2])
+
+    def test_glyph(self):
+        glyph = self.font.at(wght=650).glyph_of("A")
+        pen = Recorder()
+        glyph.draw(pen)
+        self.assertEqual((glyph.number, glyph.segments), (1, pen.value))
+        self.assertEqual(pen.value[2], ("lineTo", ((525, 0),)))
+        self.assertEqual(glyph.bounds, (65, 0, 525, 700))
+        self.assertEqual(self.font.at().glyph_of("B").bounds, None)
+
+    def test_outside_of_an_axis(self):
+        far = self.font.at(wght=5000, opsz=-1e9)
+        self.assertEqual(far.coordinates, {"wght": 900, "opsz": 8})
+        self.assertEqual(far[1].svg_path(), self.font.at(wght=900, opsz=8)[1].svg_path())
+
+    def test_refusals(self):
+        self.refused(Status.NO_AXIS, self.font.at, {"wdth": 100})
+        self.refused(Status.NO_GLYPH, self.font.at()[3].svg_path)
+        self.refused(Status.NO_GLYPH, lambda: self.font.at()[65536].advance)
+        self.refused(Status.TOO_LONG, VariableFont.from_bytes(self.file, limit=5).at()[1].svg_path)
+        self.refused(Status.NO_TABLE, VariableFont.from_bytes, small())
+        self.refused(Status.NO_TABLE, Font.from_bytes, self.file)
+        self.refused(Status.NO_FACE, VariableFont.from_bytes, self.file, 1)
+        self.refused(Status.UNKNOWN_FVAR, VariableFont.from_bytes, self.changed(b"fvar", 1, 2))
+        self.refused(Status.CUT_FVAR, VariableFont.from_bytes, self.changed(b"fvar", 12, 255))
+        self.refused(Status.CFF2_VERSION, VariableFont.from_bytes(self.changed(b"CFF2", 0, 1)).at()[1].svg_path)
+        self.refused(Status.UNKNOWN_HVAR, lambda: VariableFont.from_bytes(self.changed(b"HVAR", 1, 2)).at()[1].advance)
+        self.refused(Status.UNKNOWN_AVAR, lambda: VariableFont.from_bytes(self.changed(b"avar", 1, 2)).at()[1].advance)
+        with self.assertRaises(IndexError):
+            self.font.at()[-1]
+
+    def test_changed_bytes(self):
+        for place in range(len(self.file)):
+            file = bytearray(self.file)
+            file[place] ^= 0xFF
+            try:
+                at = VariableFont.from_bytes(file).at()
+                paths = [(at[i].svg_path(), at[i].advance) for i in range(3)]
+            except Error as e:
+                paths = e.status
+            self.assertTrue(paths)
+
+
 class Installed(unittest.TestCase):
     """The same as fontTools, where it and the fonts are installed."""
 
@@ -500,6 +585,32 @@ class Installed(unittest.TestCase):
         codes = cff.topDictIndex[0].CharStrings
         for glyph in list(Font.open(file))[::7]:
             self.assertEqual(glyph.operations(), operations_of(codes[glyph.name].program), glyph)
+
+
+    def test_variable_outlines(self):
+        """At random places: outlines to a 64th of a unit, since fontTools draws by floats, and advances to the nearest unit."""
+        try:
+            from fontTools.pens.recordingPen import RecordingPen
+            from fontTools.ttLib import TTFont
+        except ImportError:
+            self.skipTest("no fontTools")
+        files = [spelled("variable.hex")] + [file.read_bytes() for file in [CANTARELL] if file.exists()]
+        chosen = random.Random(1)
+        for file in files:
+            font, theirs = VariableFont.from_bytes(file), TTFont(io.BytesIO(file))
+            self.assertEqual([instance.coordinates for instance in font.instances], [i.coordinates for i in theirs["fvar"].instances])
+            order = theirs.getGlyphOrder()
+            for _ in range(20):
+                asked = {axis.tag: chosen.randint(round(axis.minimum), round(axis.maximum)) for axis in font.axes}
+                glyphs, place = theirs.getGlyphSet(location=asked), font.at(asked)
+                for number in range(0, len(order), 11 if len(order) > 11 else 1):
+                    pen, glyph = RecordingPen(), place[number]
+                    glyphs[order[number]].draw(pen)
+                    self.assertEqual([method for method, _ in glyph.segments], [method for method, _ in pen.value])
+                    for (_, points), (_, others) in zip(glyph.segments, pen.value):
+                        for (x, y), (a, b) in zip(points, others):
+                            self.assertLess(max(abs(x - a), abs(y - b)), 1 / 64)
+                    self.assertLess(abs(glyph.advance - glyphs[order[number]].width), 0.52)
 
 
 def operations_of(program):

@@ -1,4 +1,4 @@
-"""Fonts of the Compact Font Format (.otf files with a table `CFF `) and the outlines of their glyphs.
+"""Fonts of the Compact Font Format (.otf files with a table `CFF ` or `CFF2`) and the outlines of their glyphs.
 
 The work is done by a shared library that is proved: over any bytes each call returns, reads nothing outside them, and answers
 what the specification says. This module calls it by ctypes, and needs nothing besides Python.
@@ -10,6 +10,9 @@ what the specification says. This module calls it by ctypes, and needs nothing b
     print(glyph.advance, glyph.bounds, glyph.svg_path())
     glyph.draw(pen)  # a pen of fontTools, or anything with its four methods
     print(len(font), font.names[:3], font.cmap[0x41], [glyph.advance for glyph in font])
+
+    variable = postscript.VariableFont.open("variable.otf")
+    print(variable.axes, variable.at(wght=650).glyph_of("A").svg_path())
 
 Units. Coordinates, bounds and advances are in units of the font, of which most fonts with a table `CFF ` have 1000 to the em. They
 are whole numbers of 65536ths, so a float holds them exactly. Glyphs and faces are counted from 0, and characters are Unicode's.
@@ -40,8 +43,8 @@ from pathlib import Path
 from typing import Any, Callable, Dict, Iterable, Iterator, List, Mapping, NamedTuple, Optional, Protocol, Tuple, Type, Union
 
 __all__ = [
-    "LIMIT", "VERSION", "Bounds", "Buffer", "CharacterMap", "Error", "Font", "Glyph", "Operation", "Pen", "Point", "Segment", "SegmentPen",
-    "Status", "WriteError", "draw", "faces", "version",
+    "LIMIT", "VERSION", "Axis", "Bounds", "Buffer", "CharacterMap", "Error", "Font", "Glyph", "Instance", "Operation", "Pen", "Place",
+    "Point", "Segment", "SegmentPen", "Status", "VariableFont", "VariableGlyph", "WriteError", "draw", "faces", "version",
 ]  # fmt: skip
 
 __version__ = "0.2.0"
@@ -166,6 +169,25 @@ class Status(enum.IntEnum):
     NO_ACCENTS = 48
     NO_COMPONENT = 49
     NESTED_ACCENT = 50
+    NO_AXIS = 51
+    NO_INSTANCE = 52
+    TOO_MANY_COORDINATES = 53
+    CUT_FVAR = 54
+    UNKNOWN_FVAR = 55
+    CUT_AVAR = 56
+    UNKNOWN_AVAR = 57
+    CUT_HVAR = 58
+    UNKNOWN_HVAR = 59
+    NO_ADVANCES = 60
+    CFF2_HEADER = 61
+    CFF2_VERSION = 62
+    CFF2_DICTIONARY = 63
+    CFF2_SUBROUTINES = 64
+    CFF2_OFFSET = 65
+    CFF2_INDEX = 66
+    CFF2_SELECT = 67
+    CFF2_STORE = 68
+    CFF2_DATA = 69
 
 
 def _status(number: int) -> Union[Status, int]:
@@ -260,6 +282,21 @@ class _Operation(Structure):
 
 class _Character(Structure):
     _fields_ = [("character", c_uint32), ("glyph", c_uint32)]
+
+
+class _Axis(Structure):
+    _fields_ = [
+        ("tag", c_uint32),
+        ("minimum", c_int32),
+        ("default_value", c_int32),
+        ("maximum", c_int32),
+        ("is_hidden", c_uint32),
+        ("name", c_uint32),
+    ]
+
+
+class _Instance(Structure):
+    _fields_ = [("name", c_uint32), ("flags", c_uint32), ("postscript_name", c_int32)]
 
 
 class _Refusal(Structure):
@@ -372,6 +409,12 @@ for _name, _arguments in {
     "psf_font_identifiers": [_bytes, _size, POINTER(c_int32), _size, _sizes],
     "psf_font_string": [_bytes, _size, c_uint16, _room, _size, _sizes],
     "psf_named_glyph": [_bytes, _size, _bytes, _size, _sizes],
+    "psf_variation_axis": [_bytes, _size, _size, _size, POINTER(_Axis), _sizes],
+    "psf_variation_instance": [_bytes, _size, _size, _size, POINTER(_Instance), POINTER(c_int32), _size, _sizes],
+    "psf_variable_outline": [
+        _bytes, _size, _size, POINTER(c_int32), _size, _size, c_uint64, POINTER(_Segment), _size, _sizes, POINTER(_Bounds),
+    ],
+    "psf_variable_advance": [_bytes, _size, _size, POINTER(c_int32), _size, _size, POINTER(c_int64)],
 }.items():
     getattr(_library, _name).argtypes = _arguments
     getattr(_library, _name).restype = c_int32
@@ -727,8 +770,212 @@ class Glyph:
 
     def svg_path(self) -> str:
         """The path data of an SVG picture. Its y axis goes up, as that of the font, so show it under `scale(1 -1)`."""
-        letters = {"moveTo": "M", "lineTo": "L", "curveTo": "C", "closePath": "Z"}
-        return "".join(letters[method] + " ".join(f"{n:.10g}" for point in points for n in point) for method, points in self.segments)
+        return _path(self.segments)
+
+
+class Axis(NamedTuple):
+    """An axis of a variable font. Its values are user coordinates: whole numbers of 65536ths, so they are exact."""
+
+    tag: str
+    minimum: float
+    default: float
+    maximum: float
+    is_hidden: bool
+    #: the identifier of its name in the table `name`
+    name_id: int
+
+
+class Instance(NamedTuple):
+    """A named instance of a variable font: a place, as `VariableFont.at` takes it."""
+
+    coordinates: Dict[str, float]
+    #: the identifier of its name in the table `name`, and that of its PostScript name where it has one
+    name_id: int
+    postscript_name_id: Optional[int]
+
+
+class VariableFont:
+    """A face of a file with a table `CFF2`: the bytes of the file, which are not copied, and whose object is held. `at` gives a place of
+    its design space, which has glyphs.
+
+        font = postscript.VariableFont.open("font.otf")
+        print([axis.tag for axis in font.axes])
+        glyph = font.at(wght=650).glyph_of("A")
+        print(glyph.advance, glyph.bounds, glyph.svg_path())"""
+
+    def __init__(self, file: Union[Buffer, _View], face: int = 0, limit: int = LIMIT) -> None:
+        self._view = file if isinstance(file, _View) else _View.of(file)
+        #: which face it is, from 0 on
+        self.face = face
+        #: how long the run of a glyph may take, and by itself its place: each number and each operator takes a unit for each of its bytes,
+        #: a blend one more for each number on the stack, and each region of the place one, and one for each axis
+        self.limit = limit
+        _table(self._view, face, b"CFF2")
+        #: the axes, in their order
+        self.axes: Tuple[Axis, ...] = tuple(self._axes())
+        #: the characters and their glyphs
+        self.cmap = CharacterMap(self._cmap())
+
+    def __repr__(self) -> str:
+        return f"<VariableFont of {len(self.axes)} axes>"
+
+    @classmethod
+    def open(cls: Type[VariableFont], path: Union[str, os.PathLike[str]], face: int = 0, limit: int = LIMIT) -> VariableFont:
+        """A face of an OpenType file by its path, counted from 0. The file is read whole. Refused as `from_bytes` is, and with an
+        `OSError` where the file is not read."""
+        return cls(Path(path).read_bytes(), face, limit)
+
+    @classmethod
+    def from_bytes(cls: Type[VariableFont], file: Buffer, face: int = 0, limit: int = LIMIT) -> VariableFont:
+        """A face of an OpenType file by its bytes, counted from 0. Refused with `Status.CUT_FILE`, `UNKNOWN_FILE`, `NO_FACE`, with
+        `NO_TABLE` where it has no table `CFF2`, and with `CUT_FVAR` and `UNKNOWN_FVAR`. Other tables are read where they are asked."""
+        return cls(file, face, limit)
+
+    def _cmap(self) -> Optional[_View]:
+        try:
+            return _table(self._view, self.face, b"cmap")
+        except Error as e:
+            if e.status != Status.NO_TABLE:
+                raise
+            return None
+
+    def _axes(self) -> Iterator[Axis]:
+        """The axes; none where there is no table `fvar`."""
+        number = 0
+        while True:
+            told, count = _Axis(), c_size_t()
+            status = _library.psf_variation_axis(*self._view.told, self.face, number, byref(told), byref(count))
+            if status in (Status.NO_AXIS, Status.NO_TABLE):
+                return
+            _checked(status)
+            tag = told.tag.to_bytes(4, "big").decode("latin-1")
+            values = told.minimum / 65536, told.default_value / 65536, told.maximum / 65536
+            yield Axis(tag, *values, bool(told.is_hidden), told.name)
+            number += 1
+
+    @property
+    def instances(self) -> List[Instance]:
+        """The named instances, in their order."""
+        found: List[Instance] = []
+        while True:
+            told, count = _Instance(), c_size_t()
+            numbers = (c_int32 * len(self.axes))()
+            status = _library.psf_variation_instance(
+                *self._view.told, self.face, len(found), byref(told), numbers, len(numbers), byref(count)
+            )
+            if status in (Status.NO_INSTANCE, Status.NO_TABLE):
+                return found
+            _checked(status)
+            coordinates = {axis.tag: number / 65536 for axis, number in zip(self.axes, numbers)}
+            found.append(Instance(coordinates, told.name, None if told.postscript_name < 0 else told.postscript_name))
+
+    def at(self, coordinates: Mapping[str, float] = {}, **more: float) -> Place:
+        """A place of the design space, by user coordinates along axes: `font.at(wght=650)`, or `font.at(font.instances[0].coordinates)`.
+        An axis that is not named stands at its default, and a coordinate outside of its axis is taken for the end that it is past, to
+        the nearest 65536th. Refused with `Status.NO_AXIS` where the font has no axis of a tag."""
+        return Place(self, {**coordinates, **more})
+
+
+class Place:
+    """A place of the design space of a variable font. From `VariableFont.at`. `place[7]` is a glyph by its number."""
+
+    #: how many glyphs there are is told nowhere, so a loop over a place would not end
+    __iter__ = None
+
+    def __init__(self, font: VariableFont, asked: Mapping[str, float]) -> None:
+        if not {axis.tag for axis in font.axes} >= set(asked):
+            raise Error(Status.NO_AXIS)
+        #: the font
+        self.font = font
+        #: where the place stands along each axis
+        self.coordinates: Dict[str, float] = {
+            axis.tag: max(axis.minimum, min(axis.maximum, asked.get(axis.tag, axis.default))) for axis in font.axes
+        }
+        numbers = [round(self.coordinates[axis.tag] * 65536) for axis in font.axes]
+        self._numbers = (c_int32 * len(numbers))(*numbers)
+
+    def __repr__(self) -> str:
+        return f"Place({self.coordinates})"
+
+    def glyph(self, number: int) -> VariableGlyph:
+        """A glyph by its number, from 0 on. Whether there is one is seen where something of it is asked for."""
+        if number < 0:
+            raise IndexError(number)
+        return VariableGlyph(self, number)
+
+    def __getitem__(self, number: int) -> VariableGlyph:
+        return self.glyph(number)
+
+    def glyph_of(self, character: str) -> VariableGlyph:
+        """The glyph of a character: the glyph 0 where it has none. Refused with `Status.NO_MAP`."""
+        return VariableGlyph(self, self.font.cmap._glyph(ord(character)))
+
+
+class VariableGlyph:
+    """A glyph of a variable font at a place. It is drawn where something of it is asked for.
+
+    Refused with `Status.NO_GLYPH`, also where it has no Font DICT that stands; with `Status.TOO_LONG` where the limit is used up; with
+    `CUT_AVAR` and `UNKNOWN_AVAR`, or from `CFF2_HEADER` to `CFF2_DATA`, where a table is refused; and with what a run is refused with."""
+
+    def __init__(self, place: Place, number: int) -> None:
+        #: the place, and the number in the font, from 0 on
+        self.place, self.number = place, number
+        self._drawn: Optional[Tuple[List[Segment], _Bounds]] = None
+
+    def __repr__(self) -> str:
+        return f"VariableGlyph({self.number})"
+
+    def _lent(self) -> Tuple[Any, ...]:
+        font, numbers = self.place.font, self.place._numbers
+        return (*font._view.told, font.face, numbers, len(numbers), self.number)
+
+    def _told(self) -> Tuple[List[Segment], _Bounds]:
+        if self._drawn is None:
+            self._drawn = self._draw()
+        return self._drawn
+
+    def _draw(self) -> Tuple[List[Segment], _Bounds]:
+        room, count, bounds = 64, c_size_t(), _Bounds()
+        while True:
+            segments = (_Segment * room)()
+            limit = self.place.font.limit
+            status = _library.psf_variable_outline(*self._lent(), limit, segments, room, byref(count), byref(bounds))
+            if status == Status.OK:
+                return [_segment(s) for s in segments[: count.value]], bounds
+            if status != Status.NO_ROOM:
+                raise Error(status, glyph=self.number)
+            room = count.value
+
+    @property
+    def segments(self) -> List[Segment]:
+        """The outline: contours, each from a `moveTo` to a `closePath`."""
+        return self._told()[0]
+
+    @property
+    def advance(self) -> float:
+        """The width, in units of the font: that of `hmtx`, and what `HVAR` adds, to the nearest unit. Refused with `Status.NO_TABLE`,
+        `NO_ADVANCES`, `CUT_HVAR` and `UNKNOWN_HVAR` too."""
+        advance = c_int64()
+        _checked(_library.psf_variable_advance(*self._lent(), byref(advance)), self.number)
+        return float(advance.value)
+
+    @property
+    def bounds(self) -> Optional[Bounds]:
+        """The bounds of all points, control points too. None where there is no point."""
+        return _bounds(self._told()[1])
+
+    def draw(self, pen: Pen) -> None:
+        """Draws the outline with a pen of fontTools."""
+        draw(self.segments, pen)
+
+    def svg_path(self) -> str:
+        """The path data of an SVG picture. Its y axis goes up, as that of the font, so show it under `scale(1 -1)`."""
+        return _path(self.segments)
+
+
+def _path(segments: Iterable[Segment]) -> str:
+    letters = {"moveTo": "M", "lineTo": "L", "curveTo": "C", "closePath": "Z"}
+    return "".join(letters[method] + " ".join(f"{n:.10g}" for point in points for n in point) for method, points in segments)
 
 
 def _bounds(told: Union[_Glyph, _Bounds]) -> Optional[Bounds]:

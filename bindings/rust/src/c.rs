@@ -89,6 +89,27 @@ impl Operation {
     }
 }
 
+/// `psf_axis`.
+#[repr(C)]
+#[derive(Clone, Copy, Debug, Default)]
+pub struct Axis {
+    pub tag: u32,
+    pub minimum: i32,
+    pub default_value: i32,
+    pub maximum: i32,
+    pub is_hidden: u32,
+    pub name: u32,
+}
+
+/// `psf_instance`.
+#[repr(C)]
+#[derive(Clone, Copy, Debug, Default)]
+pub struct Instance {
+    pub name: u32,
+    pub flags: u32,
+    pub postscript_name: i32,
+}
+
 /// `psf_refusal`.
 #[repr(C)]
 #[derive(Clone, Copy, Debug, Default)]
@@ -210,6 +231,46 @@ extern "C" {
         name: *const u8,
         name_length: usize,
         glyph: *mut usize,
+    ) -> i32;
+    fn psf_variation_axis(
+        file: *const u8,
+        length: usize,
+        face: usize,
+        i: usize,
+        axis: *mut Axis,
+        count: *mut usize,
+    ) -> i32;
+    fn psf_variation_instance(
+        file: *const u8,
+        length: usize,
+        face: usize,
+        i: usize,
+        instance: *mut Instance,
+        coordinates: *mut i32,
+        room: usize,
+        count: *mut usize,
+    ) -> i32;
+    fn psf_variable_outline(
+        file: *const u8,
+        length: usize,
+        face: usize,
+        coordinates: *const i32,
+        named: usize,
+        glyph: usize,
+        limit: u64,
+        segments: *mut Segment,
+        room: usize,
+        count: *mut usize,
+        bounds: *mut Bounds,
+    ) -> i32;
+    fn psf_variable_advance(
+        file: *const u8,
+        length: usize,
+        face: usize,
+        coordinates: *const i32,
+        named: usize,
+        glyph: usize,
+        advance: *mut i64,
     ) -> i32;
 }
 
@@ -371,6 +432,76 @@ pub fn named_glyph(cff: &[u8], name: &[u8]) -> Result<usize> {
     let status =
         unsafe { psf_named_glyph(cff.as_ptr(), cff.len(), name.as_ptr(), name.len(), &mut glyph) };
     answered(status, glyph)
+}
+
+/// An axis of a face of a file, and how many there are.
+pub fn axis(file: &[u8], face: usize, i: usize) -> Result<(Axis, usize)> {
+    let (mut axis, mut count) = (Axis::default(), 0);
+    let status = unsafe { psf_variation_axis(file.as_ptr(), file.len(), face, i, &mut axis, &mut count) };
+    answered(status, (axis, count))
+}
+
+/// A named instance of a face of a file, and its coordinates.
+pub fn instance(file: &[u8], face: usize, i: usize) -> Result<(Instance, Vec<i32>)> {
+    let (mut instance, mut coordinates) = (Instance::default(), Vec::new());
+    with_room(&mut coordinates, 8, 0, |room, count| unsafe {
+        psf_variation_instance(
+            file.as_ptr(),
+            file.len(),
+            face,
+            i,
+            &mut instance,
+            room.as_mut_ptr(),
+            room.len(),
+            count,
+        )
+    })?;
+    Ok((instance, coordinates))
+}
+
+/// What is drawn of a glyph of a face of a file at a place, and the bounds of its points.
+pub fn variable_outline(
+    file: &[u8],
+    face: usize,
+    coordinates: &[i32],
+    glyph: usize,
+    limit: u64,
+    segments: &mut Vec<Segment>,
+) -> Result<Bounds> {
+    let mut bounds = Bounds::default();
+    with_room(segments, 64, Segment::default(), |room, count| unsafe {
+        psf_variable_outline(
+            file.as_ptr(),
+            file.len(),
+            face,
+            coordinates.as_ptr(),
+            coordinates.len(),
+            glyph,
+            limit,
+            room.as_mut_ptr(),
+            room.len(),
+            count,
+            &mut bounds,
+        )
+    })?;
+    Ok(bounds)
+}
+
+/// The advance of a glyph of a face of a file at a place.
+pub fn variable_advance(file: &[u8], face: usize, coordinates: &[i32], glyph: usize) -> Result<i64> {
+    let mut advance = 0;
+    let status = unsafe {
+        psf_variable_advance(
+            file.as_ptr(),
+            file.len(),
+            face,
+            coordinates.as_ptr(),
+            coordinates.len(),
+            glyph,
+            &mut advance,
+        )
+    };
+    answered(status, advance)
 }
 
 /// The operations of a glyph, and the operands of all of them.

@@ -117,6 +117,44 @@ pub enum Error {
     NoComponent = 49,
     /// The base or the accent of an accented glyph is accented itself.
     NestedAccent = 50,
+    /// The font has no such axis.
+    NoAxis = 51,
+    /// The font has no such named instance.
+    NoInstance = 52,
+    /// There are more coordinates than axes.
+    TooManyCoordinates = 53,
+    /// The table fvar is cut.
+    CutFvar = 54,
+    /// The table fvar is of no format that is known.
+    UnknownFvar = 55,
+    /// The table avar is cut.
+    CutAvar = 56,
+    /// The table avar is of no format that is known.
+    UnknownAvar = 57,
+    /// The table HVAR is cut.
+    CutHvar = 58,
+    /// The table HVAR is of no format that is known.
+    UnknownHvar = 59,
+    /// The tables hhea and hmtx tell no advances.
+    NoAdvances = 60,
+    /// The table CFF2 has no header.
+    Cff2Header = 61,
+    /// The table CFF2 is of another version than 2.
+    Cff2Version = 62,
+    /// The Top DICT of the table CFF2 is cut.
+    Cff2Dictionary = 63,
+    /// The Global Subr INDEX of the table CFF2 is cut or malformed.
+    Cff2Subroutines = 64,
+    /// The Top DICT of the table CFF2 tells no offset of a part.
+    Cff2Offset = 65,
+    /// An INDEX that the Top DICT of the table CFF2 names is cut or malformed.
+    Cff2Index = 66,
+    /// FDSelect of the table CFF2 is cut, or of another format than 0, 3 and 4.
+    Cff2Select = 67,
+    /// The variation store of the table CFF2 is cut, or of another format than 1.
+    Cff2Store = 68,
+    /// Item variation data of the table CFF2 do not stand in its store.
+    Cff2Data = 69,
     /// A status that this crate does not know.
     Other = -1,
     /// The library that is linked is of another version than this crate: no font is opened.
@@ -124,7 +162,7 @@ pub enum Error {
 }
 
 /// All that have a number.
-const ERRORS: [Error; 45] = [
+const ERRORS: [Error; 64] = [
     Error::UnexpectedEof,
     Error::Memory,
     Error::MalformedOffset,
@@ -170,6 +208,25 @@ const ERRORS: [Error; 45] = [
     Error::NoAccents,
     Error::NoComponent,
     Error::NestedAccent,
+    Error::NoAxis,
+    Error::NoInstance,
+    Error::TooManyCoordinates,
+    Error::CutFvar,
+    Error::UnknownFvar,
+    Error::CutAvar,
+    Error::UnknownAvar,
+    Error::CutHvar,
+    Error::UnknownHvar,
+    Error::NoAdvances,
+    Error::Cff2Header,
+    Error::Cff2Version,
+    Error::Cff2Dictionary,
+    Error::Cff2Subroutines,
+    Error::Cff2Offset,
+    Error::Cff2Index,
+    Error::Cff2Select,
+    Error::Cff2Store,
+    Error::Cff2Data,
 ];
 
 impl Error {

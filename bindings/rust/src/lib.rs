@@ -1,4 +1,4 @@
-//! Fonts of the Compact Font Format (`.otf` files with a table `CFF `) and the outlines of their glyphs.
+//! Fonts of the Compact Font Format (`.otf` files with a table `CFF ` or `CFF2`) and the outlines of their glyphs.
 //!
 //! The work is done by a static library that is proved: over any bytes each call returns, reads nothing outside them, and
 //! answers what the specification says. This crate declares its functions and gives them the habits of Rust. What is left to
@@ -9,6 +9,16 @@
 //! let font = postscript::Font::from_file(&bytes, 0)?;
 //! let glyph = font.glyph_index('A').expect("the font has an A");
 //! println!("{}", font.outline(glyph)?.svg_path());
+//! # Ok::<(), Box<dyn std::error::Error>>(())
+//! ```
+//!
+//! A variable font, which has a table `CFF2`, is a [`VariableFont`]:
+//!
+//! ```
+//! let bytes = std::fs::read("examples/variable.otf")?;
+//! let font = postscript::VariableFont::from_file(&bytes, 0)?;
+//! let glyph = font.glyph_index('A').expect("the font has an A");
+//! println!("{}", font.at(&[(*b"wght", 650.0)])?.outline(glyph)?.svg_path());
 //! # Ok::<(), Box<dyn std::error::Error>>(())
 //! ```
 //!
@@ -24,6 +34,7 @@ mod c;
 mod error;
 mod operation;
 mod outline;
+mod variable;
 mod write;
 
 use alloc::vec::Vec;
@@ -32,6 +43,7 @@ use core::ops::Range;
 pub use error::{Error, Result};
 pub use operation::Operation;
 pub use outline::{Bounds, Glyph, Outline, OutlineSink, Point, Segment};
+pub use variable::{Axis, Instance, Place, VariableFont};
 pub use write::WriteError;
 
 /// The version of the linked library: its major, minor and patch number.

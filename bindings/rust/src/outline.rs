@@ -164,6 +164,15 @@ impl Outline {
         }
     }
 
+    /// The outline of a glyph at a place: its advance is in units of the font.
+    pub(crate) fn at_place(segments: &[c::Segment], advance: i64, bounds: c::Bounds) -> Outline {
+        Outline {
+            segments: segments.iter().map(segment).collect(),
+            advance: advance as f64,
+            bounds: Bounds::of(bounds),
+        }
+    }
+
     /// What is told of the glyph besides its outline.
     ///
     /// ```

@@ -2,7 +2,7 @@
 use Rattle.std.specs.Prelude.{◌≡◌, ◌⊎◌, ℕ, ℤ, pos, negsuc, List, [], ◌∷◌, Option, Some, None, codes, slice_get}
 use Rattle.postscript_c.specs.Texts.{HandsOver, Lent}
 
--- the texts of the statuses, from 0 to 50
+-- the texts of the statuses, from 0 to 69
 abbrev pub texts : List (List ℕ)
 texts =
     codes "done" ∷
@@ -55,7 +55,26 @@ texts =
     codes "an accented glyph names no codes" ∷
     codes "a CID-keyed font has no accented glyphs" ∷
     codes "no glyph is the base or the accent" ∷
-    codes "the base or the accent is accented itself" ∷ []
+    codes "the base or the accent is accented itself" ∷
+    codes "no such axis" ∷
+    codes "no such named instance" ∷
+    codes "there are more coordinates than axes" ∷
+    codes "the table fvar is cut" ∷
+    codes "the table fvar is of no known format" ∷
+    codes "the table avar is cut" ∷
+    codes "the table avar is of no known format" ∷
+    codes "the table HVAR is cut" ∷
+    codes "the table HVAR is of no known format" ∷
+    codes "the tables hhea and hmtx tell no advances" ∷
+    codes "the table CFF2 has no header" ∷
+    codes "the table CFF2 is of another version than 2" ∷
+    codes "the table CFF2 has no Top DICT" ∷
+    codes "the table CFF2 has no global subroutines" ∷
+    codes "an operator of the Top DICT of CFF2 tells no offset" ∷
+    codes "an INDEX that the Top DICT of CFF2 names does not stand" ∷
+    codes "FDSelect of the table CFF2 does not stand" ∷
+    codes "the variation store of the table CFF2 does not stand" ∷
+    codes "item variation data of the table CFF2 do not stand" ∷ []
 
 abbrev pub text_of : (status : ℤ) → Option (List ℕ)
 text_of (pos n) = slice_get texts n

@@ -6,7 +6,7 @@ use crate::status::{NO_MAP, NO_TABLE};
 use postscript_sfnt::{CharacterMap, Error, FontFile, faces};
 
 /// The number of a refusal of a file, from 33 to 35.
-fn file_status(e: Error) -> i32
+pub(crate) fn file_status(e: Error) -> i32
     ensures { result ≡ pos (file_code e) }
 {
     match e {

@@ -27,7 +27,7 @@ pub(crate) fn hand_over<T: Copy>(items: &[T], room: &mut [T], count: &mut usize)
 }
 
 /// The texts of all statuses, from 0 on.
-const TEXTS: [&str; 51] = [
+const TEXTS: [&str; 70] = [
     "done",
     "failed to fill whole buffer",
     "found a fault of the tape",
@@ -79,6 +79,25 @@ const TEXTS: [&str; 51] = [
     "a CID-keyed font has no accented glyphs",
     "no glyph is the base or the accent",
     "the base or the accent is accented itself",
+    "no such axis",
+    "no such named instance",
+    "there are more coordinates than axes",
+    "the table fvar is cut",
+    "the table fvar is of no known format",
+    "the table avar is cut",
+    "the table avar is of no known format",
+    "the table HVAR is cut",
+    "the table HVAR is of no known format",
+    "the tables hhea and hmtx tell no advances",
+    "the table CFF2 has no header",
+    "the table CFF2 is of another version than 2",
+    "the table CFF2 has no Top DICT",
+    "the table CFF2 has no global subroutines",
+    "an operator of the Top DICT of CFF2 tells no offset",
+    "an INDEX that the Top DICT of CFF2 names does not stand",
+    "FDSelect of the table CFF2 does not stand",
+    "the variation store of the table CFF2 does not stand",
+    "item variation data of the table CFF2 do not stand",
 ];
 
 /// The text at a place of a table, if there is one.

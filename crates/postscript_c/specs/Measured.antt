@@ -1,0 +1,108 @@
+-- What C is told of the advance of a glyph of a variable font at a place of its design space (OpenType 1.9, "hmtx - Horizontal Metrics
+-- Table", "HVAR - Horizontal Metrics Variations Table").
+use Rattle.std.specs.Prelude.{◌≡◌, ◌⊎◌, ℕ, ◌≤◌, ℤ, pos, ◌+ℤ◌, List, codes, Option, Some, None, Result, Ok, Err}
+use Rattle.std.specs.Int.{saturate_signed, w64}
+use Rattle.postscript_base.specs.Numbers.{big_endian}
+use Rattle.postscript_c.specs.Faces.{TellsOfFace}
+use Rattle.postscript_c.specs.Placed.{AreCoordinatesAt, IsUnplaced, unplaced_code}
+use Rattle.postscript_c.specs.declared.measured.Unmeasured.{Unmeasured}
+use Rattle.postscript_c.specs.declared.measured.Unmeasured.TheVariants.{NoGlyph, NoTable, NoAdvances, NoPlace, BadVariations}
+use Rattle.postscript_sfnt.specs.Lent.{HasNoTable, IsTableOf, AreAdvancesOf as AreRowsOf, advance_in}
+use Rattle.postscript_sfnt.specs.Metrics.{HasAdvances as HasRows}
+use Rattle.postscript_sfnt.specs.declared.file.FontFile.{FontFile}
+use Rattle.postscript_sfnt.specs.declared.metrics.Advances.{Advances}
+use Rattle.postscript_variation.specs.LentAdvances.{AdvanceVariesBy, AreAdvancesOf, HasNoAdvance, in_whole}
+use Rattle.postscript_variation.specs.Refusals.{NoAdvances as HasNoVariations}
+use Rattle.postscript_variation.specs.declared.advances.AdvanceVariations.{AdvanceVariations}
+use Rattle.postscript_variation.specs.declared.error.Error.{Error}
+use Rattle.postscript_variation.specs.declared.error.Error.TheVariants.{Cut, UnknownFormat}
+
+abbrev pub hhea : ℕ
+hhea = big_endian (codes "hhea")
+
+abbrev pub hmtx : ℕ
+hmtx = big_endian (codes "hmtx")
+
+abbrev pub hvar : ℕ
+hvar = big_endian (codes "HVAR")
+
+-- the two tables of a face that tell the advances of its default
+pub record HasTables (file : FontFile) (header metrics : List ℕ) : Type 0 where
+  pub has_header : IsTableOf file hhea header
+  pub has_metrics : IsTableOf file hmtx metrics
+
+-- these advances
+abbrev pub HasAdvances : FontFile → Advances → Type 0
+HasAdvances file advances = (header : List ℕ) × (metrics : List ℕ) × HasTables file header metrics × AreRowsOf header metrics advances
+
+-- why it has none: a table lacks, or they tell none
+abbrev pub LacksAdvances : FontFile → Unmeasured → Type 0
+LacksAdvances file NoTable = HasNoTable file hhea ⊎ HasNoTable file hmtx
+LacksAdvances file NoAdvances =
+    (header : List ℕ) × (metrics : List ℕ) × HasTables file header metrics × ((count : ℕ) → HasRows header metrics count → ⊥)
+LacksAdvances file NoGlyph = ⊥
+LacksAdvances file (NoPlace e) = ⊥
+LacksAdvances file (BadVariations e) = ⊥
+
+-- the variations of the advances of a face; none where it has no table `HVAR`
+abbrev pub HasVariations : FontFile → Option AdvanceVariations → Type 0
+HasVariations file None = HasNoTable file hvar
+HasVariations file (Some variations) = (table : List ℕ) × IsTableOf file hvar table × AreAdvancesOf table variations
+
+-- why its table `HVAR` is refused
+abbrev pub HasBadVariations : FontFile → Error → Type 0
+HasBadVariations file e = (table : List ℕ) × IsTableOf file hvar table × HasNoVariations e table
+
+-- What is added to the advance of a glyph at normalized coordinates: what it varies by, to the nearest unit; 0 where nothing is told of it.
+abbrev pub IsAdded : Option AdvanceVariations → (glyph : ℕ) → (coordinates : List ℤ) → (added : ℤ) → Type 0
+IsAdded None glyph coordinates added = added ≡ pos 0
+IsAdded (Some variations) glyph coordinates added =
+    ((total : ℤ) × AdvanceVariesBy variations glyph coordinates total × (added ≡ in_whole total))
+    ⊎ (HasNoAdvance variations glyph × (added ≡ pos 0))
+
+-- the advance of a glyph of a face at the place that values name, in units of the em, as far as 64 bits go
+pub record IsAdvanceAt (file : FontFile) (values : List ℤ) (glyph : ℕ) (advance : ℤ) : Type 0 where
+  pub advances : Advances
+  pub variations : Option AdvanceVariations
+  pub coordinates : List ℤ
+  pub added : ℤ
+  pub has_advances : HasAdvances file advances
+  pub has_variations : HasVariations file variations
+  pub are : AreCoordinatesAt file values coordinates
+  pub adds : IsAdded variations glyph coordinates added
+  pub sum : advance ≡ saturate_signed w64 (pos (advance_in advances glyph) +ℤ added)
+
+-- what is answered: this; or that no glyph has such a number, or why it is not told
+abbrev pub IsMeasured : FontFile → (values : List ℤ) (glyph : ℕ) → Result ℤ Unmeasured → Type 0
+IsMeasured file values glyph (Ok advance) = IsAdvanceAt file values glyph advance
+IsMeasured file values glyph (Err NoGlyph) = 65536 ≤ glyph
+IsMeasured file values glyph (Err NoTable) = LacksAdvances file NoTable
+IsMeasured file values glyph (Err NoAdvances) = LacksAdvances file NoAdvances
+IsMeasured file values glyph (Err (NoPlace e)) = IsUnplaced file values e
+IsMeasured file values glyph (Err (BadVariations e)) = HasBadVariations file e
+
+-- the numbers of refusals
+abbrev pub variations_code : Error → ℕ
+variations_code Cut = 58
+variations_code UnknownFormat = 59
+
+abbrev pub unmeasured_code : Unmeasured → ℕ
+unmeasured_code NoGlyph = 31
+unmeasured_code NoTable = 36
+unmeasured_code NoAdvances = 60
+unmeasured_code (NoPlace e) = unplaced_code e
+unmeasured_code (BadVariations e) = variations_code e
+
+-- What C is told of an answer: the advance on 0, or a refusal by its number, which leaves what was there.
+abbrev pub TellsAdvance : Result ℤ Unmeasured → (status old new : ℤ) → Type 0
+TellsAdvance (Ok advance) status old new = (status ≡ pos 0) × (new ≡ advance)
+TellsAdvance (Err e) status old new = (status ≡ pos (unmeasured_code e)) × (new ≡ old)
+
+abbrev pub TellsMeasuredOf : FontFile → (values : List ℤ) (glyph : ℕ) (status old new : ℤ) → Type 0
+TellsMeasuredOf file values glyph status old new =
+    (answer : Result ℤ Unmeasured) × IsMeasured file values glyph answer × TellsAdvance answer status old new
+
+-- what C is told of the advance of a glyph of a face of a file, at the place that values name
+abbrev pub TellsMeasured : (bytes : List ℕ) (face : ℕ) (values : List ℤ) (glyph : ℕ) (status old new : ℤ) → Type 0
+TellsMeasured bytes face values glyph status old new =
+    TellsOfFace bytes face status (λ file. TellsMeasuredOf file values glyph status old new) (new ≡ old)

@@ -1,0 +1,159 @@
+-- What C is told of the outline of a glyph of a variable font at a place of its design space (OpenType 1.9, "CFF2 - Compact Font Format
+-- (CFF) version 2").
+use Rattle.std.specs.Prelude.{◌≡◌, ◌≢◌, ◌⊎◌, ℕ, ◌<◌, ℤ, pos, List, [], ◌++◌, codes, drop, length, map, Option, Some, None, Result, Ok, Err, IfOk, IfErr}
+use Rattle.postscript_base.specs.Numbers.{big_endian}
+use Rattle.postscript_c.specs.Answers.{sides_of, undrawn_code}
+use Rattle.postscript_c.specs.Costs.{CostsBeyond, CostsWithin}
+use Rattle.postscript_c.specs.Faces.{TellsOfFace}
+use Rattle.postscript_c.specs.Placed.{AreCoordinatesAt, IsUnplaced, unplaced_code}
+use Rattle.postscript_c.specs.Segments.{shown}
+use Rattle.postscript_c.specs.declared.fill.PsfSegment.{PsfSegment}
+use Rattle.postscript_c.specs.declared.place.Unplaced.TheVariants as unplaced
+use Rattle.postscript_c.specs.declared.tight.PsfBounds.{PsfBounds}
+use Rattle.postscript_c.specs.declared.varied.Unvaried.{Unvaried}
+use Rattle.postscript_c.specs.declared.varied.Unvaried.TheVariants.{NoTable, BadTable, NoPlace, NoData, FarPlace, Undrawn}
+use Rattle.postscript_cff2.specs.Causes.{NoFont}
+use Rattle.postscript_cff2.specs.Layout.{IsLaidOut}
+use Rattle.postscript_cff2.specs.Shown.{view_shown}
+use Rattle.postscript_cff2.specs.declared.error.Error as tables
+use Rattle.postscript_cff2.specs.declared.error.Error.TheVariants.{Header, Version, Dictionary, Subroutines, Offset, Index, Select, Store}
+use Rattle.postscript_cff2.specs.declared.font.Font.{Font}
+use Rattle.postscript_drawing.specs.declared.error.Error.{Error}
+use Rattle.postscript_drawing.specs.declared.error.Error.TheVariants.{TooLong}
+use Rattle.postscript_outline.specs.Bounds.{IsBoundsOf, points}
+use Rattle.postscript_outline.specs.declared.segment.Segment.{Segment}
+use Rattle.postscript_sfnt.specs.Lent.{HasNoTable, IsTableOf}
+use Rattle.postscript_sfnt.specs.declared.file.FontFile.{FontFile}
+use Rattle.postscript_variable_drawing.specs.Glyphs.{DrawsGlyph, IsGlyphUndrawn, SpendsOnGlyph, SufficesFor}
+use Rattle.postscript_variable_font.specs.Places.{AreTables, LacksData}
+use Rattle.postscript_variable_font.specs.declared.place.Place.{Place}
+use Rattle.postscript_variation.specs.Lent.{table_count}
+use Rattle.postscript_variation.specs.declared.store.Store as stores
+
+abbrev pub cff2 : ℕ
+cff2 = big_endian (codes "CFF2")
+
+-- the font of a face is that of its table `CFF2`
+pub record HasFont (file : FontFile) (font : Font) : Type 0 where
+  pub table : List ℕ
+  pub there : IsTableOf file cff2 table
+  pub lent : font.bytes.now ≡ table
+  pub laid_out : IsLaidOut table (view_shown font)
+
+-- a place has the scalars of all item variation data of a store, which cost no more than a limit; none where there is no store
+abbrev pub IsPlaceIn : (limit : ℕ) → Option stores.Store → (coordinates : List ℤ) → Place → Type 0
+IsPlaceIn limit None coordinates place = place.tables.items ≡ []
+IsPlaceIn limit (Some store) coordinates place = CostsWithin store limit × AreTables store coordinates (table_count store) place.tables.items
+
+-- the place of a font of a face that these values name
+pub record IsPlaceAt (limit : ℕ) (file : FontFile) (font : Font) (values : List ℤ) (place : Place) : Type 0 where
+  pub coordinates : List ℤ
+  pub are : AreCoordinatesAt file values coordinates
+  pub is : IsPlaceIn limit font.store coordinates place
+
+-- Within a limit a glyph draws these segments at a place, or why it does not. What was read of its charstring is paid, all of it where it is
+-- drawn; and where its run costs less than the limit, it is not too long.
+pub record IsDrawnWithin (limit : ℕ) (font : Font) (glyph : ℕ) (place : Place) (answer : Result (List Segment) Error) : Type 0 where
+  pub left : ℕ
+  pub drawn : IfOk answer (λ segments. DrawsGlyph font glyph place segments)
+  pub why : IfErr answer (λ e. IsGlyphUndrawn font glyph place left e)
+  pub spends : SpendsOnGlyph font glyph place limit left answer
+  pub suffices : IfErr answer (λ e. SufficesFor font glyph place limit → e ≢ TooLong)
+
+-- so it is with a glyph of a face at the place that values name
+abbrev pub IsDrawnAt : FontFile → (values : List ℤ) (glyph limit : ℕ) → Result (List Segment) Error → Type 0
+IsDrawnAt file values glyph limit answer =
+    (font : Font) × (place : Place) × HasFont file font × IsPlaceAt limit file font values place × IsDrawnWithin limit font glyph place answer
+
+-- why a face has no font: it has no table `CFF2`, or this is refused
+abbrev pub HasNoFont : FontFile → Unvaried → Type 0
+HasNoFont file NoTable = HasNoTable file cff2
+HasNoFont file (BadTable e) = (table : List ℕ) × IsTableOf file cff2 table × NoFont e table
+HasNoFont file (NoPlace e) = ⊥
+HasNoFont file (NoData number) = ⊥
+HasNoFont file FarPlace = ⊥
+HasNoFont file (Undrawn e) = ⊥
+
+-- why a store has no place: memory is wanting, item variation data do not stand, or all scalars cost more than the limit
+abbrev pub HasNoPlaceIn : (limit : ℕ) → stores.Store → Unvaried → Type 0
+HasNoPlaceIn limit store NoTable = ⊥
+HasNoPlaceIn limit store (BadTable e) = ⊥
+HasNoPlaceIn limit store (NoPlace e) = e ≡ unplaced.Memory
+HasNoPlaceIn limit store (NoData number) = LacksData store number
+HasNoPlaceIn limit store FarPlace = CostsBeyond store limit
+HasNoPlaceIn limit store (Undrawn e) = ⊥
+
+-- why values name no place of a font: they name none of the face, or the store of the font has none
+abbrev pub NamesNoPlace : (limit : ℕ) → FontFile → Font → (values : List ℤ) → Unvaried → Type 0
+NamesNoPlace limit file font values NoTable = ⊥
+NamesNoPlace limit file font values (BadTable e) = ⊥
+NamesNoPlace limit file font values (NoPlace e) = IsUnplaced file values e
+NamesNoPlace limit file font values (NoData number) = (store : stores.Store) × (font.store ≡ Some store) × LacksData store number
+NamesNoPlace limit file font values FarPlace = (store : stores.Store) × (font.store ≡ Some store) × CostsBeyond store limit
+NamesNoPlace limit file font values (Undrawn e) = ⊥
+
+-- What is answered: what the glyph draws; or why it does not, or there is no font, or no place.
+abbrev pub IsVaried : FontFile → (values : List ℤ) (glyph limit : ℕ) → Result (List Segment) Unvaried → Type 0
+IsVaried file values glyph limit (Ok segments) = IsDrawnAt file values glyph limit (Ok segments)
+IsVaried file values glyph limit (Err NoTable) = HasNoFont file NoTable
+IsVaried file values glyph limit (Err (BadTable e)) = HasNoFont file (BadTable e)
+IsVaried file values glyph limit (Err (NoPlace e)) = IsUnplaced file values e
+IsVaried file values glyph limit (Err (NoData number)) = (font : Font) × HasFont file font × NamesNoPlace limit file font values (NoData number)
+IsVaried file values glyph limit (Err FarPlace) = (font : Font) × HasFont file font × NamesNoPlace limit file font values FarPlace
+IsVaried file values glyph limit (Err (Undrawn e)) = IsDrawnAt file values glyph limit (Err e)
+
+-- the numbers of refusals
+abbrev pub table_code : tables.Error → ℕ
+table_code Header = 61
+table_code Version = 62
+table_code (Dictionary place) = 63
+table_code (Subroutines place) = 64
+table_code (Offset operator) = 65
+table_code (Index operator place) = 66
+table_code (Select place) = 67
+table_code (Store place) = 68
+
+abbrev pub unvaried_code : Unvaried → ℕ
+unvaried_code NoTable = 36
+unvaried_code (BadTable e) = table_code e
+unvaried_code (NoPlace e) = unplaced_code e
+unvaried_code (NoData number) = 69
+unvaried_code FarPlace = 46
+unvaried_code (Undrawn e) = undrawn_code e
+
+-- what C lends to be told of an outline, as it stands at one time
+pub record OutlineRoom : Type 0 where
+  pub segments : List PsfSegment
+  pub count : ℕ
+  pub bounds : PsfBounds
+
+abbrev pub outline_room : List PsfSegment → ℕ → PsfBounds → OutlineRoom
+outline_room segments count bounds = record { segments = segments; count = count; bounds = bounds }
+
+-- bounds are 0 where there is no point
+abbrev pub AreZeros : PsfBounds → Type 0
+AreZeros told = told.has_bounds ≡ 0 → (told.left ≡ pos 0) × (told.bottom ≡ pos 0) × (told.right ≡ pos 0) × (told.top ≡ pos 0)
+
+-- The number of segments is told, and the bounds of their points. On 0 they stand at the front of the room, and what is behind them stays;
+-- on 32 they are more than the room, which stays.
+pub record HandsOutline (segments : List Segment) (status : ℤ) (old new : OutlineRoom) : Type 0 where
+  pub counted : new.count ≡ length segments
+  pub bounds : IsBoundsOf (sides_of new.bounds) (points segments)
+  pub zeros : AreZeros new.bounds
+  pub handed :
+      ((status ≡ pos 0) × (new.segments ≡ map shown segments ++ drop new.count old.segments))
+      ⊎ ((status ≡ pos 32) × (length old.segments < new.count) × (new.segments ≡ old.segments))
+
+-- What C is told of an answer: a refusal by its number, and then all is left as it was.
+abbrev pub TellsAnswer : Result (List Segment) Unvaried → (status : ℤ) → (old new : OutlineRoom) → Type 0
+TellsAnswer (Ok segments) status old new = HandsOutline segments status old new
+TellsAnswer (Err e) status old new = (status ≡ pos (unvaried_code e)) × (new ≡ old)
+
+abbrev pub TellsVariedOf : FontFile → (values : List ℤ) (glyph limit : ℕ) (status : ℤ) (old new : OutlineRoom) → Type 0
+TellsVariedOf file values glyph limit status old new =
+    (answer : Result (List Segment) Unvaried) × IsVaried file values glyph limit answer × TellsAnswer answer status old new
+
+-- what C is told of the outline of a glyph of a face of a file, at the place that values name
+abbrev pub TellsVaried : (bytes : List ℕ) (face : ℕ) (values : List ℤ) (glyph limit : ℕ) (status : ℤ) (old new : OutlineRoom) → Type 0
+TellsVaried bytes face values glyph limit status old new =
+    TellsOfFace bytes face status (λ file. TellsVariedOf file values glyph limit status old new) (new ≡ old)

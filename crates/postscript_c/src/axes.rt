@@ -1,0 +1,102 @@
+//! Axes of variable fonts.
+ghost use Rattle.std.specs.Prelude.{◌≡◌, pos, IfErr, IfOk};
+ghost use Rattle.postscript_c.specs.Axes.{HasAxes, HasBadAxes, TellsAxis, TellsAxisIn, TellsAxisOf, axes_code, axis_told, shown as the_shown};
+
+use crate::files::file_status;
+use crate::status::{NO_AXIS, NO_TABLE};
+use postscript_sfnt::FontFile;
+use postscript_variation::{Axes, Axis, Error, Result};
+
+/// An axis of a variable font. Its values are user coordinates, in 16.16 bits.
+#[repr(C)]
+#[derive(Clone, Copy)]
+pub struct PsfAxis {
+    /// The number of its four characters, the first one highest.
+    pub tag: u32,
+    pub minimum: i32,
+    pub default_value: i32,
+    pub maximum: i32,
+    /// 1 where it is not to be shown to users, else 0.
+    pub is_hidden: u32,
+    /// The identifier of its name in the table `name`.
+    pub name: u32,
+}
+
+/// An axis as C holds it.
+fn shown(axis: &Axis) -> PsfAxis
+    ensures { result ≡ the_shown axis.now }
+{
+    PsfAxis {
+        tag: axis.tag,
+        minimum: axis.minimum,
+        default_value: axis.default,
+        maximum: axis.maximum,
+        is_hidden: u32::from(axis.flags % 2),
+        name: u32::from(axis.name),
+    }
+}
+
+/// The axes and instances of a face. None where it has no table `fvar`.
+pub(crate) fn axes_of<'l>(file: &FontFile<'l>) -> Result<Option<Axes<'l>>>
+    ensures found { IfOk result (λ axes. HasAxes file.now axes) }
+    ensures why { IfErr result (λ e. HasBadAxes file.now e) }
+{
+    match file.table(*b"fvar") {
+        Some(fvar) => match Axes::read(fvar) {
+            Ok(axes) => Ok(Some(axes)),
+            Err(e) => Err(e),
+        },
+        None => Ok(None),
+    }
+}
+
+/// The number of a refusal of the table `fvar`.
+pub(crate) fn axes_status(e: Error) -> i32
+    ensures { result ≡ pos (axes_code e) }
+{
+    match e {
+        Error::Cut => 54,
+        Error::UnknownFormat => 55,
+    }
+}
+
+/// Tells one of the axes, and how many there are.
+fn tell_axis_in(axes: &Axes<'_>, i: usize, axis: &mut PsfAxis, count: &mut usize) -> i32
+    ensures { TellsAxisIn axes.now i result (axis_told axis.old count.old) (axis_told axis.new count.new) }
+{
+    *count = axes.len();
+    match axes.get(i) {
+        Some(found) => {
+            *axis = shown(&found);
+            0
+        }
+        None => NO_AXIS,
+    }
+}
+
+/// Tells an axis of a face.
+fn tell_axis_of(file: &FontFile<'_>, i: usize, axis: &mut PsfAxis, count: &mut usize) -> i32
+    ensures { TellsAxisOf file.now i result (axis_told axis.old count.old) (axis_told axis.new count.new) }
+{
+    match axes_of(file) {
+        Ok(Some(axes)) => tell_axis_in(&axes, i, axis, count),
+        Ok(None) => NO_TABLE,
+        Err(e) => axes_status(e),
+    }
+}
+
+/// Tells an axis of a face of a file.
+pub(crate) fn tell_axis(
+    bytes: &[u8],
+    face: usize,
+    i: usize,
+    axis: &mut PsfAxis,
+    count: &mut usize,
+) -> i32
+    ensures { TellsAxis bytes.now face i result (axis_told axis.old count.old) (axis_told axis.new count.new) }
+{
+    match FontFile::read(bytes, face) {
+        Ok(file) => tell_axis_of(&file, i, axis, count),
+        Err(e) => file_status(e),
+    }
+}

@@ -1,0 +1,263 @@
+//! Glyphs of variable fonts, drawn at a place of the design space.
+ghost use Rattle.std.specs.Prelude.{◌≡◌, [], pos, Some, IfErr, IfOk};
+ghost use Rattle.postscript_c.specs.Answers.{sides_of};
+ghost use Rattle.postscript_c.specs.VariedShown.{segments_of, sketch_shown};
+ghost use Rattle.postscript_c.specs.Varied.{AreZeros, HandsOutline, HasFont, HasNoFont, HasNoPlaceIn, IsDrawnWithin, IsPlaceAt, IsPlaceIn, IsVaried, NamesNoPlace, TellsAnswer, TellsVaried, TellsVariedOf, outline_room, table_code, unvaried_code};
+ghost use Rattle.postscript_outline.specs.Bounds.{IsBoundsOf, points};
+
+use crate::costs::is_within;
+use crate::files::file_status;
+use crate::fill::{PsfSegment, fill};
+use crate::place::{Unplaced, coordinates_at, unplaced_status};
+use crate::sketch::Sketch;
+use crate::status::{NO_DATA, NO_ROOM, NO_TABLE, TOO_LONG};
+use crate::tight::PsfBounds;
+use crate::told::undrawn_status;
+use postscript_cff2::{Error as TableError, Font};
+use postscript_drawing::Error as DrawingError;
+use postscript_sfnt::FontFile;
+use postscript_variable_drawing::draw_glyph;
+use postscript_variable_font::{Error as PlaceError, Place};
+use postscript_variation::Store;
+use std::alloc::Global;
+
+/// Why a glyph is not drawn at a place.
+#[derive(Drop)]
+pub(crate) enum Unvaried {
+    /// The face has no table `CFF2`.
+    NoTable,
+    /// The table `CFF2` is refused.
+    BadTable(TableError),
+    /// The place is not named.
+    NoPlace(Unplaced),
+    /// The item variation data of this number do not stand.
+    NoData(usize),
+    /// The scalars of a place cost more than the limit.
+    FarPlace,
+    /// The glyph is not drawn.
+    Undrawn(DrawingError),
+}
+
+/// The number of a refusal of the table `CFF2`.
+fn table_status(e: TableError) -> i32
+    ensures { result ≡ pos (table_code e) }
+{
+    match e {
+        TableError::Header => 61,
+        TableError::Version => 62,
+        TableError::Dictionary(_) => 63,
+        TableError::Subroutines(_) => 64,
+        TableError::Offset(_) => 65,
+        TableError::Index(_, _) => 66,
+        TableError::Select(_) => 67,
+        TableError::Store(_) => 68,
+    }
+}
+
+/// The number of a refusal.
+fn unvaried_status(e: &Unvaried) -> i32
+    ensures { result ≡ pos (unvaried_code e.now) }
+{
+    match e {
+        Unvaried::NoTable => NO_TABLE,
+        Unvaried::BadTable(cause) => table_status(*cause),
+        Unvaried::NoPlace(cause) => unplaced_status(cause),
+        Unvaried::NoData(_) => NO_DATA,
+        Unvaried::FarPlace => TOO_LONG,
+        Unvaried::Undrawn(cause) => undrawn_status(cause),
+    }
+}
+
+/// The font of a face.
+fn font_of<'l>(file: &FontFile<'l>) -> Result<Font<'l>, Unvaried>
+    ensures found { IfOk result (λ font. HasFont file.now font) }
+    ensures why { IfErr result (λ e. HasNoFont file.now e) }
+{
+    match file.table(*b"CFF2") {
+        Some(table) => match Font::read(table) {
+            Ok(font) => Ok(font),
+            Err(e) => Err(Unvaried::BadTable(e)),
+        },
+        None => Err(Unvaried::NoTable),
+    }
+}
+
+/// The place of a store at normalized coordinates, whose scalars cost no more than a limit.
+fn place_in(
+    alloc: Global,
+    store: &Store<'_>,
+    coordinates: &[i16],
+    limit: u64,
+) -> Result<Place, Unvaried>
+    ensures found { IfOk result (λ place. IsPlaceIn limit (Some store.now) coordinates.now place) }
+    ensures why { IfErr result (λ e. HasNoPlaceIn limit store.now e) }
+{
+    match is_within(store, limit) {
+        Ok(true) => match Place::of(alloc, Some(store), coordinates) {
+            Ok(place) => Ok(place),
+            Err(PlaceError::MissingData(number)) => Err(Unvaried::NoData(number)),
+            Err(PlaceError::Memory) => Err(Unvaried::NoPlace(Unplaced::Memory)),
+        },
+        Ok(false) => Err(Unvaried::FarPlace),
+        Err(number) => Err(Unvaried::NoData(number)),
+    }
+}
+
+/// The place of a font of a face that values name.
+#[tactic(auto, using(crate::proofs::Varying::none_in))]
+fn place_at(
+    alloc: Global,
+    file: &FontFile<'_>,
+    font: &Font<'_>,
+    values: &[i32],
+    limit: u64,
+) -> Result<Place, Unvaried>
+    ensures found { IfOk result (λ place. IsPlaceAt limit file.now font.now values.now place) }
+    ensures why { IfErr result (λ e. NamesNoPlace limit file.now font.now values.now e) }
+{
+    match coordinates_at(alloc, file, values) {
+        Ok(coordinates) => match font.store {
+            Some(store) => place_in(alloc, &store, &coordinates, limit),
+            None => Ok(Place {
+                tables: Vec::new(alloc),
+            }),
+        },
+        Err(e) => Err(Unvaried::NoPlace(e)),
+    }
+}
+
+/// Draws a glyph of a font at a place into an empty sketch, within a limit.
+fn draw_within(
+    alloc: Global,
+    font: &Font<'_>,
+    glyph: usize,
+    place: &Place,
+    limit: u64,
+    sketch: Sketch,
+) -> Result<Sketch, DrawingError>
+    requires { sketch.segments.items ≡ [] }
+    ensures { IsDrawnWithin limit font.now glyph place.now (sketch_shown result) }
+{
+    let mut drawn = sketch;
+    let mut left = limit;
+    match draw_glyph(alloc, font, glyph, place, &mut left, &mut drawn) {
+        Ok(()) => Ok(drawn),
+        Err(e) => Err(e),
+    }
+}
+
+/// What a glyph of a face draws at the place that values name.
+#[tactic(auto, using(crate::proofs::Varying::no_font, crate::proofs::Varying::no_place))]
+fn varied(
+    alloc: Global,
+    file: &FontFile<'_>,
+    values: &[i32],
+    glyph: usize,
+    limit: u64,
+) -> Result<Sketch, Unvaried>
+    ensures { IsVaried file.now values.now glyph limit (sketch_shown result) }
+{
+    let font = font_of(file)?;
+    let place = place_at(alloc, file, &font, values, limit)?;
+    let Ok(sketch) = Sketch::new(alloc) else {
+        return Err(Unvaried::NoPlace(Unplaced::Memory));
+    };
+    match draw_within(alloc, &font, glyph, &place, limit, sketch) {
+        Ok(drawn) => Ok(drawn),
+        Err(e) => Err(Unvaried::Undrawn(e)),
+    }
+}
+
+/// The bounds of all points of a sketch.
+fn bounds_of(sketch: &Sketch) -> PsfBounds
+    ensures bounds { IsBoundsOf (sides_of result) (points (segments_of sketch.now)) }
+    ensures zeros { AreZeros result }
+{
+    match sketch.bounds() {
+        Some(bounds) => PsfBounds {
+            left: bounds.low.x,
+            bottom: bounds.low.y,
+            right: bounds.high.x,
+            top: bounds.high.y,
+            has_bounds: 1,
+        },
+        None => PsfBounds {
+            left: 0,
+            bottom: 0,
+            right: 0,
+            top: 0,
+            has_bounds: 0,
+        },
+    }
+}
+
+/// Hands an outline over: 0, or `NO_ROOM`.
+fn hand(
+    sketch: &Sketch,
+    segments: &mut [PsfSegment],
+    count: &mut usize,
+    bounds: &mut PsfBounds,
+) -> i32
+    ensures { HandsOutline (segments_of sketch.now) result (outline_room segments.old count.old bounds.old) (outline_room segments.new count.new bounds.new) }
+{
+    let drawn = &sketch.segments;
+    *count = drawn.len();
+    *bounds = bounds_of(sketch);
+    if segments.len() < drawn.len() {
+        return NO_ROOM;
+    }
+    fill(drawn, segments);
+    0
+}
+
+/// Tells an answer.
+fn tell_answer(
+    answer: &Result<Sketch, Unvaried>,
+    segments: &mut [PsfSegment],
+    count: &mut usize,
+    bounds: &mut PsfBounds,
+) -> i32
+    ensures { TellsAnswer (sketch_shown answer.now) result (outline_room segments.old count.old bounds.old) (outline_room segments.new count.new bounds.new) }
+{
+    match answer {
+        Ok(sketch) => hand(sketch, segments, count, bounds),
+        Err(e) => unvaried_status(e),
+    }
+}
+
+/// Tells the outline of a glyph of a face at the place that values name.
+fn tell_varied_of(
+    alloc: Global,
+    file: &FontFile<'_>,
+    values: &[i32],
+    glyph: usize,
+    limit: u64,
+    segments: &mut [PsfSegment],
+    count: &mut usize,
+    bounds: &mut PsfBounds,
+) -> i32
+    ensures { TellsVariedOf file.now values.now glyph limit result (outline_room segments.old count.old bounds.old) (outline_room segments.new count.new bounds.new) }
+{
+    let answer = varied(alloc, file, values, glyph, limit);
+    tell_answer(&answer, segments, count, bounds)
+}
+
+/// Tells the same of a face of a file.
+pub(crate) fn tell_varied(
+    alloc: Global,
+    bytes: &[u8],
+    face: usize,
+    values: &[i32],
+    glyph: usize,
+    limit: u64,
+    segments: &mut [PsfSegment],
+    count: &mut usize,
+    bounds: &mut PsfBounds,
+) -> i32
+    ensures { TellsVaried bytes.now face values.now glyph limit result (outline_room segments.old count.old bounds.old) (outline_room segments.new count.new bounds.new) }
+{
+    match FontFile::read(bytes, face) {
+        Ok(file) => tell_varied_of(alloc, &file, values, glyph, limit, segments, count, bounds),
+        Err(e) => file_status(e),
+    }
+}
