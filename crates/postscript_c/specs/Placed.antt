@@ -51,7 +51,8 @@ pub record AreAlong (axes : Axes) (maps : Option Maps) (values : List ℤ) (coun
 -- those along all axes, for no more values than axes
 abbrev pub AreNormalized : Option Axes → Option Maps → (values coordinates : List ℤ) → Type 0
 AreNormalized None maps values coordinates = (values ≡ []) × (coordinates ≡ [])
-AreNormalized (Some axes) maps values coordinates = (length values ≤ axis_count axes) × AreAlong axes maps values (axis_count axes) coordinates
+AreNormalized (Some axes) maps values coordinates =
+    (length values ≤ axis_count axes) × AreAlong axes maps values (axis_count axes) coordinates
 
 -- the normalized coordinates of a place of a face
 pub record AreCoordinatesAt (file : FontFile) (values coordinates : List ℤ) : Type 0 where

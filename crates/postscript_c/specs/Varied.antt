@@ -43,7 +43,8 @@ pub record HasFont (file : FontFile) (font : Font) : Type 0 where
 -- a place has the scalars of all item variation data of a store, which cost no more than a limit; none where there is no store
 abbrev pub IsPlaceIn : (limit : ℕ) → Option stores.Store → (coordinates : List ℤ) → Place → Type 0
 IsPlaceIn limit None coordinates place = place.tables.items ≡ []
-IsPlaceIn limit (Some store) coordinates place = CostsWithin store limit × AreTables store coordinates (table_count store) place.tables.items
+IsPlaceIn limit (Some store) coordinates place =
+    CostsWithin store limit × AreTables store coordinates (table_count store) place.tables.items
 
 -- the place of a font of a face that these values name
 pub record IsPlaceAt (limit : ℕ) (file : FontFile) (font : Font) (values : List ℤ) (place : Place) : Type 0 where
@@ -63,7 +64,8 @@ pub record IsDrawnWithin (limit : ℕ) (font : Font) (glyph : ℕ) (place : Plac
 -- so it is with a glyph of a face at the place that values name
 abbrev pub IsDrawnAt : FontFile → (values : List ℤ) (glyph limit : ℕ) → Result (List Segment) Error → Type 0
 IsDrawnAt file values glyph limit answer =
-    (font : Font) × (place : Place) × HasFont file font × IsPlaceAt limit file font values place × IsDrawnWithin limit font glyph place answer
+    (font : Font) × (place : Place) × HasFont file font × IsPlaceAt limit file font values place
+    × IsDrawnWithin limit font glyph place answer
 
 -- why a face has no font: it has no table `CFF2`, or this is refused
 abbrev pub HasNoFont : FontFile → Unvaried → Type 0
@@ -98,7 +100,8 @@ IsVaried file values glyph limit (Ok segments) = IsDrawnAt file values glyph lim
 IsVaried file values glyph limit (Err NoTable) = HasNoFont file NoTable
 IsVaried file values glyph limit (Err (BadTable e)) = HasNoFont file (BadTable e)
 IsVaried file values glyph limit (Err (NoPlace e)) = IsUnplaced file values e
-IsVaried file values glyph limit (Err (NoData number)) = (font : Font) × HasFont file font × NamesNoPlace limit file font values (NoData number)
+IsVaried file values glyph limit (Err (NoData number)) =
+    (font : Font) × HasFont file font × NamesNoPlace limit file font values (NoData number)
 IsVaried file values glyph limit (Err FarPlace) = (font : Font) × HasFont file font × NamesNoPlace limit file font values FarPlace
 IsVaried file values glyph limit (Err (Undrawn e)) = IsDrawnAt file values glyph limit (Err e)
 

@@ -69,7 +69,8 @@ fn tell_instance_in(
     room: &mut [i32],
     count: &mut usize,
 ) -> i32
-    ensures { TellsInstanceIn axes.now i result (instance_room instance.old room.old count.old) (instance_room instance.new room.new count.new) }
+    ensures { TellsInstanceIn axes.now i result (instance_room instance.old room.old count.old)
+        (instance_room instance.new room.new count.new) }
 {
     let Some(found) = axes.instance(i) else {
         return NO_INSTANCE;
@@ -92,7 +93,8 @@ fn tell_instance_of(
     room: &mut [i32],
     count: &mut usize,
 ) -> i32
-    ensures { TellsInstanceOf file.now i result (instance_room instance.old room.old count.old) (instance_room instance.new room.new count.new) }
+    ensures { TellsInstanceOf file.now i result (instance_room instance.old room.old count.old)
+        (instance_room instance.new room.new count.new) }
 {
     match axes_of(file) {
         Ok(Some(axes)) => tell_instance_in(alloc, &axes, i, instance, room, count),
@@ -111,7 +113,8 @@ pub(crate) fn tell_instance(
     room: &mut [i32],
     count: &mut usize,
 ) -> i32
-    ensures { TellsInstance bytes.now face i result (instance_room instance.old room.old count.old) (instance_room instance.new room.new count.new) }
+    ensures { TellsInstance bytes.now face i result (instance_room instance.old room.old count.old)
+        (instance_room instance.new room.new count.new) }
 {
     match FontFile::read(bytes, face) {
         Ok(file) => tell_instance_of(alloc, &file, i, instance, room, count),

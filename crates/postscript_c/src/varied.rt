@@ -198,7 +198,8 @@ fn hand(
     count: &mut usize,
     bounds: &mut PsfBounds,
 ) -> i32
-    ensures { HandsOutline (segments_of sketch.now) result (outline_room segments.old count.old bounds.old) (outline_room segments.new count.new bounds.new) }
+    ensures { HandsOutline (segments_of sketch.now) result (outline_room segments.old count.old bounds.old)
+        (outline_room segments.new count.new bounds.new) }
 {
     let drawn = &sketch.segments;
     *count = drawn.len();
@@ -217,7 +218,8 @@ fn tell_answer(
     count: &mut usize,
     bounds: &mut PsfBounds,
 ) -> i32
-    ensures { TellsAnswer (sketch_shown answer.now) result (outline_room segments.old count.old bounds.old) (outline_room segments.new count.new bounds.new) }
+    ensures { TellsAnswer (sketch_shown answer.now) result (outline_room segments.old count.old bounds.old)
+        (outline_room segments.new count.new bounds.new) }
 {
     match answer {
         Ok(sketch) => hand(sketch, segments, count, bounds),
@@ -236,7 +238,8 @@ fn tell_varied_of(
     count: &mut usize,
     bounds: &mut PsfBounds,
 ) -> i32
-    ensures { TellsVariedOf file.now values.now glyph limit result (outline_room segments.old count.old bounds.old) (outline_room segments.new count.new bounds.new) }
+    ensures { TellsVariedOf file.now values.now glyph limit result (outline_room segments.old count.old bounds.old)
+        (outline_room segments.new count.new bounds.new) }
 {
     let answer = varied(alloc, file, values, glyph, limit);
     tell_answer(&answer, segments, count, bounds)
@@ -254,7 +257,8 @@ pub(crate) fn tell_varied(
     count: &mut usize,
     bounds: &mut PsfBounds,
 ) -> i32
-    ensures { TellsVaried bytes.now face values.now glyph limit result (outline_room segments.old count.old bounds.old) (outline_room segments.new count.new bounds.new) }
+    ensures { TellsVaried bytes.now face values.now glyph limit result (outline_room segments.old count.old bounds.old)
+        (outline_room segments.new count.new bounds.new) }
 {
     match FontFile::read(bytes, face) {
         Ok(file) => tell_varied_of(alloc, &file, values, glyph, limit, segments, count, bounds),
