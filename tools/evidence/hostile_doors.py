@@ -7,8 +7,9 @@ The fonts are those of tools/evidence/hostile_files.py; with words, only those a
 tools/programs/hostile_doors.c is linked with bindings/c/build/libpostscript.a, which make builds; Python's module is that of
 bindings/python. The table gives seconds of processor time, so that other work beside does not count: of C the columns that
 tools/programs/hostile_doors.c tells, and of Python a font opened with its names, its characters, and the subset of its glyphs. Rust calls
-the same functions as Python. Nothing is drawn at random. The status is 1 where a call takes more than ten seconds, or a program ends by a
-signal; "all outlines" is a loop of a call for each glyph.
+the same functions as Python. A second table is of the variable fonts of tools/evidence/hostile_variable.py, by
+tools/programs/hostile_variable_doors.c. Nothing is drawn at random. The status is 1 where a call takes more than ten seconds, or a program ends
+by a signal; "all outlines" and "all advances" are loops of a call for each glyph, and are ended after 60 seconds.
 """
 
 import itertools
@@ -23,11 +24,13 @@ sys.dont_write_bytecode = True
 sys.path.insert(0, str(pathlib.Path(__file__).resolve().parents[1]))
 
 import hostile_files
+import hostile_variable
 from building import PROGRAMS, TOP
 
 C, PYTHON = TOP / "bindings" / "c", TOP / "bindings" / "python"
 DOORS = ["open", "fits", "slowest of a glyph", "all outlines", "all names", "all characters", "flat", "subset", "Python: names", "characters", "subset"]
-LOOP = "all outlines"
+VARIABLE = ["axes", "instances", "slowest outline", "slowest advance", "all outlines", "all advances"]
+LOOPS = ("all outlines", "all advances")
 MOST, LONGEST = 10, 60
 SCRIPT = """
 import sys, time
@@ -46,11 +49,10 @@ told(lambda: font.subset(range(len(font))))
 """
 
 
-def built(folder):
-    """The program of C."""
-    subprocess.run(["make", "--no-print-directory", "-s", "-C", C], check=True)
-    program = f"{folder}/hostile_doors"
-    words = ["-O2", "-Wall", "-Wextra", f"-I{C}", PROGRAMS / "hostile_doors.c", C / "build" / "libpostscript.a", "-o", program]
+def built(name, folder):
+    """A program of C."""
+    program = f"{folder}/{name}"
+    words = ["-O2", "-Wall", "-Wextra", f"-I{C}", PROGRAMS / f"{name}.c", C / "build" / "libpostscript.a", "-o", program]
     subprocess.run(["cc", *words], check=True)
     return program
 
@@ -73,19 +75,44 @@ def row(program, name, data, path):
     here += ["-"] * (DOORS.index("subset") + 1 - len(here))
     there += ["-"] * (3 - len(there))
     print(f"| {name} | {len(data)} |", " | ".join([*here, *there]), "|", flush=True)
-    calls = [cell for door, cell in zip(DOORS, [*here, *there]) if door != LOOP and cell != "-"]
-    return not ended or not went or any(float(cell) > MOST for cell in calls)
+    return not ended or not went or is_slow(DOORS, [*here, *there])
+
+
+def is_slow(doors, cells):
+    """Whether a call took too long."""
+    return any(float(cell) > MOST for door, cell in zip(doors, cells) if door not in LOOPS and cell != "-")
+
+
+def variable_row(program, name, data, path):
+    """The same of a variable font."""
+    pathlib.Path(path).write_bytes(data)
+    here, ended = columns([program, path])
+    # a program that is ended in a loop has answered each call
+    ended = ended or len(here) >= VARIABLE.index(LOOPS[0])
+    here += ["-"] * (len(VARIABLE) - len(here))
+    print(f"| {name} | {len(data)} |", " | ".join(here), "|", flush=True)
+    return not ended or is_slow(VARIABLE, here)
+
+
+def table(doors, fonts, of, program, words):
+    """Prints a table, and tells whether a row of it is bad."""
+    print("| font | bytes |", " | ".join(doors), "|")
+    print("|---" * (len(doors) + 2) + "|")
+    bad = False
+    for name, (data, _) in fonts:
+        if not words or any(word in name for word in words):
+            bad = of(program, name, data, f"{program}.otf") or bad
+    return bad
 
 
 def main(words):
-    print("| font | bytes |", " | ".join(DOORS), "|")
-    print("|---" * (len(DOORS) + 2) + "|")
-    bad = False
+    subprocess.run(["make", "--no-print-directory", "-s", "-C", C], check=True)
     with tempfile.TemporaryDirectory() as folder:
-        program = built(folder)
-        for name, (data, _) in itertools.chain(hostile_files.runs(), hostile_files.searched()):
-            if not words or any(word in name for word in words):
-                bad = row(program, name, data, f"{folder}/font.otf") or bad
+        static = itertools.chain(hostile_files.runs(), hostile_files.searched())
+        bad = table(DOORS, static, row, built("hostile_doors", folder), words)
+        print()
+        varied = itertools.chain(hostile_variable.runs(), hostile_variable.searched())
+        bad = table(VARIABLE, varied, variable_row, built("hostile_variable_doors", folder), words) or bad
     return 1 if bad else 0
 
 
