@@ -339,8 +339,11 @@ def _(folder):
 def _(folder):
     static = instance(folder, "--variations", "wght=650,wdth=90")[0].rename(folder / "static.otf")
     words = (("sheet",), ("report",), ("flat",), ("subset", "--text", "Hello"))
+    # a page names itself
+    of_static, of_place = folder / "of_static" / "out", folder / "of_place" / "out"
+    of_static.parent.mkdir()
+    of_place.parent.mkdir()
     for name, *more in words:
-        of_static, of_place = folder / "of_static", folder / "of_place"
         run(name, static, *more, "-o", of_static)
         run(name, folder / "variable.otf", *more, "--variations", "wght=650,wdth=90", "-o", of_place)
         assert of_static.read_bytes() == of_place.read_bytes(), name
