@@ -55,7 +55,7 @@ fn table_status(e: TableError) -> i32
 }
 
 /// The number of a refusal.
-fn unvaried_status(e: &Unvaried) -> i32
+pub(crate) fn unvaried_status(e: &Unvaried) -> i32
     ensures { result ≡ pos (unvaried_code e.now) }
 {
     match e {
@@ -69,7 +69,7 @@ fn unvaried_status(e: &Unvaried) -> i32
 }
 
 /// The font of a face.
-fn font_of<'l>(file: &FontFile<'l>) -> Result<Font<'l>, Unvaried>
+pub(crate) fn font_of<'l>(file: &FontFile<'l>) -> Result<Font<'l>, Unvaried>
     ensures found { IfOk result (λ font. HasFont file.now font) }
     ensures why { IfErr result (λ e. HasNoFont file.now e) }
 {
