@@ -26,12 +26,12 @@
  *
  * Units: coordinates, widths and bounds are in 65536ths of a unit of the font. Glyphs, faces and bytes are counted from 0.
  *
- * Variable fonts: psf_variation_axis and the three calls beside it take a whole OpenType file, and a face of it, in place of the bytes of
+ * Variable fonts: psf_variation_axis and the four calls beside it take a whole OpenType file, and a face of it, in place of the bytes of
  * a table CFF. A place of the design space is named by coordinates[0..named], a user coordinate in 65536ths for each axis, in the order of the
  * axes. An axis that has none of its own stands at its default, and a coordinate outside of its axis is taken for the end that it is
  * past. A face without a table fvar has no axes, and its only place has no coordinates. A call on a place also answers
  * PSF_TOO_MANY_COORDINATES, PSF_MEMORY, and PSF_CUT_FVAR, PSF_UNKNOWN_FVAR, PSF_CUT_AVAR or PSF_UNKNOWN_AVAR where that table is refused; and each
- * of the four PSF_CUT_FILE, PSF_UNKNOWN_FILE and PSF_NO_FACE. Where one is refused, what it writes to is as it was.
+ * of the five PSF_CUT_FILE, PSF_UNKNOWN_FILE and PSF_NO_FACE. Where one is refused, what it writes to is as it was.
  */
 #ifndef POSTSCRIPT_H
 #define POSTSCRIPT_H
@@ -343,6 +343,10 @@ int32_t psf_variation_instance(const uint8_t *file, size_t length, size_t face, 
  * from PSF_CFF2_HEADER to PSF_CFF2_DATA; PSF_TOO_LONG; and errors from 1 to 30 of the run. */
 int32_t psf_variable_outline(const uint8_t *file, size_t length, size_t face, const int32_t *coordinates, size_t named,
                              size_t glyph, uint64_t limit, psf_segment *segments, size_t room, size_t *count, psf_bounds *bounds);
+
+/* How many glyphs a variable font has: as many as its table CFF2 has charstrings.
+ * On PSF_OK *count is told. Also answered: PSF_NO_TABLE where the face has no table CFF2; those from PSF_CFF2_HEADER to PSF_CFF2_STORE. */
+int32_t psf_variable_glyphs(const uint8_t *file, size_t length, size_t face, size_t *count);
 
 /* The advance of a glyph at a place, in whole units of the font: that of the tables hhea and hmtx, and to the nearest unit what the table
  * HVAR adds, where there is one. A glyph behind those of hmtx has the last one's.

@@ -427,6 +427,9 @@ static void check_places(const uint8_t *file, size_t length) {
 static void check_advances(const uint8_t *file, size_t length) {
     const int32_t *place = places[0];
     int64_t advance = 7;
+    size_t glyphs = 7;
+    holds(psf_variable_glyphs(file, length, 1, &glyphs) == PSF_NO_FACE && glyphs == 7, "the glyphs of no face");
+    holds(psf_variable_glyphs(file, length, 0, &glyphs) == PSF_OK && glyphs == 3, "how many glyphs there are");
     holds(psf_variable_advance(file, length, 0, place, 0, 1, &advance) == PSF_OK && advance == 600, "the advance at the default");
     holds(psf_variable_advance(file, length, 0, place, 2, 1, &advance) == PSF_OK && advance == 590, "an advance at a place");
     holds(psf_variable_advance(file, length, 0, place, 1, 2, &advance) == PSF_OK && advance == 620, "where one axis is named");

@@ -510,6 +510,8 @@ class Variable(Case):
         self.refused(Status.NO_GLYPH, self.font.at()[3].svg_path)
         self.refused(Status.NO_GLYPH, lambda: self.font.at()[65536].advance)
         self.refused(Status.TOO_LONG, VariableFont.from_bytes(self.file, limit=5).at()[1].svg_path)
+        self.assertEqual((len(self.font), [glyph.advance for glyph in self.font.at()]), (3, [500, 600, 560]))
+        self.refused(Status.CFF2_VERSION, VariableFont.from_bytes(self.changed(b"CFF2", 0, 1)).__len__)
         self.refused(Status.NO_TABLE, VariableFont.from_bytes, small())
         self.refused(Status.NO_TABLE, Font.from_bytes, self.file)
         self.refused(Status.NO_FACE, VariableFont.from_bytes, self.file, 1)

@@ -414,6 +414,7 @@ for _name, _arguments in {
     "psf_variable_outline": [
         _bytes, _size, _size, POINTER(c_int32), _size, _size, c_uint64, POINTER(_Segment), _size, _sizes, POINTER(_Bounds),
     ],
+    "psf_variable_glyphs": [_bytes, _size, _size, _sizes],
     "psf_variable_advance": [_bytes, _size, _size, POINTER(c_int32), _size, _size, POINTER(c_int64)],
 }.items():
     getattr(_library, _name).argtypes = _arguments
@@ -816,6 +817,12 @@ class VariableFont:
         #: the characters and their glyphs
         self.cmap = CharacterMap(self._cmap())
 
+    def __len__(self) -> int:
+        """How many glyphs there are, by the table `CFF2`. Refused with those from `Status.CFF2_HEADER` to `CFF2_STORE`."""
+        count = c_size_t()
+        _checked(_library.psf_variable_glyphs(*self._view.told, self.face, byref(count)))
+        return count.value
+
     def __repr__(self) -> str:
         return f"<VariableFont of {len(self.axes)} axes>"
 
@@ -877,10 +884,8 @@ class VariableFont:
 
 
 class Place:
-    """A place of the design space of a variable font. From `VariableFont.at`. `place[7]` is a glyph by its number."""
-
-    #: how many glyphs there are is told nowhere, so a loop over a place would not end
-    __iter__ = None
+    """A place of the design space of a variable font, with all glyphs of the font. From `VariableFont.at`. `place[7]` is a glyph by its
+    number."""
 
     def __init__(self, font: VariableFont, asked: Mapping[str, float]) -> None:
         if not {axis.tag for axis in font.axes} >= set(asked):
@@ -896,6 +901,12 @@ class Place:
 
     def __repr__(self) -> str:
         return f"Place({self.coordinates})"
+
+    def __len__(self) -> int:
+        return len(self.font)
+
+    def __iter__(self) -> Iterator[VariableGlyph]:
+        return map(self.glyph, range(len(self)))
 
     def glyph(self, number: int) -> VariableGlyph:
         """A glyph by its number, from 0 on. Whether there is one is seen where something of it is asked for."""

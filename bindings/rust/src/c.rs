@@ -263,6 +263,7 @@ extern "C" {
         count: *mut usize,
         bounds: *mut Bounds,
     ) -> i32;
+    fn psf_variable_glyphs(file: *const u8, length: usize, face: usize, count: *mut usize) -> i32;
     fn psf_variable_advance(
         file: *const u8,
         length: usize,
@@ -485,6 +486,13 @@ pub fn variable_outline(
         )
     })?;
     Ok(bounds)
+}
+
+/// How many glyphs the variable font of a face of a file has.
+pub fn variable_glyphs(file: &[u8], face: usize) -> Result<usize> {
+    let mut count = 0;
+    let status = unsafe { psf_variable_glyphs(file.as_ptr(), file.len(), face, &mut count) };
+    answered(status, count)
 }
 
 /// The advance of a glyph of a face of a file at a place.

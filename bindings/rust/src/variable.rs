@@ -91,6 +91,22 @@ impl<'a> VariableFont<'a> {
         Ok(VariableFont { file, face, cmap, limit: crate::LIMIT })
     }
 
+    /// How many glyphs there are, by the table `CFF2`.
+    ///
+    /// ```
+    /// # let bytes = std::fs::read("examples/variable.otf")?;
+    /// # let font = postscript::VariableFont::from_file(&bytes, 0)?;
+    /// assert_eq!(font.glyph_count()?, 3);
+    /// # Ok::<(), Box<dyn std::error::Error>>(())
+    /// ```
+    ///
+    /// # Errors
+    ///
+    /// [`Error::Cff2Header`] and those behind it, up to [`Error::Cff2Store`].
+    pub fn glyph_count(&self) -> Result<usize> {
+        c::variable_glyphs(self.file, self.face)
+    }
+
     /// The axes, in their order. None where the face has no table `fvar`.
     ///
     /// ```
