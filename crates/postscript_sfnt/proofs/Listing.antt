@@ -1,5 +1,5 @@
 -- Lists of all characters that have a glyph.
-use Rattle.std.proofs.Common.{◌≡◌, sym, subst, inl, inr, ℕ, ◌+◌, ◌<◌, ◌≤◌, List, [], ◌∷◌, ◌++◌, append_assoc, append-nil, arith}
+use Rattle.std.proofs.Common.{sym, subst, inl, inr, ℕ, ◌+◌, ◌<◌, List, [], ◌∷◌, ◌++◌, append_assoc, append-nil, arith}
 use Rattle.std.proofs.lemmas.Bool.{cases_eq}
 use Rattle.postscript_sfnt.specs.Maps.{AreAll, IsNext, LacksAll, Maps}
 use Rattle.postscript_sfnt.specs.declared.character_map.CharacterMap.{CharacterMap}

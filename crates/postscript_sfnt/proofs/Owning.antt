@@ -1,5 +1,5 @@
 -- The owners of characters, and the links over those that are held.
-use Rattle.std.proofs.Common.{◌≡◌, ◌≢◌, refl, sym, ap, subst, inl, inr, ℕ, ◌+◌, ◌-◌, ◌<◌, ◌≤◌, List, length, get_or, set, arith}
+use Rattle.std.proofs.Common.{◌≡◌, ◌≢◌, sym, subst, inl, inr, ℕ, ◌+◌, ◌<◌, ◌≤◌, List, length, get_or, set, arith}
 use Rattle.std.proofs.lemmas.List.{get_or-set_same, get_or-set_other, length-set}
 use Rattle.std.proofs.lemmas.Bool.{cases_eq, cases_lt}
 use Rattle.postscript_sfnt.specs.CharacterMap.{Holds, IsFirst, IsGlyphOf}

@@ -3,6 +3,7 @@ use Rattle.std.specs.Prelude.{◌≡◌, ℕ, ◌<◌, List}
 use Rattle.postscript_sfnt.specs.Directory.{IsFace, IsDirectory, IsSpan, IsTable, Names, tag_at}
 use Rattle.postscript_sfnt.specs.Metrics.{HasAdvances, advance_of}
 use Rattle.postscript_sfnt.specs.declared.file.FontFile.{FontFile}
+use Rattle.postscript_sfnt.specs.declared.glyph_names.GlyphNames.{GlyphNames}
 use Rattle.postscript_sfnt.specs.declared.metrics.Advances.{Advances}
 
 -- the face of that number, whose directory stands where it begins
@@ -36,3 +37,7 @@ pub record AreAdvancesOf (hhea hmtx : List ℕ) (advances : Advances) : Type 0 w
 
 abbrev pub advance_in : Advances → (glyph : ℕ) → ℕ
 advance_in advances glyph = advance_of advances.hmtx.now advances.count glyph
+
+-- the table that names of glyphs are lent from
+abbrev pub post_of : GlyphNames → List ℕ
+post_of names = names.table.now

@@ -1,5 +1,5 @@
 -- Which of some segments is the first that holds a character, for all characters of Unicode at once.
-use Rattle.std.specs.Prelude.{◌≡◌, ◌⊎◌, ℕ, ◌+◌, ◌<◌, ◌≤◌, List, length, slice_index}
+use Rattle.std.specs.Prelude.{◌≡◌, ◌⊎◌, ℕ, ◌<◌, ◌≤◌, List, length, slice_index}
 use Rattle.postscript_sfnt.specs.CharacterMap.{Holds, IsFirst}
 
 -- one of so many segments holds a character

@@ -3,10 +3,10 @@ mod rows;
 
 use crate::checks::{bytes_of, holds, holds_at, is_text};
 use postscript_sfnt::{
-    Advances, Bounds, CharacterMap, FontFile, Name, Names, bounding_box, faces, glyphs,
+    Advances, Bounds, CharacterMap, FontFile, GlyphNames, Name, Names, bounding_box, faces, glyphs,
     has_magic_number, units_per_em,
 };
-use rows::{COLLECTION, FILE, MAPS, NAMES, NEXT, NO_MAPS, REFUSALS};
+use rows::{COLLECTION, FILE, MAPS, NAMES, NEXT, NO_MAPS, NO_POSTS, POST, REFUSALS};
 use std::alloc::Global;
 use std::process::Abort;
 
@@ -116,6 +116,43 @@ fn names_that_are_cut(rt: HostRuntime) {
     bytes.truncate(70);
     let names = Names::read(bytes.as_slice());
     holds(&rt, names.is_none(), "records that are cut");
+}
+
+/// The names of the first glyphs, with a space behind each, and a line for those without one.
+fn glyph_names<R: Abort>(rt: &R, alloc: Global, names: &GlyphNames<'_>) -> String {
+    let mut text = String::new(alloc);
+    for glyph in 0..7usize {
+        for byte in names.get(glyph).unwrap_or(b"-") {
+            text.push(char::from(*byte)).expect(rt, "memory");
+        }
+        text.push(' ').expect(rt, "memory");
+    }
+    text
+}
+
+#[test]
+fn names_of_glyphs(rt: HostRuntime) {
+    let alloc = rt.alloc();
+    let post = bytes_of(&rt, alloc, POST);
+    let names = GlyphNames::read(alloc, post.as_slice())
+        .expect(&rt, "memory")
+        .expect(&rt, "names");
+    let found = glyph_names(&rt, alloc, &names);
+    is_text(
+        &rt,
+        found.as_str(),
+        ".notdef A dcroat alpha b.alt - - ",
+        "names of glyphs",
+    );
+}
+
+#[test]
+fn tables_without_names_of_glyphs(rt: HostRuntime) {
+    for (row, digits) in NO_POSTS.iter().enumerate() {
+        let post = bytes_of(&rt, rt.alloc(), digits);
+        let names = GlyphNames::read(rt.alloc(), post.as_slice()).expect(&rt, "memory");
+        holds_at(&rt, names.is_none(), "row", row);
+    }
 }
 
 /// Compares the glyph of a character, each spelled in digits: the character in hex, a colon, and the glyph.

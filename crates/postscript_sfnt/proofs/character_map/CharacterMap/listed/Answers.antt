@@ -1,4 +1,4 @@
-use Rattle.std.proofs.Common.{◌≡◌, ◌<◌, ◌+◌, ◌++◌, ◌∷◌, [], ℕ, List, sym, subst, ap, ◌∙◌, get_or, arith}
+use Rattle.std.proofs.Common.{◌≡◌, ◌++◌, ◌∷◌, [], ℕ, List, sym, subst, ap, ◌∙◌, get_or, arith}
 use Rattle.postscript_sfnt.specs.Maps.{AreAll, Maps}
 use Rattle.postscript_sfnt.proofs.Listing.{all_skipped, all_pushed, all_there, next_here}
 use Rattle.postscript_sfnt.proofs.character_map.CharacterMap.listed.Goals as goal

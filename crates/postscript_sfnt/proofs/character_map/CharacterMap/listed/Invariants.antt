@@ -1,4 +1,4 @@
-use Rattle.std.proofs.Common.{ℕ, List, ◌++◌, ◌-◌, ◌≤◌}
+use Rattle.std.proofs.Common.{ℕ, List, ◌++◌}
 use Rattle.postscript_sfnt.specs.Maps.{AreAll}
 use Rattle.postscript_sfnt.proofs.character_map.CharacterMap.listed.Given as goal
 

@@ -1,6 +1,5 @@
-use Rattle.std.proofs.Common.{◌≡◌, ◌≢◌, ◌≤◌, ◌<◌, ℕ, inl, inr, refl, get_or, arith}
+use Rattle.std.proofs.Common.{ℕ, inl, inr, refl, get_or, arith}
 use Rattle.std.proofs.lemmas.Bool.{cases_lt}
-use Rattle.postscript_sfnt.specs.Owners.{AreLinks, IsHeldTo}
 use Rattle.postscript_sfnt.proofs.Owning.{halved_chain, halved_links}
 use Rattle.postscript_sfnt.proofs.character_map.owners.free_from.Goals as goal
 

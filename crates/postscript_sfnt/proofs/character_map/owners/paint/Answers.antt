@@ -1,5 +1,5 @@
-use Rattle.std.proofs.Common.{◌≡◌, ◌≤◌, ◌<◌, ◌+◌, ℕ, refl, get_or, set, arith}
-use Rattle.postscript_sfnt.proofs.Owning.{painted_first, painted_more, painted_links, set_links_here, set_chain}
+use Rattle.std.proofs.Common.{◌≡◌, ◌≤◌, ◌<◌, ◌+◌, ℕ, refl, get_or, arith}
+use Rattle.postscript_sfnt.proofs.Owning.{painted_first, painted_more, painted_links, set_links_here}
 use Rattle.postscript_sfnt.proofs.character_map.owners.paint.Goals as goal
 use Rattle.postscript_sfnt.proofs.character_map.owners.paint.Goals.{then-first-lt-END, else-first-lt-END}
 

@@ -1,5 +1,4 @@
 use Rattle.std.proofs.Common.{◌-◌, get_or}
-use Rattle.postscript_sfnt.specs.Owners.{IsChain}
 use Rattle.postscript_sfnt.proofs.Owning.{IsPainted}
 use Rattle.postscript_sfnt.proofs.character_map.owners.paint.Given as goal
 
