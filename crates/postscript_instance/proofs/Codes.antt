@@ -5,9 +5,9 @@ use Rattle.postscript_cff2.specs.declared.font.Font.{Font}
 use Rattle.postscript_variable_font.specs.declared.place.Place.{Place}
 use Rattle.postscript_view.specs.Layout.{IsLaidOut}
 use Rattle.postscript_view.specs.Order.{View}
-use Rattle.postscript_instance.specs.declared.error.Error.{Error}
-use Rattle.postscript_instance.specs.declared.error.Error.TheVariants as errors
-use Rattle.postscript_instance.specs.Glyphs.{AreStatics, IsStaticGlyph, LacksCode, NoTable}
+use Rattle.postscript_instance.specs.Naming.{IsCalled}
+use Rattle.postscript_instance.specs.declared.naming.Naming.{Naming}
+use Rattle.postscript_instance.specs.Glyphs.{AreStatics, IsStaticGlyph}
 use Rattle.postscript_instance.specs.Tables.{AreItems, IsPlainFont, IsTableOf}
 
 -- what stands there already stays, and the new one is the last
@@ -65,9 +65,10 @@ same-code : (codes : List (Vec ℕ Global)) (i : ℕ) (a b : Vec ℕ Global) →
 same-code codes i a b h k = let both : Some a ≡ Some b = sym h ∙ k in cc
 
 -- the table of codes that do what the glyphs do
-pub table-of : (font : Font) (place : Place) (advances : List ℤ) (bytes : List ℕ) (codes : List (Vec ℕ Global)) (view : View) → AreStatics font place advances (length advances) codes →
-    IsLaidOut bytes 0 view → IsPlainFont view codes → IsTableOf font place advances bytes
-table-of font place advances bytes codes view are stands plain =
+pub table-of : (font : Font) (place : Place) (naming : Naming) (advances : List ℤ) (bytes : List ℕ) (codes : List (Vec ℕ Global)) (view : View) →
+    AreStatics font place advances (length advances) codes → IsLaidOut bytes 0 view → IsPlainFont view codes → IsCalled naming bytes view →
+    IsTableOf font place naming advances bytes
+table-of font place naming advances bytes codes view are stands plain called =
     let many = are.counted in
     let all = plain.items.counted in record {
       view = view;
@@ -80,15 +81,5 @@ table-of font place advances bytes codes view are stands plain =
           (one.0, one.1.items, one.2, item.2 ∙ ap (λ (code : Vec ℕ Global). Some code.items) same, one.4);
       none = plain.none;
       widths = plain.widths;
+      called = called;
     }
-
--- where a glyph has no code, there is no table
-pub no-table : (font : Font) (place : Place) (widths : List ℤ) (e : Error) → LacksCode font place widths e → NoTable font place widths e
-no-table font place widths errors.OtherCount (inl late) = absurd late
-no-table font place widths errors.OtherCount (inr lacks) = absurd (lacks.3.2)
-no-table font place widths (errors.Font e) lacks = lacks
-no-table font place widths errors.TooManyOperands lacks = lacks
-no-table font place widths errors.NoMove lacks = lacks
-no-table font place widths (errors.NoGlyph glyph) lacks = lacks
-no-table font place widths errors.TooLarge lacks = lacks
-no-table font place widths errors.NotReadBack lacks = lacks

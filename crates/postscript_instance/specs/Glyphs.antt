@@ -1,5 +1,5 @@
 -- Glyphs of variable fonts at a place, as static ones.
-use Rattle.std.specs.Prelude.{◌≡◌, ◌≢◌, ◌⊎◌, ℕ, ℤ, ◌<◌, List, Option, Some, Vec, length, slice_get}
+use Rattle.std.specs.Prelude.{◌≡◌, ◌≢◌, ◌⊎◌, ℕ, ℤ, ◌<◌, List, Option, Some, Vec, length, slice_get, IfSome, IsSome}
 use Rattle.std.specs.declared.alloc.Global.{Global}
 use Rattle.postscript_cff2.specs.Parts as parts
 use Rattle.postscript_cff2.specs.Parts.{HasPart}
@@ -8,6 +8,7 @@ use Rattle.postscript_cff2.specs.declared.font.Font.{Font}
 use Rattle.postscript_variable.specs.declared.charstring.Charstring.{Charstring}
 use Rattle.postscript_variable_font.specs.Glyphs.{IsCharstringOf}
 use Rattle.postscript_variable_font.specs.declared.place.Place.{Place}
+use Rattle.postscript_instance.specs.declared.naming.Naming.{Naming}
 use Rattle.postscript_instance.specs.declared.error.Error.{Error}
 use Rattle.postscript_instance.specs.declared.error.Error.TheVariants as errors
 use Rattle.postscript_instance.specs.Refusals.{IsLate, NotWritten}
@@ -31,10 +32,16 @@ abbrev pub LacksCode : Font → Place → (widths : List ℤ) → Error → Type
 LacksCode font place widths e = IsLate e ⊎
     ((glyph : ℕ) × (width : ℤ) × (slice_get widths glyph ≡ Some width) × NoStaticGlyph font glyph place (Some width) e)
 
--- there are not as many widths as glyphs, or a glyph has no code, or what is written is too large or not read back; or memory is wanting
-abbrev pub NoTable : Font → Place → (widths : List ℤ) → Error → Type 0
-NoTable font place widths errors.OtherCount = length widths ≢ length (view_shown font).char_strings
-NoTable font place widths e = LacksCode font place widths e
+-- there are not as many widths or names as glyphs; or there are names, and not one Font DICT
+abbrev pub IsMiscounted : Font → Naming → (widths : List ℤ) → Error → Type 0
+IsMiscounted font naming widths errors.OtherCount = length widths ≢ length (view_shown font).char_strings
+IsMiscounted font naming widths errors.OtherNames = IfSome naming.glyphs (λ names. length names.now ≢ length (view_shown font).char_strings) × IsSome naming.glyphs
+IsMiscounted font naming widths errors.NotOneDictionary = IsSome naming.glyphs × (length (view_shown font).font_dictionaries ≢ 1)
+IsMiscounted font naming widths e = ⊥
+
+-- these are miscounted, or a glyph has no code, or what is written is too large or not read back; or memory is wanting
+abbrev pub NoTable : Font → Place → Naming → (widths : List ℤ) → Error → Type 0
+NoTable font place naming widths e = IsMiscounted font naming widths e ⊎ LacksCode font place widths e
 
 -- the codes of the first so many glyphs, each with its width
 pub record AreStatics (font : Font) (place : Place) (widths : List ℤ) (count : ℕ) (codes : List (Vec ℕ Global)) : Type 0 where

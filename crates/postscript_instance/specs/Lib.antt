@@ -6,5 +6,6 @@ pub mod Statics
 pub mod Refusals
 pub mod Laws
 pub mod Glyphs
+pub mod Naming
 pub mod Tables
 pub mod Private

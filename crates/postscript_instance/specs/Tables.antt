@@ -9,6 +9,8 @@ use Rattle.postscript_variable_font.specs.declared.place.Place.{Place}
 use Rattle.postscript_view.specs.Layout.{IsLaidOut}
 use Rattle.postscript_view.specs.Order.{Part, View}
 use Rattle.postscript_instance.specs.Glyphs.{IsStaticGlyph}
+use Rattle.postscript_instance.specs.Naming.{IsCalled}
+use Rattle.postscript_instance.specs.declared.naming.Naming.{Naming}
 
 -- the first so many items are codes
 pub record AreItems (items : List (List ℕ)) (codes : List (Vec ℕ Global)) (count : ℕ) : Type 0 where
@@ -31,8 +33,9 @@ pub record IsPlainFont (view : View) (codes : List (Vec ℕ Global)) : Type 0 wh
   pub widths : HaveNoWidths view.parts
 
 -- A font stands in the bytes (Technical Note 5176, "CFF Data Layout"), which has no subroutines that its glyphs share. Each of its glyphs
--- has a code that does what the glyph does at the place, with its advance as its width, and nothing is added to that.
-pub record IsTableOf (font : Font) (place : Place) (advances : List ℤ) (bytes : List ℕ) : Type 0 where
+-- has a code that does what the glyph does at the place, with its advance as its width, and nothing is added to that. The font and its
+-- glyphs are called as they are to be.
+pub record IsTableOf (font : Font) (place : Place) (naming : Naming) (advances : List ℤ) (bytes : List ℕ) : Type 0 where
   pub view : View
   pub stands : IsLaidOut bytes 0 view
   pub counted : length view.char_strings ≡ length advances
@@ -41,3 +44,4 @@ pub record IsTableOf (font : Font) (place : Place) (advances : List ℤ) (bytes 
       (slice_get view.char_strings glyph ≡ Some code) × IsStaticGlyph font glyph place (Some advance) code
   pub none : view.tables.subroutines ≡ []
   pub widths : HaveNoWidths view.parts
+  pub called : IsCalled naming bytes view

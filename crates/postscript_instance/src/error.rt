@@ -30,6 +30,12 @@ pub enum Error {
     /// There are not as many advances as glyphs.
     #[error("there are not as many advances as glyphs")]
     OtherCount,
+    /// There are not as many names as glyphs.
+    #[error("there are not as many names as glyphs")]
+    OtherNames,
+    /// Names of glyphs are given, and the font has not one Font DICT: a font whose glyphs have names has one Private DICT.
+    #[error("glyphs with names have one font dictionary, and this font has not one")]
+    NotOneDictionary,
     /// What is to be written is too large for the format.
     #[error("the font is too large")]
     TooLarge,

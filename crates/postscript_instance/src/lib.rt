@@ -3,10 +3,13 @@
 #![tactic(auto)]
 
 mod error;
+mod indices;
 pub mod laws;
 mod layout;
+mod naming;
 mod numbers;
 mod pieces;
+mod privates;
 mod statics;
 mod tables;
 #[cfg(test)]
@@ -14,5 +17,6 @@ mod tests;
 mod texts;
 
 pub use error::{Error, Result};
+pub use naming::Naming;
 pub use statics::charstring;
 pub use tables::{glyph, table};

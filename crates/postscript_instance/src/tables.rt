@@ -1,7 +1,8 @@
 //! The table `CFF ` of a place.
 ghost use Rattle.std.specs.Prelude.{◌≡◌, Some, length, slice_get, IsTrue, IfOk, IfErr, OnOk};
 ghost use Rattle.postscript_cff2.specs.Shown.{view_shown as varying_shown};
-ghost use Rattle.postscript_instance.specs.Glyphs.{AreStatics, IsStaticGlyph, LacksCode, NoStaticGlyph, NoTable};
+ghost use Rattle.postscript_instance.specs.Glyphs.{AreStatics, IsMiscounted, IsStaticGlyph, LacksCode, NoStaticGlyph, NoTable};
+ghost use Rattle.postscript_instance.specs.Naming.{IsCalled};
 ghost use Rattle.postscript_instance.specs.Refusals.{IsLate};
 ghost use Rattle.postscript_instance.specs.Tables.{AreItems, HasNoWidths, HaveNoWidths, IsPlainFont, IsTableOf};
 ghost use Rattle.postscript_items.specs.Lent.{items_of};
@@ -11,6 +12,7 @@ ghost use Rattle.postscript_view.specs.Value.{part_shown, parts_shown};
 
 use crate::error::{Error, Result};
 use crate::layout::laid_out;
+use crate::naming::{Naming, called_back};
 use crate::statics::charstring;
 use postscript_base::Error as Cause;
 use postscript_cff2::Font;
@@ -103,9 +105,9 @@ fn have_no_widths(parts: &[Part<'_>]) -> bool
     true
 }
 
-/// Reads back what was written. Refused: `NotReadBack` where it is not the font of these codes; `Font` with `Memory`.
-fn read_back(alloc: Global, bytes: &[u8], codes: &[Vec<u8>]) -> Result<()>
-    ensures font { OnOk result ((view : View) × IsLaidOut bytes.now 0 view × IsPlainFont view codes.now) }
+/// Reads back what was written. Refused: `NotReadBack` where it is not the font of these codes, called so; `Font` with `Memory`.
+fn read_back(alloc: Global, bytes: &[u8], codes: &[Vec<u8>], naming: &Naming<'_>) -> Result<()>
+    ensures font { OnOk result ((view : View) × IsLaidOut bytes.now 0 view × IsPlainFont view codes.now × IsCalled naming.now bytes.now view) }
     ensures late { IfErr result (λ e. IsLate e) }
 {
     let font = match FontView::read(alloc, bytes) {
@@ -116,39 +118,64 @@ fn read_back(alloc: Global, bytes: &[u8], codes: &[Vec<u8>]) -> Result<()>
     if font.global_subroutines.len() != 0 || !have_no_widths(&font.parts) {
         return Err(Error::NotReadBack);
     }
-    if are_codes(&font.char_strings, codes) {
-        Ok(())
-    } else {
-        Err(Error::NotReadBack)
+    if !are_codes(&font.char_strings, codes) {
+        return Err(Error::NotReadBack);
     }
+    called_back(&font, naming)?;
+    Ok(())
 }
 
-/// The table `CFF ` of a place of a variable font, with the advance of each glyph in 16.16 bits: a CID-keyed font, whose CIDs are the
-/// numbers of its glyphs (ROS Adobe, Identity, 0), with this name. It has the Font DICTs of the table CFF2 and its FontMatrix, and no
-/// subroutines. Each glyph's charstring is that of `glyph`, with its advance as its width; `nominalWidthX` is 0. The Private DICTs have
-/// nothing else: the zones and the widths of stems by which glyphs are hinted are left out. What is written is read back: the contract says
-/// that it is read, and what its glyphs and its nominal widths are. The name and that it is CID-keyed are tested (`a_table_at_places`);
-/// of FontMatrix, FDSelect and the char set there is no clause.
+/// Nothing, where there are as many advances as glyphs, and as many names, if names are given; and one Font DICT then.
 ///
-/// Refused: `OtherCount` where there are not as many advances as glyphs; as `glyph` is, for the first glyph that is; `TooLarge` where
-/// there are more than 65,535 glyphs or 256 Font DICTs, or offsets that 31 bits do not hold; `NotReadBack` where what was written
-/// is not read as the font that it is to be.
+/// Refused: `OtherCount`, `OtherNames`, `NotOneDictionary`.
+fn counted(font: &Font<'_>, naming: &Naming<'_>, advances: &[Operand]) -> Result<()>
+    ensures counted { OnOk result (length advances.now ≡ length (varying_shown font.now).char_strings) }
+    ensures refused { IfErr result (λ e. IsMiscounted font.now naming.now advances.now e) }
+{
+    let glyphs = font.char_strings.len();
+    if advances.len() != glyphs {
+        return Err(Error::OtherCount);
+    }
+    let Some(names) = naming.glyphs else {
+        return Ok(());
+    };
+    if names.len() != glyphs {
+        return Err(Error::OtherNames);
+    }
+    if font.font_dictionaries.len() != 1 {
+        return Err(Error::NotOneDictionary);
+    }
+    Ok(())
+}
+
+/// The table `CFF ` of a place of a variable font, with the advance of each glyph in 16.16 bits, and with these names. Where glyphs have names,
+/// the char set and the strings tell them, but for the first, which is `.notdef`; where they have none, it is a CID-keyed font (ROS Adobe,
+/// Identity, 0), whose CIDs are the numbers of its glyphs, with the Font DICTs of the table CFF2. It has the FontMatrix of the table CFF2, and
+/// no subroutines. Each glyph's charstring is that of `glyph`, with its advance as its width; `nominalWidthX` is 0.
+///
+/// The Private DICTs have the hints of those of CFF2: zones, widths of stems, and what goes with them. Those that are blended are at the
+/// nearest whole units, halves up: of a zone or a list of widths each edge is. A hint whose blends have other numbers than whole ones, or
+/// that have no room in 16 bits, is left out. What is written is read back: the contract says that it is read, what its glyphs and its
+/// nominal widths are, and what they are called. FontMatrix, FDSelect and the hints are tested (`src/tests.rt`), and have no clause.
+///
+/// Refused: `OtherCount` where there are not as many advances as glyphs, `OtherNames` where there are not as many names; `NotOneDictionary`
+/// where there are names, and not one Font DICT; as `glyph` is, for the first glyph that is; `TooLarge` where there are more than
+/// 65,535 glyphs, 64,609 names that are no standard strings, or 256 Font DICTs, or offsets that 31 bits do not hold; `NotReadBack` where
+/// what was written is not read as the font that it is to be.
 pub fn table(
     alloc: Global,
     font: &Font<'_>,
     place: &Place,
-    name: &[u8],
+    naming: &Naming<'_>,
     advances: &[Operand],
 ) -> Result<Vec<u8>>
-    ensures written { IfOk result (λ bytes. IsTableOf font.now place.now advances.now bytes.items) }
-    ensures refused { IfErr result (λ e. NoTable font.now place.now advances.now e) }
+    ensures written { IfOk result (λ bytes. IsTableOf font.now place.now naming.now advances.now bytes.items) }
+    ensures refused { IfErr result (λ e. NoTable font.now place.now naming.now advances.now e) }
     ensures counted { OnOk result (length advances.now ≡ length (varying_shown font.now).char_strings) }
 {
-    if advances.len() != font.char_strings.len() {
-        return Err(Error::OtherCount);
-    }
+    counted(font, naming, advances)?;
     let codes = codes_of(alloc, font, place, advances)?;
-    let bytes = laid_out(alloc, font, name, &codes)?;
-    read_back(alloc, &bytes, &codes)?;
+    let bytes = laid_out(alloc, font, place, naming, &codes)?;
+    read_back(alloc, &bytes, &codes, naming)?;
     Ok(bytes)
 }

@@ -1,5 +1,5 @@
 //! Charstrings by hand, by the specifications' rules.
-use crate::{Error, charstring, glyph, table};
+use crate::{Error, Naming, charstring, glyph, table};
 use postscript_base::Error as Cause;
 use postscript_cff2::Font;
 use postscript_type2::{Operand, Subroutines};
@@ -213,11 +213,15 @@ const TABLE: &[u8] = &[
 fn a_table_at_places(rt: HostRuntime) {
     let font = Font::read(TABLE).expect(&rt, "the font");
     let advances = [Operand::from_int(600), Operand::from_int(500)];
+    let naming = Naming {
+        font: b"Small",
+        glyphs: None,
+    };
     for (coordinate, x) in [(0i16, 0xefu8), (8192, 0xf4), (-16384, 0xdb)] {
         let place = Place::of(rt.alloc(), font.store.as_ref(), &[coordinate]).expect(
             &rt, "a place",
         );
-        let bytes = table(rt.alloc(), &font, &place, b"Small", &advances).expect(&rt, "a table");
+        let bytes = table(rt.alloc(), &font, &place, &naming, &advances).expect(&rt, "a table");
         let view = FontView::read(rt.alloc(), &bytes).expect(&rt, "a font");
         assert_eq!(rt; view.names.get(0), Some(b"Small".as_slice()), "the name");
         assert_eq!(rt;
@@ -234,9 +238,74 @@ fn a_table_at_places(rt: HostRuntime) {
             "at {coordinate}"
         );
         assert!(rt; view.is_cid_keyed(), "by CIDs");
-        let few = table(rt.alloc(), &font, &place, b"Small", &advances[..1]);
+        let few = table(rt.alloc(), &font, &place, &naming, &advances[..1]);
         assert!(rt; matches!(few, Err(Error::OtherCount)), "one advance");
         let past = glyph(rt.alloc(), &font, 2, &place, None);
         assert!(rt; matches!(past, Err(Error::NoGlyph(2))), "no third glyph");
     }
+}
+
+/// The same table, whose Private DICT has hints: `vsindex` 1, BlueValues -10 10, blended by 3 0 and 0 0, StdVW 80, blended by 20 0, and BlueScale
+/// 0.039625. fontTools 4.38 reads it so.
+const HINTED: &[u8] = &[
+    0x02, 0x00, 0x05, 0x00, 0x13, 0x1d, 0x00, 0x00, 0x00, 0x22, 0x11, 0x1d, 0x00, 0x00, 0x00, 0x35,
+    0x0c, 0x24, 0x1d, 0x00, 0x00, 0x00, 0x66, 0x18, 0x00, 0x00, 0x00, 0x01, 0x01, 0x01, 0x04, 0x95,
+    0x9f, 0x05, 0x00, 0x00, 0x00, 0x02, 0x01, 0x01, 0x01, 0x0c, 0xef, 0x95, 0x77, 0x8c, 0x10, 0xbd,
+    0x15, 0x20, 0x1d, 0x20, 0x0a, 0x00, 0x00, 0x00, 0x01, 0x01, 0x01, 0x08, 0xa5, 0x1d, 0x00, 0x00,
+    0x00, 0x43, 0x12, 0x8c, 0x16, 0x81, 0x95, 0x8e, 0x8b, 0x8b, 0x8b, 0x8d, 0x17, 0x06, 0xdb, 0x9f,
+    0x8b, 0x8c, 0x17, 0x0b, 0x1e, 0xa0, 0x39, 0x62, 0x5f, 0x0c, 0x09, 0xa5, 0x13, 0x00, 0x00, 0x00,
+    0x01, 0x01, 0x01, 0x03, 0x6d, 0x06, 0x00, 0x32, 0x00, 0x01, 0x00, 0x00, 0x00, 0x10, 0x00, 0x02,
+    0x00, 0x00, 0x00, 0x20, 0x00, 0x00, 0x00, 0x28, 0x00, 0x01, 0x00, 0x02, 0x00, 0x00, 0x40, 0x00,
+    0x40, 0x00, 0xc0, 0x00, 0xc0, 0x00, 0x00, 0x00, 0x00, 0x00, 0x00, 0x00, 0x00, 0x01, 0x00, 0x00,
+    0x00, 0x00, 0x00, 0x00, 0x00, 0x02, 0x00, 0x00, 0x00, 0x01,
+];
+
+/// The names of its glyphs, of which one is no standard string.
+const NAMES: [&[u8]; 2] = [b".notdef", b"alpha"];
+
+/// A table at a place, with names.
+fn named<R: Abort>(rt: &R, alloc: Global, coordinate: i16) -> Vec<u8> {
+    let font = Font::read(HINTED).expect(rt, "the font");
+    let place = Place::of(alloc, font.store.as_ref(), &[coordinate]).expect(rt, "a place");
+    let advances = [Operand::from_int(600), Operand::from_int(500)];
+    let naming = Naming {
+        font: b"Small",
+        glyphs: Some(&NAMES),
+    };
+    table(alloc, &font, &place, &naming, &advances).expect(rt, "a table")
+}
+
+/// The hints at places: by hand, at 1/2 the zone is from -8.5 to 1.5, and so from -8 to 2, and the stem is 90 wide; at -1, where the second region is
+/// 1, all are as at the default, and at 1 the zone is from -7 to 3, and the stem is 100 wide. The Private DICT is the last part.
+#[test]
+fn hints_at_places(rt: HostRuntime) {
+    let rows: [(i16, [u8; 3], u8); 4] = [
+        (0, [0x81, 0x95, 0x06], 0xdb),
+        (8192, [0x83, 0x95, 0x06], 0xe5),
+        (16384, [0x84, 0x95, 0x06], 0xef),
+        (-16384, [0x81, 0x95, 0x06], 0xdb),
+    ];
+    for (coordinate, zone, stem) in rows {
+        let bytes = named(&rt, rt.alloc(), coordinate);
+        let mut wanted = Vec::from_array(rt.alloc(), zone).expect(&rt, "memory");
+        let rest = [
+            stem, 0x0b, 0x1e, 0xa0, 0x39, 0x62, 0x5f, 0x0c, 0x09, 0x8b, 0x14, 0x8b, 0x15,
+        ];
+        wanted.extend_from_slice(&rest).expect(&rt, "memory");
+        assert!(rt; bytes.ends_with(&wanted), "at {coordinate}");
+    }
+}
+
+/// The names of glyphs.
+#[test]
+fn names_of_glyphs(rt: HostRuntime) {
+    let bytes = named(&rt, rt.alloc(), 0);
+    let view = FontView::read(rt.alloc(), &bytes).expect(&rt, "a font");
+    let set = view.char_set().expect(&rt, "a char set");
+    assert_eq!(rt;
+        view.name(&set, 0),
+        Some(b".notdef".as_slice()),
+        "the first"
+    );
+    assert_eq!(rt; view.name(&set, 1), Some(b"alpha".as_slice()), "the second");
 }

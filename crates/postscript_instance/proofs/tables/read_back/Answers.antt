@@ -1,17 +1,19 @@
 use Rattle.std.proofs.Common.{◌∙◌, sym, subst}
 use Rattle.postscript_items.specs.Lent.{items_of}
 use Rattle.postscript_view.specs.Value.{parts_shown, view_shown}
+use Rattle.postscript_instance.specs.Naming.{IsCalled}
 use Rattle.postscript_instance.specs.Tables.{HaveNoWidths}
 use Rattle.postscript_instance.proofs.Rests.{no-items, is-true}
 use Rattle.postscript_instance.proofs.tables.read_back.Goals as goal
 
-pub returns-then-are_codes-clause-font : goal.returns-then-are_codes-clause-font
-returns-then-are_codes-clause-font c = (
+pub returns-clause-font : goal.returns-clause-font
+returns-clause-font c = (
   view_shown c.in-Ok.font,
   c.in-Ok.ensures.found,
   record {
-    items = c.are_codes.ensures (is-true c.are_codes.result c.if-are_codes.true);
+    items = c.are_codes.ensures (is-true c.are_codes.result c.if-not-are_codes.false);
     none = no-items (items_of c.in-Ok.font.global_subroutines) (sym c.len.ensures ∙ c.if-len-ne0.false);
     widths = subst (λ parts. HaveNoWidths (parts_shown parts)) c.deref.ensures.value (c.have_no_widths.ensures (is-true c.have_no_widths.result c.if-not-have_no_widths.false));
   },
+  subst (λ bytes. IsCalled c.args.naming.now bytes (view_shown c.in-Ok.font)) c.in-Ok.ensures.bytes c.in_ok-called_back.ensures.called,
 )

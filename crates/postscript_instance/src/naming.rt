@@ -1,0 +1,176 @@
+//! What a font and its glyphs are called.
+ghost use Rattle.std.specs.Prelude.{◌≡◌, Some, IfErr, IsTrue, OnOk, length, slice_get};
+ghost use Rattle.postscript_items.specs.Lent.{items_of};
+ghost use Rattle.postscript_instance.specs.Naming.{AreCalled, AreCids, AreNames, IsCalled};
+ghost use Rattle.postscript_instance.specs.Refusals.{IsLate};
+ghost use Rattle.postscript_view.specs.Naming.{Names};
+ghost use Rattle.postscript_view.specs.Strings.{HasName};
+ghost use Rattle.postscript_view.specs.Value.{view_shown};
+
+use crate::error::{Error, Result};
+use crate::indices::put_short;
+use postscript_compact1::index::get_standard_string;
+use postscript_view::{CharSetView, FontView};
+use std::alloc::Global;
+
+/// How many strings are standard ones (Technical Note 5176, Appendix A).
+const STANDARD: u16 = 391;
+
+/// What a font and its glyphs are called.
+#[derive(Clone, Copy)]
+pub struct Naming<'m> {
+    /// The name of the font.
+    pub font: &'m [u8],
+    /// The names of the glyphs, one for each, of which the first is `.notdef`. None where they have no names: then their numbers are their
+    /// CIDs.
+    pub glyphs: Option<&'m [&'m [u8]]>,
+}
+
+/// Identifiers of names, and the strings behind the standard ones (Technical Note 5176, "String INDEX").
+#[derive(Drop)]
+pub(crate) struct Identifiers {
+    pub numbers: Vec<u16>,
+    pub strings: Vec<Vec<u8>>,
+}
+
+/// The identifier of a standard string.
+fn standard(name: &[u8]) -> Option<u16> {
+    for number in 0..STANDARD {
+        if let Some(string) = get_standard_string(number) {
+            if string.as_bytes() == name {
+                return Some(number);
+            }
+        }
+    }
+    None
+}
+
+impl Identifiers {
+    /// Adds a name.
+    fn put(&mut self, alloc: Global, name: &[u8]) -> Result<()>
+        ensures late { IfErr result (λ e. IsLate e) }
+    {
+        if let Some(number) = standard(name) {
+            self.numbers.push(number)?;
+            return Ok(());
+        }
+        let Ok(place) = u16::try_from(self.strings.len()) else {
+            return Err(Error::TooLarge);
+        };
+        // the last identifier is 64999
+        if place >= 65000 - STANDARD {
+            return Err(Error::TooLarge);
+        }
+        self.strings.push(Vec::from_slice(alloc, name)?)?;
+        self.numbers.push(STANDARD.saturating_add(place))?;
+        Ok(())
+    }
+
+    /// Those of names.
+    pub(crate) fn of(alloc: Global, names: &[&[u8]]) -> Result<Identifiers>
+        ensures late { IfErr result (λ e. IsLate e) }
+    {
+        let mut identifiers = Identifiers {
+            numbers: Vec::new(alloc),
+            strings: Vec::new(alloc),
+        };
+        for name in names {
+            identifiers.put(alloc, name)?;
+        }
+        Ok(identifiers)
+    }
+
+    /// A char set of format 0: the identifier of each glyph but the first (Technical Note 5176, "Charsets").
+    pub(crate) fn char_set(&self, alloc: Global) -> Result<Vec<u8>>
+        ensures late { IfErr result (λ e. IsLate e) }
+    {
+        let mut set = Vec::new(alloc);
+        set.push(0)?;
+        for number in self.numbers.get(1..).unwrap_or(&[]) {
+            put_short(&mut set, usize::from(*number))?;
+        }
+        Ok(set)
+    }
+}
+
+/// Whether a font is called so.
+fn is_called(font: &FontView<'_>, name: &[u8]) -> bool
+    ensures { IsTrue result → slice_get (items_of font.now.names) 0 ≡ Some name.now }
+{
+    match font.names.get(0) {
+        Some(found) => found == name,
+        None => false,
+    }
+}
+
+/// Whether a glyph has this name.
+fn is_name<'l>(font: &FontView<'l>, set: &CharSetView<'l>, glyph: usize, name: &[u8]) -> bool
+    ensures { IsTrue result → HasName (view_shown font.now) set.now glyph name.now }
+{
+    match font.name(set, glyph) {
+        Some(found) => found == name,
+        None => false,
+    }
+}
+
+/// Whether the glyphs behind the first have these names.
+fn are_names<'l>(font: &FontView<'l>, set: &CharSetView<'l>, names: &[&[u8]]) -> bool
+    ensures { IsTrue result → AreNames (view_shown font.now) set.now names.now (length names.now) }
+{
+    for glyph in 1..names.len() {
+        if !is_name(font, set, glyph, names[glyph]) {
+            return false;
+        }
+    }
+    true
+}
+
+/// Whether the CID of a glyph is its number.
+fn is_cid<'l>(font: &FontView<'l>, set: &CharSetView<'l>, glyph: usize) -> bool
+    ensures { IsTrue result → Names set.now glyph glyph }
+{
+    match font.cid(set, glyph) {
+        Some(cid) => usize::from(cid) == glyph,
+        None => false,
+    }
+}
+
+/// Whether the CIDs of glyphs are their numbers.
+fn are_cids<'l>(font: &FontView<'l>, set: &CharSetView<'l>) -> bool
+    ensures { IsTrue result → AreCids (view_shown font.now) set.now (length (items_of font.now.char_strings)) }
+{
+    if !font.is_cid_keyed() {
+        return false;
+    }
+    for glyph in 0..font.char_strings.len() {
+        if !is_cid(font, set, glyph) {
+            return false;
+        }
+    }
+    true
+}
+
+/// Whether glyphs are called as they are to be.
+fn are_called<'l>(font: &FontView<'l>, set: &CharSetView<'l>, naming: &Naming<'_>) -> bool
+    ensures { IsTrue result → AreCalled naming.now (view_shown font.now) set.now }
+{
+    match naming.glyphs {
+        Some(names) => are_names(font, set, names),
+        None => are_cids(font, set),
+    }
+}
+
+/// Refused: `NotReadBack` where a font that is read back, or a glyph of it, is not called as it is to be.
+pub(crate) fn called_back(font: &FontView<'_>, naming: &Naming<'_>) -> Result<()>
+    ensures called { OnOk result (IsCalled naming.now font.now.bytes.now (view_shown font.now)) }
+    ensures late { IfErr result (λ e. IsLate e) }
+{
+    let Ok(set) = font.char_set() else {
+        return Err(Error::NotReadBack);
+    };
+    if is_called(font, naming.font) && are_called(font, &set, naming) {
+        Ok(())
+    } else {
+        Err(Error::NotReadBack)
+    }
+}

@@ -1,0 +1,270 @@
+//! Private DICTs of a place: the zones and the widths of stems by which glyphs are hinted (Technical Note 5176, "Private DICT Data";
+//! OpenType 1.9, "CFF2", "Private DICT Data").
+ghost use Rattle.std.specs.Prelude.{◌<◌, IfErr, length};
+ghost use Rattle.postscript_instance.specs.Refusals.{IsLate};
+
+use crate::error::Result;
+use crate::numbers::put_number;
+use crate::pieces::OPERANDS;
+use postscript_cff2::{Dictionary, Font, Part, integer_at, operand_size, operator_size};
+use postscript_type2::Operand;
+use postscript_variable_font::Place;
+use std::alloc::Global;
+
+/// The operators vsindex and blend.
+const VS_INDEX: u8 = 22;
+
+const BLEND: u8 = 23;
+
+/// `defaultWidthX` and `nominalWidthX` are 0.
+const NO_WIDTHS: [u8; 4] = [0x8b, 0x14, 0x8b, 0x15];
+
+/// An operand of a DICT.
+#[derive(Clone, Copy)]
+enum Number {
+    /// A whole number, and where it is spelled.
+    Whole(i32, usize, usize),
+    /// A real, where it is spelled.
+    Real(usize, usize),
+    /// A number that was blended, in 16.16 bits.
+    Blended(i64),
+    /// One that is not known: it is no number, or blends others than whole ones.
+    Unknown,
+}
+
+impl Number {
+    /// The number in 16.16 bits; of a real they are not told.
+    fn bits(self) -> Option<i64> {
+        match self {
+            Number::Whole(number, _, _) => Some(i64::from(number) * 65536),
+            Number::Blended(bits) => Some(bits),
+            Number::Real(_, _) | Number::Unknown => None,
+        }
+    }
+
+    /// The bytes that spell it.
+    fn spelled(self, bytes: &[u8]) -> Option<&[u8]> {
+        match self {
+            Number::Whole(_, from, to) | Number::Real(from, to) => bytes.get(from..to),
+            Number::Blended(_) | Number::Unknown => None,
+        }
+    }
+}
+
+/// The operand at a place, and the place behind it.
+fn operand_at(bytes: &[u8], place: usize) -> (Number, usize)
+    requires { place < length bytes.now }
+    ensures { place < result.1 }
+{
+    let end = place + operand_size(bytes, place);
+    match integer_at(bytes, place, bytes.len()) {
+        Some(number) => (Number::Whole(number, place, end), end),
+        None if bytes[place] == 30 => (Number::Real(place, end), end),
+        None => (Number::Unknown, end),
+    }
+}
+
+/// A number with its deltas, each by its scalar.
+fn blended(number: Option<Number>, deltas: &[Number], scalars: &[u32]) -> Number {
+    let Some(Number::Whole(number, _, _)) = number else {
+        return Number::Unknown;
+    };
+    let mut sum = i64::from(number) * 65536;
+    for (delta, scalar) in deltas.iter().zip(scalars.iter()) {
+        let Number::Whole(delta, _, _) = delta else {
+            return Number::Unknown;
+        };
+        sum = sum.saturating_add(i64::from(*delta).saturating_mul(i64::from(*scalar)));
+    }
+    Number::Blended(sum)
+}
+
+/// The differences of edges at the nearest whole numbers, halves up, of differences of edges. None where 16 bits do not hold one.
+fn edges(alloc: Global, numbers: &[Number]) -> Result<Option<Vec<i16>>>
+    ensures late { IfErr result (λ e. IsLate e) }
+{
+    let mut edges = Vec::new(alloc);
+    let mut exact = 0i64;
+    let mut whole = 0i64;
+    for number in numbers {
+        let Some(bits) = number.bits() else {
+            return Ok(None);
+        };
+        exact = exact.saturating_add(bits);
+        let next = exact.saturating_add(32768).div_euclid(65536);
+        let Ok(edge) = i16::try_from(next.saturating_sub(whole)) else {
+            return Ok(None);
+        };
+        edges.push(edge)?;
+        whole = next;
+    }
+    Ok(Some(edges))
+}
+
+/// A Private DICT of CFF2 at a place, as far as it is read.
+#[derive(Drop)]
+struct Reader<'m> {
+    bytes: &'m [u8],
+    tables: &'m [Vec<u32>],
+    /// The number of the item variation data that blends use.
+    index: usize,
+    stack: Vec<Number>,
+    out: Vec<u8>,
+}
+
+impl<'m> Reader<'m> {
+    /// The operands as they are spelled. None where one was blended.
+    fn spelled(&self, alloc: Global) -> Result<Option<Vec<u8>>>
+        ensures late { IfErr result (λ e. IsLate e) }
+    {
+        let mut text = Vec::new(alloc);
+        for number in &self.stack {
+            let Some(bytes) = number.spelled(self.bytes) else {
+                return Ok(None);
+            };
+            text.extend_from_slice(bytes)?;
+        }
+        Ok(Some(text))
+    }
+
+    /// Appends the operands: as they are spelled where none was blended, and else in whole numbers. False where they are not known.
+    fn put_operands(&mut self, alloc: Global) -> Result<bool>
+        ensures late { IfErr result (λ e. IsLate e) }
+    {
+        if let Some(text) = self.spelled(alloc)? {
+            self.out.extend_from_slice(&text)?;
+            return Ok(true);
+        }
+        let Some(edges) = edges(alloc, &self.stack)? else {
+            return Ok(false);
+        };
+        for edge in &edges {
+            put_number(&mut self.out, Operand::from_int(*edge))?;
+        }
+        Ok(true)
+    }
+
+    /// Appends a hint with its operands, where these are known.
+    fn put_hint(&mut self, alloc: Global, operator: &[u8]) -> Result<()>
+        ensures late { IfErr result (λ e. IsLate e) }
+    {
+        if self.stack.is_empty() || self.stack.len() > OPERANDS {
+            return Ok(());
+        }
+        if self.put_operands(alloc)? {
+            self.out.extend_from_slice(operator)?;
+        }
+        Ok(())
+    }
+
+    /// Blends numbers: the last operand is how many, and before it stand these and the deltas of each, as many as there are scalars.
+    fn blend(&mut self) {
+        let count = match self.stack.pop() {
+            Some(Number::Whole(count, _, _)) => usize::try_from(count).unwrap_or(0),
+            _ => 0,
+        };
+        let scalars: &[u32] = match self.tables.get(self.index) {
+            Some(scalars) => scalars,
+            None => &[],
+        };
+        let all = count.saturating_mul(scalars.len().saturating_add(1));
+        let Some(base) = self.stack.len().checked_sub(all) else {
+            self.stack.truncate(0);
+            return;
+        };
+        for i in 0..count {
+            let from = base
+                .saturating_add(count)
+                .saturating_add(i.saturating_mul(scalars.len()));
+            let deltas = self
+                .stack
+                .get(from..from.saturating_add(scalars.len()))
+                .unwrap_or(&[]);
+            let place = base.saturating_add(i);
+            let number = blended(self.stack.get(place).copied(), deltas, scalars);
+            if let Some(slot) = self.stack.get_mut(place) {
+                *slot = number;
+            }
+        }
+        self.stack.truncate(base.saturating_add(count));
+    }
+
+    /// Does what an operator asks for.
+    fn act(&mut self, alloc: Global, operator: &[u8]) -> Result<()>
+        ensures late { IfErr result (λ e. IsLate e) }
+    {
+        if matches!(operator, [BLEND]) {
+            self.blend();
+            return Ok(());
+        }
+        if matches!(operator, [VS_INDEX]) {
+            if let Some(Number::Whole(index, _, _)) = self.stack.first() {
+                self.index = usize::try_from(*index).unwrap_or(usize::MAX);
+            }
+        } else if is_hint(operator) {
+            self.put_hint(alloc, operator)?;
+        }
+        self.stack.truncate(0);
+        Ok(())
+    }
+
+    /// Reads the dictionary to its end, or to an operator that is cut.
+    fn read(&mut self, alloc: Global) -> Result<()>
+        ensures late { IfErr result (λ e. IsLate e) }
+    {
+        let mut place = 0usize;
+        let bytes = self.bytes;
+        while place < bytes.len() {
+            if bytes[place] < 28 {
+                let end = place.saturating_add(operator_size(usize::from(bytes[place])));
+                let Some(operator) = bytes.get(place..end) else {
+                    return Ok(());
+                };
+                self.act(alloc, operator)?;
+                place = end;
+            } else {
+                let (number, end) = operand_at(bytes, place);
+                self.stack.push(number)?;
+                place = end;
+            }
+        }
+        Ok(())
+    }
+}
+
+/// Whether an operator tells how glyphs are hinted.
+fn is_hint(operator: &[u8]) -> bool {
+    matches!(operator, [6..=11] | [12, 9..=13] | [12, 17..=18])
+}
+
+/// The Private DICT that a Font DICT of CFF2 names; empty where there is none.
+fn private_bytes<'l>(font: &Font<'l>, number: usize) -> &'l [u8] {
+    let Some(bytes) = font.font_dictionaries.get(number) else {
+        return &[];
+    };
+    match Part::read(font.bytes, &Dictionary { bytes }) {
+        Some(part) => part.private_dictionary.bytes,
+        None => &[],
+    }
+}
+
+/// The Private DICT of CFF of a Font DICT at a place.
+pub(crate) fn private_of(
+    alloc: Global,
+    font: &Font<'_>,
+    number: usize,
+    place: &Place,
+) -> Result<Vec<u8>>
+    ensures late { IfErr result (λ e. IsLate e) }
+{
+    let mut reader = Reader {
+        bytes: private_bytes(font, number),
+        tables: &place.tables,
+        index: 0,
+        stack: Vec::new(alloc),
+        out: Vec::new(alloc),
+    };
+    reader.read(alloc)?;
+    reader.out.extend_from_slice(&NO_WIDTHS)?;
+    Ok(reader.out)
+}
