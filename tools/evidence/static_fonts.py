@@ -2,7 +2,7 @@
 """Compares the static fonts that `psotf instance` writes with the variable fonts that they are made of.
 
     (cd crates/psotf && rt run -- --help)
-    tools/evidence/static_fonts.py SEED PLACES WORD..
+    tools/evidence/static_fonts.py SEED PLACES [--round] WORD..
 
 Each WORD is an OpenType file with a table `CFF2`, or a Debian package, which is downloaded (not installed) and of which each such file
 is taken; pango1.0-tests has Cantarell-VF.otf. Besides, the fonts of tools/variable_fonts.py are made of EB Garamond (Debian's
@@ -15,13 +15,16 @@ that the variable font has at the place. As fontTools reads it, the width of eac
 the outline, and no coordinate further than 1/16 unit from what it draws of the variable font by floats. hb-shape must set a line of text, and 300
 lines of random characters of the font, as it does of the variable font, kerning and marks with them. What fontTools' varLib.mutator makes of
 the font (its instancer takes no CFF2) must have advances, and the numbers that MVAR varies, no further off than a unit; the mutator
-rounds each difference of points, so that of its outlines the furthest is told. The names of a named instance must be those of its style. It
-prints each fault, and the sizes beside those of the mutator's files, which keep CFF2. crates/psotf/out/psotf is run, or the program that the variable PSOTF
+rounds each difference of points, so that of its outlines the furthest is told. The names of a named instance must be those of its style. A font with one Font DICT must keep the names of its glyphs, and
+each hint of its Private DICTs must be where it blends to by floats, at the nearest unit. With --round the files are written so: then each point must be
+that of the file without it, at the nearest whole units, halves up, and nothing is compared with floats. It prints each fault, and the sizes beside those of the mutator's files, which keep CFF2. crates/psotf/out/psotf is run, or the program that the variable PSOTF
 names. Needs Debian's python3-fonttools, libfreetype6, libharfbuzz-bin and opentype-sanitizer. The status is 1 where something differs.
 """
 
 import collections
 import json
+import math
+import operator
 import pathlib
 import random
 import subprocess
@@ -38,7 +41,9 @@ from fontTools.ttLib import TTFont
 import fontTools.varLib.cff
 from fontTools.feaLib.builder import addOpenTypeFeaturesFromString
 from fontTools.varLib import mutator
+from fontTools.varLib.models import normalizeLocation
 from fontTools.varLib.mvar import MVAR_ENTRIES
+from fontTools.varLib.varStore import VarStoreInstancer
 
 from building import PSOTF
 from instance import drawn, farthest
@@ -162,6 +167,48 @@ def moved_metrics(static, made, faults):
                 faults.append(f"{tag} {field}: {ours}, not {theirs}")
 
 
+def scalars_of(top, axes, values, number):
+    """The scalars of the regions of item variation data at a place."""
+    if getattr(top, "VarStore", None) is None:
+        return []
+    store = top.VarStore.otVarStore
+    at = VarStoreInstancer(store, axes, normalizeLocation(values, {axis.axisTag: (axis.minValue, axis.defaultValue, axis.maxValue) for axis in axes}))
+    return [at._getScalar(region) for region in store.VarData[number].VarRegionIndex] if number < len(store.VarData) else []
+
+
+def hints_are(font, static, values, faults):
+    """Compares each hint with what it blends to at the place."""
+    old, new = font["CFF2"].cff.topDictIndex[0], static["CFF "].cff.topDictIndex[0]
+    news = [part.Private for part in new.FDArray] if hasattr(new, "ROS") else [new.Private]
+    for part, private in zip(old.FDArray, news, strict=True):
+        raw = part.Private.rawDict
+        scalars = scalars_of(old, font["fvar"].axes, values, raw.get("vsindex", 0))
+        for name, told in raw.items():
+            if name in ("Subrs", "vsindex"):
+                continue
+            several = isinstance(told, list) and name not in ("StdHW", "StdVW", "BlueScale", "BlueShift", "BlueFuzz")
+            edges = told if several else [told]
+            wanted = [edge[0] + sum(map(operator.mul, edge[1:], scalars)) if isinstance(edge, list) else edge for edge in edges]
+            found = private.rawDict.get(name)
+            found = found if several else [found]
+            if found is None or None in found or len(found) != len(wanted) or any(abs(a - b) > 0.501 for a, b in zip(found, wanted)):
+                faults.append(f"{name}: {found}, not {wanted}")
+
+
+def names_are_kept(font, static, faults):
+    """Compares the names of glyphs."""
+    has_one = len(font["CFF2"].cff.topDictIndex[0].FDArray) == 1
+    if has_one and (hasattr(static["CFF "].cff.topDictIndex[0], "ROS") or static.getGlyphOrder() != font.getGlyphOrder()):
+        faults.append("names of glyphs")
+
+
+def at_units(told):
+    """What is told, each number at the nearest whole unit, halves up; binary fractions of 16 bits are exact in floats."""
+    if isinstance(told, (list, tuple)):
+        return type(told)(map(at_units, told))
+    return math.floor(told + 0.5) if isinstance(told, (int, float)) else told
+
+
 def near_mutator(path, values, static, folder, faults):
     """Compares with what fontTools' mutator makes of the place; the size of its file, and the furthest that points are off."""
     made = mutator.instantiateVariableFont(TTFont(path), dict(values))
@@ -194,10 +241,10 @@ def near_floats(font, values, static, faults):
     return worst
 
 
-def compare_place(path, font, words, values, name, folder, freetype, lines, counts):
+def compare_place(path, font, words, values, name, folder, freetype, lines, rounds, counts):
     """Compares the file of a place; tells what is at fault."""
     out, faults = folder / "static.otf", []
-    _, said = run("instance", path, *words, "-o", out)
+    _, said = run("instance", path, *words, *rounds, "-o", out)
     counts["said"] |= {said.strip()}
     static = TTFont(out)
     for tag in static.keys():
@@ -209,11 +256,14 @@ def compare_place(path, font, words, values, name, folder, freetype, lines, coun
         faults.append(f"ots-sanitize: {done.stderr.strip()}")
     place = ["--variations", ",".join(f"{tag}={value:g}" for tag, value in values.items())]
     ours, theirs = glyphs_of(out), glyphs_of(path, *place)
+    theirs = at_units(theirs) if rounds else theirs
     counts["glyphs"] += len(ours)
     for number, (one, other) in enumerate(zip(ours, theirs, strict=True)):
         if one != other:
             faults.append(f"{number}: its outline or its advance")
     widths_are(static, faults)
+    names_are_kept(font, static, faults)
+    hints_are(font, static, values, faults)
     face = freetype.face(out)
     if face is None or any(freetype.shapes(face, number, NO_HINTING) is None for number in range(len(ours))):
         faults.append("FreeType")
@@ -225,7 +275,8 @@ def compare_place(path, font, words, values, name, folder, freetype, lines, coun
     counts["lines"] += len(lines)
     if name is not None:
         names_are(static, font, name, faults)
-    counts["floats"] = max(counts["floats"], near_floats(font, values, static, faults))
+    if not rounds:
+        counts["floats"] = max(counts["floats"], near_floats(font, values, static, faults))
     size, worst = near_mutator(path, values, static, folder, faults)
     counts["size"], counts["mutated"] = counts["size"] + out.stat().st_size, counts["mutated"] + size
     counts["worst"] = max(counts["worst"], worst)
@@ -238,7 +289,7 @@ def refused(path, words, folder):
     return done.stderr if done.returncode else None
 
 
-def compare_font(path, chance, count, folder, freetype):
+def compare_font(path, chance, count, folder, freetype, rounds):
     """Compares the static fonts of a font; tells how much differs."""
     font, differ, refusals = TTFont(path), 0, collections.Counter()
     counts = {"glyphs": 0, "lines": 0, "size": 0, "mutated": 0, "worst": 0, "floats": 0, "said": set()}
@@ -249,7 +300,7 @@ def compare_font(path, chance, count, folder, freetype):
             faults = [said]
         else:
             (folder / "none.otf").unlink()
-            faults = compare_place(path, font, words, values, name, folder, freetype, lines, counts)
+            faults = compare_place(path, font, words, values, name, folder, freetype, lines, rounds, counts)
         differ += len(faults)
         for fault in faults[:8]:
             print(f"{path.name} {' '.join(words)}: {fault}", file=sys.stderr)
@@ -270,6 +321,8 @@ def with_features(path):
 
 def main():
     seed, places, *words = sys.argv[1:]
+    rounds = [word for word in words if word == "--round"]
+    words = [word for word in words if word != "--round"]
     print(f"seed {seed}")
     freetype, differ = FreeType(), 0
     with tempfile.TemporaryDirectory() as name:
@@ -282,7 +335,7 @@ def main():
                 made = with_features(variable(folder / f"fonts{few}", count))
                 fonts += [made, mixed(made)]
         for path in fonts:
-            differ += compare_font(path, random.Random(f"{seed} {path.name}"), int(places), folder, freetype)
+            differ += compare_font(path, random.Random(f"{seed} {path.name}"), int(places), folder, freetype, rounds)
     print(f"{differ} differ")
     sys.exit(differ > 0)
 

@@ -7,8 +7,8 @@ use Rattle.postscript_view.specs.Layout.{IsLaidOut}
 use Rattle.postscript_view.specs.Order.{View}
 use Rattle.postscript_instance.specs.Naming.{IsCalled}
 use Rattle.postscript_instance.specs.declared.naming.Naming.{Naming}
-use Rattle.postscript_instance.specs.Glyphs.{AreStatics, IsStaticGlyph}
-use Rattle.postscript_instance.specs.Tables.{AreItems, IsPlainFont, IsTableOf}
+use Rattle.postscript_instance.specs.Glyphs.{AreCodes}
+use Rattle.postscript_instance.specs.Tables.{AreItems, IsPlainFont, IsTable}
 
 -- what stands there already stays, and the new one is the last
 stays : {X : Type 0} (xs : List X) (x : X) (i : ℕ) → i < length xs → slice_get (xs ++ x ∷ []) i ≡ slice_get xs i
@@ -28,12 +28,9 @@ found [] i x is h = absurd (omega (arith, h))
 found (y ∷ ys) zero x is h = ap Some (sym is)
 found (y ∷ ys) (suc i) x is h = found ys i x is (omega (arith, h))
 
-pub no-statics : (font : Font) (place : Place) (widths : List ℤ) → AreStatics font place widths 0 []
-no-statics font place widths = record { counted = refl; each = λ glyph h. absurd (omega (arith, h)) }
-
-pub one-static : (font : Font) (place : Place) (widths : List ℤ) (n : ℕ) (xs : List (Vec ℕ Global)) (x : Vec ℕ Global) (width : ℤ) → AreStatics font place widths n xs →
-    slice_get widths n ≡ Some width → IsStaticGlyph font n place (Some width) x.items → AreStatics font place widths (n + 1) (xs ++ x ∷ [])
-one-static font place widths n xs x width are there is =
+pub one-code : (does : (glyph : ℕ) → (width : ℤ) → (code : List ℕ) → Type 0) (widths : List ℤ) (n : ℕ) (xs : List (Vec ℕ Global)) (x : Vec ℕ Global) (width : ℤ) →
+    AreCodes does widths n xs → slice_get widths n ≡ Some width → does n width x.items → AreCodes does widths (n + 1) (xs ++ x ∷ [])
+one-code does widths n xs x width are there is =
     let many = are.counted in
     let long = length-append xs (x ∷ []) in
     let at_end : slice_get (xs ++ x ∷ []) n ≡ Some x = subst (λ k. slice_get (xs ++ x ∷ []) k ≡ Some x) many (last xs x) in
@@ -46,7 +43,7 @@ one-static font place widths n xs x width are there is =
           x,
           ap (slice_get widths) same ∙ there,
           ap (slice_get (xs ++ x ∷ [])) same ∙ at_end,
-          subst (λ k. IsStaticGlyph font k place (Some width) x.items) (sym same) is,
+          subst (λ k. does k width x.items) (sym same) is,
         )
       ];
     }
@@ -64,11 +61,11 @@ one-item items codes n code are there is = record {
 same-code : (codes : List (Vec ℕ Global)) (i : ℕ) (a b : Vec ℕ Global) → slice_get codes i ≡ Some a → slice_get codes i ≡ Some b → a ≡ b
 same-code codes i a b h k = let both : Some a ≡ Some b = sym h ∙ k in cc
 
--- the table of codes that do what the glyphs do
-pub table-of : (font : Font) (place : Place) (naming : Naming) (advances : List ℤ) (bytes : List ℕ) (codes : List (Vec ℕ Global)) (view : View) →
-    AreStatics font place advances (length advances) codes → IsLaidOut bytes 0 view → IsPlainFont view codes → IsCalled naming bytes view →
-    IsTableOf font place naming advances bytes
-table-of font place naming advances bytes codes view are stands plain called =
+-- the table of codes that do what they are to do
+pub table-of : (does : (glyph : ℕ) → (advance : ℤ) → (code : List ℕ) → Type 0) (naming : Naming) (advances : List ℤ) (bytes : List ℕ) (codes : List (Vec ℕ Global)) (view : View) →
+    AreCodes does advances (length advances) codes → IsLaidOut bytes 0 view → IsPlainFont view codes → IsCalled naming bytes view →
+    IsTable does naming advances bytes
+table-of does naming advances bytes codes view are stands plain called =
     let many = are.counted in
     let all = plain.items.counted in record {
       view = view;

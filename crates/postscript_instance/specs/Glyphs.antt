@@ -43,8 +43,12 @@ IsMiscounted font naming widths e = ⊥
 abbrev pub NoTable : Font → Place → Naming → (widths : List ℤ) → Error → Type 0
 NoTable font place naming widths e = IsMiscounted font naming widths e ⊎ LacksCode font place widths e
 
--- the codes of the first so many glyphs, each with its width
-pub record AreStatics (font : Font) (place : Place) (widths : List ℤ) (count : ℕ) (codes : List (Vec ℕ Global)) : Type 0 where
+-- so a code does what a glyph does at the place, with its width
+abbrev pub DoesAt : Font → Place → (glyph : ℕ) → (width : ℤ) → (code : List ℕ) → Type 0
+DoesAt font place glyph width code = IsStaticGlyph font glyph place (Some width) code
+
+-- the codes of the first so many glyphs, each of which does what it is to do, with its width
+pub record AreCodes (does : (glyph : ℕ) → (width : ℤ) → (code : List ℕ) → Type 0) (widths : List ℤ) (count : ℕ) (codes : List (Vec ℕ Global)) : Type 0 where
   pub counted : length codes ≡ count
   pub each : (glyph : ℕ) → glyph < count → (width : ℤ) × (code : Vec ℕ Global) × (slice_get widths glyph ≡ Some width) ×
-      (slice_get codes glyph ≡ Some code) × IsStaticGlyph font glyph place (Some width) code.items
+      (slice_get codes glyph ≡ Some code) × does glyph width code.items

@@ -8,7 +8,7 @@ use Rattle.postscript_cff2.specs.declared.font.Font.{Font}
 use Rattle.postscript_variable_font.specs.declared.place.Place.{Place}
 use Rattle.postscript_view.specs.Layout.{IsLaidOut}
 use Rattle.postscript_view.specs.Order.{Part, View}
-use Rattle.postscript_instance.specs.Glyphs.{IsStaticGlyph}
+use Rattle.postscript_instance.specs.Glyphs.{DoesAt}
 use Rattle.postscript_instance.specs.Naming.{IsCalled}
 use Rattle.postscript_instance.specs.declared.naming.Naming.{Naming}
 
@@ -33,15 +33,19 @@ pub record IsPlainFont (view : View) (codes : List (Vec ℕ Global)) : Type 0 wh
   pub widths : HaveNoWidths view.parts
 
 -- A font stands in the bytes (Technical Note 5176, "CFF Data Layout"), which has no subroutines that its glyphs share. Each of its glyphs
--- has a code that does what the glyph does at the place, with its advance as its width, and nothing is added to that. The font and its
--- glyphs are called as they are to be.
-pub record IsTableOf (font : Font) (place : Place) (naming : Naming) (advances : List ℤ) (bytes : List ℕ) : Type 0 where
+-- has a code that does what it is to do, with its advance as its width, and nothing is added to that. The font and its glyphs are called
+-- as they are to be.
+pub record IsTable (does : (glyph : ℕ) → (advance : ℤ) → (code : List ℕ) → Type 0) (naming : Naming) (advances : List ℤ) (bytes : List ℕ) : Type 0 where
   pub view : View
   pub stands : IsLaidOut bytes 0 view
   pub counted : length view.char_strings ≡ length advances
   pub glyphs : (glyph : ℕ) → glyph < length advances →
       (advance : ℤ) × (code : List ℕ) × (slice_get advances glyph ≡ Some advance) ×
-      (slice_get view.char_strings glyph ≡ Some code) × IsStaticGlyph font glyph place (Some advance) code
+      (slice_get view.char_strings glyph ≡ Some code) × does glyph advance code
   pub none : view.tables.subroutines ≡ []
   pub widths : HaveNoWidths view.parts
   pub called : IsCalled naming bytes view
+
+-- the table of a place: each code does what the glyph does there
+abbrev pub IsTableOf : Font → Place → Naming → (advances : List ℤ) → List ℕ → Type 0
+IsTableOf font place naming advances bytes = IsTable (DoesAt font place) naming advances bytes

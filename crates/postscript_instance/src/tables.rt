@@ -1,7 +1,7 @@
 //! The table `CFF ` of a place.
 ghost use Rattle.std.specs.Prelude.{◌≡◌, Some, length, slice_get, IsTrue, IfOk, IfErr, OnOk};
 ghost use Rattle.postscript_cff2.specs.Shown.{view_shown as varying_shown};
-ghost use Rattle.postscript_instance.specs.Glyphs.{AreStatics, IsMiscounted, IsStaticGlyph, LacksCode, NoStaticGlyph, NoTable};
+ghost use Rattle.postscript_instance.specs.Glyphs.{AreCodes, DoesAt, IsMiscounted, IsStaticGlyph, LacksCode, NoStaticGlyph, NoTable};
 ghost use Rattle.postscript_instance.specs.Naming.{IsCalled};
 ghost use Rattle.postscript_instance.specs.Refusals.{IsLate};
 ghost use Rattle.postscript_instance.specs.Tables.{AreItems, HasNoWidths, HaveNoWidths, IsPlainFont, IsTableOf};
@@ -48,7 +48,7 @@ fn codes_of(
     place: &Place,
     widths: &[Operand],
 ) -> Result<Vec<Vec<u8>>>
-    ensures are { IfOk result (λ codes. AreStatics font.now place.now widths.now (length widths.now) codes.items) }
+    ensures are { IfOk result (λ codes. AreCodes (DoesAt font.now place.now) widths.now (length widths.now) codes.items) }
     ensures refused { IfErr result (λ e. LacksCode font.now place.now widths.now e) }
 {
     let mut codes = Vec::with_capacity(alloc, widths.len())?;

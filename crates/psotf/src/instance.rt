@@ -1,5 +1,6 @@
 //! Files of one place of a variable font, with outlines in the table CFF.
 mod drawn;
+mod glyph_names;
 mod kept;
 mod metrics;
 mod positions;
@@ -13,9 +14,10 @@ use crate::saving;
 use crate::variable::{Chosen, VariableFace};
 use clap::ArgMatches;
 use drawn::Drawn;
-use metrics::Made;
+use glyph_names::{Kept, names_of};
+use metrics::Tables;
 use positions::Positions;
-use postscript_instance::{Error, glyph, table};
+use postscript_instance::{Error, Naming, glyph, table};
 use postscript_sfnt_write::{Table, file_of};
 use std::alloc::Global;
 use std::io::Write;
@@ -61,16 +63,23 @@ fn refusal_of(
     }
 }
 
-/// The table `CFF ` of a place.
+/// The table `CFF ` of a place, with names of glyphs where they are kept.
 fn font_of(
     alloc: Global,
     face: &VariableFace<'_>,
     chosen: &Chosen,
     drawn: &Drawn,
     style: &Style,
+    names: &Kept<'_>,
 ) -> Result<Vec<u8>, Failure> {
-    let name = style.postscript.as_bytes();
-    match table(alloc, &face.font, &chosen.place, name, &drawn.widths) {
+    let naming = Naming {
+        font: style.postscript.as_bytes(),
+        glyphs: match names {
+            Kept::Names(names) => Some(names),
+            Kept::Untold | Kept::Lost(_) => None,
+        },
+    };
+    match table(alloc, &face.font, &chosen.place, &naming, &drawn.widths) {
         Ok(font) => Ok(font),
         Err(error) => Err(refusal_of(alloc, face, chosen, drawn, error)),
     }
@@ -81,7 +90,7 @@ fn file_with(
     alloc: Global,
     face: &VariableFace<'_>,
     font: &[u8],
-    made: &Made,
+    others: &Tables,
     positions: &Positions,
 ) -> Result<Vec<u8>, Failure> {
     let mut tables: Vec<Table<'_>> = Vec::new(alloc);
@@ -89,7 +98,7 @@ fn file_with(
         tag: u32::from_be_bytes(*b"CFF "),
         bytes: font,
     })?;
-    for table in &made.tables {
+    for table in &others.tables {
         tables.push(Table {
             tag: table.tag,
             bytes: table.bytes.as_slice(),
@@ -108,25 +117,50 @@ fn file_with(
     Ok(file_of(alloc, tables.as_slice())?)
 }
 
-/// A file of the place that words name, where the run of each glyph keeps to the limit, and what stays of its positions.
+/// A file of a place, what stays of its positions, and why names of glyphs are lost, where they are.
+#[derive(Drop)]
+struct StaticFile {
+    file: Vec<u8>,
+    positions: Positions,
+    lost: Option<&'static str>,
+}
+
+/// A file of the place that words name, where the run of each glyph keeps to the limit.
 fn made(
     rt: &HostRuntime,
     face: &VariableFace<'_>,
     words: &ArgMatches<'_>,
     budget: &mut Budget,
-) -> Result<(Vec<u8>, Positions), Failure> {
+) -> Result<StaticFile, Failure> {
     let alloc = rt.alloc();
     let chosen = Chosen::read(rt, face, words)?;
     let drawn = Drawn::of(rt, face, &chosen, budget)?;
     let style = Style::of(alloc, face, &chosen)?;
-    let font = font_of(alloc, face, &chosen, &drawn, &style)?;
-    let made = Made::of(alloc, face, &chosen, &drawn, &style)?;
+    let names = names_of(alloc, face)?;
+    let font = font_of(alloc, face, &chosen, &drawn, &style, &names)?;
+    let tables = Tables::of(alloc, face, &chosen, &drawn, &style)?;
     let positions = Positions::of(alloc, face, &chosen)?;
-    let file = file_with(alloc, face, &font, &made, &positions)?;
-    Ok((file, positions))
+    let file = file_with(alloc, face, &font, &tables, &positions)?;
+    let lost = match names {
+        Kept::Lost(why) => Some(why),
+        Kept::Names(_) | Kept::Untold => None,
+    };
+    Ok(StaticFile {
+        file,
+        positions,
+        lost,
+    })
 }
 
-/// A file of the place that words name, of which another is made. It tells of the tables that are left out, where it is to.
+/// Tells what is left out, in a line each: names of glyphs, and tables.
+fn tell(rt: &HostRuntime, face: &VariableFace<'_>, made: &StaticFile) -> Result<(), Failure> {
+    if let Some(why) = made.lost {
+        eprintln!(rt; "psotf: names of glyphs left out: {why}")?;
+    }
+    kept::tell(rt, face, &made.positions)
+}
+
+/// A file of the place that words name, of which another is made. It tells what is left out, where it is to.
 pub fn file_at(
     rt: &HostRuntime,
     face: &VariableFace<'_>,
@@ -134,14 +168,14 @@ pub fn file_at(
     budget: &mut Budget,
     tells: bool,
 ) -> Result<Vec<u8>, Failure> {
-    let (file, positions) = made(rt, face, words, budget)?;
+    let made = made(rt, face, words, budget)?;
     if tells {
-        kept::tell(rt, face, &positions)?;
+        tell(rt, face, &made)?;
     }
-    Ok(file)
+    Ok(made.file)
 }
 
-/// Writes a file of the place that words name. It tells of the tables that are left out, unless it is to be quiet.
+/// Writes a file of the place that words name. It tells what is left out, unless it is to be quiet.
 pub fn write<W: Write>(
     rt: &HostRuntime,
     face: &VariableFace<'_>,
@@ -149,9 +183,9 @@ pub fn write<W: Write>(
     budget: &mut Budget,
     out: &mut W,
 ) -> Result<(), Failure> {
-    let (file, positions) = made(rt, face, words, budget)?;
+    let made = made(rt, face, words, budget)?;
     if !words.get_flag("quiet") {
-        kept::tell(rt, face, &positions)?;
+        tell(rt, face, &made)?;
     }
-    saving::put(rt, words, &file, out)
+    saving::put(rt, words, &made.file, out)
 }

@@ -27,7 +27,7 @@ pub struct MadeTable {
 
 /// The tables that were made, but for the outlines.
 #[derive(Drop)]
-pub struct Made {
+pub struct Tables {
     pub tables: Vec<MadeTable>,
 }
 
@@ -169,7 +169,7 @@ impl<'m, 'l> Maker<'m, 'l> {
     }
 }
 
-impl Made {
+impl Tables {
     /// Adds a table.
     fn put(&mut self, tag: [u8; 4], bytes: Vec<u8>) -> Result<(), AllocError> {
         let tag = u32::from_be_bytes(tag);
@@ -196,7 +196,7 @@ impl Made {
         chosen: &Chosen,
         drawn: &Drawn,
         style: &Style,
-    ) -> Result<Made, Failure> {
+    ) -> Result<Tables, Failure> {
         let metrics = match face.file.table(*b"MVAR") {
             Some(mvar) => Some(read_as("MVAR", MetricVariations::read(mvar))?),
             None => None,
@@ -209,7 +209,7 @@ impl Made {
             style,
             metrics,
         };
-        let mut made = Made {
+        let mut made = Tables {
             tables: Vec::new(alloc),
         };
         made.put(*b"head", maker.head()?)?;

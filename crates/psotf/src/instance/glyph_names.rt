@@ -1,0 +1,79 @@
+//! The names of glyphs that a file of one place keeps.
+use crate::variable::VariableFace;
+use postscript_sfnt::GlyphNames;
+use std::alloc::{AllocError, Global};
+
+/// The most names that a table `CFF ` is given.
+const MOST: usize = 64000;
+
+/// The names that are kept, or why none are.
+#[derive(Drop)]
+pub enum Kept<'l> {
+    Names(Vec<&'l [u8]>),
+    /// The face tells none.
+    Untold,
+    Lost(&'static str),
+}
+
+/// Whether a name is one of PostScript (Technical Note 5176, "Name INDEX"): of up to 127 signs of ASCII, without space or delimiters.
+fn is_fit(name: &[u8]) -> bool {
+    if name.is_empty() || name.len() > 127 {
+        return false;
+    }
+    name.iter().all(|byte| byte.is_ascii_graphic() && !b"[](){}<>/%".contains(byte))
+}
+
+/// The names of so many glyphs. None where one has none, or one that does not fit.
+fn all<'l>(
+    alloc: Global,
+    names: &GlyphNames<'l>,
+    glyphs: usize,
+) -> Result<Option<Vec<&'l [u8]>>, AllocError> {
+    let mut all = Vec::new(alloc);
+    for glyph in 0..glyphs {
+        match names.get(glyph) {
+            Some(name) if is_fit(name) => all.push(name)?,
+            _ => return Ok(None),
+        }
+    }
+    Ok(Some(all))
+}
+
+/// Whether two names are the same.
+fn has_twins(alloc: Global, names: &[&[u8]]) -> Result<bool, AllocError> {
+    let mut sorted: Vec<&[u8]> = Vec::from_slice(alloc, names)?;
+    sorted.sort()?;
+    Ok(sorted.windows(2).any(|pair| pair[0] == pair[1]))
+}
+
+/// Names that a font has room for, and which differ.
+fn fit<'l>(alloc: Global, names: Vec<&'l [u8]>) -> Result<Kept<'l>, AllocError> {
+    if names.len() > MOST {
+        return Ok(Kept::Lost("there are too many"));
+    }
+    if names.first().copied() != Some(b".notdef") {
+        return Ok(Kept::Lost("the first is not .notdef"));
+    }
+    if has_twins(alloc, &names)? {
+        return Ok(Kept::Lost("two glyphs have the same"));
+    }
+    Ok(Kept::Names(names))
+}
+
+/// The names that the table `post` of a face tells of its glyphs. A table `CFF ` with names has one Private DICT, so they are lost where the
+/// face has several Font DICTs.
+pub fn names_of<'l>(alloc: Global, face: &VariableFace<'l>) -> Result<Kept<'l>, AllocError> {
+    let Some(post) = face.file.table(*b"post") else {
+        return Ok(Kept::Untold);
+    };
+    let Some(names) = GlyphNames::read(alloc, post)? else {
+        return Ok(Kept::Untold);
+    };
+    if face.font.font_dictionaries.len() != 1 {
+        return Ok(Kept::Lost("the font has several font dictionaries"));
+    }
+    match all(alloc, &names, face.font.char_strings.len())? {
+        Some(names) => fit(alloc, names),
+        None => Ok(Kept::Lost("not each glyph has one that fits")),
+    }
+}
