@@ -89,6 +89,7 @@ no-table font place widths errors.OtherCount (inr lacks) = absurd (lacks.3.2)
 no-table font place widths (errors.Font e) lacks = lacks
 no-table font place widths errors.TooManyOperands lacks = lacks
 no-table font place widths errors.NoMove lacks = lacks
+no-table font place widths errors.TooFar lacks = lacks
 no-table font place widths (errors.NoGlyph glyph) lacks = lacks
 no-table font place widths errors.TooLarge lacks = lacks
 no-table font place widths errors.NotReadBack lacks = lacks
