@@ -7,3 +7,7 @@ pub mod Runs
 pub mod Shortest
 pub mod Operations
 pub mod Codes
+pub mod Nearest
+pub mod Units
+pub mod Rounds
+pub mod InUnits

@@ -4,6 +4,8 @@ pub mod Texts
 pub mod Pieces
 pub mod Statics
 pub mod Refusals
+pub mod Rounded
+pub mod Axes
 pub mod Laws
 pub mod Glyphs
 pub mod Naming

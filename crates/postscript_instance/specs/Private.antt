@@ -1,6 +1,7 @@
 -- Named by private contracts and proofs alone.
-use Rattle.std.specs.Prelude.{◌≡◌, ◌⊎◌, ℕ, ◌+◌, ◌%◌, ◌<◌, ◌≤◌, ℤ, Bool, true, false, List, [], ◌∷◌, ◌++◌, length, take, drop, Option, None}
+use Rattle.std.specs.Prelude.{◌≡◌, ◌⊎◌, ℕ, ◌+◌, ◌%◌, ◌<◌, ◌≤◌, ℤ, Bool, true, false, List, [], ◌∷◌, ◌++◌, length, take, drop, Option, None, pos, if◌then◌else◌}
 use Rattle.postscript_base.specs.declared.error.Error.TheVariants as causes
+use Rattle.postscript_outline.specs.declared.point.Point.{Point}
 use Rattle.postscript_type2.specs.declared.operation.Operator.{Operator}
 use Rattle.postscript_type2.specs.declared.operation.Operator.TheVariants.{RLineTo, HLineTo, VLineTo, RRCurveTo, RCurveLine, RLineCurve, VVCurveTo, HHCurveTo, VHCurveTo, HVCurveTo}
 use Rattle.postscript_variable.specs.Defaults.{AreHeld}
@@ -8,8 +9,10 @@ use Rattle.postscript_variable.specs.Sayings.{Said}
 use Rattle.postscript_instance.specs.declared.error.Error.{Error}
 use Rattle.postscript_instance.specs.declared.error.Error.TheVariants as errors
 use Rattle.postscript_instance.specs.declared.pieces.Piece.{Piece}
+use Rattle.postscript_instance.specs.Axes.{steps_of, rounded_steps, behind_steps, depth_of, is_hint, IsNear}
 use Rattle.postscript_instance.specs.Pieces.{stack_limit}
 use Rattle.postscript_instance.specs.Refusals.{LacksMove}
+use Rattle.postscript_instance.specs.Rounded.{rounded_edges, rounded_operator}
 use Rattle.postscript_instance.specs.Texts.{width_numbers, numbers_of, code_text}
 
 -- 32 bits hold each number that is written
@@ -112,3 +115,31 @@ IsUnwritten width says (errors.Font e) = e ≡ causes.Memory
 IsUnwritten width says errors.TooManyOperands = HasMoreUncut width says
 IsUnwritten width says errors.NoMove = LacksMove width says
 IsUnwritten width says e = ⊥
+
+-- what is said in whole units
+abbrev pub operands_in_units : Point → Said → List ℤ
+operands_in_units p x =
+    if is_hint x.operator then rounded_edges (pos 0) x.operands
+    else rounded_steps p (steps_of x.operator x.operands) ++ depth_of x.operator x.operands
+
+abbrev pub in_units : Point → Said → Said
+in_units p x = record {
+  operator = rounded_operator x.operator;
+  stems = rounded_edges (pos 0) x.stems;
+  operands = operands_in_units p x;
+  mask = x.mask;
+}
+
+abbrev pub all_in_units : Point → List Said → List Said
+all_in_units p [] = []
+all_in_units p (x ∷ xs) = in_units p x ∷ all_in_units (behind_steps p (steps_of x.operator x.operands)) xs
+
+abbrev pub AreNear : Point → List Said → Type 0
+AreNear p [] = Unit {0}
+AreNear p (x ∷ xs) = IsNear p x × AreNear (behind_steps p (steps_of x.operator x.operands)) xs
+
+-- memory is wanting, or this is why something leads too far
+abbrev pub IsFar : (why : Type 0) → Error → Type 0
+IsFar why (errors.Font e) = e ≡ causes.Memory
+IsFar why errors.TooFar = why
+IsFar why e = ⊥

@@ -24,6 +24,9 @@ pub enum Error {
     /// 5177, "Type 2 Charstring Organization").
     #[error("the first path does not begin with a move")]
     NoMove,
+    /// In whole units, a place or an operand is not in the range of 16.16 bits (Technical Note 5177, "Charstring Number Encoding").
+    #[error("in whole units something leads out of the range of 16 bits")]
+    TooFar,
     /// There is no glyph of this number, or the font has no Font DICT for it that stands.
     #[error("there is no glyph {0}")]
     NoGlyph(usize),

@@ -2,6 +2,7 @@
 //! 5177; OpenType 1.9, "CFF2 CharString Format").
 #![tactic(auto)]
 
+mod axes;
 mod error;
 mod indices;
 pub mod laws;
@@ -10,13 +11,16 @@ mod naming;
 mod numbers;
 mod pieces;
 mod privates;
+mod rounding;
 mod statics;
 mod tables;
 #[cfg(test)]
 mod tests;
 mod texts;
+mod whole;
 
 pub use error::{Error, Result};
 pub use naming::Naming;
 pub use statics::charstring;
 pub use tables::{glyph, table};
+pub use whole::rounded;

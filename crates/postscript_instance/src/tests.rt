@@ -1,5 +1,5 @@
 //! Charstrings by hand, by the specifications' rules.
-use crate::{Error, Naming, charstring, glyph, table};
+use crate::{Error, Naming, charstring, glyph, rounded, table};
 use postscript_base::Error as Cause;
 use postscript_cff2::Font;
 use postscript_type2::{Operand, Subroutines};
@@ -308,4 +308,126 @@ fn names_of_glyphs(rt: HostRuntime) {
         "the first"
     );
     assert_eq!(rt; view.name(&set, 1), Some(b"alpha".as_slice()), "the second");
+}
+
+/// Appends numbers, each in eighths of a unit, as their 16.16 bits behind ff.
+fn put_eighths<R: Abort>(rt: &R, code: &mut Vec<u8>, numbers: &[i32]) {
+    for number in numbers {
+        code.push(0xff).expect(rt, "memory");
+        let bits = number.wrapping_mul(8192);
+        code.extend_from_slice(&bits.to_be_bytes())
+            .expect(rt, "memory");
+    }
+}
+
+/// Operators in whole units. Each row: operators with their operands in eighths of a unit, and the bytes of the mask behind them; and the
+/// charstring in whole units, by hand. A number n from -107 to 107 is the byte 139 + n.
+#[test]
+fn whole_units(rt: HostRuntime) {
+    let tables = tables(&rt, rt.alloc());
+    let rows: [(&[(&[i32], &[u8])], &[u8]); 12] = [
+        // halves go up: 0.5, -0.5 and -1.5
+        (&[(&[4], &[0x16])], &[0x8c, 0x16, 0x0e]),
+        (&[(&[-4], &[0x16])], &[0x8b, 0x16, 0x0e]),
+        (&[(&[-12], &[0x04])], &[0x8a, 0x04, 0x0e]),
+        // three lines of 0.375 each end at 0.375, 0.75 and 1.125: at 0, 1 and 1
+        (
+            &[(&[0], &[0x16]), (&[3, 0, 3, 0, 3, 0], &[0x05])],
+            &[0x8b, 0x16, 0x8b, 0x8b, 0x8c, 0x8b, 0x8b, 0x8b, 0x05, 0x0e],
+        ),
+        // a triangle from (0.375, 0.375) by (10.625, 0.625) and (10.875, 10.875) is closed: (0, 0), (11, 1), (11, 11)
+        (
+            &[(&[3, 3], &[0x15]), (&[82, 2, 2, 82, -84, -84], &[0x05])],
+            &[
+                0x8b, 0x8b, 0x15, 0x96, 0x8c, 0x8b, 0x95, 0x80, 0x80, 0x05, 0x0e,
+            ],
+        ),
+        // lines in turn, from (0.5, 0): 0.5 up, 0.5 right, 0.5 up
+        (
+            &[(&[4], &[0x16]), (&[4, 4, 4], &[0x07])],
+            &[0x8c, 0x16, 0x8c, 0x8b, 0x8b, 0x07, 0x0e],
+        ),
+        // stems from 10.375 to 30.75 and from 36 to 39.5; then the stems of a mask, a ghost from 0.5 down by 20
+        (
+            &[(&[83, 163, 42, 28], &[0x12]), (&[4, -160], &[0x13, 0xe0])],
+            &[0x95, 0xa0, 0x90, 0x8f, 0x12, 0x8c, 0x77, 0x13, 0xe0, 0x0e],
+        ),
+        // 0.5 1.25 0.5 0.5 1.25 hhcurveto: y at 0.5, x at 1.25 and 1.75, y at 1, x at 3
+        (
+            &[(&[0], &[0x16]), (&[4, 10, 4, 4, 10], &[0x1b])],
+            &[0x8b, 0x16, 0x8c, 0x8c, 0x8c, 0x8b, 0x8c, 0x1b, 0x0e],
+        ),
+        // 0.5 0.5 0.5 0.5 0.5 hvcurveto: x at 0.5 and 1, y at 0.5 and 1, x at 1.5
+        (
+            &[(&[0], &[0x16]), (&[4, 4, 4, 4, 4], &[0x1f])],
+            &[0x8b, 0x16, 0x8c, 0x8b, 0x8c, 0x8b, 0x8c, 0x1f, 0x0e],
+        ),
+        // hflex is flex with a depth of 50: x at 0.5, 1, 1.5, 2, 2.5 and 3, y at 0, 0.5, 0.5, 0.5, 0 and 0
+        (
+            &[(&[0], &[0x16]), (&[4, 4, 4, 4, 4, 4, 4], &[0x0c, 0x22])],
+            &[
+                0x8b, 0x16, 0x8c, 0x8b, 0x8b, 0x8c, 0x8c, 0x8b, 0x8b, 0x8b, 0x8c, 0x8a, 0x8b, 0x8b,
+                0xbd, 0x0c, 0x23, 0x0e,
+            ],
+        ),
+        // flex1 goes 1.25 right and 1.125 up by five vectors, so its last operand is x, and y goes back: x at 0.25, 0.5, 0.75, 1, 1.25
+        // and 1.5, y at 0.25, 0.5, 0.75, 1, 1.125 and 0
+        (
+            &[
+                (&[0], &[0x16]),
+                (&[2, 2, 2, 2, 2, 2, 2, 2, 2, 1, 2], &[0x0c, 0x25]),
+            ],
+            &[
+                0x8b, 0x16, 0x8b, 0x8b, 0x8c, 0x8c, 0x8b, 0x8b, 0x8b, 0x8b, 0x8b, 0x8b, 0x8c, 0x8a,
+                0xbd, 0x0c, 0x23, 0x0e,
+            ],
+        ),
+        // the depth of a flex stays: 30.5
+        (
+            &[
+                (&[0], &[0x16]),
+                (&[3, 0, 3, 0, 3, 0, 0, 0, 0, 0, 0, 0, 244], &[0x0c, 0x23]),
+            ],
+            &[
+                0x8b, 0x16, 0x8b, 0x8b, 0x8c, 0x8b, 0x8b, 0x8b, 0x8b, 0x8b, 0x8b, 0x8b, 0x8b, 0x8b,
+                0xff, 0, 30, 0x80, 0, 0x0c, 0x23, 0x0e,
+            ],
+        ),
+    ];
+    for (operators, wanted) in rows {
+        let mut code = Vec::new(rt.alloc());
+        for (operands, operator) in operators {
+            put_eighths(&rt, &mut code, *operands);
+            code.extend_from_slice(*operator).expect(&rt, "memory");
+        }
+        let found = rounded(rt.alloc(), over(&code, &tables), None).expect(&rt, "in whole units");
+        assert_eq!(rt; found.as_slice(), wanted, "in whole units");
+    }
+}
+
+/// The width stays as it is given; in whole units 32767.5 leads too far, and 32767.25 and -32768 do not.
+#[test]
+fn whole_units_in_range(rt: HostRuntime) {
+    let tables = tables(&rt, rt.alloc());
+    let half = Some(Operand::from_bits(32768));
+    let found = rounded(rt.alloc(), over(&[0x8b, 0x16], &tables), half).expect(&rt, "a width");
+    assert_eq!(rt;
+        found.as_slice(),
+        [0xff, 0, 0, 0x80, 0, 0x8b, 0x16, 0x0e].as_slice(),
+        "a width"
+    );
+    let found = rounded(rt.alloc(), over(&[0x8b, 0x06], &tables), half);
+    assert!(rt; matches!(found, Err(Error::NoMove)), "no move");
+    for (eighths, is_near) in [(262138, true), (262140, false), (-262144, true)] {
+        let mut code = Vec::new(rt.alloc());
+        put_eighths(&rt, &mut code, &[eighths]);
+        code.push(0x16).expect(&rt, "memory");
+        let found = rounded(rt.alloc(), over(&code, &tables), None);
+        assert_eq!(rt; matches!(found, Ok(_)), is_near, "{eighths} eighths");
+        assert_eq!(rt;
+            matches!(found, Err(Error::TooFar)),
+            !is_near,
+            "{eighths} eighths"
+        );
+    }
 }

@@ -1,0 +1,258 @@
+-- What is said in whole units can be said again as Type 2, and is what was said, rounded.
+use Rattle.std.proofs.Common.{◌≡◌, refl, ap, sym, subst, ◌∙◌, ℕ, ◌+◌, ◌*◌, ℤ, pos, ◌+ℤ◌, false, IsTrue, List, [], ◌∷◌, ◌++◌, length, length-append, Option, Some, None, Result, Ok, Err, IfErr, arith}
+use Rattle.std.specs.Prelude.{IsErrAnd}
+use Rattle.std.proofs.lemmas.Int.{ints}
+use Rattle.postscript_drawing.specs.Operators.{strokes}
+use Rattle.postscript_outline.specs.declared.point.Point.{Point}
+use Rattle.postscript_type2.specs.declared.operation.Operator.{Operator}
+use Rattle.postscript_type2.specs.declared.operation.Operator.TheVariants.{HStem, VStem, VMoveTo, RLineTo, HLineTo, VLineTo, RRCurveTo, HStemHM, HintMask, CntrMask, RMoveTo, HMoveTo, VStemHM, RCurveLine, RLineCurve, VVCurveTo, HHCurveTo, VHCurveTo, HVCurveTo, HFlex, Flex, HFlex1, Flex1}
+use Rattle.postscript_type2.specs.Operation.Kinds.{kind}
+use Rattle.postscript_type2.specs.Operation.Lengths.{groups}
+use Rattle.postscript_type2.specs.Program.OperatorRules.{IsHeld}
+use Rattle.postscript_variable.specs.declared.charstring.Charstring.{Charstring}
+use Rattle.postscript_variable.specs.Sayings.{Said}
+use Rattle.postscript_variable.specs.Told.{Says}
+use Rattle.postscript_instance.specs.declared.error.Error.{Error}
+use Rattle.postscript_instance.specs.declared.error.Error.TheVariants as errors
+use Rattle.postscript_instance.specs.Axes.{steps_of, behind_steps, AreSteps, LeadsTooFar, NotRounded}
+use Rattle.postscript_instance.specs.Private.{in_units, all_in_units, AreNear, AreHeldOrCut, IsFar, IsUnwritten, IsWritten}
+use Rattle.postscript_instance.specs.Refusals.{IsHint, HasMore, here, later, LacksMove}
+use Rattle.postscript_instance.specs.Rounded.{rounded_edges, rounded_operator, behind, origin, IsInRange, IsRounded, AreRounded, IsRoundedOf}
+use Rattle.postscript_instance.specs.Statics.{bears_width, BearsWidth}
+use Rattle.postscript_instance.specs.Texts.{width_numbers, numbers_of}
+use Rattle.postscript_instance.proofs.Cutting.{cut-sayable, cut-in-pieces, cut-fits, cut-bears, hints-more}
+use Rattle.postscript_instance.proofs.Nearest.{at-origin}
+use Rattle.postscript_instance.proofs.Runs.{says-so}
+use Rattle.postscript_instance.proofs.Sayable.{SayableAs, AreSayable, none, more, sayable}
+use Rattle.postscript_instance.proofs.Units.{in-units, range-behind}
+
+edges-length : (from : ℤ) (xs : List ℤ) → length (rounded_edges from xs) ≡ length xs
+edges-length from [] = refl
+edges-length from (x ∷ xs) = let rest = edges-length (from +ℤ x) xs in omega (arith, rest)
+
+-- one operator, with its operands
+abbrev one : Operator → (stems operands : List ℤ) → (mask : List ℕ) → Said
+one op stems operands mask = record { operator = op; stems = stems; operands = operands; mask = mask }
+
+-- as many edges as there were
+twice : (xs : List ℤ) (stems next : ℕ) → (n : ℕ) × (length xs ≡ n * 2) × (next ≡ stems + n) → (n : ℕ) × (length (rounded_edges (pos 0) xs) ≡ n * 2) × (next ≡ stems + n)
+twice xs stems next h = (h.0, edges-length (pos 0) xs ∙ h.1, h.2)
+
+one-sayable : (op : Operator) (ss xs : List ℤ) (mask : List ℕ) (p : Point) (stems next : ℕ) → SayableAs (kind op) stems (one op ss xs mask) next →
+    SayableAs (kind (rounded_operator op)) stems (in_units p (one op ss xs mask)) next
+one-sayable HStem ss xs mask p stems next h =
+    (ap (rounded_edges (pos 0)) h.0, h.1, subst (λ n. IsTrue (groups 2 n)) (sym (edges-length (pos 0) xs)) h.2, h.3, twice xs stems next h.4)
+one-sayable VStem ss xs mask p stems next h =
+    (ap (rounded_edges (pos 0)) h.0, h.1, subst (λ n. IsTrue (groups 2 n)) (sym (edges-length (pos 0) xs)) h.2, h.3, twice xs stems next h.4)
+one-sayable HStemHM ss xs mask p stems next h =
+    (ap (rounded_edges (pos 0)) h.0, h.1, subst (λ n. IsTrue (groups 2 n)) (sym (edges-length (pos 0) xs)) h.2, h.3, twice xs stems next h.4)
+one-sayable VStemHM ss xs mask p stems next h =
+    (ap (rounded_edges (pos 0)) h.0, h.1, subst (λ n. IsTrue (groups 2 n)) (sym (edges-length (pos 0) xs)) h.2, h.3, twice xs stems next h.4)
+one-sayable HintMask ss xs mask p stems next h = (ap (rounded_edges (pos 0)) h.0, h.1, h.2, twice ss stems next h.3)
+one-sayable CntrMask ss xs mask p stems next h = (ap (rounded_edges (pos 0)) h.0, h.1, h.2, twice ss stems next h.3)
+one-sayable RMoveTo ss xs mask p stems next h = (ap (rounded_edges (pos 0)) h.0, h.1, (in-units RMoveTo p xs h.2).takes, h.3)
+one-sayable HMoveTo ss xs mask p stems next h = (ap (rounded_edges (pos 0)) h.0, h.1, (in-units HMoveTo p xs h.2).takes, h.3)
+one-sayable VMoveTo ss xs mask p stems next h = (ap (rounded_edges (pos 0)) h.0, h.1, (in-units VMoveTo p xs h.2).takes, h.3)
+one-sayable RLineTo ss xs mask p stems next h = (ap (rounded_edges (pos 0)) h.0, h.1, (in-units RLineTo p xs h.2).takes, h.3)
+one-sayable HLineTo ss xs mask p stems next h = (ap (rounded_edges (pos 0)) h.0, h.1, (in-units HLineTo p xs h.2).takes, h.3)
+one-sayable VLineTo ss xs mask p stems next h = (ap (rounded_edges (pos 0)) h.0, h.1, (in-units VLineTo p xs h.2).takes, h.3)
+one-sayable RRCurveTo ss xs mask p stems next h = (ap (rounded_edges (pos 0)) h.0, h.1, (in-units RRCurveTo p xs h.2).takes, h.3)
+one-sayable RCurveLine ss xs mask p stems next h = (ap (rounded_edges (pos 0)) h.0, h.1, (in-units RCurveLine p xs h.2).takes, h.3)
+one-sayable RLineCurve ss xs mask p stems next h = (ap (rounded_edges (pos 0)) h.0, h.1, (in-units RLineCurve p xs h.2).takes, h.3)
+one-sayable VVCurveTo ss xs mask p stems next h = (ap (rounded_edges (pos 0)) h.0, h.1, (in-units VVCurveTo p xs h.2).takes, h.3)
+one-sayable HHCurveTo ss xs mask p stems next h = (ap (rounded_edges (pos 0)) h.0, h.1, (in-units HHCurveTo p xs h.2).takes, h.3)
+one-sayable VHCurveTo ss xs mask p stems next h = (ap (rounded_edges (pos 0)) h.0, h.1, (in-units VHCurveTo p xs h.2).takes, h.3)
+one-sayable HVCurveTo ss xs mask p stems next h = (ap (rounded_edges (pos 0)) h.0, h.1, (in-units HVCurveTo p xs h.2).takes, h.3)
+one-sayable HFlex ss xs mask p stems next h = (ap (rounded_edges (pos 0)) h.0, h.1, (in-units HFlex p xs h.2).takes, h.3)
+one-sayable Flex ss xs mask p stems next h = (ap (rounded_edges (pos 0)) h.0, h.1, (in-units Flex p xs h.2).takes, h.3)
+one-sayable HFlex1 ss xs mask p stems next h = (ap (rounded_edges (pos 0)) h.0, h.1, (in-units HFlex1 p xs h.2).takes, h.3)
+one-sayable Flex1 ss xs mask p stems next h = (ap (rounded_edges (pos 0)) h.0, h.1, (in-units Flex1 p xs h.2).takes, h.3)
+one-sayable op ss xs mask p stems next h = absurd h
+
+pub all-sayable : {says : List Said} (p : Point) (stems after : ℕ) → AreSayable stems says after → AreSayable stems (all_in_units p says) after
+all-sayable p stems after (none _) = none stems
+all-sayable p stems after (more _ next _ x xs is rest) =
+    more stems next after (in_units p x) (all_in_units (behind_steps p (steps_of x.operator x.operands)) xs) (one-sayable x.operator x.stems x.operands x.mask p stems next is)
+    (all-sayable (behind_steps p (steps_of x.operator x.operands)) next after rest)
+
+-- each is what was said, rounded, and the pen stands where it stood
+record Goes (p : Point) (x : Said) : Type 0 where
+  rounded : IsRounded p x (in_units p x)
+  place : behind_steps p (steps_of x.operator x.operands) ≡ behind p (strokes x.operator x.operands)
+
+one-goes : (op : Operator) (ss xs : List ℤ) (mask : List ℕ) (p : Point) (stems next : ℕ) → SayableAs (kind op) stems (one op ss xs mask) next → IsInRange p → AreSteps p (steps_of op xs) →
+    Goes p (one op ss xs mask)
+one-goes HStem ss xs mask p stems next h at_p near =
+    record { rounded = record { operator = refl; drawn = refl; in_range = at_p; edges = λ hint. refl; stems = refl; mask = refl }; place = refl }
+one-goes VStem ss xs mask p stems next h at_p near =
+    record { rounded = record { operator = refl; drawn = refl; in_range = at_p; edges = λ hint. refl; stems = refl; mask = refl }; place = refl }
+one-goes HStemHM ss xs mask p stems next h at_p near =
+    record { rounded = record { operator = refl; drawn = refl; in_range = at_p; edges = λ hint. refl; stems = refl; mask = refl }; place = refl }
+one-goes VStemHM ss xs mask p stems next h at_p near =
+    record { rounded = record { operator = refl; drawn = refl; in_range = at_p; edges = λ hint. refl; stems = refl; mask = refl }; place = refl }
+one-goes HintMask ss xs mask p stems next h at_p near =
+    record { rounded = record { operator = refl; drawn = refl; in_range = at_p; edges = λ hint. refl; stems = refl; mask = refl }; place = refl }
+one-goes CntrMask ss xs mask p stems next h at_p near =
+    record { rounded = record { operator = refl; drawn = refl; in_range = at_p; edges = λ hint. refl; stems = refl; mask = refl }; place = refl }
+one-goes RMoveTo ss xs mask p stems next h at_p near =
+    let is = (in-units RMoveTo p xs h.2).agrees in
+    record { rounded = record { operator = refl; drawn = is.same; in_range = is.range at_p near; edges = λ hint. absurd hint; stems = refl; mask = refl }; place = is.behind }
+one-goes HMoveTo ss xs mask p stems next h at_p near =
+    let is = (in-units HMoveTo p xs h.2).agrees in
+    record { rounded = record { operator = refl; drawn = is.same; in_range = is.range at_p near; edges = λ hint. absurd hint; stems = refl; mask = refl }; place = is.behind }
+one-goes VMoveTo ss xs mask p stems next h at_p near =
+    let is = (in-units VMoveTo p xs h.2).agrees in
+    record { rounded = record { operator = refl; drawn = is.same; in_range = is.range at_p near; edges = λ hint. absurd hint; stems = refl; mask = refl }; place = is.behind }
+one-goes RLineTo ss xs mask p stems next h at_p near =
+    let is = (in-units RLineTo p xs h.2).agrees in
+    record { rounded = record { operator = refl; drawn = is.same; in_range = is.range at_p near; edges = λ hint. absurd hint; stems = refl; mask = refl }; place = is.behind }
+one-goes HLineTo ss xs mask p stems next h at_p near =
+    let is = (in-units HLineTo p xs h.2).agrees in
+    record { rounded = record { operator = refl; drawn = is.same; in_range = is.range at_p near; edges = λ hint. absurd hint; stems = refl; mask = refl }; place = is.behind }
+one-goes VLineTo ss xs mask p stems next h at_p near =
+    let is = (in-units VLineTo p xs h.2).agrees in
+    record { rounded = record { operator = refl; drawn = is.same; in_range = is.range at_p near; edges = λ hint. absurd hint; stems = refl; mask = refl }; place = is.behind }
+one-goes RRCurveTo ss xs mask p stems next h at_p near =
+    let is = (in-units RRCurveTo p xs h.2).agrees in
+    record { rounded = record { operator = refl; drawn = is.same; in_range = is.range at_p near; edges = λ hint. absurd hint; stems = refl; mask = refl }; place = is.behind }
+one-goes RCurveLine ss xs mask p stems next h at_p near =
+    let is = (in-units RCurveLine p xs h.2).agrees in
+    record { rounded = record { operator = refl; drawn = is.same; in_range = is.range at_p near; edges = λ hint. absurd hint; stems = refl; mask = refl }; place = is.behind }
+one-goes RLineCurve ss xs mask p stems next h at_p near =
+    let is = (in-units RLineCurve p xs h.2).agrees in
+    record { rounded = record { operator = refl; drawn = is.same; in_range = is.range at_p near; edges = λ hint. absurd hint; stems = refl; mask = refl }; place = is.behind }
+one-goes VVCurveTo ss xs mask p stems next h at_p near =
+    let is = (in-units VVCurveTo p xs h.2).agrees in
+    record { rounded = record { operator = refl; drawn = is.same; in_range = is.range at_p near; edges = λ hint. absurd hint; stems = refl; mask = refl }; place = is.behind }
+one-goes HHCurveTo ss xs mask p stems next h at_p near =
+    let is = (in-units HHCurveTo p xs h.2).agrees in
+    record { rounded = record { operator = refl; drawn = is.same; in_range = is.range at_p near; edges = λ hint. absurd hint; stems = refl; mask = refl }; place = is.behind }
+one-goes VHCurveTo ss xs mask p stems next h at_p near =
+    let is = (in-units VHCurveTo p xs h.2).agrees in
+    record { rounded = record { operator = refl; drawn = is.same; in_range = is.range at_p near; edges = λ hint. absurd hint; stems = refl; mask = refl }; place = is.behind }
+one-goes HVCurveTo ss xs mask p stems next h at_p near =
+    let is = (in-units HVCurveTo p xs h.2).agrees in
+    record { rounded = record { operator = refl; drawn = is.same; in_range = is.range at_p near; edges = λ hint. absurd hint; stems = refl; mask = refl }; place = is.behind }
+one-goes HFlex ss xs mask p stems next h at_p near =
+    let is = (in-units HFlex p xs h.2).agrees in
+    record { rounded = record { operator = refl; drawn = is.same; in_range = is.range at_p near; edges = λ hint. absurd hint; stems = refl; mask = refl }; place = is.behind }
+one-goes Flex ss xs mask p stems next h at_p near =
+    let is = (in-units Flex p xs h.2).agrees in
+    record { rounded = record { operator = refl; drawn = is.same; in_range = is.range at_p near; edges = λ hint. absurd hint; stems = refl; mask = refl }; place = is.behind }
+one-goes HFlex1 ss xs mask p stems next h at_p near =
+    let is = (in-units HFlex1 p xs h.2).agrees in
+    record { rounded = record { operator = refl; drawn = is.same; in_range = is.range at_p near; edges = λ hint. absurd hint; stems = refl; mask = refl }; place = is.behind }
+one-goes Flex1 ss xs mask p stems next h at_p near =
+    let is = (in-units Flex1 p xs h.2).agrees in
+    record { rounded = record { operator = refl; drawn = is.same; in_range = is.range at_p near; edges = λ hint. absurd hint; stems = refl; mask = refl }; place = is.behind }
+one-goes op ss xs mask p stems next h at_p near = absurd h
+
+pub all-rounded : {says : List Said} (p : Point) (stems after : ℕ) → AreSayable stems says after → IsInRange p → AreNear p says → AreRounded p says (all_in_units p says)
+all-rounded p stems after (none _) at_p near = tt
+all-rounded p stems after (more _ next _ x xs is rest) at_p near =
+    let goes = one-goes x.operator x.stems x.operands x.mask p stems next is at_p near.0.steps in
+    let there = range-behind p (strokes x.operator x.operands) goes.rounded.in_range in
+    let q = behind_steps p (steps_of x.operator x.operands) in (
+      goes.rounded,
+      subst (λ z. AreRounded z xs (all_in_units q xs)) goes.place (all-rounded q next after rest (subst IsInRange (sym goes.place) there) near.1),
+    )
+
+pub origin-in-range : IsInRange origin
+origin-in-range = (subst IsHeld (sym at-origin) zero, subst IsHeld (sym at-origin) zero)
+  where
+    zero : IsHeld (pos 0)
+    zero = record { low = omega (arith, ints); high = omega (arith, ints) }
+
+-- a charstring in whole units
+pub rounded-of : (charstring : Charstring) (width : Option ℤ) (code : List ℕ) (says whole : List Said) → Says charstring says → whole ≡ all_in_units origin says → AreNear origin says →
+    IsWritten width whole [] code → AreHeldOrCut width whole → BearsWidth width whole → IsRoundedOf charstring width code
+rounded-of charstring width code says whole said same near is held bears =
+    let after = said.last.stems in
+    let first : AreSayable 0 says after = subst (λ ys. AreSayable 0 ys after) (sym said.all) (sayable said.run) in
+    let all : AreSayable 0 whole after = subst (λ ys. AreSayable 0 ys after) (sym same) (all-sayable origin 0 after first) in
+    let again = cut-sayable is.cut 0 after all in
+    let begins = cut-bears width is.cut bears in record {
+      says = says;
+      said = said;
+      whole = whole;
+      rounded = subst (AreRounded origin says) (sym same) (all-rounded origin 0 after first origin-in-range near);
+      written = is.written;
+      in_pieces = cut-in-pieces is.cut 0 after all;
+      does = λ lists. says-so lists is.written after width code is.text again is.held begins;
+      fits = cut-fits is.cut 0 after width all held bears;
+      bears = begins;
+    }
+
+-- and why there is none
+hint-before : (op : Operator) → IsHint (kind (rounded_operator op)) → IsHint (kind op)
+hint-before HFlex h = absurd h
+hint-before HFlex1 h = absurd h
+hint-before Flex1 h = absurd h
+hint-before op h = h
+
+same-count : (width : Option ℤ) (ss xs : List ℤ) →
+    length (width_numbers width ++ (rounded_edges (pos 0) ss ++ rounded_edges (pos 0) xs)) ≡ length (width_numbers width ++ (ss ++ xs))
+same-count width ss xs =
+    let these = edges-length (pos 0) ss in
+    let those = edges-length (pos 0) xs in
+    let a = length-append (width_numbers width) (rounded_edges (pos 0) ss ++ rounded_edges (pos 0) xs) in
+    let b = length-append (rounded_edges (pos 0) ss) (rounded_edges (pos 0) xs) in
+    let c = length-append (width_numbers width) (ss ++ xs) in
+    let d = length-append ss xs in
+    omega (arith, these, those, a, b, c, d)
+
+hint-count : (op : Operator) (ss xs : List ℤ) (mask : List ℕ) (p : Point) (width : Option ℤ) → IsHint (kind op) →
+    length (numbers_of width (in_units p (one op ss xs mask))) ≡ length (numbers_of width (one op ss xs mask))
+hint-count HStem ss xs mask p width h = same-count width ss xs
+hint-count VStem ss xs mask p width h = same-count width ss xs
+hint-count HStemHM ss xs mask p width h = same-count width ss xs
+hint-count VStemHM ss xs mask p width h = same-count width ss xs
+hint-count HintMask ss xs mask p width h = same-count width ss xs
+hint-count CntrMask ss xs mask p width h = same-count width ss xs
+hint-count op ss xs mask p width h = absurd h
+
+no-more : (width : Option ℤ) → HasMore width [] → ⊥
+no-more width h = elim h [ ]
+
+more-before : (width : Option ℤ) (p : Point) (says : List Said) → HasMore width (all_in_units p says) → HasMore width says
+more-before width p [] h = absurd (no-more width h)
+more-before width p (x ∷ xs) (here _ _ _ is many) =
+    let hint = hint-before x.operator is in
+    let count = hint-count x.operator x.stems x.operands x.mask p width hint in
+    here width x xs hint (omega (arith, count, many))
+more-before width p (x ∷ xs) (later _ _ _ rest) = later width x xs (more-before None (behind_steps p (steps_of x.operator x.operands)) xs rest)
+
+bears-before : (op : Operator) → bears_width (rounded_operator op) ≡ false → bears_width op ≡ false
+bears-before HFlex h = refl
+bears-before HFlex1 h = refl
+bears-before Flex1 h = refl
+bears-before op h = h
+
+lacks-before : (width : Option ℤ) (p : Point) (says : List Said) → LacksMove width (all_in_units p says) → LacksMove width says
+lacks-before None p says h = absurd h
+lacks-before (Some w) p [] h = absurd h
+lacks-before (Some w) p (x ∷ xs) h = bears-before x.operator h
+
+unwritten : (charstring : Charstring) (width : Option ℤ) (says : List Said) (e : Error) → Says charstring says → IsUnwritten width (all_in_units origin says) e → NotRounded charstring width e
+unwritten charstring width says (errors.Font e) said is = subst (λ cause. NotRounded charstring width (errors.Font cause)) (sym is) tt
+unwritten charstring width says errors.TooManyOperands said is =
+    let after = said.last.stems in
+    let first : AreSayable 0 says after = subst (λ ys. AreSayable 0 ys after) (sym said.all) (sayable said.run) in
+    (says, said, more-before width origin says (hints-more is 0 after (all-sayable origin 0 after first)))
+unwritten charstring width says errors.NoMove said is = (says, said, lacks-before width origin says is)
+unwritten charstring width says e said is = absurd is
+
+too-far : (charstring : Charstring) (width : Option ℤ) (says : List Said) (e : Error) → Says charstring says → IsFar (LeadsTooFar origin says) e → NotRounded charstring width e
+too-far charstring width says (errors.Font e) said is = subst (λ cause. NotRounded charstring width (errors.Font cause)) (sym is) tt
+too-far charstring width says errors.TooFar said is = (says, said, is)
+too-far charstring width says e said is = absurd is
+
+pub unwritten-on : {A : Type 0} (charstring : Charstring) (width : Option ℤ) (says : List Said) (r : Result A Error) (e : Error) → IsErrAnd r (λ x. x ≡ e) → Says charstring says →
+    IsUnwritten width (all_in_units origin says) e → IfErr r (λ x. NotRounded charstring width x)
+unwritten-on charstring width says (Ok x) e same said is = absurd same
+unwritten-on charstring width says (Err x) e same said is = subst (NotRounded charstring width) (sym same) (unwritten charstring width says e said is)
+
+pub too-far-on : {A : Type 0} (charstring : Charstring) (width : Option ℤ) (says : List Said) (r : Result A Error) (e : Error) → IsErrAnd r (λ x. x ≡ e) → Says charstring says →
+    IsFar (LeadsTooFar origin says) e → IfErr r (λ x. NotRounded charstring width x)
+too-far-on charstring width says (Ok x) e same said is = absurd same
+too-far-on charstring width says (Err x) e same said is = subst (NotRounded charstring width) (sym same) (too-far charstring width says e said is)

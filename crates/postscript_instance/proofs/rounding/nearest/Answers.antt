@@ -1,0 +1,7 @@
+use Rattle.std.proofs.Common.{rules}
+use Rattle.postscript_instance.specs.Rounded.{nearest}
+use Rattle.postscript_instance.proofs.rounding.nearest.Goals as goal
+
+pub returns : goal.returns
+unfolding nearest
+returns c = search rules

@@ -1,0 +1,144 @@
+-- The axes along which the operands of path operators go (Technical Note 5177, "Path Construction Operators"), and what is too far.
+use Rattle.std.specs.Prelude.{◌≡◌, ◌%◌, ◌==◌, ℤ, pos, ◌+ℤ◌, Bool, true, false, List, [], ◌∷◌, ◌++◌, length, drop, Option, if◌then◌else◌}
+use Rattle.postscript_drawing.specs.Operators.{strokes}
+use Rattle.postscript_drawing.specs.Strokes.{other}
+use Rattle.postscript_drawing.specs.declared.stroke.Axis.{Axis}
+use Rattle.postscript_drawing.specs.declared.stroke.Axis.TheVariants.{Horizontal, Vertical}
+use Rattle.postscript_drawing.specs.declared.stroke.Stroke.{Stroke}
+use Rattle.postscript_drawing.specs.declared.stroke.Stroke.TheVariants.{Move, Line, Curve}
+use Rattle.postscript_drawing.specs.declared.stroke.Vector.{Vector}
+use Rattle.postscript_outline.specs.Points.{point}
+use Rattle.postscript_outline.specs.declared.point.Point.{Point}
+use Rattle.postscript_type2.specs.declared.operation.Operator.{Operator}
+use Rattle.postscript_type2.specs.declared.operation.Operator.TheVariants.{HStem, VStem, HStemHM, VStemHM, HintMask, CntrMask, VMoveTo, VLineTo, HHCurveTo, VVCurveTo, HVCurveTo, VHCurveTo, HFlex, Flex, HFlex1, Flex1}
+use Rattle.postscript_type2.specs.Number.{whole as units}
+use Rattle.postscript_type2.specs.Program.OperatorRules.{IsHeld}
+use Rattle.postscript_variable.specs.declared.charstring.Charstring.{Charstring}
+use Rattle.postscript_variable.specs.Sayings.{Said}
+use Rattle.postscript_variable.specs.Told.{Says}
+use Rattle.postscript_instance.specs.declared.axes.Step.{Step}
+use Rattle.postscript_instance.specs.declared.error.Error.{Error}
+use Rattle.postscript_instance.specs.declared.error.Error.TheVariants as errors
+use Rattle.postscript_instance.specs.Refusals.{NotWritten}
+use Rattle.postscript_instance.specs.Rounded.{nearest, rounded, origin}
+
+-- so far along an axis
+abbrev pub so_far : Axis → ℤ → Step
+so_far axis distance = record { axis = axis; distance = distance }
+
+-- one axis and the other in turn
+abbrev pub in_turn : Axis → List ℤ → List Step
+in_turn axis [] = []
+in_turn axis (d ∷ rest) = so_far axis d ∷ in_turn (other axis) rest
+
+-- {da dxb dyb dc}+ de?: each begins and ends along these axes, and the next the other way round; an operand alone goes aside of the end
+abbrev pub bows : (begin end : Axis) → List ℤ → List Step
+bows begin end (da ∷ dxb ∷ dyb ∷ dc ∷ rest) = so_far begin da ∷ so_far Horizontal dxb ∷ so_far Vertical dyb ∷ so_far end dc ∷ bows end begin rest
+bows begin end (de ∷ []) = so_far end de ∷ []
+bows begin end _ = []
+
+-- d1? {da dxb dyb dc}+: the first of an odd number goes aside
+abbrev pub level : Axis → List ℤ → List Step
+level axis [] = []
+level axis (d ∷ rest) = if length rest % 2 == 0 then so_far (other axis) d ∷ bows axis axis rest else bows axis axis (d ∷ rest)
+
+-- all coordinates of vectors, and of strokes
+abbrev pub vector_steps : Vector → List Step
+vector_steps v = so_far Horizontal v.dx ∷ so_far Vertical v.dy ∷ []
+
+abbrev pub stroke_steps : Stroke → List Step
+stroke_steps (Move v) = vector_steps v
+stroke_steps (Line v) = vector_steps v
+stroke_steps (Curve a b c) = vector_steps a ++ (vector_steps b ++ vector_steps c)
+
+abbrev pub coordinates : List Stroke → List Step
+coordinates [] = []
+coordinates (s ∷ strokes) = stroke_steps s ++ coordinates strokes
+
+-- The operands of an operator, each along its axis; of a flex, all coordinates. Hints go nowhere.
+abbrev pub steps_of : Operator → List ℤ → List Step
+steps_of HStem xs = []
+steps_of VStem xs = []
+steps_of HStemHM xs = []
+steps_of VStemHM xs = []
+steps_of HintMask xs = []
+steps_of CntrMask xs = []
+steps_of VMoveTo xs = in_turn Vertical xs
+steps_of VLineTo xs = in_turn Vertical xs
+steps_of HHCurveTo xs = level Horizontal xs
+steps_of VVCurveTo xs = level Vertical xs
+steps_of HVCurveTo xs = bows Horizontal Vertical xs
+steps_of VHCurveTo xs = bows Vertical Horizontal xs
+steps_of HFlex xs = coordinates (strokes HFlex xs)
+steps_of Flex xs = coordinates (strokes Flex xs)
+steps_of HFlex1 xs = coordinates (strokes HFlex1 xs)
+steps_of Flex1 xs = coordinates (strokes Flex1 xs)
+steps_of op xs = in_turn Horizontal xs
+
+-- the depth of a flex stays, and is 50 where the operator has none
+abbrev pub depth_of : Operator → List ℤ → List ℤ
+depth_of Flex xs = drop 12 xs
+depth_of HFlex xs = units (pos 50) ∷ []
+depth_of HFlex1 xs = units (pos 50) ∷ []
+depth_of Flex1 xs = units (pos 50) ∷ []
+depth_of op xs = []
+
+-- where a place is along an axis, and the place so far on
+abbrev pub at : Axis → Point → ℤ
+at Horizontal p = p.x
+at Vertical p = p.y
+
+abbrev pub moved : Axis → Point → ℤ → Point
+moved Horizontal p d = point (p.x +ℤ d) p.y
+moved Vertical p d = point p.x (p.y +ℤ d)
+
+-- steps from a place on, each between the nearest whole units, and the place behind them
+abbrev pub rounded_steps : Point → List Step → List ℤ
+rounded_steps p [] = []
+rounded_steps p (s ∷ steps) = rounded (at s.axis p) s.distance ∷ rounded_steps (moved s.axis p s.distance) steps
+
+abbrev pub behind_steps : Point → List Step → Point
+behind_steps p [] = p
+behind_steps p (s ∷ steps) = behind_steps (moved s.axis p s.distance) steps
+
+-- 16.16 bits hold where a step begins and ends at the nearest whole units, where it ends, and how far it is
+pub record IsStep (from distance : ℤ) : Type 0 where
+  pub start : IsHeld (nearest from)
+  pub place : IsHeld (from +ℤ distance)
+  pub end : IsHeld (nearest (from +ℤ distance))
+  pub way : IsHeld (rounded from distance)
+
+abbrev pub AreSteps : Point → List Step → Type 0
+AreSteps p [] = Unit {0}
+AreSteps p (s ∷ steps) = IsStep (at s.axis p) s.distance × AreSteps (moved s.axis p s.distance) steps
+
+abbrev pub AreEdges : (from : ℤ) → List ℤ → Type 0
+AreEdges from [] = Unit {0}
+AreEdges from (d ∷ ds) = IsStep from d × AreEdges (from +ℤ d) ds
+
+-- the operators whose operands are edges of stems, and masks
+abbrev pub is_hint : Operator → Bool
+is_hint HStem = true
+is_hint VStem = true
+is_hint HStemHM = true
+is_hint VStemHM = true
+is_hint HintMask = true
+is_hint CntrMask = true
+is_hint op = false
+
+-- all that is said at an operator is held in whole units
+pub record IsNear (p : Point) (x : Said) : Type 0 where
+  pub steps : AreSteps p (steps_of x.operator x.operands)
+  pub edges : is_hint x.operator ≡ true → AreEdges (pos 0) x.operands
+  pub stems : AreEdges (pos 0) x.stems
+
+-- something that is said is not
+pub data LeadsTooFar : Point → List Said → Type 0 where
+  here : (p : Point) (x : Said) (xs : List Said) → ¬ IsNear p x → LeadsTooFar p (x ∷ xs)
+  later : (p : Point) (x : Said) (xs : List Said) → LeadsTooFar (behind_steps p (steps_of x.operator x.operands)) xs → LeadsTooFar p (x ∷ xs)
+
+-- The run is refused, a hint operator has too many numbers before it, the first may not have a width before its own, or something leads out
+-- of the range; or memory is wanting.
+abbrev pub NotRounded : Charstring → (width : Option ℤ) → Error → Type 0
+NotRounded charstring width errors.TooFar = (says : List Said) × Says charstring says × LeadsTooFar origin says
+NotRounded charstring width e = NotWritten charstring width e

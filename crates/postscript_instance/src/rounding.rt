@@ -1,0 +1,108 @@
+//! Places at the nearest whole units.
+ghost use Rattle.std.specs.Prelude.{◌≡◌, pos, ◌+ℤ◌, ◌-ℤ◌, MatchOption, IfOk, IfErr, OnOk};
+ghost use Rattle.postscript_base.specs.declared.error.Error.TheVariants as causes;
+ghost use Rattle.postscript_instance.specs.Axes.{at, moved, rounded_steps, behind_steps, AreEdges, AreSteps, IsStep};
+ghost use Rattle.postscript_instance.specs.Private.{IsFar};
+ghost use Rattle.postscript_instance.specs.Rounded.{nearest as the_nearest, rounded, rounded_edges};
+ghost use Rattle.postscript_type2.specs.Program.OperatorRules.{IsHeld};
+
+use crate::axes::{Step, along};
+use crate::error::{Error, Result};
+use postscript_drawing::Axis;
+use postscript_outline::Point;
+use postscript_type2::Operand;
+use std::alloc::Global;
+
+/// The whole units nearest to 16.16 bits, in 16.16 bits; of two as near, the upper. None where they are out of the range.
+fn nearest(bits: i32) -> Option<i32>
+    ensures { MatchOption result (¬ IsHeld (the_nearest bits)) (λ units. (units ≡ the_nearest bits) × IsHeld (the_nearest bits)) }
+{
+    let up = i64::from(bits) + 32768;
+    i32::try_from(up - up.rem_euclid(65536)).ok()
+}
+
+/// A place so far from another; none where it is out of the range.
+fn place(from: i32, distance: i64) -> Option<i32>
+    ensures { MatchOption result (¬ IsHeld (from +ℤ distance)) (λ place. (place ≡ from +ℤ distance) × IsHeld (from +ℤ distance)) }
+{
+    let place = i64::from(from).checked_add(distance)?;
+    i32::try_from(place).ok()
+}
+
+/// How far it is between two places; none where that is out of the range.
+fn way(from: i32, to: i32) -> Option<i32>
+    ensures { MatchOption result (¬ IsHeld (to -ℤ from)) (λ way. (way ≡ to -ℤ from) × IsHeld (to -ℤ from)) }
+{
+    i32::try_from(i64::from(to) - i64::from(from)).ok()
+}
+
+/// How far it is between the nearest whole units of a place and of that so far on, and that place; none where one is out of the range.
+fn rounded_step(from: i32, distance: i64) -> Option<(Operand, i32)>
+    ensures { MatchOption result (¬ IsStep from distance)
+        (λ r. (r.0 ≡ rounded from distance) × (r.1 ≡ from +ℤ distance) × IsStep from distance) }
+{
+    let start = nearest(from)?;
+    let to = place(from, distance)?;
+    let end = nearest(to)?;
+    let way = way(start, end)?;
+    Some((Operand::from_bits(way), to))
+}
+
+/// One step in whole units, and the place behind it; none where something is out of the range.
+fn stepped(from: Point, step: Step) -> Option<(Operand, Point)>
+    ensures { let here = at step.axis from in
+        MatchOption result (¬ IsStep here step.distance)
+        (λ r. (r.0 ≡ rounded here step.distance) × (r.1 ≡ moved step.axis from step.distance) × IsStep here step.distance) }
+{
+    match step.axis {
+        Axis::Horizontal => {
+            let (way, x) = rounded_step(from.x, step.distance)?;
+            Some((way, Point { x, y: from.y }))
+        }
+        Axis::Vertical => {
+            let (way, y) = rounded_step(from.y, step.distance)?;
+            Some((way, Point { x: from.x, y }))
+        }
+    }
+}
+
+/// Steps from a place on in whole units, and the place behind them.
+///
+/// Refused: `TooFar`, `Font` with `Memory`.
+pub(crate) fn walked(alloc: Global, from: Point, steps: &[Step]) -> Result<(Vec<Operand>, Point)>
+    ensures ok { IfOk result (λ r. (r.0.items ≡ rounded_steps from steps.now) × (r.1 ≡ behind_steps from steps.now)) }
+    ensures near { OnOk result (AreSteps from steps.now) }
+    ensures far { IfErr result (λ e. IsFar (¬ AreSteps from steps.now) e) }
+{
+    let mut operands = Vec::with_capacity(alloc, steps.len())?;
+    let mut place = from;
+    for step in steps {
+        let Some((operand, to)) = stepped(place, *step) else {
+            return Err(Error::TooFar);
+        };
+        operands.push(operand)?;
+        place = to;
+    }
+    Ok((operands, place))
+}
+
+/// The edges of stems in whole units: each operand is so far from the edge before it, and the first from 0.
+///
+/// Refused: `TooFar`, `Font` with `Memory`.
+pub(crate) fn edges(alloc: Global, operands: &[Operand]) -> Result<Vec<Operand>>
+    ensures ok { IfOk result (λ edges. edges.items ≡ rounded_edges (pos 0) operands.now) }
+    ensures near { OnOk result (AreEdges (pos 0) operands.now) }
+    ensures far { IfErr result (λ e. IsFar (¬ AreEdges (pos 0) operands.now) e) }
+{
+    let mut edges = Vec::with_capacity(alloc, operands.len())?;
+    // one axis is as good as the other
+    let mut place = Point::ORIGIN;
+    for operand in operands {
+        let Some((edge, to)) = stepped(place, along(Axis::Horizontal, *operand)) else {
+            return Err(Error::TooFar);
+        };
+        edges.push(edge)?;
+        place = to;
+    }
+    Ok(edges)
+}
