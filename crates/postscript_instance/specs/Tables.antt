@@ -8,7 +8,7 @@ use Rattle.postscript_cff2.specs.declared.font.Font.{Font}
 use Rattle.postscript_variable_font.specs.declared.place.Place.{Place}
 use Rattle.postscript_view.specs.Layout.{IsLaidOut}
 use Rattle.postscript_view.specs.Order.{Part, View}
-use Rattle.postscript_instance.specs.Glyphs.{DoesAt}
+use Rattle.postscript_instance.specs.Glyphs.{DoesAt, DoesRoundedAt}
 use Rattle.postscript_instance.specs.Naming.{IsCalled}
 use Rattle.postscript_instance.specs.declared.naming.Naming.{Naming}
 
@@ -49,3 +49,7 @@ pub record IsTable (does : (glyph : ℕ) → (advance : ℤ) → (code : List �
 -- the table of a place: each code does what the glyph does there
 abbrev pub IsTableOf : Font → Place → Naming → (advances : List ℤ) → List ℕ → Type 0
 IsTableOf font place naming advances bytes = IsTable (DoesAt font place) naming advances bytes
+
+-- the same in whole units
+abbrev pub IsRoundedTableOf : Font → Place → Naming → (advances : List ℤ) → List ℕ → Type 0
+IsRoundedTableOf font place naming advances bytes = IsTable (DoesRoundedAt font place) naming advances bytes

@@ -22,5 +22,5 @@ mod whole;
 pub use error::{Error, Result};
 pub use naming::Naming;
 pub use statics::charstring;
-pub use tables::{glyph, table};
-pub use whole::rounded;
+pub use tables::{glyph, rounded_table, table};
+pub use whole::{rounded, rounded_glyph};

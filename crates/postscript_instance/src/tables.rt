@@ -1,10 +1,10 @@
 //! The table `CFF ` of a place.
 ghost use Rattle.std.specs.Prelude.{◌≡◌, Some, length, slice_get, IsTrue, IfOk, IfErr, OnOk};
 ghost use Rattle.postscript_cff2.specs.Shown.{view_shown as varying_shown};
-ghost use Rattle.postscript_instance.specs.Glyphs.{AreCodes, DoesAt, IsMiscounted, IsStaticGlyph, LacksCode, NoStaticGlyph, NoTable};
+ghost use Rattle.postscript_instance.specs.Glyphs.{AreCodes, DoesAt, DoesRoundedAt, IsMiscounted, IsStaticGlyph, LacksCode, LacksRoundedCode, NoRoundedTable, NoStaticGlyph, NoTable};
 ghost use Rattle.postscript_instance.specs.Naming.{IsCalled};
 ghost use Rattle.postscript_instance.specs.Refusals.{IsLate};
-ghost use Rattle.postscript_instance.specs.Tables.{AreItems, HasNoWidths, HaveNoWidths, IsPlainFont, IsTableOf};
+ghost use Rattle.postscript_instance.specs.Tables.{AreItems, HasNoWidths, HaveNoWidths, IsPlainFont, IsRoundedTableOf, IsTableOf};
 ghost use Rattle.postscript_items.specs.Lent.{items_of};
 ghost use Rattle.postscript_view.specs.Layout.{IsLaidOut};
 ghost use Rattle.postscript_view.specs.Order.{View};
@@ -14,6 +14,7 @@ use crate::error::{Error, Result};
 use crate::layout::laid_out;
 use crate::naming::{Naming, called_back};
 use crate::statics::charstring;
+use crate::whole::rounded_glyph;
 use postscript_base::Error as Cause;
 use postscript_cff2::Font;
 use postscript_items::Items;
@@ -54,6 +55,23 @@ fn codes_of(
     let mut codes = Vec::with_capacity(alloc, widths.len())?;
     for number in 0..widths.len() {
         codes.push(glyph(alloc, font, number, place, Some(widths[number]))?)?;
+    }
+    Ok(codes)
+}
+
+/// The charstrings in whole units of the glyphs that have widths.
+fn rounded_codes_of(
+    alloc: Global,
+    font: &Font<'_>,
+    place: &Place,
+    widths: &[Operand],
+) -> Result<Vec<Vec<u8>>>
+    ensures are { IfOk result (λ codes. AreCodes (DoesRoundedAt font.now place.now) widths.now (length widths.now) codes.items) }
+    ensures refused { IfErr result (λ e. LacksRoundedCode font.now place.now widths.now e) }
+{
+    let mut codes = Vec::with_capacity(alloc, widths.len())?;
+    for number in 0..widths.len() {
+        codes.push(rounded_glyph(alloc, font, number, place, Some(widths[number]))?)?;
     }
     Ok(codes)
 }
@@ -175,6 +193,27 @@ pub fn table(
 {
     counted(font, naming, advances)?;
     let codes = codes_of(alloc, font, place, advances)?;
+    let bytes = laid_out(alloc, font, place, naming, &codes)?;
+    read_back(alloc, &bytes, &codes, naming)?;
+    Ok(bytes)
+}
+
+/// As `table`, in whole units: each glyph's charstring is that of `rounded_glyph`. The advances are written as they are given.
+///
+/// Refused: as `table` is, and as `rounded_glyph` is for the first glyph that is.
+pub fn rounded_table(
+    alloc: Global,
+    font: &Font<'_>,
+    place: &Place,
+    naming: &Naming<'_>,
+    advances: &[Operand],
+) -> Result<Vec<u8>>
+    ensures written { IfOk result (λ bytes. IsRoundedTableOf font.now place.now naming.now advances.now bytes.items) }
+    ensures refused { IfErr result (λ e. NoRoundedTable font.now place.now naming.now advances.now e) }
+    ensures counted { OnOk result (length advances.now ≡ length (varying_shown font.now).char_strings) }
+{
+    counted(font, naming, advances)?;
+    let codes = rounded_codes_of(alloc, font, place, advances)?;
     let bytes = laid_out(alloc, font, place, naming, &codes)?;
     read_back(alloc, &bytes, &codes, naming)?;
     Ok(bytes)

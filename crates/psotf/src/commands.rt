@@ -159,6 +159,7 @@ const SUBCOMMANDS: &[Subcommand] = &[
         group: "place",
         one_of: ONE_PLACE,
         others: &[
+            Word::Flag("round", "Put each point at the nearest whole units"),
             Word::Flag("quiet", "Do not tell what is left out"),
             Word::Out(true, "Where to write it"),
         ],

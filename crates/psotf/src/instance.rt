@@ -17,7 +17,7 @@ use drawn::Drawn;
 use glyph_names::{Kept, names_of};
 use metrics::Tables;
 use positions::Positions;
-use postscript_instance::{Error, Naming, glyph, table};
+use postscript_instance::{Error, Naming, glyph, rounded_glyph, rounded_table, table};
 use postscript_sfnt_write::{Table, file_of};
 use std::alloc::Global;
 use std::io::Write;
@@ -35,7 +35,12 @@ fn unwritten(
 ) -> Option<Failure> {
     for i in 0..drawn.widths.len() {
         let width = drawn.widths.get(i).copied();
-        if let Err(error) = glyph(alloc, &face.font, i, &chosen.place, width) {
+        let written = if drawn.is_rounded {
+            rounded_glyph(alloc, &face.font, i, &chosen.place, width)
+        } else {
+            glyph(alloc, &face.font, i, &chosen.place, width)
+        };
+        if let Err(error) = written {
             let gid = u16::try_from(i).unwrap_or(u16::MAX);
             return Some(Failure::Glyph {
                 gid,
@@ -55,7 +60,7 @@ fn refusal_of(
     error: Error,
 ) -> Failure {
     match error {
-        Error::TooManyOperands | Error::NoMove => match unwritten(alloc, face, chosen, drawn) {
+        Error::TooManyOperands | Error::NoMove | Error::TooFar => match unwritten(alloc, face, chosen, drawn) {
             Some(failure) => failure,
             None => Failure::Static(error),
         },
@@ -79,7 +84,12 @@ fn font_of(
             Kept::Untold | Kept::Lost(_) => None,
         },
     };
-    match table(alloc, &face.font, &chosen.place, &naming, &drawn.widths) {
+    let written = if drawn.is_rounded {
+        rounded_table(alloc, &face.font, &chosen.place, &naming, &drawn.widths)
+    } else {
+        table(alloc, &face.font, &chosen.place, &naming, &drawn.widths)
+    };
+    match written {
         Ok(font) => Ok(font),
         Err(error) => Err(refusal_of(alloc, face, chosen, drawn, error)),
     }
@@ -125,16 +135,18 @@ struct StaticFile {
     lost: Option<&'static str>,
 }
 
-/// A file of the place that words name, where the run of each glyph keeps to the limit.
+/// A file of the place that words name, where the run of each glyph keeps to the limit; with each point at the nearest whole units, where
+/// this is asked for.
 fn made(
     rt: &HostRuntime,
     face: &VariableFace<'_>,
     words: &ArgMatches<'_>,
     budget: &mut Budget,
+    is_rounded: bool,
 ) -> Result<StaticFile, Failure> {
     let alloc = rt.alloc();
     let chosen = Chosen::read(rt, face, words)?;
-    let drawn = Drawn::of(rt, face, &chosen, budget)?;
+    let drawn = Drawn::of(rt, face, &chosen, budget, is_rounded)?;
     let style = Style::of(alloc, face, &chosen)?;
     let names = names_of(alloc, face)?;
     let font = font_of(alloc, face, &chosen, &drawn, &style, &names)?;
@@ -168,7 +180,7 @@ pub fn file_at(
     budget: &mut Budget,
     tells: bool,
 ) -> Result<Vec<u8>, Failure> {
-    let made = made(rt, face, words, budget)?;
+    let made = made(rt, face, words, budget, false)?;
     if tells {
         tell(rt, face, &made)?;
     }
@@ -183,7 +195,7 @@ pub fn write<W: Write>(
     budget: &mut Budget,
     out: &mut W,
 ) -> Result<(), Failure> {
-    let made = made(rt, face, words, budget)?;
+    let made = made(rt, face, words, budget, words.get_flag("round"))?;
     if !words.get_flag("quiet") {
         tell(rt, face, &made)?;
     }

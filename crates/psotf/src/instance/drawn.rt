@@ -3,7 +3,7 @@ use crate::failure::{Failure, Refusal};
 use crate::limit::Budget;
 use crate::progress::Progress;
 use crate::variable::{Chosen, VariableFace, advance_of, refusal_of};
-use postscript_outline::{Bounds, Outline};
+use postscript_outline::{Bounds, Outline, Point, Segment};
 use postscript_sfnt_write::Metric;
 use postscript_type2::Operand;
 use postscript_variable_drawing::draw_glyph;
@@ -66,6 +66,36 @@ pub struct Drawn {
     pub frame: Option<Frame>,
     /// The least of the right side bearings of glyphs with contours.
     pub least_right: i64,
+    /// Whether each point is at the nearest whole units.
+    pub is_rounded: bool,
+}
+
+/// The nearest whole units to 65536ths, halves up, in 65536ths; where they are out of the range, the place itself, which is refused later.
+fn nearest(bits: i32) -> i32 {
+    let up = i64::from(bits) + 32768;
+    i32::try_from(up - up.rem_euclid(65536)).unwrap_or(bits)
+}
+
+/// A point at the nearest whole units.
+fn nearest_point(point: Point) -> Point {
+    Point {
+        x: nearest(point.x),
+        y: nearest(point.y),
+    }
+}
+
+/// A segment whose points are at the nearest whole units.
+fn nearest_segment(segment: Segment) -> Segment {
+    match segment {
+        Segment::MoveTo(at) => Segment::MoveTo(nearest_point(at)),
+        Segment::LineTo(at) => Segment::LineTo(nearest_point(at)),
+        Segment::CurveTo(first, second, at) => Segment::CurveTo(
+            nearest_point(first),
+            nearest_point(second),
+            nearest_point(at),
+        ),
+        Segment::Close => Segment::Close,
+    }
 }
 
 /// Round what a glyph draws, within its share. None where it draws nothing.
@@ -75,6 +105,7 @@ fn frame_of(
     gid: u16,
     chosen: &Chosen,
     budget: &mut Budget,
+    is_rounded: bool,
 ) -> Result<Option<Frame>, Failure> {
     let share = budget.share();
     let mut left = share;
@@ -98,6 +129,11 @@ fn frame_of(
     if taken > most {
         let refusal = Refusal::Held(most);
         return Err(Failure::Glyph { gid, refusal });
+    }
+    if is_rounded {
+        for segment in &mut segments {
+            *segment = nearest_segment(*segment);
+        }
     }
     let outline = Outline {
         segments,
@@ -142,13 +178,14 @@ impl Drawn {
         Ok(())
     }
 
-    /// Draws each glyph at a place, and measures it. The first one is refused that takes more than its share, whose run is refused, or
+    /// Draws each glyph at a place, where it is asked for with each point at the nearest whole units, and measures it. The first one is refused that takes more than its share, whose run is refused, or
     /// whose advance a charstring has no room for.
     pub fn of(
         rt: &HostRuntime,
         face: &VariableFace<'_>,
         chosen: &Chosen,
         budget: &mut Budget,
+        is_rounded: bool,
     ) -> Result<Drawn, Failure> {
         let glyphs = u16::try_from(face.font.char_strings.len()).unwrap_or(u16::MAX);
         let mut progress = Progress::new(rt, glyphs);
@@ -157,11 +194,12 @@ impl Drawn {
             widths: Vec::new(rt.alloc()),
             frame: None,
             least_right: 32767,
+            is_rounded,
         };
         for gid in 0..glyphs {
             progress.at(gid);
             let width = width_of(face, gid, chosen)?;
-            let frame = frame_of(rt.alloc(), face, gid, chosen, budget)?;
+            let frame = frame_of(rt.alloc(), face, gid, chosen, budget, is_rounded)?;
             drawn.put(width, frame)?;
         }
         progress.end();
