@@ -60,7 +60,9 @@ fn refusal_of(
     error: Error,
 ) -> Failure {
     match error {
-        Error::TooManyOperands | Error::NoMove | Error::TooFar => match unwritten(alloc, face, chosen, drawn) {
+        Error::TooManyOperands | Error::NoMove | Error::TooFar => match unwritten(
+            alloc, face, chosen, drawn,
+        ) {
             Some(failure) => failure,
             None => Failure::Static(error),
         },
