@@ -10,7 +10,9 @@ use Rattle.postscript_variable_font.specs.Glyphs.{IsCharstringOf}
 use Rattle.postscript_variable_font.specs.declared.place.Place.{Place}
 use Rattle.postscript_instance.specs.declared.error.Error.{Error}
 use Rattle.postscript_instance.specs.declared.error.Error.TheVariants as errors
+use Rattle.postscript_instance.specs.Axes.{NotRounded}
 use Rattle.postscript_instance.specs.Refusals.{IsLate, NotWritten}
+use Rattle.postscript_instance.specs.Rounded.{IsRoundedOf}
 use Rattle.postscript_instance.specs.Statics.{IsStaticOf}
 
 -- a code that does what the charstring of a glyph does at a place, with a width
@@ -41,3 +43,16 @@ pub record AreStatics (font : Font) (place : Place) (widths : List ℤ) (count :
   pub counted : length codes ≡ count
   pub each : (glyph : ℕ) → glyph < count → (width : ℤ) × (code : Vec ℕ Global) × (slice_get widths glyph ≡ Some width) ×
       (slice_get codes glyph ≡ Some code) × IsStaticGlyph font glyph place (Some width) code.items
+
+-- a code that does in whole units what the charstring of a glyph does at a place, with a width
+pub record IsRoundedGlyph (font : Font) (glyph : ℕ) (place : Place) (width : Option ℤ) (code : List ℕ) : Type 0 where
+  pub charstring : Charstring
+  pub is : IsCharstringOf font glyph place charstring
+  pub rounded : IsRoundedOf charstring width code
+
+-- there is none: no such glyph, or no Font DICT for it that stands; or none is written of its charstring
+abbrev pub NoRoundedGlyph : Font → (glyph : ℕ) → Place → (width : Option ℤ) → Error → Type 0
+NoRoundedGlyph font glyph place width (errors.NoGlyph number) =
+    (number ≡ glyph) × ((part : parts.Part) → HasPart font.bytes.now (view_shown font) glyph part → ⊥)
+NoRoundedGlyph font glyph place width e =
+    (charstring : Charstring) × IsCharstringOf font glyph place charstring × NotRounded charstring width e

@@ -19,4 +19,4 @@ mod whole;
 pub use error::{Error, Result};
 pub use statics::charstring;
 pub use tables::{glyph, table};
-pub use whole::rounded;
+pub use whole::{rounded, rounded_glyph};

@@ -3,17 +3,20 @@ ghost use Rattle.std.specs.Prelude.{◌≡◌, ◌++◌, map, IfOk, OnOk, IfErr}
 ghost use Rattle.postscript_base.specs.declared.error.Error.TheVariants as causes;
 ghost use Rattle.postscript_instance.specs.Axes.{depth_of, is_hint as hints, steps_of as the_steps_of, behind_steps, IsNear, LeadsTooFar, NotRounded};
 ghost use Rattle.postscript_instance.specs.declared.error.Error.TheVariants as errors;
+ghost use Rattle.postscript_instance.specs.Glyphs.{IsRoundedGlyph, NoRoundedGlyph};
 ghost use Rattle.postscript_instance.specs.Private.{in_units, all_in_units, AreNear, IsFar};
 ghost use Rattle.postscript_instance.specs.Rounded.{rounded_operator as the_rounded_operator, origin, IsRoundedOf};
 ghost use Rattle.postscript_variable.specs.Told.{said_of};
 
 use crate::axes::steps_of;
-use crate::error::Result;
+use crate::error::{Error, Result};
 use crate::rounding::{edges, walked};
 use crate::texts::written;
+use postscript_cff2::Font;
 use postscript_outline::Point;
 use postscript_type2::{Operand, Operator};
 use postscript_variable::{Charstring, Saying};
+use postscript_variable_font::{Place, charstring as varying};
 use std::alloc::Global;
 
 /// Whether the operands of an operator are edges of stems, or it is a mask.
@@ -115,4 +118,23 @@ pub fn rounded(alloc: Global, charstring: Charstring<'_>, width: Option<Operand>
     let whole = all_in_whole_units(alloc, &sayings)?;
     let code = written(alloc, width, &whole)?;
     Ok(code)
+}
+
+/// The charstring of Type 2 of a glyph of a variable font at a place in whole units, with a width, as `rounded` writes it.
+///
+/// Refused: `NoGlyph` where there is no such glyph, or where the font has no Font DICT for it that stands; else as `rounded` is.
+pub fn rounded_glyph(
+    alloc: Global,
+    font: &Font<'_>,
+    glyph: usize,
+    place: &Place,
+    width: Option<Operand>,
+) -> Result<Vec<u8>>
+    ensures written { IfOk result (λ code. IsRoundedGlyph font.now glyph place.now width code.items) }
+    ensures refused { IfErr result (λ e. NoRoundedGlyph font.now glyph place.now width e) }
+{
+    match varying(font, glyph, place) {
+        Some(varied) => rounded(alloc, varied, width),
+        None => Err(Error::NoGlyph(glyph)),
+    }
 }
