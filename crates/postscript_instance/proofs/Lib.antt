@@ -11,3 +11,4 @@ pub mod Nearest
 pub mod Units
 pub mod Rounds
 pub mod InUnits
+pub mod RoundedDrawing

@@ -90,7 +90,7 @@ strokes-append (x ∷ xs) ys =
     let here = strokes x.operator x.operands in
     ap (λ ss. here ++ ss) (strokes-append xs ys) ∙ sym (append_assoc here (strokes_of xs) (strokes_of ys))
 
-same-strokes : {xs ys : List Said} → AreInPieces xs ys → strokes_of ys ≡ strokes_of xs
+pub same-strokes : {xs ys : List Said} → AreInPieces xs ys → strokes_of ys ≡ strokes_of xs
 same-strokes nothing = refl
 same-strokes (as_it_is x xs ys rest) = ap (λ ss. strokes x.operator x.operands ++ ss) (same-strokes rest)
 same-strokes (in_pieces x pieces xs ys many is rest) =
@@ -101,7 +101,7 @@ same-next : (r : Result Drawing Refusal) (f g : Drawing → Result Drawing Refus
 same-next (Ok d) f g same = same d
 same-next (Err e) f g same = refl
 
-drawn-with : (f : Said → Answer) → ((x : Said) → operation (f x) ≡ operation_of x) → (xs : List Said) (d : Drawing) → drawing_of (map f xs) d ≡ drawing (strokes_of xs) d
+pub drawn-with : (f : Said → Answer) → ((x : Said) → operation (f x) ≡ operation_of x) → (xs : List Said) (d : Drawing) → drawing_of (map f xs) d ≡ drawing (strokes_of xs) d
 drawn-with f same [] d = refl
 drawn-with f same (x ∷ xs) d =
     let here : strokes (f x).operator (f x).operands ≡ strokes x.operator x.operands = ap (λ (o : Operator × List ℤ). strokes o.0 o.1) (same x) in

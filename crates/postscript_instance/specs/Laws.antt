@@ -1,7 +1,9 @@
 -- Laws of the definitions.
-use Rattle.std.specs.Prelude.{◌≡◌, ℕ, ◌≤◌, ℤ, List, [], length, map, Option, All}
-use Rattle.postscript_drawing.specs.Outline.{outlined_at}
+use Rattle.std.specs.Prelude.{◌≡◌, ℕ, ◌≤◌, ℤ, pos, ◌+ℤ◌, ◌-ℤ◌, ◌≤ℤ◌, ◌<ℤ◌, List, [], length, map, Option, All, Ok}
+use Rattle.postscript_drawing.specs.Outline.{outlined, outlined_at}
 use Rattle.postscript_outline.specs.declared.point.Point.{Point}
+use Rattle.postscript_outline.specs.declared.segment.Segment.{Segment}
+use Rattle.postscript_type2.specs.Number.{whole}
 use Rattle.postscript_type2.specs.declared.operation.Operator.{Operator}
 use Rattle.postscript_type2.specs.Program.OperatorRules.{IsHeld}
 use Rattle.postscript_type2.specs.Program.Meaning.{IsRunOf}
@@ -14,6 +16,7 @@ use Rattle.postscript_variable.specs.Programs.{end_of}
 use Rattle.postscript_variable.specs.Sayings.{Said}
 use Rattle.postscript_instance.specs.Numbers.{IsShortest, number_text}
 use Rattle.postscript_instance.specs.Pieces.{stack_limit, AreInPieces}
+use Rattle.postscript_instance.specs.Rounded.{nearest, nearest_segment, IsRoundedOf}
 use Rattle.postscript_instance.specs.Statics.{IsStaticOf}
 
 -- A law of the definitions: what is written of a number that 32 bits hold spells it, and nothing shorter does.
@@ -48,3 +51,26 @@ OutlinesStay = (charstring : Charstring) (width : Option ℤ) (code : List ℕ) 
     (answers : List Answer) (end : End) → IsRunFrom charstring answers end →
     (lists : Lists) (run : Run) → IsRunOf lists code run →
     (origin : Point) → outlined_at origin run.answers run.end ≡ outlined_at origin answers (end_of end)
+
+-- a whole number, not more than half a unit from 16.16 bits; of two as near, the upper
+pub record IsNearest (bits units : ℤ) : Type 0 where
+  pub whole : (n : ℤ) × (units ≡ whole n)
+  pub below : (bits -ℤ pos 32768) <ℤ units
+  pub above : units ≤ℤ (bits +ℤ pos 32768)
+
+-- A law of the definitions: the nearest whole units are so, of any bits.
+abbrev pub NearestIsNearest : Type 0
+NearestIsNearest = (bits : ℤ) → IsNearest bits (nearest bits)
+
+-- what a run draws, from the origin, and the width with which it is finished
+pub record Drawn (width : Option ℤ) (wanted : List Segment) (run : Run) : Type 0 where
+  pub segments : outlined run.answers run.end ≡ Ok wanted
+  pub end : run.end ≡ Finished [] width
+
+-- A law of the definitions: where the charstring's run draws segments, the run of a code in whole units draws, over whatever subroutines,
+-- the same segments in the same order, each point at the nearest whole units; endchar finishes it with its width.
+abbrev pub RoundedOutlines : Type 0
+RoundedOutlines = (charstring : Charstring) (width : Option ℤ) (code : List ℕ) → IsRoundedOf charstring width code →
+    (answers : List Answer) (end : End) → IsRunFrom charstring answers end →
+    (segments : List Segment) → outlined answers (end_of end) ≡ Ok segments →
+    (lists : Lists) (run : Run) → IsRunOf lists code run → Drawn width (map nearest_segment segments) run

@@ -1,5 +1,5 @@
 //! Charstrings by hand, by the specifications' rules.
-use crate::{Error, Naming, charstring, glyph, rounded, table};
+use crate::{Error, Naming, charstring, glyph, rounded, rounded_glyph, table};
 use postscript_base::Error as Cause;
 use postscript_cff2::Font;
 use postscript_type2::{Operand, Subroutines};
@@ -238,6 +238,13 @@ fn a_table_at_places(rt: HostRuntime) {
             "at {coordinate}"
         );
         assert!(rt; view.is_cid_keyed(), "by CIDs");
+        // its numbers are whole there
+        let whole = rounded_glyph(rt.alloc(), &font, 1, &place, Some(advances[1])).expect(
+            &rt, "a glyph",
+        );
+        assert_eq!(rt; whole.as_slice(), wanted.as_slice(), "in whole units");
+        let past = rounded_glyph(rt.alloc(), &font, 2, &place, None);
+        assert!(rt; matches!(past, Err(Error::NoGlyph(2))), "no third glyph");
         let few = table(rt.alloc(), &font, &place, &naming, &advances[..1]);
         assert!(rt; matches!(few, Err(Error::OtherCount)), "one advance");
         let past = glyph(rt.alloc(), &font, 2, &place, None);
