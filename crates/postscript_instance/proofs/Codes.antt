@@ -1,8 +1,6 @@
 -- The codes of glyphs, one more at a time.
 use Rattle.std.proofs.Common.{◌≡◌, refl, ap, sym, subst, ◌∙◌, ℕ, zero, suc, ◌+◌, ◌<◌, ◌⊎◌, inl, inr, ℤ, List, [], ◌∷◌, ◌++◌, length, length-append, Some, slice_get, get_or, Vec, arith}
 use Rattle.std.specs.declared.alloc.Global.{Global}
-use Rattle.postscript_cff2.specs.declared.font.Font.{Font}
-use Rattle.postscript_variable_font.specs.declared.place.Place.{Place}
 use Rattle.postscript_view.specs.Layout.{IsLaidOut}
 use Rattle.postscript_view.specs.Order.{View}
 use Rattle.postscript_instance.specs.Naming.{IsCalled}

@@ -1,5 +1,5 @@
 //! Charstrings by hand, by the specifications' rules.
-use crate::{Error, Naming, charstring, glyph, rounded, rounded_glyph, table};
+use crate::{Error, Naming, charstring, glyph, rounded, rounded_glyph, rounded_table, table};
 use postscript_base::Error as Cause;
 use postscript_cff2::Font;
 use postscript_type2::{Operand, Subroutines};
@@ -303,7 +303,7 @@ fn hints_at_places(rt: HostRuntime) {
     }
 }
 
-/// The names of glyphs.
+/// The names of glyphs; and the same table in whole units, since all its numbers are whole.
 #[test]
 fn names_of_glyphs(rt: HostRuntime) {
     let bytes = named(&rt, rt.alloc(), 0);
@@ -315,6 +315,21 @@ fn names_of_glyphs(rt: HostRuntime) {
         "the first"
     );
     assert_eq!(rt; view.name(&set, 1), Some(b"alpha".as_slice()), "the second");
+    let font = Font::read(HINTED).expect(&rt, "the font");
+    let place = Place::of(rt.alloc(), font.store.as_ref(), &[0]).expect(&rt, "a place");
+    let advances = [Operand::from_int(600), Operand::from_int(500)];
+    let naming = Naming {
+        font: b"Small",
+        glyphs: Some(&NAMES),
+    };
+    let whole = rounded_table(rt.alloc(), &font, &place, &naming, &advances).expect(&rt, "a table");
+    assert_eq!(rt; whole.as_slice(), bytes.as_slice(), "in whole units");
+    let naming = Naming {
+        font: b"Small",
+        glyphs: Some(&NAMES[..1]),
+    };
+    let few = table(rt.alloc(), &font, &place, &naming, &advances);
+    assert!(rt; matches!(few, Err(Error::OtherNames)), "one name");
 }
 
 /// Appends numbers, each in eighths of a unit, as their 16.16 bits behind ff.
