@@ -1,8 +1,9 @@
 -- What is said in whole units can be said again as Type 2, and is what was said, rounded.
-use Rattle.std.proofs.Common.{◌≡◌, refl, ap, sym, subst, ◌∙◌, ℕ, ◌+◌, ◌*◌, ℤ, pos, ◌+ℤ◌, false, IsTrue, List, [], ◌∷◌, ◌++◌, length, length-append, Option, Some, None, Result, Ok, Err, IfErr, arith}
+use Rattle.std.proofs.Common.{◌≡◌, refl, ap, sym, subst, ◌∙◌, ℕ, zero, suc, ◌+◌, ◌*◌, ℤ, pos, ◌+ℤ◌, true, false, take, drop, IsTrue, List, [], ◌∷◌, ◌++◌, length, length-append, Option, Some, None, Result, Ok, Err, IfErr, arith}
 use Rattle.std.specs.Prelude.{IsErrAnd}
 use Rattle.std.proofs.lemmas.Int.{ints}
 use Rattle.postscript_drawing.specs.Operators.{strokes}
+use Rattle.postscript_drawing.specs.Using.{used}
 use Rattle.postscript_outline.specs.declared.point.Point.{Point}
 use Rattle.postscript_type2.specs.declared.operation.Operator.{Operator}
 use Rattle.postscript_type2.specs.declared.operation.Operator.TheVariants.{HStem, VStem, VMoveTo, RLineTo, HLineTo, VLineTo, RRCurveTo, HStemHM, HintMask, CntrMask, RMoveTo, HMoveTo, VStemHM, RCurveLine, RLineCurve, VVCurveTo, HHCurveTo, VHCurveTo, HVCurveTo, HFlex, Flex, HFlex1, Flex1}
@@ -15,16 +16,17 @@ use Rattle.postscript_variable.specs.Told.{Says}
 use Rattle.postscript_instance.specs.declared.error.Error.{Error}
 use Rattle.postscript_instance.specs.declared.error.Error.TheVariants as errors
 use Rattle.postscript_instance.specs.Axes.{steps_of, behind_steps, AreSteps, LeadsTooFar, NotRounded}
-use Rattle.postscript_instance.specs.Private.{in_units, all_in_units, AreNear, AreHeldOrCut, IsFar, IsUnwritten, IsWritten}
+use Rattle.postscript_instance.specs.Private as cuts
+use Rattle.postscript_instance.specs.Private.{is_cut, first_operator, first_count, AreCut, in_units, all_in_units, AreNear, AreHeldOrCut, IsFar, IsUnwritten, IsWritten}
 use Rattle.postscript_instance.specs.Refusals.{IsHint, HasMore, here, later, LacksMove}
-use Rattle.postscript_instance.specs.Rounded.{rounded_edges, rounded_operator, behind, origin, IsInRange, IsRounded, AreRounded, IsRoundedOf}
+use Rattle.postscript_instance.specs.Rounded.{rounded_edges, rounded_operator, behind, origin, AreWhole, AreInUnits, IsInRange, IsRounded, AreRounded, IsRoundedOf}
 use Rattle.postscript_instance.specs.Statics.{bears_width, BearsWidth}
 use Rattle.postscript_instance.specs.Texts.{width_numbers, numbers_of}
 use Rattle.postscript_instance.proofs.Cutting.{cut-sayable, cut-in-pieces, cut-fits, cut-bears, hints-more}
 use Rattle.postscript_instance.proofs.Nearest.{at-origin}
 use Rattle.postscript_instance.proofs.Runs.{says-so}
 use Rattle.postscript_instance.proofs.Sayable.{SayableAs, AreSayable, none, more, sayable}
-use Rattle.postscript_instance.proofs.Units.{in-units, range-behind}
+use Rattle.postscript_instance.proofs.Units.{in-units, is-way-whole, range-behind, steps-whole}
 
 edges-length : (from : ℤ) (xs : List ℤ) → length (rounded_edges from xs) ≡ length xs
 edges-length from [] = refl
@@ -83,68 +85,85 @@ record Goes (p : Point) (x : Said) : Type 0 where
 one-goes : (op : Operator) (ss xs : List ℤ) (mask : List ℕ) (p : Point) (stems next : ℕ) → SayableAs (kind op) stems (one op ss xs mask) next → IsInRange p → AreSteps p (steps_of op xs) →
     Goes p (one op ss xs mask)
 one-goes HStem ss xs mask p stems next h at_p near =
-    record { rounded = record { operator = refl; drawn = refl; in_range = at_p; edges = λ hint. refl; stems = refl; mask = refl }; place = refl }
+    record { rounded = record { operator = refl; drawn = refl; in_range = at_p; depth = λ flex. absurd (cc); edges = λ hint. refl; stems = refl; mask = refl }; place = refl }
 one-goes VStem ss xs mask p stems next h at_p near =
-    record { rounded = record { operator = refl; drawn = refl; in_range = at_p; edges = λ hint. refl; stems = refl; mask = refl }; place = refl }
+    record { rounded = record { operator = refl; drawn = refl; in_range = at_p; depth = λ flex. absurd (cc); edges = λ hint. refl; stems = refl; mask = refl }; place = refl }
 one-goes HStemHM ss xs mask p stems next h at_p near =
-    record { rounded = record { operator = refl; drawn = refl; in_range = at_p; edges = λ hint. refl; stems = refl; mask = refl }; place = refl }
+    record { rounded = record { operator = refl; drawn = refl; in_range = at_p; depth = λ flex. absurd (cc); edges = λ hint. refl; stems = refl; mask = refl }; place = refl }
 one-goes VStemHM ss xs mask p stems next h at_p near =
-    record { rounded = record { operator = refl; drawn = refl; in_range = at_p; edges = λ hint. refl; stems = refl; mask = refl }; place = refl }
+    record { rounded = record { operator = refl; drawn = refl; in_range = at_p; depth = λ flex. absurd (cc); edges = λ hint. refl; stems = refl; mask = refl }; place = refl }
 one-goes HintMask ss xs mask p stems next h at_p near =
-    record { rounded = record { operator = refl; drawn = refl; in_range = at_p; edges = λ hint. refl; stems = refl; mask = refl }; place = refl }
+    record { rounded = record { operator = refl; drawn = refl; in_range = at_p; depth = λ flex. absurd (cc); edges = λ hint. refl; stems = refl; mask = refl }; place = refl }
 one-goes CntrMask ss xs mask p stems next h at_p near =
-    record { rounded = record { operator = refl; drawn = refl; in_range = at_p; edges = λ hint. refl; stems = refl; mask = refl }; place = refl }
+    record { rounded = record { operator = refl; drawn = refl; in_range = at_p; depth = λ flex. absurd (cc); edges = λ hint. refl; stems = refl; mask = refl }; place = refl }
 one-goes RMoveTo ss xs mask p stems next h at_p near =
-    let is = (in-units RMoveTo p xs h.2).agrees in
-    record { rounded = record { operator = refl; drawn = is.same; in_range = is.range at_p near; edges = λ hint. absurd hint; stems = refl; mask = refl }; place = is.behind }
+    let units = in-units RMoveTo p xs h.2 in
+    let is = units.agrees in
+    record { rounded = record { operator = refl; drawn = is.same; in_range = is.range at_p near; depth = units.depth; edges = λ hint. absurd hint; stems = refl; mask = refl }; place = is.behind }
 one-goes HMoveTo ss xs mask p stems next h at_p near =
-    let is = (in-units HMoveTo p xs h.2).agrees in
-    record { rounded = record { operator = refl; drawn = is.same; in_range = is.range at_p near; edges = λ hint. absurd hint; stems = refl; mask = refl }; place = is.behind }
+    let units = in-units HMoveTo p xs h.2 in
+    let is = units.agrees in
+    record { rounded = record { operator = refl; drawn = is.same; in_range = is.range at_p near; depth = units.depth; edges = λ hint. absurd hint; stems = refl; mask = refl }; place = is.behind }
 one-goes VMoveTo ss xs mask p stems next h at_p near =
-    let is = (in-units VMoveTo p xs h.2).agrees in
-    record { rounded = record { operator = refl; drawn = is.same; in_range = is.range at_p near; edges = λ hint. absurd hint; stems = refl; mask = refl }; place = is.behind }
+    let units = in-units VMoveTo p xs h.2 in
+    let is = units.agrees in
+    record { rounded = record { operator = refl; drawn = is.same; in_range = is.range at_p near; depth = units.depth; edges = λ hint. absurd hint; stems = refl; mask = refl }; place = is.behind }
 one-goes RLineTo ss xs mask p stems next h at_p near =
-    let is = (in-units RLineTo p xs h.2).agrees in
-    record { rounded = record { operator = refl; drawn = is.same; in_range = is.range at_p near; edges = λ hint. absurd hint; stems = refl; mask = refl }; place = is.behind }
+    let units = in-units RLineTo p xs h.2 in
+    let is = units.agrees in
+    record { rounded = record { operator = refl; drawn = is.same; in_range = is.range at_p near; depth = units.depth; edges = λ hint. absurd hint; stems = refl; mask = refl }; place = is.behind }
 one-goes HLineTo ss xs mask p stems next h at_p near =
-    let is = (in-units HLineTo p xs h.2).agrees in
-    record { rounded = record { operator = refl; drawn = is.same; in_range = is.range at_p near; edges = λ hint. absurd hint; stems = refl; mask = refl }; place = is.behind }
+    let units = in-units HLineTo p xs h.2 in
+    let is = units.agrees in
+    record { rounded = record { operator = refl; drawn = is.same; in_range = is.range at_p near; depth = units.depth; edges = λ hint. absurd hint; stems = refl; mask = refl }; place = is.behind }
 one-goes VLineTo ss xs mask p stems next h at_p near =
-    let is = (in-units VLineTo p xs h.2).agrees in
-    record { rounded = record { operator = refl; drawn = is.same; in_range = is.range at_p near; edges = λ hint. absurd hint; stems = refl; mask = refl }; place = is.behind }
+    let units = in-units VLineTo p xs h.2 in
+    let is = units.agrees in
+    record { rounded = record { operator = refl; drawn = is.same; in_range = is.range at_p near; depth = units.depth; edges = λ hint. absurd hint; stems = refl; mask = refl }; place = is.behind }
 one-goes RRCurveTo ss xs mask p stems next h at_p near =
-    let is = (in-units RRCurveTo p xs h.2).agrees in
-    record { rounded = record { operator = refl; drawn = is.same; in_range = is.range at_p near; edges = λ hint. absurd hint; stems = refl; mask = refl }; place = is.behind }
+    let units = in-units RRCurveTo p xs h.2 in
+    let is = units.agrees in
+    record { rounded = record { operator = refl; drawn = is.same; in_range = is.range at_p near; depth = units.depth; edges = λ hint. absurd hint; stems = refl; mask = refl }; place = is.behind }
 one-goes RCurveLine ss xs mask p stems next h at_p near =
-    let is = (in-units RCurveLine p xs h.2).agrees in
-    record { rounded = record { operator = refl; drawn = is.same; in_range = is.range at_p near; edges = λ hint. absurd hint; stems = refl; mask = refl }; place = is.behind }
+    let units = in-units RCurveLine p xs h.2 in
+    let is = units.agrees in
+    record { rounded = record { operator = refl; drawn = is.same; in_range = is.range at_p near; depth = units.depth; edges = λ hint. absurd hint; stems = refl; mask = refl }; place = is.behind }
 one-goes RLineCurve ss xs mask p stems next h at_p near =
-    let is = (in-units RLineCurve p xs h.2).agrees in
-    record { rounded = record { operator = refl; drawn = is.same; in_range = is.range at_p near; edges = λ hint. absurd hint; stems = refl; mask = refl }; place = is.behind }
+    let units = in-units RLineCurve p xs h.2 in
+    let is = units.agrees in
+    record { rounded = record { operator = refl; drawn = is.same; in_range = is.range at_p near; depth = units.depth; edges = λ hint. absurd hint; stems = refl; mask = refl }; place = is.behind }
 one-goes VVCurveTo ss xs mask p stems next h at_p near =
-    let is = (in-units VVCurveTo p xs h.2).agrees in
-    record { rounded = record { operator = refl; drawn = is.same; in_range = is.range at_p near; edges = λ hint. absurd hint; stems = refl; mask = refl }; place = is.behind }
+    let units = in-units VVCurveTo p xs h.2 in
+    let is = units.agrees in
+    record { rounded = record { operator = refl; drawn = is.same; in_range = is.range at_p near; depth = units.depth; edges = λ hint. absurd hint; stems = refl; mask = refl }; place = is.behind }
 one-goes HHCurveTo ss xs mask p stems next h at_p near =
-    let is = (in-units HHCurveTo p xs h.2).agrees in
-    record { rounded = record { operator = refl; drawn = is.same; in_range = is.range at_p near; edges = λ hint. absurd hint; stems = refl; mask = refl }; place = is.behind }
+    let units = in-units HHCurveTo p xs h.2 in
+    let is = units.agrees in
+    record { rounded = record { operator = refl; drawn = is.same; in_range = is.range at_p near; depth = units.depth; edges = λ hint. absurd hint; stems = refl; mask = refl }; place = is.behind }
 one-goes VHCurveTo ss xs mask p stems next h at_p near =
-    let is = (in-units VHCurveTo p xs h.2).agrees in
-    record { rounded = record { operator = refl; drawn = is.same; in_range = is.range at_p near; edges = λ hint. absurd hint; stems = refl; mask = refl }; place = is.behind }
+    let units = in-units VHCurveTo p xs h.2 in
+    let is = units.agrees in
+    record { rounded = record { operator = refl; drawn = is.same; in_range = is.range at_p near; depth = units.depth; edges = λ hint. absurd hint; stems = refl; mask = refl }; place = is.behind }
 one-goes HVCurveTo ss xs mask p stems next h at_p near =
-    let is = (in-units HVCurveTo p xs h.2).agrees in
-    record { rounded = record { operator = refl; drawn = is.same; in_range = is.range at_p near; edges = λ hint. absurd hint; stems = refl; mask = refl }; place = is.behind }
+    let units = in-units HVCurveTo p xs h.2 in
+    let is = units.agrees in
+    record { rounded = record { operator = refl; drawn = is.same; in_range = is.range at_p near; depth = units.depth; edges = λ hint. absurd hint; stems = refl; mask = refl }; place = is.behind }
 one-goes HFlex ss xs mask p stems next h at_p near =
-    let is = (in-units HFlex p xs h.2).agrees in
-    record { rounded = record { operator = refl; drawn = is.same; in_range = is.range at_p near; edges = λ hint. absurd hint; stems = refl; mask = refl }; place = is.behind }
+    let units = in-units HFlex p xs h.2 in
+    let is = units.agrees in
+    record { rounded = record { operator = refl; drawn = is.same; in_range = is.range at_p near; depth = units.depth; edges = λ hint. absurd hint; stems = refl; mask = refl }; place = is.behind }
 one-goes Flex ss xs mask p stems next h at_p near =
-    let is = (in-units Flex p xs h.2).agrees in
-    record { rounded = record { operator = refl; drawn = is.same; in_range = is.range at_p near; edges = λ hint. absurd hint; stems = refl; mask = refl }; place = is.behind }
+    let units = in-units Flex p xs h.2 in
+    let is = units.agrees in
+    record { rounded = record { operator = refl; drawn = is.same; in_range = is.range at_p near; depth = units.depth; edges = λ hint. absurd hint; stems = refl; mask = refl }; place = is.behind }
 one-goes HFlex1 ss xs mask p stems next h at_p near =
-    let is = (in-units HFlex1 p xs h.2).agrees in
-    record { rounded = record { operator = refl; drawn = is.same; in_range = is.range at_p near; edges = λ hint. absurd hint; stems = refl; mask = refl }; place = is.behind }
+    let units = in-units HFlex1 p xs h.2 in
+    let is = units.agrees in
+    record { rounded = record { operator = refl; drawn = is.same; in_range = is.range at_p near; depth = units.depth; edges = λ hint. absurd hint; stems = refl; mask = refl }; place = is.behind }
 one-goes Flex1 ss xs mask p stems next h at_p near =
-    let is = (in-units Flex1 p xs h.2).agrees in
-    record { rounded = record { operator = refl; drawn = is.same; in_range = is.range at_p near; edges = λ hint. absurd hint; stems = refl; mask = refl }; place = is.behind }
+    let units = in-units Flex1 p xs h.2 in
+    let is = units.agrees in
+    record { rounded = record { operator = refl; drawn = is.same; in_range = is.range at_p near; depth = units.depth; edges = λ hint. absurd hint; stems = refl; mask = refl }; place = is.behind }
 one-goes op ss xs mask p stems next h at_p near = absurd h
 
 pub all-rounded : {says : List Said} (p : Point) (stems after : ℕ) → AreSayable stems says after → IsInRange p → AreNear p says → AreRounded p says (all_in_units p says)
@@ -163,6 +182,77 @@ origin-in-range = (subst IsHeld (sym at-origin) zero, subst IsHeld (sym at-origi
     zero : IsHeld (pos 0)
     zero = record { low = omega (arith, ints); high = omega (arith, ints) }
 
+-- all numbers are whole
+edges-whole : (from : ℤ) (xs : List ℤ) → AreWhole (rounded_edges from xs)
+edges-whole from [] = tt
+edges-whole from (x ∷ xs) = (is-way-whole from x, edges-whole (from +ℤ x) xs)
+
+one-whole : (op : Operator) (ss xs : List ℤ) (mask : List ℕ) (p : Point) (stems next : ℕ) → SayableAs (kind op) stems (one op ss xs mask) next →
+    AreWhole (used (rounded_operator op) (in_units p (one op ss xs mask)).operands)
+one-whole HStem ss xs mask p stems next h = edges-whole (pos 0) xs
+one-whole VStem ss xs mask p stems next h = edges-whole (pos 0) xs
+one-whole HStemHM ss xs mask p stems next h = edges-whole (pos 0) xs
+one-whole VStemHM ss xs mask p stems next h = edges-whole (pos 0) xs
+one-whole HintMask ss xs mask p stems next h = edges-whole (pos 0) xs
+one-whole CntrMask ss xs mask p stems next h = edges-whole (pos 0) xs
+one-whole RMoveTo ss xs mask p stems next h = subst AreWhole (sym (in-units RMoveTo p xs h.2).uses) (steps-whole p (steps_of RMoveTo xs))
+one-whole HMoveTo ss xs mask p stems next h = subst AreWhole (sym (in-units HMoveTo p xs h.2).uses) (steps-whole p (steps_of HMoveTo xs))
+one-whole VMoveTo ss xs mask p stems next h = subst AreWhole (sym (in-units VMoveTo p xs h.2).uses) (steps-whole p (steps_of VMoveTo xs))
+one-whole RLineTo ss xs mask p stems next h = subst AreWhole (sym (in-units RLineTo p xs h.2).uses) (steps-whole p (steps_of RLineTo xs))
+one-whole HLineTo ss xs mask p stems next h = subst AreWhole (sym (in-units HLineTo p xs h.2).uses) (steps-whole p (steps_of HLineTo xs))
+one-whole VLineTo ss xs mask p stems next h = subst AreWhole (sym (in-units VLineTo p xs h.2).uses) (steps-whole p (steps_of VLineTo xs))
+one-whole RRCurveTo ss xs mask p stems next h = subst AreWhole (sym (in-units RRCurveTo p xs h.2).uses) (steps-whole p (steps_of RRCurveTo xs))
+one-whole RCurveLine ss xs mask p stems next h = subst AreWhole (sym (in-units RCurveLine p xs h.2).uses) (steps-whole p (steps_of RCurveLine xs))
+one-whole RLineCurve ss xs mask p stems next h = subst AreWhole (sym (in-units RLineCurve p xs h.2).uses) (steps-whole p (steps_of RLineCurve xs))
+one-whole VVCurveTo ss xs mask p stems next h = subst AreWhole (sym (in-units VVCurveTo p xs h.2).uses) (steps-whole p (steps_of VVCurveTo xs))
+one-whole HHCurveTo ss xs mask p stems next h = subst AreWhole (sym (in-units HHCurveTo p xs h.2).uses) (steps-whole p (steps_of HHCurveTo xs))
+one-whole VHCurveTo ss xs mask p stems next h = subst AreWhole (sym (in-units VHCurveTo p xs h.2).uses) (steps-whole p (steps_of VHCurveTo xs))
+one-whole HVCurveTo ss xs mask p stems next h = subst AreWhole (sym (in-units HVCurveTo p xs h.2).uses) (steps-whole p (steps_of HVCurveTo xs))
+one-whole HFlex ss xs mask p stems next h = subst AreWhole (sym (in-units HFlex p xs h.2).uses) (steps-whole p (steps_of HFlex xs))
+one-whole Flex ss xs mask p stems next h = subst AreWhole (sym (in-units Flex p xs h.2).uses) (steps-whole p (steps_of Flex xs))
+one-whole HFlex1 ss xs mask p stems next h = subst AreWhole (sym (in-units HFlex1 p xs h.2).uses) (steps-whole p (steps_of HFlex1 xs))
+one-whole Flex1 ss xs mask p stems next h = subst AreWhole (sym (in-units Flex1 p xs h.2).uses) (steps-whole p (steps_of Flex1 xs))
+one-whole op ss xs mask p stems next h = absurd h
+
+all-whole : {says : List Said} (p : Point) (stems after : ℕ) → AreSayable stems says after → AreInUnits (all_in_units p says)
+all-whole p stems after (none _) = tt
+all-whole p stems after (more _ next _ x xs is rest) =
+    (edges-whole (pos 0) x.stems, one-whole x.operator x.stems x.operands x.mask p stems next is, all-whole (behind_steps p (steps_of x.operator x.operands)) next after rest)
+
+-- and so they are in pieces
+take-whole : (n : ℕ) (xs : List ℤ) → AreWhole xs → AreWhole (take n xs)
+take-whole zero xs are = tt
+take-whole (suc n) [] are = tt
+take-whole (suc n) (x ∷ xs) are = (are.0, take-whole n xs are.1)
+
+drop-whole : (n : ℕ) (xs : List ℤ) → AreWhole xs → AreWhole (drop n xs)
+drop-whole zero xs are = are
+drop-whole (suc n) [] are = tt
+drop-whole (suc n) (x ∷ xs) are = drop-whole n xs are.1
+
+uses-all : (op : Operator) (xs : List ℤ) → is_cut op ≡ true → (used op xs ≡ xs) × (used (first_operator op) xs ≡ xs)
+uses-all RLineTo xs is = (refl, refl)
+uses-all HLineTo xs is = (refl, refl)
+uses-all VLineTo xs is = (refl, refl)
+uses-all RRCurveTo xs is = (refl, refl)
+uses-all RCurveLine xs is = (refl, refl)
+uses-all RLineCurve xs is = (refl, refl)
+uses-all VVCurveTo xs is = (refl, refl)
+uses-all HHCurveTo xs is = (refl, refl)
+uses-all VHCurveTo xs is = (refl, refl)
+uses-all HVCurveTo xs is = (refl, refl)
+uses-all op xs is = absurd (cc)
+
+cut-whole : {says written : List Said} → AreCut says written → AreInUnits says → AreInUnits written
+cut-whole cuts.none are = tt
+cut-whole (cuts.whole x xs written is cut) are = (are.0, are.1, cut-whole cut are.2)
+cut-whole (cuts.piece x xs written long cut) are =
+    let n = first_count x.operator (length x.operands) in
+    let all = subst AreWhole (uses-all x.operator x.operands long.0).0 are.1 in
+    let front = subst AreWhole (sym (uses-all x.operator (take n x.operands) long.0).1) (take-whole n x.operands all) in
+    let rest = subst AreWhole (sym (uses-all x.operator (drop n x.operands) long.0).0) (drop-whole n x.operands all) in
+    (are.0, front, cut-whole cut (tt, rest, are.2))
+
 -- a charstring in whole units
 pub rounded-of : (charstring : Charstring) (width : Option ℤ) (code : List ℕ) (says whole : List Said) → Says charstring says → whole ≡ all_in_units origin says → AreNear origin says →
     IsWritten width whole [] code → AreHeldOrCut width whole → BearsWidth width whole → IsRoundedOf charstring width code
@@ -174,10 +264,11 @@ rounded-of charstring width code says whole said same near is held bears =
     let begins = cut-bears width is.cut bears in record {
       says = says;
       said = said;
-      whole = whole;
+      near = whole;
       rounded = subst (AreRounded origin says) (sym same) (all-rounded origin 0 after first origin-in-range near);
       written = is.written;
       in_pieces = cut-in-pieces is.cut 0 after all;
+      units = cut-whole is.cut (subst AreInUnits (sym same) (all-whole origin 0 after first));
       does = λ lists. says-so lists is.written after width code is.text again is.held begins;
       fits = cut-fits is.cut 0 after width all held bears;
       bears = begins;

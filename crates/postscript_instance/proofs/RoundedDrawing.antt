@@ -226,7 +226,7 @@ outlines charstring width code is answers end varies segments draws lists run ru
     let there = first-ok (drawing ss blank) (finished runs.UsedUp) segments exact in
     let last = drawing-is ss blank there.0 there.1 in
     let told : (closed (all ss blank)).segments ≡ segments = ap (λ (d : Drawing). (closed d).segments) (sym last) ∙ ok-same (closed there.0).segments segments there.2 in
-    let rounded = rounded-all origin is.says is.whole origin-in-range is.rounded in
+    let rounded = rounded-all origin is.says is.near origin-in-range is.rounded in
     let drawn : drawing_of run.answers blank ≡ Ok (near (all ss blank)) =
     ap (λ (xs : List Answer). drawing_of xs blank) written.0 ∙ drawn-with (answer_with width) (λ x. refl) is.written blank
     ∙ ap (λ zs. drawing zs blank) (same-strokes is.in_pieces ∙ rounded.0) ∙ ap (drawing (rounded_strokes origin ss)) (sym near-blank) ∙ drawing-near ss blank rounded.1 in

@@ -1,11 +1,12 @@
 -- Operands that go along axes in whole units draw the strokes in whole units.
-use Rattle.std.proofs.Common.{◌≡◌, refl, ap, sym, subst, ◌∙◌, ℕ, ◌+◌, ◌-◌, ◌%◌, ◌<◌, ◌≤◌, ◌⊎◌, inl, inr, ℤ, pos, ◌+ℤ◌, IsTrue, List, [], ◌∷◌, ◌++◌, length, length-append, take, drop, append-nil, arith}
+use Rattle.std.proofs.Common.{◌≡◌, refl, ap, sym, subst, ◌∙◌, ℕ, ◌+◌, ◌-◌, ◌%◌, ◌<◌, ◌≤◌, ◌⊎◌, inl, inr, ℤ, pos, ◌+ℤ◌, ◌-ℤ◌, IsTrue, List, [], ◌∷◌, ◌++◌, length, length-append, take, drop, append-nil, arith}
 use Rattle.std.proofs.lemmas.Bool.Decides.{nat_tests}
 use Rattle.std.proofs.lemmas.Int.{ints}
 use Rattle.std.proofs.lemmas.List.{take-append-drop, length-take-le, length-drop}
 use Rattle.std.proofs.Math.Seq.{take-append-add, drop-append-add}
 use Rattle.postscript_drawing.specs.Operators.{strokes}
 use Rattle.postscript_drawing.specs.Strokes.{by, aside, along, other, lines, lines_in_turn, curves, curves_along, curves_level, curves_in_turn, curves_then_line, lines_then_curve, two}
+use Rattle.postscript_drawing.specs.Using.{used}
 use Rattle.postscript_drawing.specs.declared.stroke.Axis.{Axis}
 use Rattle.postscript_drawing.specs.declared.stroke.Axis.TheVariants.{Horizontal, Vertical}
 use Rattle.postscript_drawing.specs.declared.stroke.Stroke.{Stroke}
@@ -19,8 +20,9 @@ use Rattle.postscript_type2.specs.Operation.Lengths.{exactly, some, groups, grou
 use Rattle.postscript_type2.specs.Number.{whole as units}
 use Rattle.postscript_type2.specs.Program.OperatorRules.{IsHeld}
 use Rattle.postscript_instance.specs.declared.axes.Step.{Step}
-use Rattle.postscript_instance.specs.Axes.{so_far, in_turn, bows, level, coordinates, steps_of, at, moved, rounded_steps, behind_steps, depth_of, AreSteps}
-use Rattle.postscript_instance.specs.Rounded.{nearest, rounded, rounded_by, rounded_operator, led, rounded_strokes, behind, IsInRange, AreInRange}
+use Rattle.postscript_instance.specs.Axes.{so_far, in_turn, bows, level, coordinates, steps_of, at, moved, rounded_steps, behind_steps, AreSteps}
+use Rattle.postscript_instance.proofs.Nearest.{is-whole}
+use Rattle.postscript_instance.specs.Rounded.{nearest, rounded, rounded_by, rounded_operator, depth_of, led, rounded_strokes, behind, AreWhole, IsInRange, AreInRange}
 
 -- strokes of operands, and of the same in whole units
 pub record Agrees (p : Point) (steps : List Step) (old new : List Stroke) : Type 0 where
@@ -426,6 +428,19 @@ level-of axis p (d ∷ xs) (inr h) some =
       ap length steps ∙ omega (arith, count),
     )
 
+-- what is between whole units is whole
+pub is-way-whole : (from distance : ℤ) → (n : ℤ) × (rounded from distance ≡ units n)
+is-way-whole from distance =
+    let there = is-whole (from +ℤ distance) in
+    let here = is-whole from in
+    let at_there = there.1 in
+    let at_here = here.1 in
+    (there.0 -ℤ here.0, omega (arith, ints, at_there, at_here))
+
+pub steps-whole : (p : Point) (s : List Step) → AreWhole (rounded_steps p s)
+steps-whole p [] = tt
+steps-whole p (x ∷ s) = (is-way-whole (at x.axis p) x.distance, steps-whole (moved x.axis p x.distance) s)
+
 -- as many operands as an operator of a kind takes
 abbrev pub Takes : Kind → ℕ → Type 0
 Takes (Draws takes) n = IsTrue (takes n)
@@ -435,15 +450,19 @@ Takes kind n = ⊥
 pub record InUnits (op : Operator) (p : Point) (xs : List ℤ) : Type 0 where
   pub agrees : Agrees p (steps_of op xs) (strokes op xs) (strokes (rounded_operator op) (rounded_steps p (steps_of op xs) ++ depth_of op xs))
   pub takes : Takes (kind (rounded_operator op)) (length (rounded_steps p (steps_of op xs) ++ depth_of op xs))
+  pub uses : used (rounded_operator op) (rounded_steps p (steps_of op xs) ++ depth_of op xs) ≡ rounded_steps p (steps_of op xs)
+  pub depth : rounded_operator op ≡ Flex → drop 12 (rounded_steps p (steps_of op xs) ++ depth_of op xs) ≡ depth_of op xs
 
 -- an operator that stays, without a depth
 stays-so : (op : Operator) (p : Point) (xs : List ℤ) → rounded_operator op ≡ op → depth_of op xs ≡ [] → Takes (kind op) (length xs) → length (steps_of op xs) ≡ length xs →
-    Agrees p (steps_of op xs) (strokes op xs) (strokes op (rounded_steps p (steps_of op xs))) → InUnits op p xs
-stays-so op p xs same none takes count agrees =
+    Agrees p (steps_of op xs) (strokes op xs) (strokes op (rounded_steps p (steps_of op xs))) → ((ys : List ℤ) → used op ys ≡ ys) → (op ≡ Flex → ⊥) → InUnits op p xs
+stays-so op p xs same none takes count agrees uses other =
     let new = rounded_steps p (steps_of op xs) in
     let all : new ++ depth_of op xs ≡ new = ap (λ ds. new ++ ds) none ∙ append-nil new in record {
       agrees = agrees-as agrees refl refl (ap (strokes op) (sym all) ∙ ap (λ o. strokes o (new ++ depth_of op xs)) (sym same));
       takes = subst (λ o. Takes (kind o) (length (new ++ depth_of op xs))) (sym same) (subst (Takes (kind op)) (sym (ap length all ∙ steps-length p (steps_of op xs) ∙ count)) takes);
+      uses = ap (λ o. used o (new ++ depth_of op xs)) same ∙ uses (new ++ depth_of op xs) ∙ all;
+      depth = λ flex. absurd (other (sym same ∙ flex));
     }
 
 move-of : (p : Point) (xs : List ℤ) → length xs ≡ 2 → Agrees p (steps_of RMoveTo xs) (strokes RMoveTo xs) (strokes RMoveTo (rounded_steps p (steps_of RMoveTo xs)))
@@ -502,7 +521,7 @@ flex-of p (a ∷ b ∷ c ∷ d ∷ e ∷ f ∷ g ∷ i ∷ j ∷ []) h = absurd 
 flex-of p (a ∷ b ∷ c ∷ d ∷ e ∷ f ∷ g ∷ i ∷ j ∷ k ∷ []) h = absurd (omega (arith, h))
 flex-of p (a ∷ b ∷ c ∷ d ∷ e ∷ f ∷ g ∷ i ∷ j ∷ k ∷ l ∷ []) h = absurd (omega (arith, h))
 flex-of p (a ∷ b ∷ c ∷ d ∷ e ∷ f ∷ g ∷ i ∷ j ∷ k ∷ l ∷ m ∷ []) h = absurd (omega (arith, h))
-flex-of p (a ∷ b ∷ c ∷ d ∷ e ∷ f ∷ g ∷ i ∷ j ∷ k ∷ l ∷ m ∷ n ∷ []) h = record { agrees = flex-round p _ _ _ _ _ _ n; takes = refl }
+flex-of p (a ∷ b ∷ c ∷ d ∷ e ∷ f ∷ g ∷ i ∷ j ∷ k ∷ l ∷ m ∷ n ∷ []) h = record { agrees = flex-round p _ _ _ _ _ _ n; takes = refl; uses = refl; depth = λ same. refl }
 flex-of p (a ∷ b ∷ c ∷ d ∷ e ∷ f ∷ g ∷ i ∷ j ∷ k ∷ l ∷ m ∷ n ∷ z ∷ xs) h = absurd (omega (arith, h))
 
 hflex-of : (p : Point) (xs : List ℤ) → length xs ≡ 7 → InUnits HFlex p xs
@@ -513,7 +532,7 @@ hflex-of p (a ∷ b ∷ c ∷ []) h = absurd (omega (arith, h))
 hflex-of p (a ∷ b ∷ c ∷ d ∷ []) h = absurd (omega (arith, h))
 hflex-of p (a ∷ b ∷ c ∷ d ∷ e ∷ []) h = absurd (omega (arith, h))
 hflex-of p (a ∷ b ∷ c ∷ d ∷ e ∷ f ∷ []) h = absurd (omega (arith, h))
-hflex-of p (a ∷ b ∷ c ∷ d ∷ e ∷ f ∷ g ∷ []) h = record { agrees = flex-round p _ _ _ _ _ _ (units (pos 50)); takes = refl }
+hflex-of p (a ∷ b ∷ c ∷ d ∷ e ∷ f ∷ g ∷ []) h = record { agrees = flex-round p _ _ _ _ _ _ (units (pos 50)); takes = refl; uses = refl; depth = λ same. refl }
 hflex-of p (a ∷ b ∷ c ∷ d ∷ e ∷ f ∷ g ∷ z ∷ xs) h = absurd (omega (arith, h))
 
 hflex1-of : (p : Point) (xs : List ℤ) → length xs ≡ 9 → InUnits HFlex1 p xs
@@ -526,7 +545,7 @@ hflex1-of p (a ∷ b ∷ c ∷ d ∷ e ∷ []) h = absurd (omega (arith, h))
 hflex1-of p (a ∷ b ∷ c ∷ d ∷ e ∷ f ∷ []) h = absurd (omega (arith, h))
 hflex1-of p (a ∷ b ∷ c ∷ d ∷ e ∷ f ∷ g ∷ []) h = absurd (omega (arith, h))
 hflex1-of p (a ∷ b ∷ c ∷ d ∷ e ∷ f ∷ g ∷ i ∷ []) h = absurd (omega (arith, h))
-hflex1-of p (a ∷ b ∷ c ∷ d ∷ e ∷ f ∷ g ∷ i ∷ j ∷ []) h = record { agrees = flex-round p _ _ _ _ _ _ (units (pos 50)); takes = refl }
+hflex1-of p (a ∷ b ∷ c ∷ d ∷ e ∷ f ∷ g ∷ i ∷ j ∷ []) h = record { agrees = flex-round p _ _ _ _ _ _ (units (pos 50)); takes = refl; uses = refl; depth = λ same. refl }
 hflex1-of p (a ∷ b ∷ c ∷ d ∷ e ∷ f ∷ g ∷ i ∷ j ∷ z ∷ xs) h = absurd (omega (arith, h))
 
 flex1-of : (p : Point) (xs : List ℤ) → length xs ≡ 11 → InUnits Flex1 p xs
@@ -541,7 +560,7 @@ flex1-of p (a ∷ b ∷ c ∷ d ∷ e ∷ f ∷ g ∷ []) h = absurd (omega (ari
 flex1-of p (a ∷ b ∷ c ∷ d ∷ e ∷ f ∷ g ∷ i ∷ []) h = absurd (omega (arith, h))
 flex1-of p (a ∷ b ∷ c ∷ d ∷ e ∷ f ∷ g ∷ i ∷ j ∷ []) h = absurd (omega (arith, h))
 flex1-of p (a ∷ b ∷ c ∷ d ∷ e ∷ f ∷ g ∷ i ∷ j ∷ k ∷ []) h = absurd (omega (arith, h))
-flex1-of p (a ∷ b ∷ c ∷ d ∷ e ∷ f ∷ g ∷ i ∷ j ∷ k ∷ l ∷ []) h = record { agrees = flex-round p _ _ _ _ _ _ (units (pos 50)); takes = refl }
+flex1-of p (a ∷ b ∷ c ∷ d ∷ e ∷ f ∷ g ∷ i ∷ j ∷ k ∷ l ∷ []) h = record { agrees = flex-round p _ _ _ _ _ _ (units (pos 50)); takes = refl; uses = refl; depth = λ same. refl }
 flex1-of p (a ∷ b ∷ c ∷ d ∷ e ∷ f ∷ g ∷ i ∷ j ∷ k ∷ l ∷ z ∷ xs) h = absurd (omega (arith, h))
 
 exact : (m n : ℕ) → IsTrue (exactly m n) → n ≡ m
@@ -560,39 +579,39 @@ twos-and : (n : ℕ) → IsTrue (groups_and 2 6 n) → ((n - 6) % 2 ≡ 0) × 6 
 twos-and n is = (grind (arith, nat_tests), grind (arith, nat_tests))
 
 pub in-units : (op : Operator) (p : Point) (xs : List ℤ) → Takes (kind op) (length xs) → InUnits op p xs
-in-units RMoveTo p xs h = stays-so RMoveTo p xs refl refl h (turn-length Horizontal xs) (move-of p xs (exact 2 (length xs) h))
-in-units HMoveTo p xs h = stays-so HMoveTo p xs refl refl h (turn-length Horizontal xs) (across-of p xs (exact 1 (length xs) h))
-in-units VMoveTo p xs h = stays-so VMoveTo p xs refl refl h (turn-length Vertical xs) (up-of p xs (exact 1 (length xs) h))
-in-units RLineTo p xs h = stays-so RLineTo p xs refl refl h (turn-length Horizontal xs) (lines-round p xs (twos (length xs) h))
-in-units HLineTo p xs h = stays-so HLineTo p xs refl refl h (turn-length Horizontal xs) (turned-round Horizontal p xs)
-in-units VLineTo p xs h = stays-so VLineTo p xs refl refl h (turn-length Vertical xs) (turned-round Vertical p xs)
-in-units RRCurveTo p xs h = stays-so RRCurveTo p xs refl refl h (turn-length Horizontal xs) (curves-round p xs (sixes (length xs) h))
+in-units RMoveTo p xs h = stays-so RMoveTo p xs refl refl h (turn-length Horizontal xs) (move-of p xs (exact 2 (length xs) h)) (λ ys. refl) (λ flex. absurd (cc))
+in-units HMoveTo p xs h = stays-so HMoveTo p xs refl refl h (turn-length Horizontal xs) (across-of p xs (exact 1 (length xs) h)) (λ ys. refl) (λ flex. absurd (cc))
+in-units VMoveTo p xs h = stays-so VMoveTo p xs refl refl h (turn-length Vertical xs) (up-of p xs (exact 1 (length xs) h)) (λ ys. refl) (λ flex. absurd (cc))
+in-units RLineTo p xs h = stays-so RLineTo p xs refl refl h (turn-length Horizontal xs) (lines-round p xs (twos (length xs) h)) (λ ys. refl) (λ flex. absurd (cc))
+in-units HLineTo p xs h = stays-so HLineTo p xs refl refl h (turn-length Horizontal xs) (turned-round Horizontal p xs) (λ ys. refl) (λ flex. absurd (cc))
+in-units VLineTo p xs h = stays-so VLineTo p xs refl refl h (turn-length Vertical xs) (turned-round Vertical p xs) (λ ys. refl) (λ flex. absurd (cc))
+in-units RRCurveTo p xs h = stays-so RRCurveTo p xs refl refl h (turn-length Horizontal xs) (curves-round p xs (sixes (length xs) h)) (λ ys. refl) (λ flex. absurd (cc))
 in-units RCurveLine p xs h =
     let is = sixes-and (length xs) h in
     stays-so RCurveLine p xs refl refl h (turn-length Horizontal xs)
     (split-last (λ zs. Agrees p (in_turn Horizontal zs) (curves_then_line zs) (curves_then_line (rounded_steps p (in_turn Horizontal zs)))) 2 xs (omega (arith, is.1))
-    (λ ys zs long two. line-round p ys zs (ap (λ n. n % 6) long ∙ is.0) two))
+    (λ ys zs long two. line-round p ys zs (ap (λ n. n % 6) long ∙ is.0) two)) (λ ys. refl) (λ flex. absurd (cc))
 in-units RLineCurve p xs h =
     let is = twos-and (length xs) h in
     stays-so RLineCurve p xs refl refl h (turn-length Horizontal xs)
     (split-last (λ zs. Agrees p (in_turn Horizontal zs) (lines_then_curve zs) (lines_then_curve (rounded_steps p (in_turn Horizontal zs)))) 6 xs (omega (arith, is.1))
-    (λ ys zs long six. curve-round p ys zs (ap (λ n. n % 2) long ∙ is.0) six))
+    (λ ys zs long six. curve-round p ys zs (ap (λ n. n % 2) long ∙ is.0) six)) (λ ys. refl) (λ flex. absurd (cc))
 in-units VVCurveTo p xs h =
     let is = fours (length xs) h in
     let all = level-of Vertical p xs is.0 is.1 in
-    stays-so VVCurveTo p xs refl refl h all.1 all.0
+    stays-so VVCurveTo p xs refl refl h all.1 all.0 (λ ys. refl) (λ flex. absurd (cc))
 in-units HHCurveTo p xs h =
     let is = fours (length xs) h in
     let all = level-of Horizontal p xs is.0 is.1 in
-    stays-so HHCurveTo p xs refl refl h all.1 all.0
+    stays-so HHCurveTo p xs refl refl h all.1 all.0 (λ ys. refl) (λ flex. absurd (cc))
 in-units VHCurveTo p xs h =
     let is = fours (length xs) h in
     let few : length xs % 4 < 2 = below (length xs) is.0 in
-    stays-so VHCurveTo p xs refl refl h (bows-length Vertical Horizontal xs few) (turn-round Vertical p xs few (λ one. absurd (omega (arith, one, is.1))))
+    stays-so VHCurveTo p xs refl refl h (bows-length Vertical Horizontal xs few) (turn-round Vertical p xs few (λ one. absurd (omega (arith, one, is.1)))) (λ ys. refl) (λ flex. absurd (cc))
 in-units HVCurveTo p xs h =
     let is = fours (length xs) h in
     let few : length xs % 4 < 2 = below (length xs) is.0 in
-    stays-so HVCurveTo p xs refl refl h (bows-length Horizontal Vertical xs few) (turn-round Horizontal p xs few (λ one. absurd (omega (arith, one, is.1))))
+    stays-so HVCurveTo p xs refl refl h (bows-length Horizontal Vertical xs few) (turn-round Horizontal p xs few (λ one. absurd (omega (arith, one, is.1)))) (λ ys. refl) (λ flex. absurd (cc))
 in-units HFlex p xs h = hflex-of p xs (exact 7 (length xs) h)
 in-units Flex p xs h = flex-of p xs (exact 13 (length xs) h)
 in-units HFlex1 p xs h = hflex1-of p xs (exact 9 (length xs) h)

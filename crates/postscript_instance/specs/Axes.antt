@@ -1,5 +1,5 @@
 -- The axes along which the operands of path operators go (Technical Note 5177, "Path Construction Operators"), and what is too far.
-use Rattle.std.specs.Prelude.{◌≡◌, ◌%◌, ◌==◌, ℤ, pos, ◌+ℤ◌, Bool, true, false, List, [], ◌∷◌, ◌++◌, length, drop, Option, if◌then◌else◌}
+use Rattle.std.specs.Prelude.{◌≡◌, ◌%◌, ◌==◌, ℤ, pos, ◌+ℤ◌, Bool, true, false, List, [], ◌∷◌, ◌++◌, length, Option, if◌then◌else◌}
 use Rattle.postscript_drawing.specs.Operators.{strokes}
 use Rattle.postscript_drawing.specs.Strokes.{other}
 use Rattle.postscript_drawing.specs.declared.stroke.Axis.{Axis}
@@ -11,7 +11,6 @@ use Rattle.postscript_outline.specs.Points.{point}
 use Rattle.postscript_outline.specs.declared.point.Point.{Point}
 use Rattle.postscript_type2.specs.declared.operation.Operator.{Operator}
 use Rattle.postscript_type2.specs.declared.operation.Operator.TheVariants.{HStem, VStem, HStemHM, VStemHM, HintMask, CntrMask, VMoveTo, VLineTo, HHCurveTo, VVCurveTo, HVCurveTo, VHCurveTo, HFlex, Flex, HFlex1, Flex1}
-use Rattle.postscript_type2.specs.Number.{whole as units}
 use Rattle.postscript_type2.specs.Program.OperatorRules.{IsHeld}
 use Rattle.postscript_variable.specs.declared.charstring.Charstring.{Charstring}
 use Rattle.postscript_variable.specs.Sayings.{Said}
@@ -74,14 +73,6 @@ steps_of Flex xs = coordinates (strokes Flex xs)
 steps_of HFlex1 xs = coordinates (strokes HFlex1 xs)
 steps_of Flex1 xs = coordinates (strokes Flex1 xs)
 steps_of op xs = in_turn Horizontal xs
-
--- the depth of a flex stays, and is 50 where the operator has none
-abbrev pub depth_of : Operator → List ℤ → List ℤ
-depth_of Flex xs = drop 12 xs
-depth_of HFlex xs = units (pos 50) ∷ []
-depth_of HFlex1 xs = units (pos 50) ∷ []
-depth_of Flex1 xs = units (pos 50) ∷ []
-depth_of op xs = []
 
 -- where a place is along an axis, and the place so far on
 abbrev pub at : Axis → Point → ℤ

@@ -9,10 +9,10 @@ use Rattle.postscript_variable.specs.Sayings.{Said}
 use Rattle.postscript_instance.specs.declared.error.Error.{Error}
 use Rattle.postscript_instance.specs.declared.error.Error.TheVariants as errors
 use Rattle.postscript_instance.specs.declared.pieces.Piece.{Piece}
-use Rattle.postscript_instance.specs.Axes.{steps_of, rounded_steps, behind_steps, depth_of, is_hint, IsNear}
+use Rattle.postscript_instance.specs.Axes.{steps_of, rounded_steps, behind_steps, is_hint, IsNear}
 use Rattle.postscript_instance.specs.Pieces.{stack_limit}
 use Rattle.postscript_instance.specs.Refusals.{LacksMove}
-use Rattle.postscript_instance.specs.Rounded.{rounded_edges, rounded_operator}
+use Rattle.postscript_instance.specs.Rounded.{depth_of, rounded_edges, rounded_operator}
 use Rattle.postscript_instance.specs.Texts.{width_numbers, numbers_of, code_text}
 
 -- 32 bits hold each number that is written

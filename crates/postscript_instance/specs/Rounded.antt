@@ -1,9 +1,10 @@
 -- Charstrings in whole units: each place is at the nearest whole units, and what is drawn goes from place to place (Technical Note 5177,
 -- "Path Construction Operators", "Hint Operators").
 use Rattle.std.specs.Int.{int_rem_euclid}
-use Rattle.std.specs.Prelude.{◌≡◌, ℤ, pos, ◌+ℤ◌, ◌-ℤ◌, List, [], ◌∷◌, Option, ℕ}
+use Rattle.std.specs.Prelude.{◌≡◌, ℤ, pos, ◌+ℤ◌, ◌-ℤ◌, ℕ, List, [], ◌∷◌, drop, Option}
 use Rattle.postscript_drawing.specs.Operators.{strokes}
 use Rattle.postscript_drawing.specs.Strokes.{by}
+use Rattle.postscript_drawing.specs.Using.{used}
 use Rattle.postscript_drawing.specs.declared.stroke.Stroke.{Stroke}
 use Rattle.postscript_drawing.specs.declared.stroke.Stroke.TheVariants.{Move, Line, Curve}
 use Rattle.postscript_drawing.specs.declared.stroke.Vector.{Vector}
@@ -13,6 +14,7 @@ use Rattle.postscript_outline.specs.declared.segment.Segment.{Segment}
 use Rattle.postscript_outline.specs.declared.segment.Segment.TheVariants.{MoveTo, LineTo, CurveTo, Close}
 use Rattle.postscript_type2.specs.declared.operation.Operator.{Operator}
 use Rattle.postscript_type2.specs.declared.operation.Operator.TheVariants.{HFlex, HFlex1, Flex, Flex1}
+use Rattle.postscript_type2.specs.Number.{whole}
 use Rattle.postscript_type2.specs.Operation.Kinds.{kind}
 use Rattle.postscript_type2.specs.Program.OperatorRules.{IsHeld}
 use Rattle.postscript_type2.specs.Program.Routines.{Lists}
@@ -73,6 +75,16 @@ abbrev pub rounded_edges : (from : ℤ) → List ℤ → List ℤ
 rounded_edges from [] = []
 rounded_edges from (d ∷ ds) = rounded from d ∷ rounded_edges (from +ℤ d) ds
 
+-- whole numbers, in 16.16 bits
+abbrev pub AreWhole : List ℤ → Type 0
+AreWhole [] = Unit {0}
+AreWhole (num ∷ nums) = ((n : ℤ) × (num ≡ whole n)) × AreWhole nums
+
+-- each number that is said is whole, but the depth of a flex
+abbrev pub AreInUnits : List Said → Type 0
+AreInUnits [] = Unit {0}
+AreInUnits (x ∷ xs) = AreWhole x.stems × AreWhole (used x.operator x.operands) × AreInUnits xs
+
 -- a flex is spelled by all its coordinates; every other operator stays
 abbrev pub rounded_operator : Operator → Operator
 rounded_operator HFlex = Flex
@@ -80,11 +92,20 @@ rounded_operator HFlex1 = Flex
 rounded_operator Flex1 = Flex
 rounded_operator op = op
 
+-- the depth of a flex stays, and is 50 where the operator has none
+abbrev pub depth_of : Operator → List ℤ → List ℤ
+depth_of Flex xs = drop 12 xs
+depth_of HFlex xs = whole (pos 50) ∷ []
+depth_of HFlex1 xs = whole (pos 50) ∷ []
+depth_of Flex1 xs = whole (pos 50) ∷ []
+depth_of op xs = []
+
 -- what is said where the pen stands, and the same in whole units
 pub record IsRounded (p : Point) (x y : Said) : Type 0 where
   pub operator : y.operator ≡ rounded_operator x.operator
   pub drawn : strokes y.operator y.operands ≡ rounded_strokes p (strokes x.operator x.operands)
   pub in_range : AreInRange p (strokes x.operator x.operands)
+  pub depth : y.operator ≡ Flex → drop 12 y.operands ≡ depth_of x.operator x.operands
   pub edges : IsHint (kind x.operator) → y.operands ≡ rounded_edges (pos 0) x.operands
   pub stems : y.stems ≡ rounded_edges (pos 0) x.stems
   pub mask : y.mask ≡ x.mask
@@ -102,10 +123,11 @@ origin = point (pos 0) (pos 0)
 pub record IsRoundedOf (charstring : Charstring) (width : Option ℤ) (code : List ℕ) : Type 0 where
   pub says : List Said
   pub said : Says charstring says
-  pub whole : List Said
-  pub rounded : AreRounded origin says whole
+  pub near : List Said
+  pub rounded : AreRounded origin says near
   pub written : List Said
-  pub in_pieces : AreInPieces whole written
+  pub in_pieces : AreInPieces near written
+  pub units : AreInUnits written
   pub does : (lists : Lists) → SaysSo lists code width written
   pub fits : Fits width written
   pub bears : BearsWidth width written
