@@ -12,12 +12,13 @@ size, that they are no wider than their cells, and why a glyph is refused, in it
 and the status; of no words the help, and of a file alone what it holds. Of characters that the font has no glyph for which they are, by
 `svg` and by `subset`. Of files of other kinds the line that says what each is. Of `inspect` the memory that it takes of Noto Sans CJK.
 Of `report` the pages of more glyphs than one holds. Of `instance` what is refused and how it is said: axes, instances
-and words, files that are not variable, runs past the limit, damaged tables, a disk that is full; which tables are left out, and the names of a
-place. Needs Debian's python3-fonttools, fonts-ebgaramond and time, and, where it is there, takes
+and words, files that are not variable, runs past the limit, damaged tables, a disk that is full; which tables are left out, the names of a
+place and of its glyphs, and points in whole units. Needs Debian's python3-fonttools, fonts-ebgaramond and time, and, where it is there, takes
 fonts-noto-cjk. The status is 1 where something is otherwise.
 """
 
 import functools
+import math
 import pathlib
 import re
 import resource
@@ -30,6 +31,7 @@ sys.dont_write_bytecode = True
 sys.path.insert(0, str(pathlib.Path(__file__).resolve().parents[1]))
 
 import fontTools.varLib.cff
+from fontTools.pens.recordingPen import RecordingPen
 from fontTools.ttLib import TTFont, newTable
 from fontTools.ttLib.tables._f_v_a_r import NamedInstance
 from fontTools.varLib.featureVars import addFeatureVariations
@@ -435,6 +437,33 @@ def _(folder):
         told = [font["name"].getDebugName(i) for i in (1, 2, 4, 6, 16, 17)]
         assert told == wanted, told
         assert font["CFF "].cff.fontNames == [wanted[3]]
+
+
+@case("instance: names of glyphs stay, or it is said why not, and not with --quiet")
+def _(folder):
+    kept = TTFont(varied(folder)).getGlyphOrder()
+    assert TTFont(instance(folder, "--instance", "Bold")[0]).getGlyphOrder() == kept
+
+    def twice(font):
+        order = font.getGlyphOrder()
+        font["post"].formatType, font["post"].extraNames, font["post"].mapping = 2.0, [], {order[2]: order[1]}
+
+    out, said = instance(folder, "--instance", "Bold", change=twice)
+    assert said == "psotf: names of glyphs left out: two glyphs have the same\n", said
+    assert hasattr(TTFont(out)["CFF "].cff.topDictIndex[0], "ROS")
+    assert instance(folder, "--instance", "Bold", "--quiet", change=twice)[1] == ""
+
+
+@case("instance --round: each point at the nearest whole units")
+def _(folder):
+    whole = TTFont(instance(folder, "--variations", "wght=650", "--round")[0].rename(folder / "whole.otf"))
+    exact = TTFont(instance(folder, "--variations", "wght=650")[0])
+    for number, name in enumerate(exact.getGlyphOrder()):
+        pens = [RecordingPen(), RecordingPen()]
+        for pen, font in zip(pens, (exact, whole), strict=True):
+            font.getGlyphSet()[name].draw(pen)
+        wanted = [(word, tuple((math.floor(x + 0.5), math.floor(y + 0.5)) for x, y in points)) for word, points in pens[0].value]
+        assert wanted == pens[1].value, (number, wanted, pens[1].value)
 
 
 def main():
