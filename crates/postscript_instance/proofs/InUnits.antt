@@ -1,5 +1,5 @@
 -- What is said in whole units can be said again as Type 2, and is what was said, rounded.
-use Rattle.std.proofs.Common.{◌≡◌, refl, ap, sym, subst, ◌∙◌, ℕ, zero, suc, ◌+◌, ◌*◌, ℤ, pos, ◌+ℤ◌, true, false, take, drop, IsTrue, List, [], ◌∷◌, ◌++◌, length, length-append, Option, Some, None, Result, Ok, Err, IfErr, arith}
+use Rattle.std.proofs.Common.{◌≡◌, refl, ap, sym, subst, ◌∙◌, ℕ, zero, suc, ◌+◌, ◌*◌, ℤ, pos, ◌+ℤ◌, ◌-ℤ◌, true, false, take, drop, IsTrue, List, [], ◌∷◌, ◌++◌, length, length-append, map, Option, Some, None, Result, Ok, Err, IfErr, arith}
 use Rattle.std.specs.Prelude.{IsErrAnd}
 use Rattle.std.proofs.lemmas.Int.{ints}
 use Rattle.postscript_drawing.specs.Operators.{strokes}
@@ -17,9 +17,9 @@ use Rattle.postscript_instance.specs.declared.error.Error.{Error}
 use Rattle.postscript_instance.specs.declared.error.Error.TheVariants as errors
 use Rattle.postscript_instance.specs.Axes.{steps_of, behind_steps, AreSteps, LeadsTooFar, NotRounded}
 use Rattle.postscript_instance.specs.Private as cuts
-use Rattle.postscript_instance.specs.Private.{is_cut, first_operator, first_count, AreCut, in_units, all_in_units, AreNear, AreHeldOrCut, IsFar, IsUnwritten, IsWritten}
+use Rattle.postscript_instance.specs.Private.{is_cut, first_operator, first_count, AreCut, rounded_edges, in_units, all_in_units, AreNear, AreHeldOrCut, IsFar, IsUnwritten, IsWritten}
 use Rattle.postscript_instance.specs.Refusals.{IsHint, HasMore, here, later, LacksMove}
-use Rattle.postscript_instance.specs.Rounded.{rounded_edges, rounded_operator, behind, origin, AreWhole, AreInUnits, IsInRange, IsRounded, AreRounded, IsRoundedOf}
+use Rattle.postscript_instance.specs.Rounded.{nearest, edges_from, edges_of, rounded_operator, behind, origin, AreWhole, AreInUnits, IsInRange, IsRounded, AreRounded, IsRoundedOf}
 use Rattle.postscript_instance.specs.Statics.{bears_width, BearsWidth}
 use Rattle.postscript_instance.specs.Texts.{width_numbers, numbers_of}
 use Rattle.postscript_instance.proofs.Cutting.{cut-sayable, cut-in-pieces, cut-fits, cut-bears, hints-more}
@@ -77,6 +77,19 @@ all-sayable p stems after (more _ next _ x xs is rest) =
     more stems next after (in_units p x) (all_in_units (behind_steps p (steps_of x.operator x.operands)) xs) (one-sayable x.operator x.stems x.operands x.mask p stems next is)
     (all-sayable (behind_steps p (steps_of x.operator x.operands)) next after rest)
 
+-- the edges are at the nearest whole units
+edges-from : (at : ℤ) (ds : List ℤ) → edges_from (nearest at) (rounded_edges at ds) ≡ map nearest (edges_from at ds)
+edges-from at [] = refl
+edges-from at (d ∷ ds) =
+    let there = back-again (nearest at) (nearest (at +ℤ d)) in
+    ap (λ z. z ∷ edges_from z (rounded_edges (at +ℤ d) ds)) there ∙ ap (λ zs. nearest (at +ℤ d) ∷ zs) (edges-from (at +ℤ d) ds)
+  where
+    back-again : (a b : ℤ) → a +ℤ (b -ℤ a) ≡ b
+    back-again a b = omega (arith, ints)
+
+edges-near : (ds : List ℤ) → edges_of (rounded_edges (pos 0) ds) ≡ map nearest (edges_of ds)
+edges-near ds = ap (λ z. edges_from z (rounded_edges (pos 0) ds)) (sym at-origin) ∙ edges-from (pos 0) ds
+
 -- each is what was said, rounded, and the pen stands where it stood
 record Goes (p : Point) (x : Said) : Type 0 where
   rounded : IsRounded p x (in_units p x)
@@ -85,85 +98,85 @@ record Goes (p : Point) (x : Said) : Type 0 where
 one-goes : (op : Operator) (ss xs : List ℤ) (mask : List ℕ) (p : Point) (stems next : ℕ) → SayableAs (kind op) stems (one op ss xs mask) next → IsInRange p → AreSteps p (steps_of op xs) →
     Goes p (one op ss xs mask)
 one-goes HStem ss xs mask p stems next h at_p near =
-    record { rounded = record { operator = refl; drawn = refl; in_range = at_p; depth = λ flex. absurd (cc); edges = λ hint. refl; stems = refl; mask = refl }; place = refl }
+    record { rounded = record { operator = refl; drawn = refl; in_range = at_p; depth = λ flex. absurd (cc); edges = λ hint. edges-near xs; stems = edges-near ss; mask = refl }; place = refl }
 one-goes VStem ss xs mask p stems next h at_p near =
-    record { rounded = record { operator = refl; drawn = refl; in_range = at_p; depth = λ flex. absurd (cc); edges = λ hint. refl; stems = refl; mask = refl }; place = refl }
+    record { rounded = record { operator = refl; drawn = refl; in_range = at_p; depth = λ flex. absurd (cc); edges = λ hint. edges-near xs; stems = edges-near ss; mask = refl }; place = refl }
 one-goes HStemHM ss xs mask p stems next h at_p near =
-    record { rounded = record { operator = refl; drawn = refl; in_range = at_p; depth = λ flex. absurd (cc); edges = λ hint. refl; stems = refl; mask = refl }; place = refl }
+    record { rounded = record { operator = refl; drawn = refl; in_range = at_p; depth = λ flex. absurd (cc); edges = λ hint. edges-near xs; stems = edges-near ss; mask = refl }; place = refl }
 one-goes VStemHM ss xs mask p stems next h at_p near =
-    record { rounded = record { operator = refl; drawn = refl; in_range = at_p; depth = λ flex. absurd (cc); edges = λ hint. refl; stems = refl; mask = refl }; place = refl }
+    record { rounded = record { operator = refl; drawn = refl; in_range = at_p; depth = λ flex. absurd (cc); edges = λ hint. edges-near xs; stems = edges-near ss; mask = refl }; place = refl }
 one-goes HintMask ss xs mask p stems next h at_p near =
-    record { rounded = record { operator = refl; drawn = refl; in_range = at_p; depth = λ flex. absurd (cc); edges = λ hint. refl; stems = refl; mask = refl }; place = refl }
+    record { rounded = record { operator = refl; drawn = refl; in_range = at_p; depth = λ flex. absurd (cc); edges = λ hint. edges-near xs; stems = edges-near ss; mask = refl }; place = refl }
 one-goes CntrMask ss xs mask p stems next h at_p near =
-    record { rounded = record { operator = refl; drawn = refl; in_range = at_p; depth = λ flex. absurd (cc); edges = λ hint. refl; stems = refl; mask = refl }; place = refl }
+    record { rounded = record { operator = refl; drawn = refl; in_range = at_p; depth = λ flex. absurd (cc); edges = λ hint. edges-near xs; stems = edges-near ss; mask = refl }; place = refl }
 one-goes RMoveTo ss xs mask p stems next h at_p near =
     let units = in-units RMoveTo p xs h.2 in
     let is = units.agrees in
-    record { rounded = record { operator = refl; drawn = is.same; in_range = is.range at_p near; depth = units.depth; edges = λ hint. absurd hint; stems = refl; mask = refl }; place = is.behind }
+    record { rounded = record { operator = refl; drawn = is.same; in_range = is.range at_p near; depth = units.depth; edges = λ hint. absurd hint; stems = edges-near ss; mask = refl }; place = is.behind }
 one-goes HMoveTo ss xs mask p stems next h at_p near =
     let units = in-units HMoveTo p xs h.2 in
     let is = units.agrees in
-    record { rounded = record { operator = refl; drawn = is.same; in_range = is.range at_p near; depth = units.depth; edges = λ hint. absurd hint; stems = refl; mask = refl }; place = is.behind }
+    record { rounded = record { operator = refl; drawn = is.same; in_range = is.range at_p near; depth = units.depth; edges = λ hint. absurd hint; stems = edges-near ss; mask = refl }; place = is.behind }
 one-goes VMoveTo ss xs mask p stems next h at_p near =
     let units = in-units VMoveTo p xs h.2 in
     let is = units.agrees in
-    record { rounded = record { operator = refl; drawn = is.same; in_range = is.range at_p near; depth = units.depth; edges = λ hint. absurd hint; stems = refl; mask = refl }; place = is.behind }
+    record { rounded = record { operator = refl; drawn = is.same; in_range = is.range at_p near; depth = units.depth; edges = λ hint. absurd hint; stems = edges-near ss; mask = refl }; place = is.behind }
 one-goes RLineTo ss xs mask p stems next h at_p near =
     let units = in-units RLineTo p xs h.2 in
     let is = units.agrees in
-    record { rounded = record { operator = refl; drawn = is.same; in_range = is.range at_p near; depth = units.depth; edges = λ hint. absurd hint; stems = refl; mask = refl }; place = is.behind }
+    record { rounded = record { operator = refl; drawn = is.same; in_range = is.range at_p near; depth = units.depth; edges = λ hint. absurd hint; stems = edges-near ss; mask = refl }; place = is.behind }
 one-goes HLineTo ss xs mask p stems next h at_p near =
     let units = in-units HLineTo p xs h.2 in
     let is = units.agrees in
-    record { rounded = record { operator = refl; drawn = is.same; in_range = is.range at_p near; depth = units.depth; edges = λ hint. absurd hint; stems = refl; mask = refl }; place = is.behind }
+    record { rounded = record { operator = refl; drawn = is.same; in_range = is.range at_p near; depth = units.depth; edges = λ hint. absurd hint; stems = edges-near ss; mask = refl }; place = is.behind }
 one-goes VLineTo ss xs mask p stems next h at_p near =
     let units = in-units VLineTo p xs h.2 in
     let is = units.agrees in
-    record { rounded = record { operator = refl; drawn = is.same; in_range = is.range at_p near; depth = units.depth; edges = λ hint. absurd hint; stems = refl; mask = refl }; place = is.behind }
+    record { rounded = record { operator = refl; drawn = is.same; in_range = is.range at_p near; depth = units.depth; edges = λ hint. absurd hint; stems = edges-near ss; mask = refl }; place = is.behind }
 one-goes RRCurveTo ss xs mask p stems next h at_p near =
     let units = in-units RRCurveTo p xs h.2 in
     let is = units.agrees in
-    record { rounded = record { operator = refl; drawn = is.same; in_range = is.range at_p near; depth = units.depth; edges = λ hint. absurd hint; stems = refl; mask = refl }; place = is.behind }
+    record { rounded = record { operator = refl; drawn = is.same; in_range = is.range at_p near; depth = units.depth; edges = λ hint. absurd hint; stems = edges-near ss; mask = refl }; place = is.behind }
 one-goes RCurveLine ss xs mask p stems next h at_p near =
     let units = in-units RCurveLine p xs h.2 in
     let is = units.agrees in
-    record { rounded = record { operator = refl; drawn = is.same; in_range = is.range at_p near; depth = units.depth; edges = λ hint. absurd hint; stems = refl; mask = refl }; place = is.behind }
+    record { rounded = record { operator = refl; drawn = is.same; in_range = is.range at_p near; depth = units.depth; edges = λ hint. absurd hint; stems = edges-near ss; mask = refl }; place = is.behind }
 one-goes RLineCurve ss xs mask p stems next h at_p near =
     let units = in-units RLineCurve p xs h.2 in
     let is = units.agrees in
-    record { rounded = record { operator = refl; drawn = is.same; in_range = is.range at_p near; depth = units.depth; edges = λ hint. absurd hint; stems = refl; mask = refl }; place = is.behind }
+    record { rounded = record { operator = refl; drawn = is.same; in_range = is.range at_p near; depth = units.depth; edges = λ hint. absurd hint; stems = edges-near ss; mask = refl }; place = is.behind }
 one-goes VVCurveTo ss xs mask p stems next h at_p near =
     let units = in-units VVCurveTo p xs h.2 in
     let is = units.agrees in
-    record { rounded = record { operator = refl; drawn = is.same; in_range = is.range at_p near; depth = units.depth; edges = λ hint. absurd hint; stems = refl; mask = refl }; place = is.behind }
+    record { rounded = record { operator = refl; drawn = is.same; in_range = is.range at_p near; depth = units.depth; edges = λ hint. absurd hint; stems = edges-near ss; mask = refl }; place = is.behind }
 one-goes HHCurveTo ss xs mask p stems next h at_p near =
     let units = in-units HHCurveTo p xs h.2 in
     let is = units.agrees in
-    record { rounded = record { operator = refl; drawn = is.same; in_range = is.range at_p near; depth = units.depth; edges = λ hint. absurd hint; stems = refl; mask = refl }; place = is.behind }
+    record { rounded = record { operator = refl; drawn = is.same; in_range = is.range at_p near; depth = units.depth; edges = λ hint. absurd hint; stems = edges-near ss; mask = refl }; place = is.behind }
 one-goes VHCurveTo ss xs mask p stems next h at_p near =
     let units = in-units VHCurveTo p xs h.2 in
     let is = units.agrees in
-    record { rounded = record { operator = refl; drawn = is.same; in_range = is.range at_p near; depth = units.depth; edges = λ hint. absurd hint; stems = refl; mask = refl }; place = is.behind }
+    record { rounded = record { operator = refl; drawn = is.same; in_range = is.range at_p near; depth = units.depth; edges = λ hint. absurd hint; stems = edges-near ss; mask = refl }; place = is.behind }
 one-goes HVCurveTo ss xs mask p stems next h at_p near =
     let units = in-units HVCurveTo p xs h.2 in
     let is = units.agrees in
-    record { rounded = record { operator = refl; drawn = is.same; in_range = is.range at_p near; depth = units.depth; edges = λ hint. absurd hint; stems = refl; mask = refl }; place = is.behind }
+    record { rounded = record { operator = refl; drawn = is.same; in_range = is.range at_p near; depth = units.depth; edges = λ hint. absurd hint; stems = edges-near ss; mask = refl }; place = is.behind }
 one-goes HFlex ss xs mask p stems next h at_p near =
     let units = in-units HFlex p xs h.2 in
     let is = units.agrees in
-    record { rounded = record { operator = refl; drawn = is.same; in_range = is.range at_p near; depth = units.depth; edges = λ hint. absurd hint; stems = refl; mask = refl }; place = is.behind }
+    record { rounded = record { operator = refl; drawn = is.same; in_range = is.range at_p near; depth = units.depth; edges = λ hint. absurd hint; stems = edges-near ss; mask = refl }; place = is.behind }
 one-goes Flex ss xs mask p stems next h at_p near =
     let units = in-units Flex p xs h.2 in
     let is = units.agrees in
-    record { rounded = record { operator = refl; drawn = is.same; in_range = is.range at_p near; depth = units.depth; edges = λ hint. absurd hint; stems = refl; mask = refl }; place = is.behind }
+    record { rounded = record { operator = refl; drawn = is.same; in_range = is.range at_p near; depth = units.depth; edges = λ hint. absurd hint; stems = edges-near ss; mask = refl }; place = is.behind }
 one-goes HFlex1 ss xs mask p stems next h at_p near =
     let units = in-units HFlex1 p xs h.2 in
     let is = units.agrees in
-    record { rounded = record { operator = refl; drawn = is.same; in_range = is.range at_p near; depth = units.depth; edges = λ hint. absurd hint; stems = refl; mask = refl }; place = is.behind }
+    record { rounded = record { operator = refl; drawn = is.same; in_range = is.range at_p near; depth = units.depth; edges = λ hint. absurd hint; stems = edges-near ss; mask = refl }; place = is.behind }
 one-goes Flex1 ss xs mask p stems next h at_p near =
     let units = in-units Flex1 p xs h.2 in
     let is = units.agrees in
-    record { rounded = record { operator = refl; drawn = is.same; in_range = is.range at_p near; depth = units.depth; edges = λ hint. absurd hint; stems = refl; mask = refl }; place = is.behind }
+    record { rounded = record { operator = refl; drawn = is.same; in_range = is.range at_p near; depth = units.depth; edges = λ hint. absurd hint; stems = edges-near ss; mask = refl }; place = is.behind }
 one-goes op ss xs mask p stems next h at_p near = absurd h
 
 pub all-rounded : {says : List Said} (p : Point) (stems after : ℕ) → AreSayable stems says after → IsInRange p → AreNear p says → AreRounded p says (all_in_units p says)

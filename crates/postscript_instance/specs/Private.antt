@@ -1,5 +1,5 @@
 -- Named by private contracts and proofs alone.
-use Rattle.std.specs.Prelude.{◌≡◌, ◌⊎◌, ℕ, ◌+◌, ◌%◌, ◌<◌, ◌≤◌, ℤ, Bool, true, false, List, [], ◌∷◌, ◌++◌, length, take, drop, Option, None, pos, if◌then◌else◌}
+use Rattle.std.specs.Prelude.{◌≡◌, ◌⊎◌, ℕ, ◌+◌, ◌%◌, ◌<◌, ◌≤◌, ℤ, ◌+ℤ◌, Bool, true, false, List, [], ◌∷◌, ◌++◌, length, take, drop, Option, None, pos, if◌then◌else◌}
 use Rattle.postscript_base.specs.declared.error.Error.TheVariants as causes
 use Rattle.postscript_outline.specs.declared.point.Point.{Point}
 use Rattle.postscript_type2.specs.declared.operation.Operator.{Operator}
@@ -12,7 +12,7 @@ use Rattle.postscript_instance.specs.declared.pieces.Piece.{Piece}
 use Rattle.postscript_instance.specs.Axes.{steps_of, rounded_steps, behind_steps, is_hint, IsNear}
 use Rattle.postscript_instance.specs.Pieces.{stack_limit}
 use Rattle.postscript_instance.specs.Refusals.{LacksMove}
-use Rattle.postscript_instance.specs.Rounded.{depth_of, rounded_edges, rounded_operator}
+use Rattle.postscript_instance.specs.Rounded.{depth_of, rounded, rounded_operator}
 use Rattle.postscript_instance.specs.Texts.{width_numbers, numbers_of, code_text}
 
 -- 32 bits hold each number that is written
@@ -115,6 +115,11 @@ IsUnwritten width says (errors.Font e) = e ≡ causes.Memory
 IsUnwritten width says errors.TooManyOperands = HasMoreUncut width says
 IsUnwritten width says errors.NoMove = LacksMove width says
 IsUnwritten width says e = ⊥
+
+-- the operands of stems between the nearest whole units of their edges
+abbrev pub rounded_edges : (from : ℤ) → List ℤ → List ℤ
+rounded_edges from [] = []
+rounded_edges from (d ∷ ds) = rounded from d ∷ rounded_edges (from +ℤ d) ds
 
 -- what is said in whole units
 abbrev pub operands_in_units : Point → Said → List ℤ

@@ -1,7 +1,7 @@
 -- Charstrings in whole units: each place is at the nearest whole units, and what is drawn goes from place to place (Technical Note 5177,
 -- "Path Construction Operators", "Hint Operators").
 use Rattle.std.specs.Int.{int_rem_euclid}
-use Rattle.std.specs.Prelude.{◌≡◌, ℤ, pos, ◌+ℤ◌, ◌-ℤ◌, ℕ, List, [], ◌∷◌, drop, Option}
+use Rattle.std.specs.Prelude.{◌≡◌, ℤ, pos, ◌+ℤ◌, ◌-ℤ◌, ℕ, List, [], ◌∷◌, map, drop, Option}
 use Rattle.postscript_drawing.specs.Operators.{strokes}
 use Rattle.postscript_drawing.specs.Strokes.{by}
 use Rattle.postscript_drawing.specs.Using.{used}
@@ -70,10 +70,13 @@ AreInRange p (Curve a b c ∷ strokes) =
     let r = led q b in
     IsInRange p × IsInRange q × IsInRange r × AreInRange (led r c) strokes
 
--- the edges of stems: each is so far from the one before it, and the first from 0
-abbrev pub rounded_edges : (from : ℤ) → List ℤ → List ℤ
-rounded_edges from [] = []
-rounded_edges from (d ∷ ds) = rounded from d ∷ rounded_edges (from +ℤ d) ds
+-- the edges of stems: each is so far from the one before it, and the first from 0 ("Hint Operators")
+abbrev pub edges_from : ℤ → List ℤ → List ℤ
+edges_from at [] = []
+edges_from at (d ∷ ds) = (at +ℤ d) ∷ edges_from (at +ℤ d) ds
+
+abbrev pub edges_of : List ℤ → List ℤ
+edges_of ds = edges_from (pos 0) ds
 
 -- whole numbers, in 16.16 bits
 abbrev pub AreWhole : List ℤ → Type 0
@@ -106,8 +109,8 @@ pub record IsRounded (p : Point) (x y : Said) : Type 0 where
   pub drawn : strokes y.operator y.operands ≡ rounded_strokes p (strokes x.operator x.operands)
   pub in_range : AreInRange p (strokes x.operator x.operands)
   pub depth : y.operator ≡ Flex → drop 12 y.operands ≡ depth_of x.operator x.operands
-  pub edges : IsHint (kind x.operator) → y.operands ≡ rounded_edges (pos 0) x.operands
-  pub stems : y.stems ≡ rounded_edges (pos 0) x.stems
+  pub edges : IsHint (kind x.operator) → edges_of y.operands ≡ map nearest (edges_of x.operands)
+  pub stems : edges_of y.stems ≡ map nearest (edges_of x.stems)
   pub mask : y.mask ≡ x.mask
 
 abbrev pub AreRounded : Point → List Said → List Said → Type 0

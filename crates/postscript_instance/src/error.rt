@@ -24,7 +24,8 @@ pub enum Error {
     /// 5177, "Type 2 Charstring Organization").
     #[error("the first path does not begin with a move")]
     NoMove,
-    /// In whole units, a place or an operand is not in the range of 16.16 bits (Technical Note 5177, "Charstring Number Encoding").
+    /// A place or the edge of a stem is out of the range of 16.16 bits, as it is or in whole units, or the way to it in whole units is
+    /// (Technical Note 5177, "Charstring Number Encoding").
     #[error("in whole units something leads out of the range of 16 bits")]
     TooFar,
     /// There is no glyph of this number, or the font has no Font DICT for it that stands.

@@ -106,10 +106,12 @@ fn all_in_whole_units<'l>(alloc: Global, sayings: &[Saying<'l>]) -> Result<Vec<S
 /// A charstring of Type 2 that draws in whole units what a charstring of CFF2 draws where it is blended, with each point at the nearest
 /// whole units: of two as near, the upper. Places are rounded, not operands, so that no error adds up: the segments are the same, each
 /// point is at most half a unit off along each axis, and a contour that ends where it began still does. The edges of stems are rounded
-/// likewise. A width, in 16.16 bits, is written as it is given, and so is the depth of a flex; the operators, the masks and the rest are
-/// as `charstring` has them, but for `hflex`, `hflex1` and `flex1`, which become `flex` with a depth of 50.
+/// likewise: of each operator, and of those that a mask implies, the first is from 0, and the next from the one before it. Each number is
+/// whole, but a width, in 16.16 bits, and the depth of a flex, which are written as they are. The operators, the masks and the rest are as
+/// `charstring` has them, but for `hflex`, `hflex1` and `flex1`, which become `flex` with a depth of 50.
 ///
-/// Refused: as `charstring` is; `TooFar` where a place or an operand is out of the range of 16.16 bits in whole units.
+/// Refused: as `charstring` is; `TooFar` where a place or an edge is out of the range of 16.16 bits, as it is or in whole units, or the way
+/// to it in whole units is.
 pub fn rounded(alloc: Global, charstring: Charstring<'_>, width: Option<Operand>) -> Result<Vec<u8>>
     ensures written { IfOk result (λ code. IsRoundedOf charstring.entry width code.items) }
     ensures refused { IfErr result (λ e. NotRounded charstring.entry width e) }

@@ -1,6 +1,6 @@
 use Rattle.std.proofs.Common.{◌≡◌, ◌++◌, pos, drop}
 use Rattle.postscript_instance.specs.Axes.{AreEdges}
-use Rattle.postscript_instance.specs.Rounded.{rounded_edges}
+use Rattle.postscript_instance.specs.Private.{rounded_edges}
 use Rattle.postscript_instance.proofs.rounding.edges.Given as goal
 
 -- those so far and those of the rest are all; and all are held where the rest are
