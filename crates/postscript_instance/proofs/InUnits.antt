@@ -15,7 +15,10 @@ use Rattle.postscript_variable.specs.Sayings.{Said}
 use Rattle.postscript_variable.specs.Told.{Says}
 use Rattle.postscript_instance.specs.declared.error.Error.{Error}
 use Rattle.postscript_instance.specs.declared.error.Error.TheVariants as errors
-use Rattle.postscript_instance.specs.Axes.{steps_of, behind_steps, AreSteps, LeadsTooFar, NotRounded}
+use Rattle.postscript_instance.specs.Axes.{steps_of, behind_steps, is_hint, AreSteps, IsNear, LeadsTooFar}
+use Rattle.postscript_instance.specs.Axes as axes
+use Rattle.postscript_instance.specs.Far as outs
+use Rattle.postscript_instance.specs.Far.{AreWays, AreEdges, IsWithin, LeadsOut, NotRounded}
 use Rattle.postscript_instance.specs.Private as cuts
 use Rattle.postscript_instance.specs.Private.{is_cut, first_operator, first_count, AreCut, rounded_edges, in_units, all_in_units, AreNear, AreHeldOrCut, IsFar, IsUnwritten, IsWritten}
 use Rattle.postscript_instance.specs.Refusals.{IsHint, HasMore, here, later, LacksMove}
@@ -346,9 +349,76 @@ unwritten charstring width says errors.TooManyOperands said is =
 unwritten charstring width says errors.NoMove said is = (says, said, lacks-before width origin says is)
 unwritten charstring width says e said is = absurd is
 
+-- what leads too far along axes leads out
+near-along : (op : Operator) (ss xs : List ℤ) (mask : List ℕ) (p : Point) (stems next : ℕ) → SayableAs (kind op) stems (one op ss xs mask) next → IsWithin p (one op ss xs mask) →
+    IsNear p (one op ss xs mask)
+near-along HStem ss xs mask p stems next h within = record { steps = tt; edges = λ hint. within.edges tt; stems = within.stems }
+near-along VStem ss xs mask p stems next h within = record { steps = tt; edges = λ hint. within.edges tt; stems = within.stems }
+near-along HStemHM ss xs mask p stems next h within = record { steps = tt; edges = λ hint. within.edges tt; stems = within.stems }
+near-along VStemHM ss xs mask p stems next h within = record { steps = tt; edges = λ hint. within.edges tt; stems = within.stems }
+near-along HintMask ss xs mask p stems next h within = record { steps = tt; edges = λ hint. within.edges tt; stems = within.stems }
+near-along CntrMask ss xs mask p stems next h within = record { steps = tt; edges = λ hint. within.edges tt; stems = within.stems }
+near-along RMoveTo ss xs mask p stems next h within = record { steps = (in-units RMoveTo p xs h.2).agrees.ways within.ways; edges = λ hint. absurd (cc); stems = within.stems }
+near-along HMoveTo ss xs mask p stems next h within = record { steps = (in-units HMoveTo p xs h.2).agrees.ways within.ways; edges = λ hint. absurd (cc); stems = within.stems }
+near-along VMoveTo ss xs mask p stems next h within = record { steps = (in-units VMoveTo p xs h.2).agrees.ways within.ways; edges = λ hint. absurd (cc); stems = within.stems }
+near-along RLineTo ss xs mask p stems next h within = record { steps = (in-units RLineTo p xs h.2).agrees.ways within.ways; edges = λ hint. absurd (cc); stems = within.stems }
+near-along HLineTo ss xs mask p stems next h within = record { steps = (in-units HLineTo p xs h.2).agrees.ways within.ways; edges = λ hint. absurd (cc); stems = within.stems }
+near-along VLineTo ss xs mask p stems next h within = record { steps = (in-units VLineTo p xs h.2).agrees.ways within.ways; edges = λ hint. absurd (cc); stems = within.stems }
+near-along RRCurveTo ss xs mask p stems next h within = record { steps = (in-units RRCurveTo p xs h.2).agrees.ways within.ways; edges = λ hint. absurd (cc); stems = within.stems }
+near-along RCurveLine ss xs mask p stems next h within = record { steps = (in-units RCurveLine p xs h.2).agrees.ways within.ways; edges = λ hint. absurd (cc); stems = within.stems }
+near-along RLineCurve ss xs mask p stems next h within = record { steps = (in-units RLineCurve p xs h.2).agrees.ways within.ways; edges = λ hint. absurd (cc); stems = within.stems }
+near-along VVCurveTo ss xs mask p stems next h within = record { steps = (in-units VVCurveTo p xs h.2).agrees.ways within.ways; edges = λ hint. absurd (cc); stems = within.stems }
+near-along HHCurveTo ss xs mask p stems next h within = record { steps = (in-units HHCurveTo p xs h.2).agrees.ways within.ways; edges = λ hint. absurd (cc); stems = within.stems }
+near-along VHCurveTo ss xs mask p stems next h within = record { steps = (in-units VHCurveTo p xs h.2).agrees.ways within.ways; edges = λ hint. absurd (cc); stems = within.stems }
+near-along HVCurveTo ss xs mask p stems next h within = record { steps = (in-units HVCurveTo p xs h.2).agrees.ways within.ways; edges = λ hint. absurd (cc); stems = within.stems }
+near-along HFlex ss xs mask p stems next h within = record { steps = (in-units HFlex p xs h.2).agrees.ways within.ways; edges = λ hint. absurd (cc); stems = within.stems }
+near-along Flex ss xs mask p stems next h within = record { steps = (in-units Flex p xs h.2).agrees.ways within.ways; edges = λ hint. absurd (cc); stems = within.stems }
+near-along HFlex1 ss xs mask p stems next h within = record { steps = (in-units HFlex1 p xs h.2).agrees.ways within.ways; edges = λ hint. absurd (cc); stems = within.stems }
+near-along Flex1 ss xs mask p stems next h within = record { steps = (in-units Flex1 p xs h.2).agrees.ways within.ways; edges = λ hint. absurd (cc); stems = within.stems }
+near-along op ss xs mask p stems next h within = absurd h
+
+place-of : (op : Operator) (ss xs : List ℤ) (mask : List ℕ) (p : Point) (stems next : ℕ) → SayableAs (kind op) stems (one op ss xs mask) next →
+    behind_steps p (steps_of op xs) ≡ behind p (strokes op xs)
+place-of HStem ss xs mask p stems next h = refl
+place-of VStem ss xs mask p stems next h = refl
+place-of HStemHM ss xs mask p stems next h = refl
+place-of VStemHM ss xs mask p stems next h = refl
+place-of HintMask ss xs mask p stems next h = refl
+place-of CntrMask ss xs mask p stems next h = refl
+place-of RMoveTo ss xs mask p stems next h = (in-units RMoveTo p xs h.2).agrees.behind
+place-of HMoveTo ss xs mask p stems next h = (in-units HMoveTo p xs h.2).agrees.behind
+place-of VMoveTo ss xs mask p stems next h = (in-units VMoveTo p xs h.2).agrees.behind
+place-of RLineTo ss xs mask p stems next h = (in-units RLineTo p xs h.2).agrees.behind
+place-of HLineTo ss xs mask p stems next h = (in-units HLineTo p xs h.2).agrees.behind
+place-of VLineTo ss xs mask p stems next h = (in-units VLineTo p xs h.2).agrees.behind
+place-of RRCurveTo ss xs mask p stems next h = (in-units RRCurveTo p xs h.2).agrees.behind
+place-of RCurveLine ss xs mask p stems next h = (in-units RCurveLine p xs h.2).agrees.behind
+place-of RLineCurve ss xs mask p stems next h = (in-units RLineCurve p xs h.2).agrees.behind
+place-of VVCurveTo ss xs mask p stems next h = (in-units VVCurveTo p xs h.2).agrees.behind
+place-of HHCurveTo ss xs mask p stems next h = (in-units HHCurveTo p xs h.2).agrees.behind
+place-of VHCurveTo ss xs mask p stems next h = (in-units VHCurveTo p xs h.2).agrees.behind
+place-of HVCurveTo ss xs mask p stems next h = (in-units HVCurveTo p xs h.2).agrees.behind
+place-of HFlex ss xs mask p stems next h = (in-units HFlex p xs h.2).agrees.behind
+place-of Flex ss xs mask p stems next h = (in-units Flex p xs h.2).agrees.behind
+place-of HFlex1 ss xs mask p stems next h = (in-units HFlex1 p xs h.2).agrees.behind
+place-of Flex1 ss xs mask p stems next h = (in-units Flex1 p xs h.2).agrees.behind
+place-of op ss xs mask p stems next h = absurd h
+
+leads-out : {says : List Said} (p : Point) (stems after : ℕ) → AreSayable stems says after → LeadsTooFar p says → LeadsOut p says
+leads-out p stems after (none _) leads = absurd (nothing-leads p leads)
+  where
+    nothing-leads : (p : Point) → LeadsTooFar p [] → ⊥
+    nothing-leads p h = elim h [ ]
+leads-out p stems after (more _ next _ x xs is rest) (axes.here _ _ _ far) =
+    outs.here p x xs (λ within. far (near-along x.operator x.stems x.operands x.mask p stems next is within))
+leads-out p stems after (more _ next _ x xs is rest) (axes.later _ _ _ leads) =
+    outs.later p x xs (subst (λ z. LeadsOut z xs) (place-of x.operator x.stems x.operands x.mask p stems next is) (leads-out (behind_steps p (steps_of x.operator x.operands)) next after rest leads))
+
 too-far : (charstring : Charstring) (width : Option ℤ) (says : List Said) (e : Error) → Says charstring says → IsFar (LeadsTooFar origin says) e → NotRounded charstring width e
 too-far charstring width says (errors.Font e) said is = subst (λ cause. NotRounded charstring width (errors.Font cause)) (sym is) tt
-too-far charstring width says errors.TooFar said is = (says, said, is)
+too-far charstring width says errors.TooFar said is =
+    let after = said.last.stems in
+    (says, said, leads-out origin 0 after (subst (λ ys. AreSayable 0 ys after) (sym said.all) (sayable said.run)) is)
 too-far charstring width says e said is = absurd is
 
 pub unwritten-on : {A : Type 0} (charstring : Charstring) (width : Option ℤ) (says : List Said) (r : Result A Error) (e : Error) → IsErrAnd r (λ x. x ≡ e) → Says charstring says →

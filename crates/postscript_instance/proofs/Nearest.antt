@@ -3,7 +3,7 @@ use Rattle.std.proofs.Common.{◌≡◌, refl, ap, sym, subst, ◌∙◌, ◌/�
 use Rattle.std.proofs.lemmas.Int.{ints}
 use Rattle.std.specs.Int.{int_rem_euclid}
 use Rattle.postscript_type2.specs.Program.OperatorRules.{IsHeld}
-use Rattle.postscript_instance.specs.Axes.{IsStep}
+use Rattle.postscript_instance.specs.Far.{IsStep}
 use Rattle.postscript_instance.specs.Rounded.{nearest, rounded}
 
 pub at-origin : nearest (pos 0) ≡ pos 0

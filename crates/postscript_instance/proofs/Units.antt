@@ -22,6 +22,7 @@ use Rattle.postscript_type2.specs.Program.OperatorRules.{IsHeld}
 use Rattle.postscript_instance.specs.declared.axes.Step.{Step}
 use Rattle.postscript_instance.specs.Axes.{so_far, in_turn, bows, level, coordinates, steps_of, at, moved, rounded_steps, behind_steps, AreSteps}
 use Rattle.postscript_instance.proofs.Nearest.{is-whole}
+use Rattle.postscript_instance.specs.Far.{IsStep, IsWay, AreWays}
 use Rattle.postscript_instance.specs.Rounded.{nearest, rounded, rounded_by, rounded_operator, depth_of, led, rounded_strokes, behind, AreWhole, IsInRange, AreInRange}
 
 -- strokes of operands, and of the same in whole units
@@ -29,6 +30,7 @@ pub record Agrees (p : Point) (steps : List Step) (old new : List Stroke) : Type
   pub same : new ≡ rounded_strokes p old
   pub behind : behind_steps p steps ≡ behind p old
   pub range : IsInRange p → AreSteps p steps → AreInRange p old
+  pub ways : AreWays p old → AreSteps p steps
 
 -- what stays along one axis while something goes along the other
 no-way : (a : ℤ) → rounded a (pos 0) ≡ pos 0
@@ -49,19 +51,33 @@ moved-range : (axis : Axis) (p : Point) (d : ℤ) → IsInRange p → IsHeld (ne
 moved-range Horizontal p d here there = (there, here.1)
 moved-range Vertical p d here there = (here.0, there)
 
+-- a way along an axis, and perhaps aside of it
+way-along : (axis : Axis) (p : Point) (d : ℤ) → IsWay p (along axis d) → IsStep (at axis p) d
+way-along Horizontal p d way = way.0
+way-along Vertical p d way = way.1
+
+way-aside : (axis : Axis) (p : Point) (d off : ℤ) → IsWay p (aside axis d off) → IsStep (at axis p) d × IsStep (at (other axis) (moved axis p d)) off
+way-aside Horizontal p d off way = way
+way-aside Vertical p d off way = (way.1, way.0)
+
+way-off : (axis : Axis) (p : Point) (d off : ℤ) → IsWay p (aside axis d off) → IsStep (at (other axis) p) off × IsStep (at axis (moved (other axis) p off)) d
+way-off Horizontal p d off way = (way.1, way.0)
+way-off Vertical p d off way = way
+
 -- lines
 lines-round : (p : Point) (xs : List ℤ) → length xs % 2 ≡ 0 → Agrees p (in_turn Horizontal xs) (lines xs) (lines (rounded_steps p (in_turn Horizontal xs)))
-lines-round p [] h = record { same = refl; behind = refl; range = λ here are. here }
+lines-round p [] h = record { same = refl; behind = refl; range = λ here are. here; ways = λ w. tt }
 lines-round p (a ∷ []) h = absurd (omega (arith, h))
 lines-round p (a ∷ b ∷ xs) h =
     let rest = lines-round (led p (by a b)) xs (omega (arith, h)) in record {
       same = ap (λ ss. Line (rounded_by p (by a b)) ∷ ss) rest.same;
       behind = rest.behind;
       range = λ here are. (here, rest.range (are.0.end, are.1.0.end) are.1.1);
+      ways = λ w. (w.0.0, (w.0.1, rest.ways w.1));
     }
 
 turned-round : (axis : Axis) (p : Point) (xs : List ℤ) → Agrees p (in_turn axis xs) (lines_in_turn axis xs) (lines_in_turn axis (rounded_steps p (in_turn axis xs)))
-turned-round axis p [] = record { same = refl; behind = refl; range = λ here are. here }
+turned-round axis p [] = record { same = refl; behind = refl; range = λ here are. here; ways = λ w. tt }
 turned-round axis p (d ∷ xs) =
     let q = moved axis p d in
     let ss = lines_in_turn (other axis) xs in
@@ -70,11 +86,12 @@ turned-round axis p (d ∷ xs) =
           ∙ ap (λ zs. Line (rounded_by p (along axis d)) ∷ zs) (rest.same ∙ ap (λ z. rounded_strokes z ss) (sym (along-led axis p d)));
       behind = rest.behind ∙ ap (λ z. behind z ss) (sym (along-led axis p d));
       range = λ here are. (here, subst (λ z. AreInRange z ss) (sym (along-led axis p d)) (rest.range (moved-range axis p d here are.0.end) are.1));
+      ways = λ w. (way-along axis p d w.0, rest.ways (subst (λ z. AreWays z ss) (along-led axis p d) w.1));
     }
 
 -- curves
 curves-round : (p : Point) (xs : List ℤ) → length xs % 6 ≡ 0 → Agrees p (in_turn Horizontal xs) (curves xs) (curves (rounded_steps p (in_turn Horizontal xs)))
-curves-round p [] h = record { same = refl; behind = refl; range = λ here are. here }
+curves-round p [] h = record { same = refl; behind = refl; range = λ here are. here; ways = λ w. tt }
 curves-round p (a ∷ []) h = absurd (omega (arith, h))
 curves-round p (a ∷ b ∷ []) h = absurd (omega (arith, h))
 curves-round p (a ∷ b ∷ c ∷ []) h = absurd (omega (arith, h))
@@ -88,6 +105,7 @@ curves-round p (a ∷ b ∷ c ∷ d ∷ e ∷ f ∷ xs) h =
       behind = rest.behind;
       range = λ here are.
           (here, (are.0.end, are.1.0.end), (are.1.1.0.end, are.1.1.1.0.end), rest.range (are.1.1.1.1.0.end, are.1.1.1.1.1.0.end) are.1.1.1.1.1.1);
+      ways = λ w. (w.0.0, (w.0.1, (w.1.0, (w.1.1, (w.2.0, (w.2.1, rest.ways w.3))))));
     }
 
 -- a curve that begins so far along an axis, and perhaps so far aside of it
@@ -119,10 +137,17 @@ range-curve p q r s a b c old hq hr hs at_p at_q at_r rest =
     let third = ap (λ z. led z c) second ∙ hs in
     (at_p, subst IsInRange (sym hq) at_q, subst IsInRange (sym second) at_r, subst (λ z. AreInRange z old) (sym third) rest)
 
+ways-curve : (p q r s : Point) (a b c : Vector) (old : List Stroke) → led p a ≡ q → led q b ≡ r → led r c ≡ s → AreWays p (Curve a b c ∷ old) →
+    IsWay p a × IsWay q b × IsWay r c × AreWays s old
+ways-curve p q r s a b c old hq hr hs w =
+    let second = ap (λ z. led z b) hq ∙ hr in
+    let third = ap (λ z. led z c) second ∙ hs in
+    (w.0, subst (λ z. IsWay z b) hq w.1, subst (λ z. IsWay z c) second w.2, subst (λ z. AreWays z old) third w.3)
+
 -- level curves: the first begins so far aside
 level-round : (axis : Axis) (p : Point) (xs : List ℤ) → length xs % 4 ≡ 0 →
     Agrees p (bows axis axis xs) (curves_along axis (pos 0) xs) (curves_along axis (pos 0) (rounded_steps p (bows axis axis xs)))
-level-round axis p [] h = record { same = refl; behind = refl; range = λ here are. here }
+level-round axis p [] h = record { same = refl; behind = refl; range = λ here are. here; ways = λ w. tt }
 level-round axis p (a ∷ []) h = absurd (omega (arith, h))
 level-round axis p (a ∷ b ∷ []) h = absurd (omega (arith, h))
 level-round axis p (a ∷ b ∷ c ∷ []) h = absurd (omega (arith, h))
@@ -141,6 +166,9 @@ level-round axis p (a ∷ b ∷ c ∷ d ∷ xs) h =
           let at_q = moved-range axis p a here are.0.end in
           let at_r : IsInRange r = (are.1.0.end, are.1.1.0.end) in
           range-curve p q r s (along axis a) (by b c) (along axis d) old hq refl hs here at_q at_r (rest.range (moved-range axis r d at_r are.1.1.1.0.end) are.1.1.1.1);
+      ways = λ w.
+          let all = ways-curve p q r s (along axis a) (by b c) (along axis d) old hq refl hs w in
+          (way-along axis p a all.0, (all.1.0, (all.1.1, (way-along axis r d all.2, rest.ways all.3))));
     }
 
 first-aside-round : (axis : Axis) (p : Point) (e : ℤ) (xs : List ℤ) → length xs % 4 ≡ 0 → 0 < length xs →
@@ -168,6 +196,10 @@ first-aside-round axis p e (a ∷ b ∷ c ∷ d ∷ xs) h some =
           let at_q = moved-range axis o a (moved-range (other axis) p e here are.0.end) are.1.0.end in
           let at_r : IsInRange r = (are.1.1.0.end, are.1.1.1.0.end) in
           range-curve p q r s (aside axis a e) (by b c) (along axis d) old hq refl hs here at_q at_r (rest.range (moved-range axis r d at_r are.1.1.1.1.0.end) are.1.1.1.1.1);
+      ways = λ w.
+          let all = ways-curve p q r s (aside axis a e) (by b c) (along axis d) old hq refl hs w in
+          let both = way-off axis p a e all.0 in
+          (both.0, (both.1, (all.1.0, (all.1.1, (way-along axis r d all.2, rest.ways all.3)))));
     }
 
 -- curves in turn: one that ends along its axis, before others
@@ -188,10 +220,13 @@ turn-more axis p a b c d steps old new rest =
           let at_q = moved-range axis p a here are.0.end in
           let at_r : IsInRange r = (are.1.0.end, are.1.1.0.end) in
           range-curve p q r s (along axis a) (by b c) (along (other axis) d) old hq refl hs here at_q at_r (rest.range (moved-range (other axis) r d at_r are.1.1.1.0.end) are.1.1.1.1);
+      ways = λ w.
+          let all = ways-curve p q r s (along axis a) (by b c) (along (other axis) d) old hq refl hs w in
+          (way-along axis p a all.0, (all.1.0, (all.1.1, (way-along (other axis) r d all.2, rest.ways all.3))));
     }
 
 none : (p : Point) → Agrees p [] [] []
-none p = record { same = refl; behind = refl; range = λ here are. here }
+none p = record { same = refl; behind = refl; range = λ here are. here; ways = λ w. tt }
 
 -- the last one, and an operand alone behind it, which goes aside of its end
 turn-last-aside : (axis : Axis) (p : Point) (a b c d e : ℤ) →
@@ -218,6 +253,10 @@ turn-last-aside axis p a b c d e =
           let at_d = moved-range (other axis) r d at_r are.1.1.1.0.end in
           let at_s = moved-range (other (other axis)) (moved (other axis) r d) e at_d are.1.1.1.1.0.end in
           range-curve p q r s (along axis a) (by b c) (aside (other axis) d e) [] hq refl hs here at_q at_r (subst IsInRange (either-first (other axis) r d e) at_s);
+      ways = λ w.
+          let all = ways-curve p q r s (along axis a) (by b c) (aside (other axis) d e) [] hq refl hs w in
+          let both = way-aside (other axis) r d e all.2 in
+          (way-along axis p a all.0, (all.1.0, (all.1.1, (both.0, (both.1, tt)))));
     }
   where
     at-other : (axis : Axis) (p : Point) (d : ℤ) → at (other axis) (moved axis p d) ≡ at (other axis) p
@@ -287,6 +326,16 @@ range-append p (Move v ∷ xs) ys these those = (these.0, range-append (led p v)
 range-append p (Line v ∷ xs) ys these those = (these.0, range-append (led p v) xs ys these.1 those)
 range-append p (Curve a b c ∷ xs) ys these those = (these.0, these.1, these.2, range-append (led (led (led p a) b) c) xs ys these.3 those)
 
+ways-append : (p : Point) (xs ys : List Stroke) → AreWays p (xs ++ ys) → AreWays p xs × AreWays (behind p xs) ys
+ways-append p [] ys w = (tt, w)
+ways-append p (Move v ∷ xs) ys w = let rest = ways-append (led p v) xs ys w.1 in ((w.0, rest.0), rest.1)
+ways-append p (Line v ∷ xs) ys w = let rest = ways-append (led p v) xs ys w.1 in ((w.0, rest.0), rest.1)
+ways-append p (Curve a b c ∷ xs) ys w = let rest = ways-append (led (led (led p a) b) c) xs ys w.3 in ((w.0, w.1, w.2, rest.0), rest.1)
+
+steps-join : (p : Point) (s t : List Step) → AreSteps p s → AreSteps (behind_steps p s) t → AreSteps p (s ++ t)
+steps-join p [] t these those = those
+steps-join p (x ∷ s) t these those = (these.0, steps-join (moved x.axis p x.distance) s t these.1 those)
+
 join : (p : Point) (s t : List Step) (xs ys xs' ys' : List Stroke) → Agrees p s xs xs' → Agrees (behind_steps p s) t ys ys' → Agrees p (s ++ t) (xs ++ ys) (xs' ++ ys')
 join p s t xs ys xs' ys' these those = record {
   same = ap (λ zs. zs ++ ys') these.same ∙ ap (λ zs. rounded_strokes p xs ++ zs) (those.same ∙ ap (λ q. rounded_strokes q ys) these.behind) ∙ sym (strokes-append p xs ys);
@@ -296,6 +345,9 @@ join p s t xs ys xs' ys' these those = record {
       let first = these.range here both.0 in
       let there = subst IsInRange (sym these.behind) (range-behind p xs first) in
       range-append p xs ys first (subst (λ q. AreInRange q ys) these.behind (those.range there both.1));
+  ways = λ w.
+      let both = ways-append p xs ys w in
+      steps-join p s t (these.ways both.0) (those.ways (subst (λ q. AreWays q ys) (sym these.behind) both.1));
 }
 
 -- as many as there were
@@ -468,7 +520,7 @@ stays-so op p xs same none takes count agrees uses other =
 move-of : (p : Point) (xs : List ℤ) → length xs ≡ 2 → Agrees p (steps_of RMoveTo xs) (strokes RMoveTo xs) (strokes RMoveTo (rounded_steps p (steps_of RMoveTo xs)))
 move-of p [] h = absurd (omega (arith, h))
 move-of p (a ∷ []) h = absurd (omega (arith, h))
-move-of p (a ∷ b ∷ []) h = record { same = refl; behind = refl; range = λ here are. (here, (are.0.end, are.1.0.end)) }
+move-of p (a ∷ b ∷ []) h = record { same = refl; behind = refl; range = λ here are. (here, (are.0.end, are.1.0.end)); ways = λ w. (w.0.0, (w.0.1, tt)) }
 move-of p (a ∷ b ∷ z ∷ xs) h = absurd (omega (arith, h))
 
 along-move : (axis : Axis) (p : Point) (d : ℤ) → Agrees p (so_far axis d ∷ []) (Move (along axis d) ∷ []) (Move (along axis (rounded (at axis p) d)) ∷ [])
@@ -476,6 +528,7 @@ along-move axis p d = record {
   same = ap (λ v. Move v ∷ []) (sym (along-rounded axis p d));
   behind = sym (along-led axis p d);
   range = λ here are. (here, subst IsInRange (sym (along-led axis p d)) (moved-range axis p d here are.0.end));
+  ways = λ w. (way-along axis p d w.0, tt);
 }
 
 across-of : (p : Point) (xs : List ℤ) → length xs ≡ 1 → Agrees p (steps_of HMoveTo xs) (strokes HMoveTo xs) (strokes HMoveTo (rounded_steps p (steps_of HMoveTo xs)))
@@ -504,6 +557,10 @@ flex-round p a b c d e f fd = record {
       (are.1.1.1.1.1.1.1.1.0.end, are.1.1.1.1.1.1.1.1.1.0.end),
       (are.1.1.1.1.1.1.1.1.1.1.0.end, are.1.1.1.1.1.1.1.1.1.1.1.0.end),
     ),
+  );
+  ways = λ w. (
+    w.0.0,
+    (w.0.1, (w.1.0, (w.1.1, (w.2.0, (w.2.1, (w.3.0.0, (w.3.0.1, (w.3.1.0, (w.3.1.1, (w.3.2.0, (w.3.2.1, tt))))))))))),
   );
 }
 

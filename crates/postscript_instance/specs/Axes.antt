@@ -1,5 +1,6 @@
--- The axes along which the operands of path operators go (Technical Note 5177, "Path Construction Operators"), and what is too far.
-use Rattle.std.specs.Prelude.{◌≡◌, ◌%◌, ◌==◌, ℤ, pos, ◌+ℤ◌, Bool, true, false, List, [], ◌∷◌, ◌++◌, length, Option, if◌then◌else◌}
+-- The axes along which the operands of path operators go (Technical Note 5177, "Path Construction Operators"). Named by private contracts
+-- and proofs alone.
+use Rattle.std.specs.Prelude.{◌≡◌, ◌%◌, ◌==◌, ℤ, pos, ◌+ℤ◌, Bool, true, false, List, [], ◌∷◌, ◌++◌, length, if◌then◌else◌}
 use Rattle.postscript_drawing.specs.Operators.{strokes}
 use Rattle.postscript_drawing.specs.Strokes.{other}
 use Rattle.postscript_drawing.specs.declared.stroke.Axis.{Axis}
@@ -11,15 +12,10 @@ use Rattle.postscript_outline.specs.Points.{point}
 use Rattle.postscript_outline.specs.declared.point.Point.{Point}
 use Rattle.postscript_type2.specs.declared.operation.Operator.{Operator}
 use Rattle.postscript_type2.specs.declared.operation.Operator.TheVariants.{HStem, VStem, HStemHM, VStemHM, HintMask, CntrMask, VMoveTo, VLineTo, HHCurveTo, VVCurveTo, HVCurveTo, VHCurveTo, HFlex, Flex, HFlex1, Flex1}
-use Rattle.postscript_type2.specs.Program.OperatorRules.{IsHeld}
-use Rattle.postscript_variable.specs.declared.charstring.Charstring.{Charstring}
 use Rattle.postscript_variable.specs.Sayings.{Said}
-use Rattle.postscript_variable.specs.Told.{Says}
 use Rattle.postscript_instance.specs.declared.axes.Step.{Step}
-use Rattle.postscript_instance.specs.declared.error.Error.{Error}
-use Rattle.postscript_instance.specs.declared.error.Error.TheVariants as errors
-use Rattle.postscript_instance.specs.Refusals.{NotWritten}
-use Rattle.postscript_instance.specs.Rounded.{nearest, rounded, origin}
+use Rattle.postscript_instance.specs.Far.{IsStep, AreEdges}
+use Rattle.postscript_instance.specs.Rounded.{rounded}
 
 -- so far along an axis
 abbrev pub so_far : Axis → ℤ → Step
@@ -92,20 +88,10 @@ abbrev pub behind_steps : Point → List Step → Point
 behind_steps p [] = p
 behind_steps p (s ∷ steps) = behind_steps (moved s.axis p s.distance) steps
 
--- 16.16 bits hold where a step begins and ends at the nearest whole units, where it ends, and how far it is
-pub record IsStep (from distance : ℤ) : Type 0 where
-  pub start : IsHeld (nearest from)
-  pub place : IsHeld (from +ℤ distance)
-  pub end : IsHeld (nearest (from +ℤ distance))
-  pub way : IsHeld (rounded from distance)
-
+-- 16.16 bits hold each of them
 abbrev pub AreSteps : Point → List Step → Type 0
 AreSteps p [] = Unit {0}
 AreSteps p (s ∷ steps) = IsStep (at s.axis p) s.distance × AreSteps (moved s.axis p s.distance) steps
-
-abbrev pub AreEdges : (from : ℤ) → List ℤ → Type 0
-AreEdges from [] = Unit {0}
-AreEdges from (d ∷ ds) = IsStep from d × AreEdges (from +ℤ d) ds
 
 -- the operators whose operands are edges of stems, and masks
 abbrev pub is_hint : Operator → Bool
@@ -127,9 +113,3 @@ pub record IsNear (p : Point) (x : Said) : Type 0 where
 pub data LeadsTooFar : Point → List Said → Type 0 where
   here : (p : Point) (x : Said) (xs : List Said) → ¬ IsNear p x → LeadsTooFar p (x ∷ xs)
   later : (p : Point) (x : Said) (xs : List Said) → LeadsTooFar (behind_steps p (steps_of x.operator x.operands)) xs → LeadsTooFar p (x ∷ xs)
-
--- The run is refused, a hint operator has too many numbers before it, the first may not have a width before its own, or something leads out
--- of the range; or memory is wanting.
-abbrev pub NotRounded : Charstring → (width : Option ℤ) → Error → Type 0
-NotRounded charstring width errors.TooFar = (says : List Said) × Says charstring says × LeadsTooFar origin says
-NotRounded charstring width e = NotWritten charstring width e

@@ -11,7 +11,7 @@ use Rattle.postscript_variable_font.specs.declared.place.Place.{Place}
 use Rattle.postscript_instance.specs.declared.naming.Naming.{Naming}
 use Rattle.postscript_instance.specs.declared.error.Error.{Error}
 use Rattle.postscript_instance.specs.declared.error.Error.TheVariants as errors
-use Rattle.postscript_instance.specs.Axes.{NotRounded}
+use Rattle.postscript_instance.specs.Far.{NotRounded}
 use Rattle.postscript_instance.specs.Refusals.{IsLate, NotWritten}
 use Rattle.postscript_instance.specs.Rounded.{IsRoundedOf}
 use Rattle.postscript_instance.specs.Statics.{IsStaticOf}

@@ -5,9 +5,10 @@ pub mod Pieces
 pub mod Statics
 pub mod Refusals
 pub mod Rounded
-pub mod Axes
+pub mod Far
 pub mod Laws
 pub mod Glyphs
 pub mod Naming
 pub mod Tables
+pub mod Axes
 pub mod Private

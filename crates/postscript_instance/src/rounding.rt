@@ -1,7 +1,8 @@
 //! Places at the nearest whole units.
 ghost use Rattle.std.specs.Prelude.{◌≡◌, pos, ◌+ℤ◌, ◌-ℤ◌, MatchOption, IfOk, IfErr, OnOk};
 ghost use Rattle.postscript_base.specs.declared.error.Error.TheVariants as causes;
-ghost use Rattle.postscript_instance.specs.Axes.{at, moved, rounded_steps, behind_steps, AreEdges, AreSteps, IsStep};
+ghost use Rattle.postscript_instance.specs.Axes.{at, moved, rounded_steps, behind_steps, AreSteps};
+ghost use Rattle.postscript_instance.specs.Far.{AreEdges, IsStep};
 ghost use Rattle.postscript_instance.specs.Private.{IsFar, rounded_edges};
 ghost use Rattle.postscript_instance.specs.Rounded.{nearest as the_nearest, rounded};
 ghost use Rattle.postscript_type2.specs.Program.OperatorRules.{IsHeld};

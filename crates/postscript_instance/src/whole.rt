@@ -1,7 +1,8 @@
 //! A glyph's charstring of Type 2 in whole units.
 ghost use Rattle.std.specs.Prelude.{◌≡◌, ◌++◌, map, IfOk, OnOk, IfErr};
 ghost use Rattle.postscript_base.specs.declared.error.Error.TheVariants as causes;
-ghost use Rattle.postscript_instance.specs.Axes.{is_hint as hints, steps_of as the_steps_of, behind_steps, IsNear, LeadsTooFar, NotRounded};
+ghost use Rattle.postscript_instance.specs.Axes.{is_hint as hints, steps_of as the_steps_of, behind_steps, IsNear, LeadsTooFar};
+ghost use Rattle.postscript_instance.specs.Far.{NotRounded};
 ghost use Rattle.postscript_instance.specs.declared.error.Error.TheVariants as errors;
 ghost use Rattle.postscript_instance.specs.Glyphs.{IsRoundedGlyph, NoRoundedGlyph};
 ghost use Rattle.postscript_instance.specs.Private.{in_units, all_in_units, AreNear, IsFar};

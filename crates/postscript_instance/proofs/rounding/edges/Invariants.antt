@@ -1,5 +1,5 @@
 use Rattle.std.proofs.Common.{◌≡◌, ◌++◌, pos, drop}
-use Rattle.postscript_instance.specs.Axes.{AreEdges}
+use Rattle.postscript_instance.specs.Far.{AreEdges}
 use Rattle.postscript_instance.specs.Private.{rounded_edges}
 use Rattle.postscript_instance.proofs.rounding.edges.Given as goal
 
