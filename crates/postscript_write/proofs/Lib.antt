@@ -19,5 +19,7 @@ pub mod Carried
 pub mod Places
 pub mod Reaching
 pub mod Drawings
+pub mod Successive
+pub mod Ranges
 pub mod Told
 pub mod Operators

@@ -7,6 +7,7 @@ pub mod Parts
 pub mod Naming
 pub mod Strings
 pub mod Fonts
+pub mod Whole
 pub mod Sources
 pub mod Components
 pub mod Closure

@@ -9,6 +9,7 @@ ghost use Rattle.postscript_write.specs.Readings.{HasLenientFont};
 ghost use Rattle.postscript_write.specs.Refusals.{IsChoiceRefusedBy, IsRefusedBy, IsSubsetRefusedBy};
 ghost use Rattle.postscript_write.specs.Sources.{AreThere, IsWritten, chosen as the_chosen, every as the_every, keeping as the_keeping};
 ghost use Rattle.postscript_write.specs.Steps.{IsNotOpened};
+ghost use Rattle.postscript_write.specs.Whole.{IsWhole};
 ghost use Rattle.postscript_write.specs.declared.error.Error.TheVariants as errors;
 
 use crate::closure::closed_over;
@@ -42,6 +43,7 @@ fn only_font<'l>(alloc: Global, bytes: &'l [u8]) -> Result<FontView<'l>>
 pub fn flat_font(alloc: Global, bytes: &[u8]) -> Result<Vec<u8>>
     ensures drawn { IfOk result (λ flat. KeepsDrawings the_every bytes.now flat.items) }
     ensures written { IfOk result (λ flat. IsWritten true the_every bytes.now flat.items) }
+    ensures whole { IfOk result (λ flat. IsWhole flat.items) }
     ensures lenient { IfOk result (λ flat. HasLenientFont bytes.now → HasLenientFont flat.items) }
     ensures one { OnOk result (the_fonts bytes.now 0 ≡ Got 1 0) }
     ensures refused { IfErr result (λ e. IsRefusedBy the_every bytes.now e) }
@@ -85,6 +87,7 @@ pub fn kept_glyphs(alloc: Global, bytes: &[u8], named: &[usize]) -> Result<Vec<u
 pub fn subset(alloc: Global, bytes: &[u8], named: &[usize]) -> Result<Vec<u8>>
     ensures drawn { IfOk result (λ flat. DrawsKept the_chosen named.now bytes.now flat.items) }
     ensures written { IfOk result (λ flat. IsSubset false the_chosen named.now bytes.now flat.items) }
+    ensures whole { IfOk result (λ flat. IsWhole flat.items) }
     ensures lenient { IfOk result (λ flat. HasLenientFont bytes.now → HasLenientFont flat.items) }
     ensures one { OnOk result (the_fonts bytes.now 0 ≡ Got 1 0) }
     ensures refused { IfErr result (λ e. IsSubsetRefusedBy named.now the_chosen bytes.now e) }
@@ -108,6 +111,7 @@ pub fn subset(alloc: Global, bytes: &[u8], named: &[usize]) -> Result<Vec<u8>>
 pub fn subset_keeping(alloc: Global, bytes: &[u8], named: &[usize]) -> Result<Vec<u8>>
     ensures drawn { IfOk result (λ flat. DrawsKept the_keeping named.now bytes.now flat.items) }
     ensures written { IfOk result (λ flat. IsSubset true the_keeping named.now bytes.now flat.items) }
+    ensures whole { IfOk result (λ flat. IsWhole flat.items) }
     ensures lenient { IfOk result (λ flat. HasLenientFont bytes.now → HasLenientFont flat.items) }
     ensures one { OnOk result (the_fonts bytes.now 0 ≡ Got 1 0) }
     ensures refused { IfErr result (λ e. IsSubsetRefusedBy named.now the_keeping bytes.now e) }

@@ -3,7 +3,7 @@ use crate::dictionaries::{Place, replaced, without};
 use crate::indices::put_index;
 use crate::kept::NAMED;
 use crate::naming::identifier_in;
-use crate::spans::{char_set_at, encoding_at};
+use crate::spans::{char_set_end, encoding_end};
 use crate::strings::Strings;
 use postscript_base::compact1::{Operations, Operator};
 use postscript_base::{Error, Result};
@@ -41,6 +41,14 @@ fn first_dictionary(bytes: &[u8]) -> Result<&[u8]> {
     dictionaries.get(0).ok_or(Error::UnexpectedEof)
 }
 
+/// The bytes from one place to another, where they stand.
+fn bytes_to(bytes: &[u8], from: usize, to: Option<usize>) -> Result<&[u8]> {
+    match to {
+        Some(to) if from <= to && to <= bytes.len() => Ok(&bytes[from..to]),
+        _ => Err(Error::UnexpectedEof),
+    }
+}
+
 /// The char set of a font, where it is its own.
 pub(crate) fn own_char_set<'l>(
     bytes: &'l [u8],
@@ -51,7 +59,7 @@ pub(crate) fn own_char_set<'l>(
     if place < 3 {
         return Ok(None);
     }
-    Ok(Some(char_set_at(bytes, place, glyphs)?))
+    Ok(Some(bytes_to(bytes, place, char_set_end(bytes, place, glyphs))?))
 }
 
 /// The encoding of a font, where it is its own.
@@ -63,7 +71,7 @@ pub(crate) fn own_encoding<'l>(
     if place < 2 {
         return Ok(None);
     }
-    Ok(Some(encoding_at(bytes, place)?))
+    Ok(Some(bytes_to(bytes, place, encoding_end(bytes, place))?))
 }
 
 /// A private dictionary as it is written: it names no subroutines.

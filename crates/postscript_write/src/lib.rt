@@ -5,6 +5,7 @@ mod alike;
 mod closure;
 mod components;
 mod dictionaries;
+mod ends;
 mod error;
 mod fonts;
 mod glyphs;

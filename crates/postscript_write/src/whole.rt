@@ -13,9 +13,11 @@ ghost use Rattle.postscript_write.specs.Readings.{HasLenientFont};
 ghost use Rattle.postscript_write.specs.Refusals.{FontRefusedBy};
 ghost use Rattle.postscript_write.specs.Steps.{IsLate};
 ghost use Rattle.postscript_write.specs.Naming.{GivesWay, KeepsCodes, SameEncoding, SameNames, codes_for};
+ghost use Rattle.postscript_write.specs.Whole.{IsWhole};
 ghost use Rattle.postscript_write.specs.Strings.{keeps_strings, CutsStrings, KeepsStrings, SameStrings};
 
 use crate::alike::{give_way, same_encoding, same_names, same_numbers, same_parts};
+use crate::ends::has_no_byte_beside;
 use crate::error::{Error, Result, not_back, unwritten};
 use crate::glyphs::{codes_of, numbers_of};
 use crate::kept::{CHANGED, NAMED};
@@ -203,6 +205,7 @@ fn read_back(
     requires numbers { AreNumbersOf font.now.bytes.now (view_shown font.now) sources.now numbers.now }
     requires codes { AreCodesOf (view_shown font.now) sources.now numbers.now (texts codes.now) }
     ensures font { OnOk result ((new : View) × (the_view flat.now 0 ≡ Got new 0) × IsFontOf kept sources.now font.now.bytes.now (view_shown font.now) flat.now new) }
+    ensures whole { OnOk result (IsWhole flat.now) }
     ensures late { IfErr result (λ e. IsLate e) }
 {
     let again = match FontView::read_font(alloc, flat, 0) {
@@ -216,6 +219,9 @@ fn read_back(
         return Err(Error::NotReadBack);
     }
     if !same_numbers(numbers, &again) {
+        return Err(Error::NotReadBack);
+    }
+    if !has_no_byte_beside(&again) {
         return Err(Error::NotReadBack);
     }
     let new = back_names(alloc, font, set, sources, &again, keeps_numbers(font, kept))?;
@@ -241,6 +247,7 @@ fn put_together(
     requires numbers { AreNumbersOf font.now.bytes.now (view_shown font.now) sources.now numbers.now }
     requires codes { AreCodesOf (view_shown font.now) sources.now numbers.now (texts codes.now) }
     ensures font { IfOk result (λ flat. (new : View) × (the_view flat.items 0 ≡ Got new 0) × IsFontOf kept sources.now font.now.bytes.now (view_shown font.now) flat.items new) }
+    ensures whole { IfOk result (λ flat. IsWhole flat.items) }
     ensures lenient { IfOk result (λ flat. HasLenientFont font.now.bytes.now → HasLenientFont flat.items) }
     ensures late { IfErr result (λ e. IsLate e) }
 {
@@ -281,6 +288,7 @@ pub(crate) fn font_of(
     kept: bool,
 ) -> Result<Vec<u8>>
     ensures font { IfOk result (λ flat. (new : View) × (the_view flat.items 0 ≡ Got new 0) × IsFontOf kept sources.now font.now.bytes.now (view_shown font.now) flat.items new) }
+    ensures whole { IfOk result (λ flat. IsWhole flat.items) }
     ensures lenient { IfOk result (λ flat. HasLenientFont font.now.bytes.now → HasLenientFont flat.items) }
     ensures refused { IfErr result (λ e. FontRefusedBy font.now.bytes.now (view_shown font.now) sources.now e) }
 {

@@ -1,7 +1,8 @@
 use Rattle.std.proofs.Common.{◌≡◌, ◌∙◌, ap, subst, List, length}
-use Rattle.std.specs.Prelude.{Option, true, ℕ}
+use Rattle.std.specs.Prelude.{IfOk, Option, true, ℕ}
 use Rattle.postscript_view.specs.Value.{view_shown}
 use Rattle.postscript_write.specs.Fonts.{IsFontOf}
+use Rattle.postscript_write.specs.Readings.{HasLenientFont}
 use Rattle.postscript_write.specs.Refusals.{FontRefusedBy}
 use Rattle.postscript_write.specs.Sources.{every}
 use Rattle.std.proofs.lemmas.Result.{err_from_is_err_and}
@@ -44,3 +45,6 @@ returns-in_err-sources-clause-refused c =
 
 pub returns-clause-drawn : goal.returns-clause-drawn
 returns-clause-drawn c = flat-drawn c.font_of.result c.args.bytes.now (returns-clause-written c)
+
+pub returns-clause-lenient : goal.returns-clause-lenient
+returns-clause-lenient c = subst (λ (bs : List ℕ). IfOk c.font_of.result (λ flat. HasLenientFont bs → HasLenientFont flat.items)) c.in_ok-font.ensures.bytes c.font_of.ensures.lenient

@@ -3,6 +3,7 @@ use Rattle.postscript_base.specs.Tape.Outcome.{Got}
 use Rattle.postscript_view.specs.Order.{view}
 use Rattle.postscript_view.specs.Value.{view_shown}
 use Rattle.postscript_write.specs.Fonts.{IsFontOf}
+use Rattle.postscript_write.specs.Whole.{IsWhole}
 use Rattle.postscript_write.proofs.whole.put_together.Goals as goal
 
 pub returns-clause-font : goal.returns-clause-font
@@ -13,3 +14,6 @@ returns-clause-font c =
       subst (λ (xs : List ℕ). view xs 0 ≡ Got back.0 0) same back.1,
       subst (λ (xs : List ℕ). IsFontOf c.args.kept c.args.sources.now c.args.font.now.bytes.now (view_shown c.args.font.now) xs back.0) same back.2,
     )
+
+pub returns-clause-whole : goal.returns-clause-whole
+returns-clause-whole c = subst (λ (xs : List ℕ). IsWhole xs) c.deref.ensures.value c.in_ok-read_back.ensures.whole

@@ -8,6 +8,7 @@ use Rattle.postscript_view.specs.Value.{view_shown}
 use Rattle.postscript_write.specs.Glyphs.{HasPart}
 use Rattle.postscript_write.specs.Naming.{GivesWay, KeepsCodes}
 use Rattle.postscript_write.specs.Strings.{SameStrings}
+use Rattle.postscript_write.specs.Whole.{HasNoByteBeside}
 use Rattle.postscript_write.proofs.Making.{made}
 use Rattle.postscript_write.proofs.whole.read_back.Goals as goal
 
@@ -47,4 +48,12 @@ returns-clause-font c =
         encoding = λ anew. subst (λ (bs : List ℕ). GivesWay bytes old bs new) same (c.in_ok-keeps_codes.ensures.encoding anew);
         codes = λ kept. subst (λ (bs : List ℕ). KeepsCodes sources bytes old bs new c.args.set.now c.in_ok-new.new) same (c.in_ok-keeps_codes.ensures.codes kept);
       },
+    )
+
+pub returns-clause-whole : goal.returns-clause-whole
+returns-clause-whole c =
+    let new = view_shown c.in-Ok.again in (
+      new,
+      c.in-Ok.ensures.exact,
+      subst (λ (bs : List ℕ). HasNoByteBeside bs new) c.in-Ok.ensures.bytes (c.has_no_byte_beside.ensures c.if-not-has_no_byte_beside.false),
     )

@@ -1,0 +1,61 @@
+-- Ranges of a char set, one behind another.
+use Rattle.std.proofs.Common.{◌≡◌, refl, sym, ℕ, ◌+◌, ◌*◌, ◌/◌, ◌≤◌, ◌<◌, List, length, inl, inr, arith, below_more}
+use Rattle.std.proofs.Math.Nat.{lt_of_mul-lt-mul_right, le-div_iff_mul-le, zero-mul}
+use Rattle.postscript_view.specs.CharSet.{covered, more_of}
+use Rattle.postscript_view.proofs.Covering.{covered_none, covered_more}
+use Rattle.postscript_write.specs.Whole.{RangesEnd}
+
+-- so many glyphs are left behind the ranges before range r, and none of these covers the last one
+pub record AreLeft (ranges : List ℕ) (size glyphs r left : ℕ) : Type 0 where
+  pub sum : left + covered ranges size r ≡ glyphs
+  pub some : 0 < left
+  pub before : (k : ℕ) → k < r + 1 → covered ranges size k < glyphs
+
+pub at_first : (ranges : List ℕ) (size glyphs : ℕ) → 0 < glyphs → AreLeft ranges size glyphs 0 glyphs
+at_first ranges size glyphs some =
+    let none = covered_none ranges size in
+    record {
+      sum = omega (arith, none);
+      some = some;
+      before = below_more (λ k. covered ranges size k < glyphs) 0 (λ k less. absurd (omega (arith, less))) (omega (arith, none, some));
+    }
+
+pub one_more : (ranges : List ℕ) (size glyphs r left more now : ℕ) → more ≡ more_of ranges size r → now + (more + 1) ≡ left → 0 < now →
+    AreLeft ranges size glyphs r left → AreLeft ranges size glyphs (r + 1) now
+one_more ranges size glyphs r left more now is taken some are =
+    let next = covered_more ranges size r in
+    let before_sum = are.sum in
+    let sum : now + covered ranges size (r + 1) ≡ glyphs = omega (arith, next, is, taken, before_sum) in
+    record {
+      sum = sum;
+      some = some;
+      before = below_more (λ k. covered ranges size k < glyphs) (r + 1) are.before (omega (arith, sum, some));
+    }
+
+pub last_range : (ranges : List ℕ) (size glyphs r left more : ℕ) → more ≡ more_of ranges size r → left ≤ more + 1 →
+    AreLeft ranges size glyphs r left → RangesEnd ranges size glyphs ((r + 1) * (2 + size))
+last_range ranges size glyphs r left more is enough are =
+    let next = covered_more ranges size r in
+    let sum = are.sum in
+    record {
+      needed = λ k less. are.before k (lt_of_mul-lt-mul_right (2 + size) less);
+      enough = inl (r + 1, refl, omega (arith, next, is, enough, sum));
+    }
+
+within : (width k n : ℕ) → 0 < width → k * width ≤ n → k ≤ n / width
+within width k n some less = (le-div_iff_mul-le some).1 less
+
+pub all_ranges : (ranges : List ℕ) (size glyphs r left : ℕ) → length ranges / (2 + size) ≤ r →
+    AreLeft ranges size glyphs r left → RangesEnd ranges size glyphs (length ranges)
+all_ranges ranges size glyphs r left past are = record {
+  needed = λ k less.
+      let most : k ≤ length ranges / (2 + size) = within (2 + size) k (length ranges) (omega arith) (omega (arith, less)) in
+      are.before k (omega (arith, most, past));
+  enough = inr refl;
+}
+
+pub no_range : (ranges : List ℕ) (size : ℕ) → RangesEnd ranges size 0 0
+no_range ranges size = record {
+  needed = λ k less. absurd (omega (arith, less));
+  enough = inl (0, sym (zero-mul (2 + size)), omega arith);
+}

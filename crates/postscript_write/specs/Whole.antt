@@ -1,0 +1,114 @@
+-- No byte stands beside the parts of a font: where each begins, and where it ends (Technical Note 5176, sections 2, 5, 7 to 10, 12 to 16, 18 and 19).
+use Rattle.std.specs.Prelude.{◌≡◌, ◌⊎◌, ℕ, ◌+◌, ◌-◌, ◌*◌, ◌%◌, ◌<◌, ◌≤◌, pos, List, [], ◌∷◌, length, drop, Some, None}
+use Rattle.std.specs.Option.{unwrap_or}
+use Rattle.postscript_base.specs.Compact1.Defaults.{look, first_two_of}
+use Rattle.postscript_base.specs.Compact1.Dictionary.{Dictionary}
+use Rattle.postscript_base.specs.Tape.Outcome.{Got}
+use Rattle.postscript_base.specs.declared.compact1.operator.Operator.{Operator}
+use Rattle.postscript_base.specs.declared.compact1.operator.Operator.TheVariants as operators
+use Rattle.postscript_compact1.specs.FontSet.Layout.{HasTwo}
+use Rattle.postscript_items.specs.Items.{number_at, IsIndex}
+use Rattle.postscript_view.specs.CharSet.{covered}
+use Rattle.postscript_view.specs.Cids.{IsCidKeyed}
+use Rattle.postscript_view.specs.Order.{Part, View, view}
+use Rattle.postscript_view.specs.Select.{offset_of}
+
+-- An INDEX begins at a place and ends at its last offset. Its offsets begin with 1 and do not fall, so that each byte is of an item.
+abbrev pub IndexEnds : List ℕ → (place next : ℕ) → Type 0
+IndexEnds bytes place next = (items : List (List ℕ)) × IsIndex bytes place items next
+
+-- and it has one item
+abbrev pub SingleEnds : List ℕ → (place next : ℕ) → Type 0
+SingleEnds bytes place next = (items : List (List ℕ)) × IsIndex bytes place items next × (length items ≡ 1)
+
+-- Behind the header, of four bytes, stand the INDEXes of names, of one dictionary, of strings and of subroutines.
+pub record TablesEnd (bytes : List ℕ) (next : ℕ) : Type 0 where
+  pub names : ℕ
+  pub dictionary : ℕ
+  pub strings : ℕ
+  pub of_names : IndexEnds bytes 4 names
+  pub of_dictionary : SingleEnds bytes names dictionary
+  pub of_strings : IndexEnds bytes dictionary strings
+  pub of_subroutines : IndexEnds bytes strings next
+
+-- The codes of format 0 have a byte each, and the ranges of format 1 two. The high bit of the format is no part of it.
+abbrev pub CodesEnd : List ℕ → (place next : ℕ) → Type 0
+CodesEnd bytes place next =
+    ((number_at bytes place 1 % 128 ≡ 0) × (next ≡ place + 2 + number_at bytes (place + 1) 1))
+    ⊎ ((number_at bytes place 1 % 128 ≡ 1) × (next ≡ place + 2 + 2 * number_at bytes (place + 1) 1))
+
+-- Where that bit is set, a count of supplements and so many of three bytes follow.
+abbrev pub SupplementsEnd : List ℕ → (format codes next : ℕ) → Type 0
+SupplementsEnd bytes format codes next =
+    ((format < 128) × (next ≡ codes)) ⊎ ((128 ≤ format) × (next ≡ codes + 1 + 3 * number_at bytes codes 1))
+
+abbrev pub EncodingEnds : List ℕ → (place next : ℕ) → Type 0
+EncodingEnds bytes place next = (codes : ℕ) × CodesEnd bytes place codes × SupplementsEnd bytes (number_at bytes place 1) codes next
+
+-- Ranges of a char set, for so many glyphs, have so many bytes: the last of them covers the last glyph. Where they cover fewer, they
+-- end where the bytes do.
+pub record RangesEnd (ranges : List ℕ) (size glyphs bytes : ℕ) : Type 0 where
+  pub needed : (r : ℕ) → r * (2 + size) < bytes → covered ranges size r < glyphs
+  pub enough : ((r : ℕ) × (bytes ≡ r * (2 + size)) × (glyphs ≤ covered ranges size r)) ⊎ (bytes ≡ length ranges)
+
+-- A char set names so many glyphs but the first: in format 0 by two bytes each; in the formats 1 and 2 by ranges, which tell in one byte
+-- or two how many more glyphs they cover.
+abbrev pub CharSetEnds : List ℕ → (glyphs place next : ℕ) → Type 0
+CharSetEnds bytes glyphs place next =
+    ((number_at bytes place 1 ≡ 0) × (next ≡ place + 1 + 2 * (glyphs - 1)))
+    ⊎ ((size : ℕ) × (len : ℕ) × (number_at bytes place 1 ≡ size) × (1 ≤ size) × (size ≤ 2) × RangesEnd (drop (place + 1) bytes) size (glyphs - 1) len × (next ≡ place + 1 + len))
+
+-- FDSelect of format 0 has a byte for each glyph; of format 3 a count of ranges of three bytes, the ranges, and the sentinel.
+abbrev pub SelectEnds : List ℕ → (glyphs place next : ℕ) → Type 0
+SelectEnds bytes glyphs place next =
+    ((number_at bytes place 1 ≡ 0) × (next ≡ place + 1 + glyphs))
+    ⊎ ((number_at bytes place 1 ≡ 3) × (next ≡ place + 3 + 3 * number_at bytes (place + 1) 2 + 2))
+
+-- A part that a dictionary names by an operator begins at a place and ends there. An offset below the least names a predefined one,
+-- which stands nowhere.
+abbrev pub OwnEnds : Dictionary → Operator → (least : ℕ) → (ends : ℕ → ℕ → Type 0) → (place next : ℕ) → Type 0
+OwnEnds map operator least ends place next =
+    ((offset : ℕ) × (offset_of map operator ≡ Some offset) × (offset < least) × (next ≡ place))
+    ⊎ ((least ≤ place) × (offset_of map operator ≡ Some place) × ends place next)
+
+-- a part that only CID-keyed fonts have
+abbrev pub KeyedEnds : Dictionary → Operator → (ends : ℕ → ℕ → Type 0) → (place next : ℕ) → Type 0
+KeyedEnds map operator ends place next =
+    ((IsCidKeyed map → ⊥) × (next ≡ place)) ⊎ (IsCidKeyed map × (offset_of map operator ≡ Some place) × ends place next)
+
+-- the private dictionary that a dictionary names, of its size, where it names one
+abbrev pub PrivateEnds : Dictionary → (place next : ℕ) → Type 0
+PrivateEnds map place next =
+    ((first_two_of (look map operators.Private) ≡ None) × (next ≡ place))
+    ⊎ ((size : ℕ) × HasTwo map operators.Private (pos size) (pos place) × (next ≡ place + size))
+
+-- The private dictionaries stand one behind another, in the order of the parts. The dictionary of the font names that of the only part
+-- of a font that is not CID-keyed.
+abbrev pub PrivatesEnd : Dictionary → List Part → (place next : ℕ) → Type 0
+PrivatesEnd map [] place next = next ≡ place
+PrivatesEnd map (part ∷ parts) place next = (behind : ℕ) × PrivateEnds (unwrap_or part.font map) place behind × PrivatesEnd map parts behind next
+
+-- Each part begins where the one before it ends, the first where the bytes begin, and the last ends at a place.
+pub record PartsEnd (flat : List ℕ) (new : View) (next : ℕ) : Type 0 where
+  pub tables : ℕ
+  pub encoding : ℕ
+  pub select : ℕ
+  pub char_strings : ℕ
+  pub privates : ℕ
+  pub dictionaries : ℕ
+  pub of_tables : TablesEnd flat tables
+  pub of_encoding : OwnEnds new.tables.dictionary operators.Encoding 2 (EncodingEnds flat) tables encoding
+  pub of_select : KeyedEnds new.tables.dictionary operators.FDSelect (SelectEnds flat (length new.char_strings)) encoding select
+  pub named : offset_of new.tables.dictionary operators.CharStrings ≡ Some select
+  pub of_char_strings : IndexEnds flat select char_strings
+  pub of_privates : PrivatesEnd new.tables.dictionary new.parts char_strings privates
+  pub of_dictionaries : KeyedEnds new.tables.dictionary operators.FDArray (IndexEnds flat) privates dictionaries
+  pub of_char_set : OwnEnds new.tables.dictionary operators.CharSet 3 (CharSetEnds flat (length new.char_strings)) dictionaries next
+
+-- the last ends where the bytes end
+abbrev pub HasNoByteBeside : List ℕ → View → Type 0
+HasNoByteBeside flat new = PartsEnd flat new (length flat)
+
+-- bytes that begin with a font, and no byte stands beside its parts
+abbrev pub IsWhole : List ℕ → Type 0
+IsWhole flat = (font : View) × (view flat 0 ≡ Got font 0) × HasNoByteBeside flat font

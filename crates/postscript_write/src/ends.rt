@@ -1,0 +1,191 @@
+//! Where the parts of a font end, and whether a byte stands beside them.
+ghost use Rattle.std.specs.Prelude.{◌≡◌, IfSome, IsTrue, length};
+ghost use Rattle.std.specs.Option.{unwrap_or};
+ghost use Rattle.postscript_base.specs.declared.compact1.operator.Operator.TheVariants as operators;
+ghost use Rattle.postscript_items.specs.Lent.{items_of};
+ghost use Rattle.postscript_view.specs.Select.{offset_of as the_offset};
+ghost use Rattle.postscript_view.specs.Value.{parts_shown, view_shown};
+ghost use Rattle.postscript_write.specs.Whole.{CharSetEnds, EncodingEnds, HasNoByteBeside, IndexEnds, KeyedEnds, OwnEnds, PartsEnd, PrivateEnds, PrivatesEnd, SelectEnds, SingleEnds, TablesEnd};
+
+use crate::spans::{char_set_end, encoding_end};
+use postscript_base::compact1::{Operations, Operator};
+use postscript_items::Items;
+use postscript_items::number::number_within;
+use postscript_view::{FontView, Part};
+
+/// The offset that an operator names. None where it names none.
+#[tactic(auto, unfolding(postscript_view::specs::Select::offset_of))]
+fn offset_of(dictionary: &Operations, operator: Operator) -> Option<usize>
+    ensures { result ≡ the_offset dictionary.now operator }
+{
+    let offset = dictionary.get_single(operator)?.to_i32()?;
+    if offset < 0 {
+        None
+    } else {
+        Some(offset as usize)
+    }
+}
+
+/// The place behind the INDEX at a place.
+fn index_end(bytes: &[u8], place: usize) -> Option<usize>
+    ensures { IfSome result (λ next. IndexEnds bytes.now place next) }
+{
+    let (_items, next) = Items::read(bytes, place).ok()?;
+    Some(next)
+}
+
+/// The place behind the INDEX of one item at a place.
+fn single_end(bytes: &[u8], place: usize) -> Option<usize>
+    ensures { IfSome result (λ next. SingleEnds bytes.now place next) }
+{
+    let (items, next) = Items::read(bytes, place).ok()?;
+    if items.len() != 1 {
+        return None;
+    }
+    Some(next)
+}
+
+/// The place behind the tables.
+fn tables_end(bytes: &[u8]) -> Option<usize>
+    ensures { IfSome result (λ next. TablesEnd bytes.now next) }
+{
+    let names = index_end(bytes, 4)?;
+    let dictionary = single_end(bytes, names)?;
+    let strings = index_end(bytes, dictionary)?;
+    index_end(bytes, strings)
+}
+
+/// The place behind the encoding, where the font has its own; it begins at a place.
+fn own_encoding_end(font: &FontView<'_>, place: usize) -> Option<usize>
+    ensures { IfSome result (λ next. OwnEnds font.now.dictionary operators.Encoding 2 (EncodingEnds font.now.bytes.now) place next) }
+{
+    let offset = offset_of(&font.dictionary, Operator::Encoding)?;
+    if offset < 2 {
+        return Some(place);
+    }
+    if offset != place {
+        return None;
+    }
+    encoding_end(font.bytes, place)
+}
+
+/// The place behind the char set, where the font has its own; it begins at a place.
+fn own_char_set_end(font: &FontView<'_>, place: usize) -> Option<usize>
+    ensures { IfSome result (λ next. OwnEnds font.now.dictionary operators.CharSet 3 (CharSetEnds font.now.bytes.now (length (items_of font.now.char_strings))) place next) }
+{
+    let offset = offset_of(&font.dictionary, Operator::CharSet)?;
+    if offset < 3 {
+        return Some(place);
+    }
+    if offset != place {
+        return None;
+    }
+    char_set_end(font.bytes, place, font.char_strings.len())
+}
+
+/// The place behind the FDSelect of so many glyphs at a place.
+fn select_end(bytes: &[u8], place: usize, glyphs: usize) -> Option<usize>
+    ensures { IfSome result (λ next. SelectEnds bytes.now glyphs place next) }
+{
+    let format = number_within(bytes, place, 1).ok()?;
+    match format {
+        0 => if glyphs <= bytes.len() - place - 1 {
+            Some(place + 1 + glyphs)
+        } else {
+            None
+        },
+        3 => {
+            let count = number_within(bytes, place + 1, 2).ok()?;
+            Some(place + 3 + 3 * count + 2)
+        }
+        _ => None,
+    }
+}
+
+/// The place behind FDSelect, in a CID-keyed font; it begins at a place.
+fn own_select_end(font: &FontView<'_>, place: usize) -> Option<usize>
+    ensures { IfSome result (λ next. KeyedEnds font.now.dictionary operators.FDSelect (SelectEnds font.now.bytes.now (length (items_of font.now.char_strings))) place next) }
+{
+    if !font.is_cid_keyed() {
+        return Some(place);
+    }
+    if offset_of(&font.dictionary, Operator::FDSelect)? != place {
+        return None;
+    }
+    select_end(font.bytes, place, font.char_strings.len())
+}
+
+/// The place behind the font dictionaries, in a CID-keyed font; they begin at a place.
+fn dictionaries_end(font: &FontView<'_>, place: usize) -> Option<usize>
+    ensures { IfSome result (λ next. KeyedEnds font.now.dictionary operators.FDArray (IndexEnds font.now.bytes.now) place next) }
+{
+    if !font.is_cid_keyed() {
+        return Some(place);
+    }
+    if offset_of(&font.dictionary, Operator::FDArray)? != place {
+        return None;
+    }
+    index_end(font.bytes, place)
+}
+
+/// The place behind the private dictionary that a dictionary names, where it names one; it begins at a place.
+fn private_end(dictionary: &Operations, place: usize) -> Option<usize>
+    ensures { IfSome result (λ next. PrivateEnds dictionary.now place next) }
+{
+    let Some((size, offset)) = dictionary.get_double(Operator::Private) else {
+        return Some(place);
+    };
+    let size = size.to_i32()?;
+    let offset = offset.to_i32()?;
+    if size < 0 || offset < 0 || offset as usize != place {
+        return None;
+    }
+    place.checked_add(size as usize)
+}
+
+/// The place behind the private dictionary of a part.
+fn part_end(map: &Operations, part: &Part<'_>, place: usize) -> Option<usize>
+    ensures { IfSome result (λ next. PrivateEnds (unwrap_or part.now.font_dictionary map.now) place next) }
+{
+    match &part.font_dictionary {
+        Some(own) => private_end(own, place),
+        None => private_end(map, place),
+    }
+}
+
+/// The place behind the private dictionaries of parts; they begin at a place.
+fn privates_end(map: &Operations, parts: &[Part<'_>], place: usize) -> Option<usize>
+    ensures { IfSome result (λ next. PrivatesEnd map.now (parts_shown parts.now) place next) }
+{
+    let mut next = place;
+    for i in 0..parts.len() {
+        next = part_end(map, &parts[i], next)?;
+    }
+    Some(next)
+}
+
+/// The place behind all parts, which stand one behind another from the first byte on.
+fn parts_end(font: &FontView<'_>) -> Option<usize>
+    ensures { IfSome result (λ next. PartsEnd font.now.bytes.now (view_shown font.now) next) }
+{
+    let tables = tables_end(font.bytes)?;
+    let encoding = own_encoding_end(font, tables)?;
+    let select = own_select_end(font, encoding)?;
+    if offset_of(&font.dictionary, Operator::CharStrings)? != select {
+        return None;
+    }
+    let char_strings = index_end(font.bytes, select)?;
+    let privates = privates_end(&font.dictionary, &font.parts, char_strings)?;
+    let dictionaries = dictionaries_end(font, privates)?;
+    own_char_set_end(font, dictionaries)
+}
+
+/// Whether no byte stands beside the parts of a font.
+pub(crate) fn has_no_byte_beside(font: &FontView<'_>) -> bool
+    ensures { IsTrue result → HasNoByteBeside font.now.bytes.now (view_shown font.now) }
+{
+    match parts_end(font) {
+        Some(end) => end == font.bytes.len(),
+        None => false,
+    }
+}
