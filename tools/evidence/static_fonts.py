@@ -22,6 +22,7 @@ names. Needs Debian's python3-fonttools, libfreetype6, libharfbuzz-bin and opent
 """
 
 import collections
+import itertools
 import json
 import math
 import operator
@@ -30,6 +31,7 @@ import random
 import subprocess
 import sys
 import tempfile
+from fractions import Fraction
 
 sys.dont_write_bytecode = True
 sys.path.insert(0, str(pathlib.Path(__file__).resolve().parents[1]))
@@ -41,7 +43,7 @@ from fontTools.ttLib import TTFont
 import fontTools.varLib.cff
 from fontTools.feaLib.builder import addOpenTypeFeaturesFromString
 from fontTools.varLib import mutator
-from fontTools.varLib.models import normalizeLocation
+from fontTools.varLib.models import normalizeLocation, piecewiseLinearMap
 from fontTools.varLib.mvar import MVAR_ENTRIES
 from fontTools.varLib.varStore import VarStoreInstancer
 
@@ -167,12 +169,16 @@ def moved_metrics(static, made, faults):
                 faults.append(f"{tag} {field}: {ours}, not {theirs}")
 
 
-def scalars_of(top, axes, values, number):
+def scalars_of(font, values, number):
     """The scalars of the regions of item variation data at a place."""
+    top = font["CFF2"].cff.topDictIndex[0]
     if getattr(top, "VarStore", None) is None:
         return []
+    axes = {axis.axisTag: (axis.minValue, axis.defaultValue, axis.maxValue) for axis in font["fvar"].axes}
+    maps = font["avar"].segments if "avar" in font else {}
+    place = {tag: piecewiseLinearMap(value, maps.get(tag) or {-1: -1, 0: 0, 1: 1}) for tag, value in normalizeLocation(values, axes).items()}
     store = top.VarStore.otVarStore
-    at = VarStoreInstancer(store, axes, normalizeLocation(values, {axis.axisTag: (axis.minValue, axis.defaultValue, axis.maxValue) for axis in axes}))
+    at = VarStoreInstancer(store, font["fvar"].axes, place)
     return [at._getScalar(region) for region in store.VarData[number].VarRegionIndex] if number < len(store.VarData) else []
 
 
@@ -182,13 +188,15 @@ def hints_are(font, static, values, faults):
     news = [part.Private for part in new.FDArray] if hasattr(new, "ROS") else [new.Private]
     for part, private in zip(old.FDArray, news, strict=True):
         raw = part.Private.rawDict
-        scalars = scalars_of(old, font["fvar"].axes, values, raw.get("vsindex", 0))
+        scalars = scalars_of(font, values, raw.get("vsindex", 0))
         for name, told in raw.items():
             if name in ("Subrs", "vsindex"):
                 continue
             several = isinstance(told, list) and name not in ("StdHW", "StdVW", "BlueScale", "BlueShift", "BlueFuzz")
             edges = told if several else [told]
-            wanted = [edge[0] + sum(map(operator.mul, edge[1:], scalars)) if isinstance(edge, list) else edge for edge in edges]
+            # fontTools adds up the numbers at the default, and not what each of them varies by
+            moved = itertools.accumulate(sum(map(operator.mul, edge[1:], scalars)) if isinstance(edge, list) else 0 for edge in edges)
+            wanted = [(edge[0] if isinstance(edge, list) else edge) + far for edge, far in zip(edges, moved, strict=True)]
             found = private.rawDict.get(name)
             found = found if several else [found]
             if found is None or None in found or len(found) != len(wanted) or any(abs(a - b) > 0.501 for a, b in zip(found, wanted)):
@@ -203,10 +211,10 @@ def names_are_kept(font, static, faults):
 
 
 def at_units(told):
-    """What is told, each number at the nearest whole unit, halves up; binary fractions of 16 bits are exact in floats."""
+    """What is told, each number at the nearest whole unit, halves up. A number is told as a text, with a fraction as `98304/65536`."""
     if isinstance(told, (list, tuple)):
         return type(told)(map(at_units, told))
-    return math.floor(told + 0.5) if isinstance(told, (int, float)) else told
+    return str(math.floor(Fraction(told) + Fraction(1, 2))) if isinstance(told, str) and told[-1].isdigit() else told
 
 
 def near_mutator(path, values, static, folder, faults):
