@@ -334,18 +334,21 @@ int32_t psf_variation_axis(const uint8_t *file, size_t length, size_t face, size
 int32_t psf_variation_instance(const uint8_t *file, size_t length, size_t face, size_t i, psf_instance *instance,
                                int32_t *coordinates, size_t room, size_t *count);
 
-/* The outline of a glyph of a table CFF2 at a place, to the front of segments[0..room]; its number of segments, and the bounds of all
- * points, control points too. PSF_LIMIT is a good limit. It bounds how long the run of the glyph may take: each number and each operator takes
+/* The outline of a glyph at a place, to the front of segments[0..room]; its number of segments, and the bounds of all points, control points
+ * too: of a face with a table CFF2, or else with a table CFF, which varies along no axis and is drawn as psf_glyph_outline draws it, so that
+ * fonts of either table are drawn by the same calls. PSF_LIMIT is a good limit. It bounds how long the run of the glyph may take: each number and each operator takes
  * a unit for each of its bytes, and a blend one more for each number on the stack. And it bounds, by itself, what the place takes: for each
  * region that the variation store's data name a unit, and one for each axis.
  * On PSF_OK and PSF_NO_ROOM *count and *bounds are told, and on PSF_OK segments[0..*count] is the outline, as by psf_glyph_outline.
- * Also answered: PSF_NO_GLYPH, also where the glyph has no Font DICT that stands; PSF_NO_TABLE where the face has no table CFF2; those
- * from PSF_CFF2_HEADER to PSF_CFF2_DATA; PSF_TOO_LONG; and errors from 1 to 30 of the run. */
+ * Also answered: PSF_NO_GLYPH, also where the glyph has no Font DICT that stands; PSF_NO_TABLE where the face has neither table;
+ * those from PSF_CFF2_HEADER to PSF_CFF2_DATA; PSF_TOO_LONG; of a table CFF what psf_font_open and psf_glyph_outline answer; and errors from
+ * 1 to 30 of the run. */
 int32_t psf_variable_outline(const uint8_t *file, size_t length, size_t face, const int32_t *coordinates, size_t named,
                              size_t glyph, uint64_t limit, psf_segment *segments, size_t room, size_t *count, psf_bounds *bounds);
 
-/* How many glyphs a variable font has: as many as its table CFF2 has charstrings.
- * On PSF_OK *count is told. Also answered: PSF_NO_TABLE where the face has no table CFF2; those from PSF_CFF2_HEADER to PSF_CFF2_STORE. */
+/* How many glyphs a face has: as many as its table CFF2, or else its table CFF, has charstrings.
+ * On PSF_OK *count is told. Also answered: PSF_NO_TABLE where the face has neither table; those from PSF_CFF2_HEADER to PSF_CFF2_STORE; of a
+ * table CFF what psf_font_open answers. */
 int32_t psf_variable_glyphs(const uint8_t *file, size_t length, size_t face, size_t *count);
 
 /* The advance of a glyph at a place, in whole units of the font: that of the tables hhea and hmtx, and to the nearest unit what the table

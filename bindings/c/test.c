@@ -469,7 +469,7 @@ static void check_refused_tables(const uint8_t *file, size_t length) {
     holds(status_with(file, length, "CFF2", 0, 1, 1) == PSF_OK, "which an advance does not ask");
 }
 
-/* A file of a table CFF is no variable font. */
+/* A file of a table CFF has no axes, and is drawn by the same calls. */
 static void check_not_variable(const uint8_t *file, size_t length) {
     psf_axis axis;
     psf_instance instance;
@@ -479,7 +479,13 @@ static void check_not_variable(const uint8_t *file, size_t length) {
     size_t count = 9;
     holds(psf_variation_axis(file, length, 0, 0, &axis, &count) == PSF_NO_TABLE && count == 9, "no axes");
     holds(psf_variation_instance(file, length, 0, 0, &instance, &coordinate, 1, &count) == PSF_NO_TABLE && count == 9, "no instances");
-    holds(draw(file, length, &coordinate, 0, 2, PSF_LIMIT, 5, &d) == PSF_NO_TABLE, "no CFF2");
+    holds(psf_variable_glyphs(file, length, 0, &count) == PSF_OK && count == 4, "how many glyphs a table CFF has");
+    holds(draw(file, length, &coordinate, 0, 2, PSF_LIMIT, 5, &d) == PSF_OK && d.count == 4, "a glyph of a table CFF");
+    holds(d.segments[1].kind == 1 && d.segments[1].x == 250 * 65536 && d.segments[1].y == 700 * 65536, "its first line");
+    holds(d.bounds.has_bounds && d.bounds.right == 500 * 65536 && d.bounds.top == 700 * 65536, "its bounds");
+    holds(draw(file, length, &coordinate, 1, 2, PSF_LIMIT, 5, &d) == PSF_TOO_MANY_COORDINATES, "a coordinate without an axis");
+    holds(draw(file, length, &coordinate, 0, 4, PSF_LIMIT, 5, &d) == PSF_NO_GLYPH, "no glyph 4");
+    holds(draw(file, length, &coordinate, 0, 3, 5, 5, &d) == PSF_TOO_LONG, "a limit");
     holds(draw(file, 3, &coordinate, 0, 2, PSF_LIMIT, 5, &d) == PSF_CUT_FILE, "a cut file");
     holds(psf_variable_advance(file, length, 0, &coordinate, 0, 2, &advance) == PSF_NO_TABLE && advance == 7, "no hmtx");
 }

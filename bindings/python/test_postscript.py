@@ -512,7 +512,6 @@ class Variable(Case):
         self.refused(Status.TOO_LONG, VariableFont.from_bytes(self.file, limit=5).at()[1].svg_path)
         self.assertEqual((len(self.font), [glyph.advance for glyph in self.font.at()]), (3, [500, 600, 560]))
         self.refused(Status.CFF2_VERSION, VariableFont.from_bytes(self.changed(b"CFF2", 0, 1)).__len__)
-        self.refused(Status.NO_TABLE, VariableFont.from_bytes, small())
         self.refused(Status.NO_TABLE, Font.from_bytes, self.file)
         self.refused(Status.NO_FACE, VariableFont.from_bytes, self.file, 1)
         self.refused(Status.UNKNOWN_FVAR, VariableFont.from_bytes, self.changed(b"fvar", 1, 2))
@@ -522,6 +521,17 @@ class Variable(Case):
         self.refused(Status.UNKNOWN_AVAR, lambda: VariableFont.from_bytes(self.changed(b"avar", 1, 2)).at()[1].advance)
         with self.assertRaises(IndexError):
             self.font.at()[-1]
+
+    def test_a_font_without_axes(self):
+        file = small()
+        font, plain = VariableFont.from_bytes(file), Font.from_bytes(file)
+        self.assertEqual((font.axes, font.instances, len(font)), ((), [], len(plain)))
+        self.assertEqual([glyph.segments for glyph in font.at()], [glyph.segments for glyph in plain])
+        self.assertEqual([glyph.bounds for glyph in font.at()], [glyph.bounds for glyph in plain])
+        self.assertEqual(font.at().glyph_of("A").svg_path(), plain.glyph_of("A").svg_path())
+        self.refused(Status.NO_AXIS, font.at, {"wght": 400})
+        self.refused(Status.NO_GLYPH, font.at()[len(plain)].svg_path)
+        self.refused(Status.TOO_LONG, VariableFont.from_bytes(file, limit=5).at()[3].svg_path)
 
     def test_changed_bytes(self):
         for place in range(len(self.file)):

@@ -795,9 +795,20 @@ class Instance(NamedTuple):
     postscript_name_id: Optional[int]
 
 
+def _outlines(file: _View, face: int) -> _View:
+    """The table `CFF2`, or else `CFF `."""
+    try:
+        return _table(file, face, b"CFF2")
+    except Error as e:
+        if e.status != Status.NO_TABLE:
+            raise
+        return _table(file, face, b"CFF ")
+
+
 class VariableFont:
-    """A face of a file with a table `CFF2`: the bytes of the file, which are not copied, and whose object is held. `at` gives a place of
-    its design space, which has glyphs.
+    """A face of a file with a table `CFF2`, or else `CFF `: the bytes of the file, which are not copied, and whose object is held. `at`
+    gives a place of its design space, which has glyphs. So fonts with axes and without are drawn by the same calls; one without has one
+    place, `at()`.
 
         font = postscript.VariableFont.open("font.otf")
         print([axis.tag for axis in font.axes])
@@ -811,14 +822,15 @@ class VariableFont:
         #: how long the run of a glyph may take, and by itself its place: each number and each operator takes a unit for each of its bytes,
         #: a blend one more for each number on the stack, and each region of the place one, and one for each axis
         self.limit = limit
-        _table(self._view, face, b"CFF2")
+        _outlines(self._view, face)
         #: the axes, in their order
         self.axes: Tuple[Axis, ...] = tuple(self._axes())
         #: the characters and their glyphs
         self.cmap = CharacterMap(self._cmap())
 
     def __len__(self) -> int:
-        """How many glyphs there are, by the table `CFF2`. Refused with those from `Status.CFF2_HEADER` to `CFF2_STORE`."""
+        """How many glyphs there are, by the table `CFF2`, or else `CFF `. Refused with those from `Status.CFF2_HEADER` to `CFF2_STORE`, or
+        as `Font` is."""
         count = c_size_t()
         _checked(_library.psf_variable_glyphs(*self._view.told, self.face, byref(count)))
         return count.value
@@ -835,7 +847,7 @@ class VariableFont:
     @classmethod
     def from_bytes(cls: Type[VariableFont], file: Buffer, face: int = 0, limit: int = LIMIT) -> VariableFont:
         """A face of an OpenType file by its bytes, counted from 0. Refused with `Status.CUT_FILE`, `UNKNOWN_FILE`, `NO_FACE`, with
-        `NO_TABLE` where it has no table `CFF2`, and with `CUT_FVAR` and `UNKNOWN_FVAR`. Other tables are read where they are asked."""
+        `NO_TABLE` where it has neither table, and with `CUT_FVAR` and `UNKNOWN_FVAR`. Other tables are read where they are asked."""
         return cls(file, face, limit)
 
     def _cmap(self) -> Optional[_View]:
@@ -923,7 +935,7 @@ class Place:
 
 
 class VariableGlyph:
-    """A glyph of a variable font at a place. It is drawn where something of it is asked for.
+    """A glyph at a place. It is drawn where something of it is asked for.
 
     Refused with `Status.NO_GLYPH`, also where it has no Font DICT that stands; with `Status.TOO_LONG` where the limit is used up; with
     `CUT_AVAR` and `UNKNOWN_AVAR`, or from `CFF2_HEADER` to `CFF2_DATA`, where a table is refused; and with what a run is refused with."""

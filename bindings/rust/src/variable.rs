@@ -49,7 +49,8 @@ pub struct Instance {
     pub postscript_name: Option<u16>,
 }
 
-/// A face of a file with a table `CFF2`, in place: the bytes are borrowed, and nothing is copied.
+/// A face of a file with a table `CFF2`, or else `CFF `, in place: the bytes are borrowed, and nothing is copied. So fonts with axes and
+/// without are drawn by the same calls; one without has one place, `at(&[])`.
 ///
 /// ```
 /// let bytes = std::fs::read("examples/variable.otf")?;
@@ -78,11 +79,14 @@ impl<'a> VariableFont<'a> {
     ///
     /// # Errors
     ///
-    /// [`Error::CutFile`], [`Error::UnknownFile`] and [`Error::NoFace`] where the file has no such face; [`Error::NoTable`] where it has no
-    /// table `CFF2`; and [`Error::OtherVersion`] where the library that is linked is not of this crate's version. Tables are read where
+    /// [`Error::CutFile`], [`Error::UnknownFile`] and [`Error::NoFace`] where the file has no such face; [`Error::NoTable`] where it has
+    /// neither table; and [`Error::OtherVersion`] where the library that is linked is not of this crate's version. Tables are read where
     /// they are asked.
     pub fn from_file(file: &'a [u8], face: usize) -> Result<Self> {
-        c::table(file, face, *b"CFF2")?;
+        match c::table(file, face, *b"CFF2") {
+            Err(Error::NoTable) => c::table(file, face, *b"CFF ")?,
+            table => table?,
+        };
         let cmap = match c::table(file, face, *b"cmap") {
             Ok(cmap) => Some(cmap),
             Err(Error::NoTable) => None,
@@ -91,7 +95,7 @@ impl<'a> VariableFont<'a> {
         Ok(VariableFont { file, face, cmap, limit: crate::LIMIT })
     }
 
-    /// How many glyphs there are, by the table `CFF2`.
+    /// How many glyphs there are, by the table `CFF2`, or else `CFF `.
     ///
     /// ```
     /// # let bytes = std::fs::read("examples/variable.otf")?;
@@ -102,7 +106,8 @@ impl<'a> VariableFont<'a> {
     ///
     /// # Errors
     ///
-    /// [`Error::Cff2Header`] and those behind it, up to [`Error::Cff2Store`].
+    /// [`Error::Cff2Header`] and those behind it, up to [`Error::Cff2Store`]; of a table `CFF ` as [`Font::from_table`](crate::Font::from_table)
+    /// is refused.
     pub fn glyph_count(&self) -> Result<usize> {
         c::variable_glyphs(self.file, self.face)
     }

@@ -81,8 +81,19 @@ fn refusals() {
     assert_eq!(place.advance(65536).unwrap_err(), Error::NoGlyph);
     assert_eq!(font.with_limit(5).at(&[]).unwrap().outline(1).unwrap_err(), Error::TooLong);
     assert_eq!(Font::from_file(&bytes, 0).unwrap_err(), Error::NoTable);
-    assert_eq!(VariableFont::from_file(include_bytes!("../examples/small.otf"), 0).unwrap_err(), Error::NoTable);
     assert_eq!(VariableFont::from_file(&bytes[..3], 0).unwrap_err(), Error::CutFile);
+}
+
+/// A font without axes. It has no table `hmtx` either, so that an outline has no advance.
+#[test]
+fn a_font_without_axes() {
+    let bytes = include_bytes!("../examples/small.otf");
+    let font = VariableFont::from_file(bytes, 0).unwrap();
+    assert_eq!((font.axes(), font.instances(), font.glyph_count()), (Ok(vec![]), Ok(vec![]), Ok(4)));
+    assert_eq!(font.at(&[(*b"wght", 400.0)]).unwrap_err(), Error::NoAxis);
+    assert_eq!(font.at(&[]).unwrap().outline(4).unwrap_err(), Error::NoGlyph);
+    assert_eq!(font.at(&[]).unwrap().outline(2).unwrap_err(), Error::NoTable);
+    assert_eq!(font.with_limit(5).at(&[]).unwrap().outline(3).unwrap_err(), Error::TooLong);
 }
 
 /// Each call answers, whatever byte is another.

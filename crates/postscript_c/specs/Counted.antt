@@ -1,6 +1,5 @@
 -- What C is told of how many glyphs a variable font has: as many as its table CFF2 has charstrings (OpenType 1.9, "CFF2", "CharStringINDEX").
-use Rattle.std.specs.Prelude.{◌≡◌, ◌⊎◌, ℕ, ℤ, pos, List, length}
-use Rattle.postscript_c.specs.Faces.{TellsOfFace}
+use Rattle.std.specs.Prelude.{◌≡◌, ◌⊎◌, ℕ, ℤ, pos, length}
 use Rattle.postscript_c.specs.Varied.{HasFont, HasNoFont, unvaried_code}
 use Rattle.postscript_c.specs.declared.varied.Unvaried.{Unvaried}
 use Rattle.postscript_cff2.specs.Shown.{view_shown}
@@ -12,7 +11,3 @@ abbrev pub TellsCountOf : FontFile → (status : ℤ) (old new : ℕ) → Type 0
 TellsCountOf file status old new =
     ((font : Font) × HasFont file font × (status ≡ pos 0) × (new ≡ length (view_shown font).char_strings))
     ⊎ ((e : Unvaried) × HasNoFont file e × (status ≡ pos (unvaried_code e)) × (new ≡ old))
-
--- what C is told of a face of a file
-abbrev pub TellsCount : (bytes : List ℕ) (face : ℕ) (status : ℤ) (old new : ℕ) → Type 0
-TellsCount bytes face status old new = TellsOfFace bytes face status (λ file. TellsCountOf file status old new) (new ≡ old)

@@ -4,7 +4,6 @@ use Rattle.std.specs.Prelude.{◌≡◌, ◌≢◌, ◌⊎◌, ℕ, ◌<◌, ℤ
 use Rattle.postscript_base.specs.Numbers.{big_endian}
 use Rattle.postscript_c.specs.Answers.{sides_of, undrawn_code}
 use Rattle.postscript_c.specs.Costs.{CostsBeyond, CostsWithin}
-use Rattle.postscript_c.specs.Faces.{TellsOfFace}
 use Rattle.postscript_c.specs.Placed.{AreCoordinatesAt, IsUnplaced, unplaced_code}
 use Rattle.postscript_c.specs.Segments.{shown}
 use Rattle.postscript_c.specs.declared.fill.PsfSegment.{PsfSegment}
@@ -155,8 +154,3 @@ TellsAnswer (Err e) status old new = (status ≡ pos (unvaried_code e)) × (new 
 abbrev pub TellsVariedOf : FontFile → (values : List ℤ) (glyph limit : ℕ) (status : ℤ) (old new : OutlineRoom) → Type 0
 TellsVariedOf file values glyph limit status old new =
     (answer : Result (List Segment) Unvaried) × IsVaried file values glyph limit answer × TellsAnswer answer status old new
-
--- what C is told of the outline of a glyph of a face of a file, at the place that values name
-abbrev pub TellsVaried : (bytes : List ℕ) (face : ℕ) (values : List ℤ) (glyph limit : ℕ) (status : ℤ) (old new : OutlineRoom) → Type 0
-TellsVaried bytes face values glyph limit status old new =
-    TellsOfFace bytes face status (λ file. TellsVariedOf file values glyph limit status old new) (new ≡ old)

@@ -2,11 +2,10 @@
 ghost use Rattle.std.specs.Prelude.{◌≡◌, [], pos, Some, IfErr, IfOk};
 ghost use Rattle.postscript_c.specs.Answers.{sides_of};
 ghost use Rattle.postscript_c.specs.VariedShown.{segments_of, sketch_shown};
-ghost use Rattle.postscript_c.specs.Varied.{AreZeros, HandsOutline, HasFont, HasNoFont, HasNoPlaceIn, IsDrawnWithin, IsPlaceAt, IsPlaceIn, IsVaried, NamesNoPlace, TellsAnswer, TellsVaried, TellsVariedOf, outline_room, table_code, unvaried_code};
+ghost use Rattle.postscript_c.specs.Varied.{AreZeros, HandsOutline, HasFont, HasNoFont, HasNoPlaceIn, IsDrawnWithin, IsPlaceAt, IsPlaceIn, IsVaried, NamesNoPlace, TellsAnswer, TellsVariedOf, outline_room, table_code, unvaried_code};
 ghost use Rattle.postscript_outline.specs.Bounds.{IsBoundsOf, points};
 
 use crate::costs::is_within;
-use crate::files::file_status;
 use crate::fill::{PsfSegment, fill};
 use crate::place::{Unplaced, coordinates_at, unplaced_status};
 use crate::sketch::Sketch;
@@ -192,7 +191,7 @@ fn bounds_of(sketch: &Sketch) -> PsfBounds
 }
 
 /// Hands an outline over: 0, or `NO_ROOM`.
-fn hand(
+pub(crate) fn hand(
     sketch: &Sketch,
     segments: &mut [PsfSegment],
     count: &mut usize,
@@ -228,7 +227,7 @@ fn tell_answer(
 }
 
 /// Tells the outline of a glyph of a face at the place that values name.
-fn tell_varied_of(
+pub(crate) fn tell_varied_of(
     alloc: Global,
     file: &FontFile<'_>,
     values: &[i32],
@@ -243,25 +242,4 @@ fn tell_varied_of(
 {
     let answer = varied(alloc, file, values, glyph, limit);
     tell_answer(&answer, segments, count, bounds)
-}
-
-/// Tells the same of a face of a file.
-pub(crate) fn tell_varied(
-    alloc: Global,
-    bytes: &[u8],
-    face: usize,
-    values: &[i32],
-    glyph: usize,
-    limit: u64,
-    segments: &mut [PsfSegment],
-    count: &mut usize,
-    bounds: &mut PsfBounds,
-) -> i32
-    ensures { TellsVaried bytes.now face values.now glyph limit result (outline_room segments.old count.old bounds.old)
-        (outline_room segments.new count.new bounds.new) }
-{
-    match FontFile::read(bytes, face) {
-        Ok(file) => tell_varied_of(alloc, &file, values, glyph, limit, segments, count, bounds),
-        Err(e) => file_status(e),
-    }
 }

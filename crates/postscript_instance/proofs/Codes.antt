@@ -3,6 +3,8 @@ use Rattle.std.proofs.Common.{◌≡◌, refl, ap, sym, subst, ◌∙◌, ℕ, z
 use Rattle.std.specs.declared.alloc.Global.{Global}
 use Rattle.postscript_view.specs.Layout.{IsLaidOut}
 use Rattle.postscript_view.specs.Order.{View}
+use Rattle.postscript_instance.specs.Advances.{AreAdvancesAt, IsOperand}
+use Rattle.postscript_instance.specs.declared.advances.AdvancesAt.{AdvancesAt}
 use Rattle.postscript_instance.specs.Naming.{IsCalled}
 use Rattle.postscript_instance.specs.declared.naming.Naming.{Naming}
 use Rattle.postscript_instance.specs.Glyphs.{AreCodes}
@@ -43,6 +45,20 @@ one-code does widths n xs x width are there is =
           ap (slice_get (xs ++ x ∷ [])) same ∙ at_end,
           subst (λ k. does k width x.items) (sym same) is,
         )
+      ];
+    }
+
+pub one-advance : (advances : AdvancesAt) (n : ℕ) (xs : List ℤ) (x : ℤ) → AreAdvancesAt advances n xs → IsOperand advances n x →
+    AreAdvancesAt advances (n + 1) (xs ++ x ∷ [])
+one-advance advances n xs x are is =
+    let many = are.counted in
+    let long = length-append xs (x ∷ []) in
+    let at_end : slice_get (xs ++ x ∷ []) n ≡ Some x = subst (λ k. slice_get (xs ++ x ∷ []) k ≡ Some x) many (last xs x) in
+    record {
+      counted = omega (arith, many, long);
+      each = λ glyph h. elim (either glyph n h) [
+        | inl less ↦ let old = are.each glyph less in (old.0, stays xs x glyph (omega (arith, less, many)) ∙ old.1, old.2)
+        | inr same ↦ (x, ap (slice_get (xs ++ x ∷ [])) same ∙ at_end, subst (λ k. IsOperand advances k x) (sym same) is)
       ];
     }
 

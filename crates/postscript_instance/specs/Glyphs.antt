@@ -8,10 +8,13 @@ use Rattle.postscript_cff2.specs.declared.font.Font.{Font}
 use Rattle.postscript_variable.specs.declared.charstring.Charstring.{Charstring}
 use Rattle.postscript_variable_font.specs.Glyphs.{IsCharstringOf}
 use Rattle.postscript_variable_font.specs.declared.place.Place.{Place}
+use Rattle.postscript_instance.specs.Advances.{AreAdvancesAt, LacksRoom}
+use Rattle.postscript_instance.specs.declared.advances.AdvancesAt.{AdvancesAt}
 use Rattle.postscript_instance.specs.declared.naming.Naming.{Naming}
 use Rattle.postscript_instance.specs.declared.error.Error.{Error}
 use Rattle.postscript_instance.specs.declared.error.Error.TheVariants as errors
 use Rattle.postscript_instance.specs.Far.{NotRounded}
+use Rattle.postscript_instance.specs.Placed.{IsPlaceIn, LacksPlace}
 use Rattle.postscript_instance.specs.Refusals.{IsLate, NotWritten}
 use Rattle.postscript_instance.specs.Rounded.{IsRoundedOf}
 use Rattle.postscript_instance.specs.Statics.{IsStaticOf}
@@ -34,16 +37,29 @@ abbrev pub LacksCode : Font → Place → (widths : List ℤ) → Error → Type
 LacksCode font place widths e = IsLate e ⊎
     ((glyph : ℕ) × (width : ℤ) × (slice_get widths glyph ≡ Some width) × NoStaticGlyph font glyph place (Some width) e)
 
--- there are not as many widths or names as glyphs; or there are names, and not one Font DICT
-abbrev pub IsMiscounted : Font → Naming → (widths : List ℤ) → Error → Type 0
-IsMiscounted font naming widths errors.OtherCount = length widths ≢ length (view_shown font).char_strings
-IsMiscounted font naming widths errors.OtherNames = IfSome naming.glyphs (λ names. length names.now ≢ length (view_shown font).char_strings) × IsSome naming.glyphs
-IsMiscounted font naming widths errors.NotOneDictionary = IsSome naming.glyphs × (length (view_shown font).font_dictionaries ≢ 1)
-IsMiscounted font naming widths e = ⊥
+-- there are names, and not as many as glyphs, or not one Font DICT
+abbrev pub IsMiscounted : Font → Naming → Error → Type 0
+IsMiscounted font naming errors.OtherNames = IfSome naming.glyphs (λ names. length names.now ≢ length (view_shown font).char_strings) × IsSome naming.glyphs
+IsMiscounted font naming errors.NotOneDictionary = IsSome naming.glyphs × (length (view_shown font).font_dictionaries ≢ 1)
+IsMiscounted font naming e = ⊥
 
--- these are miscounted, or a glyph has no code, or what is written is too large or not read back; or memory is wanting
-abbrev pub NoTable : Font → Place → Naming → (widths : List ℤ) → Error → Type 0
-NoTable font place naming widths e = IsMiscounted font naming widths e ⊎ LacksCode font place widths e
+-- these are miscounted, or a glyph's advance has no room
+abbrev pub LacksWidths : Font → Naming → AdvancesAt → Error → Type 0
+LacksWidths font naming advances e = IsMiscounted font naming e ⊎ LacksRoom advances (length (view_shown font).char_strings) e
+
+-- the advances of all glyphs at the place, in 16.16 bits
+abbrev pub AreWidthsOf : Font → AdvancesAt → (widths : List ℤ) → Type 0
+AreWidthsOf font advances widths = AreAdvancesAt advances (length (view_shown font).char_strings) widths
+
+-- There are no widths, or no place, or a glyph has no code there with its width, or what is written is too large or not read back; or memory
+-- is wanting.
+abbrev pub LacksTable : (Font → Place → (widths : List ℤ) → Error → Type 0) → Font → Naming → AdvancesAt → Error → Type 0
+LacksTable lacks font naming advances e = LacksWidths font naming advances e ⊎ LacksPlace font.store e
+    ⊎ ((place : Place) × (widths : List ℤ) × IsPlaceIn font.store advances.coordinates.now place × AreWidthsOf font advances widths
+    × lacks font place widths e)
+
+abbrev pub NoTable : Font → Naming → AdvancesAt → Error → Type 0
+NoTable font naming advances e = LacksTable LacksCode font naming advances e
 
 -- so a code does what a glyph does at the place, with its width
 abbrev pub DoesAt : Font → Place → (glyph : ℕ) → (width : ℤ) → (code : List ℕ) → Type 0
@@ -78,5 +94,5 @@ LacksRoundedCode font place widths e = IsLate e ⊎
     ((glyph : ℕ) × (width : ℤ) × (slice_get widths glyph ≡ Some width) × NoRoundedGlyph font glyph place (Some width) e)
 
 -- the same of a table in whole units
-abbrev pub NoRoundedTable : Font → Place → Naming → (widths : List ℤ) → Error → Type 0
-NoRoundedTable font place naming widths e = IsMiscounted font naming widths e ⊎ LacksRoundedCode font place widths e
+abbrev pub NoRoundedTable : Font → Naming → AdvancesAt → Error → Type 0
+NoRoundedTable font naming advances e = LacksTable LacksRoundedCode font naming advances e

@@ -10,5 +10,7 @@ pub mod Laws
 pub mod Glyphs
 pub mod Naming
 pub mod Tables
+pub mod Advances
 pub mod Axes
+pub mod Placed
 pub mod Private

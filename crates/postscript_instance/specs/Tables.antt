@@ -8,8 +8,10 @@ use Rattle.postscript_cff2.specs.declared.font.Font.{Font}
 use Rattle.postscript_variable_font.specs.declared.place.Place.{Place}
 use Rattle.postscript_view.specs.Layout.{IsLaidOut}
 use Rattle.postscript_view.specs.Order.{Part, View}
-use Rattle.postscript_instance.specs.Glyphs.{DoesAt, DoesRoundedAt}
+use Rattle.postscript_instance.specs.Glyphs.{AreWidthsOf, DoesAt, DoesRoundedAt}
 use Rattle.postscript_instance.specs.Naming.{IsCalled}
+use Rattle.postscript_instance.specs.Placed.{IsPlaceIn}
+use Rattle.postscript_instance.specs.declared.advances.AdvancesAt.{AdvancesAt}
 use Rattle.postscript_instance.specs.declared.naming.Naming.{Naming}
 
 -- the first so many items are codes
@@ -46,10 +48,20 @@ pub record IsTable (does : (glyph : ℕ) → (advance : ℤ) → (code : List �
   pub widths : HaveNoWidths view.parts
   pub called : IsCalled naming bytes view
 
+-- The table of a font at the place of the coordinates of its advances: each code does what it is to do there, with the glyph's advance there
+-- as its width.
+pub record IsTableAt (does : Font → Place → (glyph : ℕ) → (advance : ℤ) → (code : List ℕ) → Type 0) (font : Font) (naming : Naming)
+    (advances : AdvancesAt) (bytes : List ℕ) : Type 0 where
+  pub place : Place
+  pub is_place : IsPlaceIn font.store advances.coordinates.now place
+  pub widths : List ℤ
+  pub are_widths : AreWidthsOf font advances widths
+  pub is_table : IsTable (does font place) naming widths bytes
+
 -- the table of a place: each code does what the glyph does there
-abbrev pub IsTableOf : Font → Place → Naming → (advances : List ℤ) → List ℕ → Type 0
-IsTableOf font place naming advances bytes = IsTable (DoesAt font place) naming advances bytes
+abbrev pub IsTableOf : Font → Naming → AdvancesAt → List ℕ → Type 0
+IsTableOf font naming advances bytes = IsTableAt DoesAt font naming advances bytes
 
 -- the same in whole units
-abbrev pub IsRoundedTableOf : Font → Place → Naming → (advances : List ℤ) → List ℕ → Type 0
-IsRoundedTableOf font place naming advances bytes = IsTable (DoesRoundedAt font place) naming advances bytes
+abbrev pub IsRoundedTableOf : Font → Naming → AdvancesAt → List ℕ → Type 0
+IsRoundedTableOf font naming advances bytes = IsTableAt DoesRoundedAt font naming advances bytes

@@ -31,9 +31,12 @@ pub enum Error {
     /// There is no glyph of this number, or the font has no Font DICT for it that stands.
     #[error("there is no glyph {0}")]
     NoGlyph(usize),
-    /// There are not as many advances as glyphs.
-    #[error("there are not as many advances as glyphs")]
-    OtherCount,
+    /// The item variation data of this number do not stand in the store of the font.
+    #[error("there are no item variation data {0}")]
+    NoData(usize),
+    /// The advance of a glyph is not from 0 to 32767.
+    #[error("the advance of glyph {0} is not from 0 to 32767")]
+    Advance(usize),
     /// There are not as many names as glyphs.
     #[error("there are not as many names as glyphs")]
     OtherNames,

@@ -2,6 +2,7 @@
 //! 5177; OpenType 1.9, "CFF2 CharString Format").
 #![tactic(auto)]
 
+mod advances;
 mod axes;
 mod error;
 mod indices;
@@ -19,6 +20,7 @@ mod tests;
 mod texts;
 mod whole;
 
+pub use advances::AdvancesAt;
 pub use error::{Error, Result};
 pub use naming::Naming;
 pub use statics::charstring;

@@ -45,6 +45,54 @@ fn standard(name: &[u8]) -> Option<u16> {
     None
 }
 
+/// Identifiers that follow one another.
+#[derive(Clone, Copy)]
+struct Range {
+    first: u16,
+    /// How many come behind the first.
+    left: u16,
+}
+
+impl Range {
+    /// Whether a number follows the last one.
+    fn is_followed_by(self, number: u16) -> bool {
+        usize::from(self.first) + usize::from(self.left) + 1 == usize::from(number)
+    }
+
+    /// With one more number.
+    fn longer(self) -> Range {
+        Range {
+            first: self.first,
+            left: self.left.saturating_add(1),
+        }
+    }
+}
+
+/// A char set of format 0.
+fn in_list(alloc: Global, numbers: &[u16]) -> Result<Vec<u8>>
+    ensures late { IfErr result (λ e. IsLate e) }
+{
+    let mut set = Vec::new(alloc);
+    set.push(0)?;
+    for number in numbers {
+        put_short(&mut set, usize::from(*number))?;
+    }
+    Ok(set)
+}
+
+/// A char set of format 2.
+fn in_ranges(alloc: Global, ranges: &[Range]) -> Result<Vec<u8>>
+    ensures late { IfErr result (λ e. IsLate e) }
+{
+    let mut set = Vec::new(alloc);
+    set.push(2)?;
+    for range in ranges {
+        put_short(&mut set, usize::from(range.first))?;
+        put_short(&mut set, usize::from(range.left))?;
+    }
+    Ok(set)
+}
+
 impl Identifiers {
     /// Adds a name.
     fn put(&mut self, alloc: Global, name: &[u8]) -> Result<()>
@@ -80,16 +128,44 @@ impl Identifiers {
         Ok(identifiers)
     }
 
-    /// A char set of format 0: the identifier of each glyph but the first (Technical Note 5176, "Charsets").
+    /// The identifiers of all glyphs but the first, in ranges.
+    fn ranges(&self, alloc: Global) -> Result<Vec<Range>>
+        ensures late { IfErr result (λ e. IsLate e) }
+    {
+        let mut ranges = Vec::new(alloc);
+        let mut range: Option<Range> = None;
+        for number in self.numbers.get(1..).unwrap_or(&[]) {
+            range = match range {
+                Some(last) if last.is_followed_by(*number) => Some(last.longer()),
+                last => {
+                    if let Some(last) = last {
+                        ranges.push(last)?;
+                    }
+                    Some(Range {
+                        first: *number,
+                        left: 0,
+                    })
+                }
+            };
+        }
+        if let Some(last) = range {
+            ranges.push(last)?;
+        }
+        Ok(ranges)
+    }
+
+    /// A char set: the identifiers of all glyphs but the first, in format 2, as ranges, where this is shorter than format 0, which lists
+    /// them (Technical Note 5176, "Charsets").
     pub(crate) fn char_set(&self, alloc: Global) -> Result<Vec<u8>>
         ensures late { IfErr result (λ e. IsLate e) }
     {
-        let mut set = Vec::new(alloc);
-        set.push(0)?;
-        for number in self.numbers.get(1..).unwrap_or(&[]) {
-            put_short(&mut set, usize::from(*number))?;
+        let listed = self.numbers.get(1..).unwrap_or(&[]);
+        let ranges = self.ranges(alloc)?;
+        if ranges.len().saturating_mul(2) < listed.len() {
+            in_ranges(alloc, &ranges)
+        } else {
+            in_list(alloc, listed)
         }
-        Ok(set)
     }
 }
 

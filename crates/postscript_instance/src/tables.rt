@@ -1,15 +1,18 @@
 //! The table `CFF ` of a place.
 ghost use Rattle.std.specs.Prelude.{◌≡◌, Some, length, slice_get, IsTrue, IfOk, IfErr, OnOk};
 ghost use Rattle.postscript_cff2.specs.Shown.{view_shown as varying_shown};
-ghost use Rattle.postscript_instance.specs.Glyphs.{AreCodes, DoesAt, DoesRoundedAt, IsMiscounted, IsStaticGlyph, LacksCode, LacksRoundedCode, NoRoundedTable, NoStaticGlyph, NoTable};
+ghost use Rattle.postscript_instance.specs.Advances.{AreAdvancesAt};
+ghost use Rattle.postscript_instance.specs.Glyphs.{AreCodes, DoesAt, DoesRoundedAt, IsMiscounted, IsStaticGlyph, LacksCode, LacksRoundedCode, LacksWidths, NoRoundedTable, NoStaticGlyph, NoTable};
 ghost use Rattle.postscript_instance.specs.Naming.{IsCalled};
+ghost use Rattle.postscript_instance.specs.Placed.{IsPlaceIn, LacksPlace};
 ghost use Rattle.postscript_instance.specs.Refusals.{IsLate};
-ghost use Rattle.postscript_instance.specs.Tables.{AreItems, HasNoWidths, HaveNoWidths, IsPlainFont, IsRoundedTableOf, IsTableOf};
+ghost use Rattle.postscript_instance.specs.Tables.{AreItems, HasNoWidths, HaveNoWidths, IsPlainFont, IsRoundedTableOf, IsTable, IsTableOf};
 ghost use Rattle.postscript_items.specs.Lent.{items_of};
 ghost use Rattle.postscript_view.specs.Layout.{IsLaidOut};
 ghost use Rattle.postscript_view.specs.Order.{View};
 ghost use Rattle.postscript_view.specs.Value.{part_shown, parts_shown};
 
+use crate::advances::AdvancesAt;
 use crate::error::{Error, Result};
 use crate::layout::laid_out;
 use crate::naming::{Naming, called_back};
@@ -19,7 +22,7 @@ use postscript_base::Error as Cause;
 use postscript_cff2::Font;
 use postscript_items::Items;
 use postscript_type2::Operand;
-use postscript_variable_font::{Place, charstring as varying};
+use postscript_variable_font::{Error as PlaceError, Place, charstring as varying};
 use postscript_view::{FontView, Part};
 use std::alloc::Global;
 
@@ -143,21 +146,16 @@ fn read_back(alloc: Global, bytes: &[u8], codes: &[Vec<u8>], naming: &Naming<'_>
     Ok(())
 }
 
-/// Nothing, where there are as many advances as glyphs, and as many names, if names are given; and one Font DICT then.
+/// Nothing, where no names are given, or one for each glyph, of a font of one Font DICT.
 ///
-/// Refused: `OtherCount`, `OtherNames`, `NotOneDictionary`.
-fn counted(font: &Font<'_>, naming: &Naming<'_>, advances: &[Operand]) -> Result<()>
-    ensures counted { OnOk result (length advances.now ≡ length (varying_shown font.now).char_strings) }
-    ensures refused { IfErr result (λ e. IsMiscounted font.now naming.now advances.now e) }
+/// Refused: `OtherNames`, `NotOneDictionary`.
+fn counted(font: &Font<'_>, naming: &Naming<'_>) -> Result<()>
+    ensures refused { IfErr result (λ e. IsMiscounted font.now naming.now e) }
 {
-    let glyphs = font.char_strings.len();
-    if advances.len() != glyphs {
-        return Err(Error::OtherCount);
-    }
     let Some(names) = naming.glyphs else {
         return Ok(());
     };
-    if names.len() != glyphs {
+    if names.len() != font.char_strings.len() {
         return Err(Error::OtherNames);
     }
     if font.font_dictionaries.len() != 1 {
@@ -166,55 +164,123 @@ fn counted(font: &Font<'_>, naming: &Naming<'_>, advances: &[Operand]) -> Result
     Ok(())
 }
 
-/// The table `CFF ` of a place of a variable font, with the advance of each glyph in 16.16 bits, and with these names. Where glyphs have names,
-/// the char set and the strings tell them, but for the first, which is `.notdef`; where they have none, it is a CID-keyed font (ROS Adobe,
-/// Identity, 0), whose CIDs are the numbers of its glyphs, with the Font DICTs of the table CFF2. It has the FontMatrix of the table CFF2, and
-/// no subroutines. Each glyph's charstring is that of `glyph`, with its advance as its width; `nominalWidthX` is 0.
+/// The advances of all glyphs, where names are counted well.
 ///
-/// The Private DICTs have the hints of those of CFF2: zones, widths of stems, and what goes with them. Those that are blended are at the
-/// nearest whole units, halves up: of a zone or a list of widths each edge is. A hint whose blends have other numbers than whole ones, or
-/// that have no room in 16 bits, is left out. What is written is read back: the contract says that it is read, what its glyphs and its
-/// nominal widths are, and what they are called. FontMatrix, FDSelect and the hints are tested (`src/tests.rt`), and have no clause.
-///
-/// Refused: `OtherCount` where there are not as many advances as glyphs, `OtherNames` where there are not as many names; `NotOneDictionary`
-/// where there are names, and not one Font DICT; as `glyph` is, for the first glyph that is; `TooLarge` where there are more than
-/// 65,535 glyphs, 64,609 names that are no standard strings, or 256 Font DICTs, or offsets that 31 bits do not hold; `NotReadBack` where
-/// what was written is not read as the font that it is to be.
-pub fn table(
+/// Refused: as `counted` is, then as `AdvancesAt::operands` is.
+fn widths_of(
+    alloc: Global,
+    font: &Font<'_>,
+    naming: &Naming<'_>,
+    advances: &AdvancesAt<'_>,
+) -> Result<Vec<Operand>>
+    ensures are { IfOk result (λ widths. AreAdvancesAt advances.now (length (varying_shown font.now).char_strings) widths.items) }
+    ensures refused { IfErr result (λ e. LacksWidths font.now naming.now advances.now e) }
+{
+    counted(font, naming)?;
+    advances.operands(alloc, font.char_strings.len())
+}
+
+/// The table of a place, with these widths. Refused: as `glyph` is, `TooLarge`, `NotReadBack`.
+fn exact_at(
     alloc: Global,
     font: &Font<'_>,
     place: &Place,
     naming: &Naming<'_>,
-    advances: &[Operand],
+    widths: &[Operand],
 ) -> Result<Vec<u8>>
-    ensures written { IfOk result (λ bytes. IsTableOf font.now place.now naming.now advances.now bytes.items) }
-    ensures refused { IfErr result (λ e. NoTable font.now place.now naming.now advances.now e) }
-    ensures counted { OnOk result (length advances.now ≡ length (varying_shown font.now).char_strings) }
+    ensures written { IfOk result (λ bytes. IsTable (DoesAt font.now place.now) naming.now widths.now bytes.items) }
+    ensures refused { IfErr result (λ e. LacksCode font.now place.now widths.now e) }
 {
-    counted(font, naming, advances)?;
-    let codes = codes_of(alloc, font, place, advances)?;
+    let codes = codes_of(alloc, font, place, widths)?;
     let bytes = laid_out(alloc, font, place, naming, &codes)?;
     read_back(alloc, &bytes, &codes, naming)?;
     Ok(bytes)
 }
 
-/// As `table`, in whole units: each glyph's charstring is that of `rounded_glyph`. The advances are written as they are given.
-///
-/// Refused: as `table` is, and as `rounded_glyph` is for the first glyph that is.
-pub fn rounded_table(
+/// The same in whole units. Refused: as `rounded_glyph` is, `TooLarge`, `NotReadBack`.
+fn rounded_at(
     alloc: Global,
     font: &Font<'_>,
     place: &Place,
     naming: &Naming<'_>,
-    advances: &[Operand],
+    widths: &[Operand],
 ) -> Result<Vec<u8>>
-    ensures written { IfOk result (λ bytes. IsRoundedTableOf font.now place.now naming.now advances.now bytes.items) }
-    ensures refused { IfErr result (λ e. NoRoundedTable font.now place.now naming.now advances.now e) }
-    ensures counted { OnOk result (length advances.now ≡ length (varying_shown font.now).char_strings) }
+    ensures written { IfOk result (λ bytes. IsTable (DoesRoundedAt font.now place.now) naming.now widths.now bytes.items) }
+    ensures refused { IfErr result (λ e. LacksRoundedCode font.now place.now widths.now e) }
 {
-    counted(font, naming, advances)?;
-    let codes = rounded_codes_of(alloc, font, place, advances)?;
+    let codes = rounded_codes_of(alloc, font, place, widths)?;
     let bytes = laid_out(alloc, font, place, naming, &codes)?;
     read_back(alloc, &bytes, &codes, naming)?;
     Ok(bytes)
+}
+
+/// The place of a font at normalized coordinates.
+///
+/// Refused: `NoData`, `Font` with `Memory`.
+fn place_of(alloc: Global, font: &Font<'_>, coordinates: &[i16]) -> Result<Place>
+    ensures is { IfOk result (λ place. IsPlaceIn font.now.store coordinates.now place) }
+    ensures refused { IfErr result (λ e. LacksPlace font.now.store e) }
+{
+    match font.store {
+        Some(store) => match Place::of(alloc, Some(&store), coordinates) {
+            Ok(place) => Ok(place),
+            Err(PlaceError::MissingData(number)) => Err(Error::NoData(number)),
+            Err(PlaceError::Memory) => Err(Error::Font(Cause::Memory)),
+        },
+        None => Ok(Place {
+            tables: Vec::new(alloc),
+        }),
+    }
+}
+
+/// The table `CFF ` of a place of a variable font, that of the coordinates of its advances, and with these names. Each glyph's charstring is
+/// that of `glyph`; its width is the glyph's advance at the place, and `nominalWidthX` is 0. Where glyphs have names, the char set and the
+/// strings tell them, but for the first, which is `.notdef`; where they have none, it is a CID-keyed font (ROS Adobe, Identity, 0), whose
+/// CIDs are the numbers of its glyphs, with the Font DICTs of the table CFF2. It has the FontMatrix of the table CFF2, and no subroutines.
+///
+/// The Private DICTs have the hints of those of CFF2: zones, widths of stems, and what goes with them. Those that are blended are at the
+/// nearest whole units, halves up: of a zone or a list of widths each edge is. A hint whose blends have other numbers than whole ones, or
+/// that have no room in 16 bits, is left out. What is written is read back: the contract says that it is read, what its glyphs, their
+/// widths and its nominal widths are, and what they are called. FontMatrix, FDSelect and the hints are tested (`src/tests.rt`), and have no
+/// clause.
+///
+/// Refused: `OtherNames` where there are not as many names as glyphs; `NotOneDictionary` where there are names, and not one Font DICT; as
+/// `AdvancesAt::operands` is; `NoData` for the first item variation data that do not stand; as `glyph` is, for the first glyph that is;
+/// `TooLarge` where there are more than 65,535 glyphs, 64,609 names that are no standard strings, or 256 Font DICTs, or offsets that 31 bits
+/// do not hold; `NotReadBack` where what was written is not read as the font that it is to be.
+pub fn table(
+    alloc: Global,
+    font: &Font<'_>,
+    naming: &Naming<'_>,
+    advances: &AdvancesAt<'_>,
+) -> Result<Vec<u8>>
+    ensures written { IfOk result (λ bytes. IsTableOf font.now naming.now advances.now bytes.items) }
+    ensures refused { IfErr result (λ e. NoTable font.now naming.now advances.now e) }
+{
+    let widths = widths_of(alloc, font, naming, advances)?;
+    let place = place_of(alloc, font, advances.coordinates)?;
+    match exact_at(alloc, font, &place, naming, &widths) {
+        Ok(bytes) => Ok(bytes),
+        Err(e) => Err(e),
+    }
+}
+
+/// The table of a place as `table` writes it, with the charstrings of `rounded_glyph`: each point is at the nearest whole units.
+///
+/// Refused: as `table` is, and as `rounded_glyph` is.
+pub fn rounded_table(
+    alloc: Global,
+    font: &Font<'_>,
+    naming: &Naming<'_>,
+    advances: &AdvancesAt<'_>,
+) -> Result<Vec<u8>>
+    ensures written { IfOk result (λ bytes. IsRoundedTableOf font.now naming.now advances.now bytes.items) }
+    ensures refused { IfErr result (λ e. NoRoundedTable font.now naming.now advances.now e) }
+{
+    let widths = widths_of(alloc, font, naming, advances)?;
+    let place = place_of(alloc, font, advances.coordinates)?;
+    match rounded_at(alloc, font, &place, naming, &widths) {
+        Ok(bytes) => Ok(bytes),
+        Err(e) => Err(e),
+    }
 }

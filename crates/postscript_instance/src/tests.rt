@@ -1,10 +1,16 @@
 //! Charstrings by hand, by the specifications' rules.
-use crate::{Error, Naming, charstring, glyph, rounded, rounded_glyph, rounded_table, table};
+use crate::naming::Identifiers;
+use crate::{
+    AdvancesAt, Error, Naming, charstring, glyph, rounded, rounded_glyph, rounded_table, table,
+};
 use postscript_base::Error as Cause;
+use postscript_base::compact1::Operator;
 use postscript_cff2::Font;
+use postscript_sfnt::Advances;
 use postscript_type2::{Operand, Subroutines};
 use postscript_variable::{Blends, Charstring};
 use postscript_variable_font::Place;
+use postscript_variation::AdvanceVariations;
 use postscript_view::FontView;
 use std::alloc::Global;
 use std::process::Abort;
@@ -69,7 +75,7 @@ fn rows(rt: HostRuntime) {
     for (code, width, wanted) in rows {
         let width = width.map(|number: i16| Operand::from_int(number));
         let found = charstring(rt.alloc(), over(code, &tables), width).expect(&rt, "a charstring");
-        assert_eq!(rt; found.as_slice(), wanted, "a charstring");
+        holds(&rt, found.as_slice() == wanted, "a charstring");
     }
 }
 
@@ -80,15 +86,16 @@ fn refusals(rt: HostRuntime) {
     let width = Some(Operand::from_int(1));
     // an operator that CFF2 has not
     let found = charstring(rt.alloc(), over(&[0x0e], &tables), None);
-    assert!(rt;
+    holds(
+        &rt,
         matches!(found, Err(Error::Font(Cause::UnknownOperator))),
-        "endchar"
+        "endchar",
     );
     // a line before a move, where there is a width, and where there is none
     let found = charstring(rt.alloc(), over(&[0x95, 0x06], &tables), width);
-    assert!(rt; matches!(found, Err(Error::NoMove)), "hlineto");
+    holds(&rt, matches!(found, Err(Error::NoMove)), "hlineto");
     let found = charstring(rt.alloc(), over(&[0x95, 0x06], &tables), None);
-    assert!(rt; matches!(found, Ok(_)), "hlineto");
+    holds(&rt, matches!(found, Ok(_)), "hlineto");
     // the operands of 24 stems, and of 25; with a width beside the 24; implied by a mask, with its four bytes
     let rows: [(usize, &[u8], Option<i16>, bool); 5] = [
         (48, &[0x12], None, true),
@@ -103,11 +110,15 @@ fn refusals(rt: HostRuntime) {
         code.extend_from_slice(operator).expect(&rt, "memory");
         let width = width.map(|number: i16| Operand::from_int(number));
         let found = charstring(rt.alloc(), over(&code, &tables), width);
-        assert_eq!(rt; matches!(found, Ok(_)), is_written, "of {count}");
-        assert_eq!(rt;
-            matches!(found, Err(Error::TooManyOperands)),
-            !is_written,
-            "of {count}"
+        holds(
+            &rt,
+            matches!(found, Ok(_)) == is_written,
+            "how many operands",
+        );
+        holds(
+            &rt,
+            matches!(found, Err(Error::TooManyOperands)) != is_written,
+            "how many operands",
         );
     }
 }
@@ -184,10 +195,10 @@ fn pieces(rt: HostRuntime) {
             &rt,
             "a charstring",
         );
-        assert_eq!(rt;
-            found.as_slice(),
-            wanted.as_slice(),
-            "{operator} of {count}"
+        holds(
+            &rt,
+            found.as_slice() == wanted.as_slice(),
+            "an operator in pieces",
         );
     }
 }
@@ -207,48 +218,187 @@ const TABLE: &[u8] = &[
     0x00, 0x00, 0x00, 0x01,
 ];
 
-/// The table at places of its axis: the second glyph, by hand, is 100 10 -20 1 blend 50 rmoveto 10 20 rlineto -30 hlineto, where the
-/// regions rise from 0 to 1 and from 0 to -1.
-#[test]
-fn a_table_at_places(rt: HostRuntime) {
-    let font = Font::read(TABLE).expect(&rt, "the font");
-    let advances = [Operand::from_int(600), Operand::from_int(500)];
+/// A table `hhea` that tells two advances, and nothing else.
+const HEADER: &[u8] = &[
+    0x00, 0x01, 0x00, 0x00, 0x00, 0x00, 0x00, 0x00, 0x00, 0x00, 0x00, 0x00, 0x00, 0x00, 0x00, 0x00,
+    0x00, 0x00, 0x00, 0x00, 0x00, 0x00, 0x00, 0x00, 0x00, 0x00, 0x00, 0x00, 0x00, 0x00, 0x00, 0x00,
+    0x00, 0x00, 0x00, 0x02,
+];
+
+/// A table `hmtx` with the advances 600 and 500.
+const METRICS: &[u8] = &[0x02, 0x58, 0x00, 0x00, 0x01, 0xf4, 0x00, 0x00];
+
+/// A table `HVAR` whose store has one region, which rises from 0 to 1; the advances of two glyphs vary by 10 and -21.
+const VARIED: &[u8] = &[
+    0x00, 0x01, 0x00, 0x00, 0x00, 0x00, 0x00, 0x14, 0x00, 0x00, 0x00, 0x00, 0x00, 0x00, 0x00, 0x00,
+    0x00, 0x00, 0x00, 0x00, 0x00, 0x01, 0x00, 0x00, 0x00, 0x0c, 0x00, 0x01, 0x00, 0x00, 0x00, 0x16,
+    0x00, 0x01, 0x00, 0x01, 0x00, 0x00, 0x40, 0x00, 0x40, 0x00, 0x00, 0x02, 0x00, 0x00, 0x00, 0x01,
+    0x00, 0x00, 0x0a, 0xeb,
+];
+
+/// The advances of these tables at a place, with a table `HVAR` or none.
+fn advances_at<'l, R: Abort>(
+    rt: &R,
+    hvar: Option<&'l [u8]>,
+    coordinates: &'l [i16],
+) -> AdvancesAt<'l> {
+    AdvancesAt {
+        default: Advances::read(HEADER, METRICS).expect(rt, "advances"),
+        variations: match hvar {
+            Some(hvar) => Some(AdvanceVariations::read(hvar).expect(rt, "variations")),
+            None => None,
+        },
+        coordinates,
+    }
+}
+
+/// A fact holds.
+fn holds<R: Abort>(rt: &R, is_so: bool, what: &str) {
+    assert!(rt; is_so, "{what}");
+}
+
+/// The table at a place, with advances and no names.
+fn numbered<R: Abort>(
+    rt: &R,
+    alloc: Global,
+    table_of: &[u8],
+    hvar: Option<&[u8]>,
+    coordinate: i16,
+) -> Vec<u8> {
+    let font = Font::read(table_of).expect(rt, "the font");
+    let coordinates = [coordinate];
     let naming = Naming {
         font: b"Small",
         glyphs: None,
     };
-    for (coordinate, x) in [(0i16, 0xefu8), (8192, 0xf4), (-16384, 0xdb)] {
-        let place = Place::of(rt.alloc(), font.store.as_ref(), &[coordinate]).expect(
-            &rt, "a place",
-        );
-        let bytes = table(rt.alloc(), &font, &place, &naming, &advances).expect(&rt, "a table");
+    let advances = advances_at(rt, hvar, &coordinates);
+    table(alloc, &font, &naming, &advances).expect(rt, "a table")
+}
+
+/// The table at places of its axis: the second glyph, by hand, is 100 10 -20 1 blend 50 rmoveto 10 20 rlineto -30 hlineto, where the
+/// regions rise from 0 to 1 and from 0 to -1. The advances are 600 and 500, and at 1/2 605 and, of 489.5 the nearest and higher, 490: the
+/// width 490 is 247 + 1 and 490 - 108 - 256.
+#[test]
+fn a_table_at_places(rt: HostRuntime) {
+    let rows: [(i16, [u8; 3], [u8; 3]); 3] = [
+        (0, [0xf8, 0xec, 0x0e], [0xf8, 0x88, 0xef]),
+        (8192, [0xf8, 0xf1, 0x0e], [0xf8, 0x7e, 0xf4]),
+        (-16384, [0xf8, 0xec, 0x0e], [0xf8, 0x88, 0xdb]),
+    ];
+    for (coordinate, first, begin) in rows {
+        let bytes = numbered(&rt, rt.alloc(), TABLE, Some(VARIED), coordinate);
         let view = FontView::read(rt.alloc(), &bytes).expect(&rt, "a font");
-        assert_eq!(rt; view.names.get(0), Some(b"Small".as_slice()), "the name");
-        assert_eq!(rt;
-            view.char_strings.get(0),
-            Some([0xf8, 0xec, 0x0e].as_slice()),
-            "the first"
+        holds(
+            &rt,
+            view.names.get(0) == Some(b"Small".as_slice()),
+            "the name",
         );
-        let wanted = [
-            0xf8, 0x88, x, 0xbd, 0x15, 0x95, 0x9f, 0x05, 0x6d, 0x06, 0x0e,
-        ];
-        assert_eq!(rt;
-            view.char_strings.get(1),
-            Some(wanted.as_slice()),
-            "at {coordinate}"
+        holds(
+            &rt,
+            view.char_strings.get(0) == Some(first.as_slice()),
+            "the first glyph",
         );
-        assert!(rt; view.is_cid_keyed(), "by CIDs");
-        // its numbers are whole there
-        let whole = rounded_glyph(rt.alloc(), &font, 1, &place, Some(advances[1])).expect(
-            &rt, "a glyph",
+        let mut wanted = Vec::from_array(rt.alloc(), begin).expect(&rt, "memory");
+        wanted
+            .extend_from_slice(&[0xbd, 0x15, 0x95, 0x9f, 0x05, 0x6d, 0x06, 0x0e])
+            .expect(&rt, "memory");
+        holds(
+            &rt,
+            view.char_strings.get(1) == Some(wanted.as_slice()),
+            "the second glyph",
         );
-        assert_eq!(rt; whole.as_slice(), wanted.as_slice(), "in whole units");
-        let past = rounded_glyph(rt.alloc(), &font, 2, &place, None);
-        assert!(rt; matches!(past, Err(Error::NoGlyph(2))), "no third glyph");
-        let few = table(rt.alloc(), &font, &place, &naming, &advances[..1]);
-        assert!(rt; matches!(few, Err(Error::OtherCount)), "one advance");
-        let past = glyph(rt.alloc(), &font, 2, &place, None);
-        assert!(rt; matches!(past, Err(Error::NoGlyph(2))), "no third glyph");
+        holds(&rt, view.is_cid_keyed(), "by CIDs");
+    }
+}
+
+/// The glyphs alone: in whole units the second is the same, since its numbers are whole; and there is no third.
+#[test]
+fn glyphs_alone(rt: HostRuntime) {
+    let font = Font::read(TABLE).expect(&rt, "the font");
+    let place = Place::of(rt.alloc(), font.store.as_ref(), &[0]).expect(&rt, "a place");
+    let width = Some(Operand::from_int(500));
+    let wanted = [
+        0xf8, 0x88, 0xef, 0xbd, 0x15, 0x95, 0x9f, 0x05, 0x6d, 0x06, 0x0e,
+    ];
+    let exact = glyph(rt.alloc(), &font, 1, &place, width).expect(&rt, "a glyph");
+    holds(&rt, exact.as_slice() == wanted.as_slice(), "a glyph");
+    let whole = rounded_glyph(rt.alloc(), &font, 1, &place, width).expect(&rt, "a glyph");
+    holds(&rt, whole.as_slice() == wanted.as_slice(), "in whole units");
+    let past = glyph(rt.alloc(), &font, 2, &place, None);
+    holds(
+        &rt,
+        matches!(past, Err(Error::NoGlyph(2))),
+        "no third glyph",
+    );
+    let past = rounded_glyph(rt.alloc(), &font, 2, &place, None);
+    holds(
+        &rt,
+        matches!(past, Err(Error::NoGlyph(2))),
+        "no third glyph in whole units",
+    );
+}
+
+/// Advances at places: past the list it is the last one, which varies by nothing there; -9 has no room, at -1 of a region that falls by 609.
+#[test]
+fn advances(rt: HostRuntime) {
+    let at = advances_at(&rt, Some(VARIED), &[16384]);
+    holds(
+        &rt,
+        at.of(0) == 610 && at.of(1) == 479 && at.of(2) == 500,
+        "at the end",
+    );
+    let all = at.operands(rt.alloc(), 3).expect(&rt, "advances");
+    let wanted = [
+        Operand::from_int(610),
+        Operand::from_int(479),
+        Operand::from_int(500),
+    ];
+    holds(&rt, all.as_slice() == wanted.as_slice(), "in 16.16 bits");
+    let still = advances_at(&rt, None, &[16384]);
+    holds(
+        &rt,
+        still.of(0) == 600 && still.of(1) == 500,
+        "without HVAR",
+    );
+    // two words with one delta of two bytes each: -609 and 0
+    let mut low = Vec::from_slice(rt.alloc(), VARIED).expect(&rt, "memory");
+    low.truncate(44);
+    low.extend_from_slice(&[0x00, 0x01, 0x00, 0x01, 0x00, 0x00, 0xfd, 0x9f, 0x00, 0x00])
+        .expect(&rt, "memory");
+    let at = advances_at(&rt, Some(&low), &[16384]);
+    holds(&rt, at.of(0) == -9, "below 0");
+    let found = at.operands(rt.alloc(), 2);
+    holds(&rt, matches!(found, Err(Error::Advance(0))), "no room");
+}
+
+/// A table of three glyphs, written by hand by the specification, with FontMatrix 0.0005 0 0 0.0005 0 0 in its Top DICT, and two Font
+/// DICTs, whose Private DICTs have StdVW 80 and 90; by FDSelect the second glyph has the second. fontTools 4.38 reads it so.
+const TWO: &[u8] = &[
+    0x02, 0x00, 0x05, 0x00, 0x22, 0x1e, 0xa0, 0x00, 0x5f, 0x8b, 0x8b, 0x1e, 0xa0, 0x00, 0x5f, 0x8b,
+    0x8b, 0x0c, 0x07, 0x1d, 0x00, 0x00, 0x00, 0x2b, 0x11, 0x1d, 0x00, 0x00, 0x00, 0x3d, 0x0c, 0x24,
+    0x1d, 0x00, 0x00, 0x00, 0x39, 0x0c, 0x25, 0x00, 0x00, 0x00, 0x00, 0x00, 0x00, 0x00, 0x03, 0x01,
+    0x01, 0x01, 0x04, 0x06, 0xef, 0xbd, 0x15, 0x95, 0x16, 0x00, 0x00, 0x01, 0x00, 0x00, 0x00, 0x00,
+    0x02, 0x01, 0x01, 0x08, 0x0f, 0x8d, 0x1d, 0x00, 0x00, 0x00, 0x53, 0x12, 0x8d, 0x1d, 0x00, 0x00,
+    0x00, 0x55, 0x12, 0xdb, 0x0b, 0xe5, 0x0b,
+];
+
+/// FontMatrix, FDSelect and the Private DICTs of a static table. The Top DICT begins at 19, behind the header, an INDEX of the name `Small`,
+/// and the count and the offsets of its own; its FontMatrix stands behind the nine bytes of ROS.
+#[test]
+fn matrix_and_font_dictionaries(rt: HostRuntime) {
+    let bytes = numbered(&rt, rt.alloc(), TWO, None, 0);
+    let matrix = bytes.get(28..42);
+    holds(
+        &rt,
+        matrix.is_some() && matrix == TWO.get(5..19),
+        "FontMatrix",
+    );
+    let view = FontView::read(rt.alloc(), &bytes).expect(&rt, "a font");
+    for (glyph, dictionary, stem) in [(0, 0, 80), (1, 1, 90), (2, 0, 80)] {
+        holds(&rt, view.part_of(glyph) == Some(dictionary), "FDSelect");
+        let private = view.private(glyph).expect(&rt, "a Private DICT");
+        let width = private.get_single(Operator::StdVW).expect(&rt, "StdVW");
+        holds(&rt, width.to_i32() == Some(stem), "StdVW");
     }
 }
 
@@ -273,13 +423,13 @@ const NAMES: [&[u8]; 2] = [b".notdef", b"alpha"];
 /// A table at a place, with names.
 fn named<R: Abort>(rt: &R, alloc: Global, coordinate: i16) -> Vec<u8> {
     let font = Font::read(HINTED).expect(rt, "the font");
-    let place = Place::of(alloc, font.store.as_ref(), &[coordinate]).expect(rt, "a place");
-    let advances = [Operand::from_int(600), Operand::from_int(500)];
+    let coordinates = [coordinate];
+    let advances = advances_at(rt, None, &coordinates);
     let naming = Naming {
         font: b"Small",
         glyphs: Some(&NAMES),
     };
-    table(alloc, &font, &place, &naming, &advances).expect(rt, "a table")
+    table(alloc, &font, &naming, &advances).expect(rt, "a table")
 }
 
 /// The hints at places: by hand, at 1/2 the zone is from -8.5 to 1.5, and so from -8 to 2, and the stem is 90 wide; at -1, where the second region is
@@ -299,7 +449,7 @@ fn hints_at_places(rt: HostRuntime) {
             stem, 0x0b, 0x1e, 0xa0, 0x39, 0x62, 0x5f, 0x0c, 0x09, 0x8b, 0x14, 0x8b, 0x15,
         ];
         wanted.extend_from_slice(&rest).expect(&rt, "memory");
-        assert!(rt; bytes.ends_with(&wanted), "at {coordinate}");
+        holds(&rt, bytes.ends_with(&wanted), "the hints");
     }
 }
 
@@ -309,27 +459,30 @@ fn names_of_glyphs(rt: HostRuntime) {
     let bytes = named(&rt, rt.alloc(), 0);
     let view = FontView::read(rt.alloc(), &bytes).expect(&rt, "a font");
     let set = view.char_set().expect(&rt, "a char set");
-    assert_eq!(rt;
-        view.name(&set, 0),
-        Some(b".notdef".as_slice()),
-        "the first"
+    holds(
+        &rt,
+        view.name(&set, 0) == Some(b".notdef".as_slice()),
+        "the first",
     );
-    assert_eq!(rt; view.name(&set, 1), Some(b"alpha".as_slice()), "the second");
+    holds(
+        &rt,
+        view.name(&set, 1) == Some(b"alpha".as_slice()),
+        "the second",
+    );
     let font = Font::read(HINTED).expect(&rt, "the font");
-    let place = Place::of(rt.alloc(), font.store.as_ref(), &[0]).expect(&rt, "a place");
-    let advances = [Operand::from_int(600), Operand::from_int(500)];
+    let advances = advances_at(&rt, None, &[0]);
     let naming = Naming {
         font: b"Small",
         glyphs: Some(&NAMES),
     };
-    let whole = rounded_table(rt.alloc(), &font, &place, &naming, &advances).expect(&rt, "a table");
-    assert_eq!(rt; whole.as_slice(), bytes.as_slice(), "in whole units");
+    let whole = rounded_table(rt.alloc(), &font, &naming, &advances).expect(&rt, "a table");
+    holds(&rt, whole.as_slice() == bytes.as_slice(), "in whole units");
     let naming = Naming {
         font: b"Small",
         glyphs: Some(&NAMES[..1]),
     };
-    let few = table(rt.alloc(), &font, &place, &naming, &advances);
-    assert!(rt; matches!(few, Err(Error::OtherNames)), "one name");
+    let few = table(rt.alloc(), &font, &naming, &advances);
+    holds(&rt, matches!(few, Err(Error::OtherNames)), "one name");
 }
 
 /// Appends numbers, each in eighths of a unit, as their 16.16 bits behind ff.
@@ -423,7 +576,7 @@ fn whole_units(rt: HostRuntime) {
             code.extend_from_slice(*operator).expect(&rt, "memory");
         }
         let found = rounded(rt.alloc(), over(&code, &tables), None).expect(&rt, "in whole units");
-        assert_eq!(rt; found.as_slice(), wanted, "in whole units");
+        holds(&rt, found.as_slice() == wanted, "in whole units");
     }
 }
 
@@ -433,23 +586,49 @@ fn whole_units_in_range(rt: HostRuntime) {
     let tables = tables(&rt, rt.alloc());
     let half = Some(Operand::from_bits(32768));
     let found = rounded(rt.alloc(), over(&[0x8b, 0x16], &tables), half).expect(&rt, "a width");
-    assert_eq!(rt;
-        found.as_slice(),
-        [0xff, 0, 0, 0x80, 0, 0x8b, 0x16, 0x0e].as_slice(),
-        "a width"
+    holds(
+        &rt,
+        found.as_slice() == [0xff, 0, 0, 0x80, 0, 0x8b, 0x16, 0x0e].as_slice(),
+        "a width",
     );
     let found = rounded(rt.alloc(), over(&[0x8b, 0x06], &tables), half);
-    assert!(rt; matches!(found, Err(Error::NoMove)), "no move");
+    holds(&rt, matches!(found, Err(Error::NoMove)), "no move");
     for (eighths, is_near) in [(262138, true), (262140, false), (-262144, true)] {
         let mut code = Vec::new(rt.alloc());
         put_eighths(&rt, &mut code, &[eighths]);
         code.push(0x16).expect(&rt, "memory");
         let found = rounded(rt.alloc(), over(&code, &tables), None);
-        assert_eq!(rt; matches!(found, Ok(_)), is_near, "{eighths} eighths");
-        assert_eq!(rt;
-            matches!(found, Err(Error::TooFar)),
-            !is_near,
-            "{eighths} eighths"
+        holds(&rt, matches!(found, Ok(_)) == is_near, "how far");
+        holds(
+            &rt,
+            matches!(found, Err(Error::TooFar)) != is_near,
+            "how far",
         );
     }
+}
+
+/// Char sets: A, B, C, D are 34 to 37, and names that are no standard strings begin with 391. In ranges six of them take 9 bytes; the two of the
+/// other row take fewer in a list.
+#[test]
+fn char_sets(rt: HostRuntime) {
+    let long: [&[u8]; 7] = [b".notdef", b"A", b"B", b"C", b"D", b"alpha", b"beta"];
+    let short: [&[u8]; 3] = [b".notdef", b"A", b"alpha"];
+    let ranges = [2, 0, 34, 0, 3, 1, 0x87, 0, 1];
+    holds(
+        &rt,
+        char_set(&rt, rt.alloc(), &long).as_slice() == ranges.as_slice(),
+        "ranges",
+    );
+    let list = [0, 0, 34, 1, 0x87];
+    holds(
+        &rt,
+        char_set(&rt, rt.alloc(), &short).as_slice() == list.as_slice(),
+        "a list",
+    );
+}
+
+/// The char set of names.
+fn char_set<R: Abort>(rt: &R, alloc: Global, names: &[&[u8]]) -> Vec<u8> {
+    let identifiers = Identifiers::of(alloc, names).expect(rt, "identifiers");
+    identifiers.char_set(alloc).expect(rt, "a char set")
 }

@@ -1,5 +1,6 @@
 //! Files of one place of a variable font, with outlines in the table CFF.
 mod drawn;
+mod gaps;
 mod glyph_names;
 mod kept;
 mod metrics;
@@ -13,7 +14,7 @@ use crate::limit::Budget;
 use crate::saving;
 use crate::variable::{Chosen, VariableFace};
 use clap::ArgMatches;
-use drawn::Drawn;
+use drawn::{Drawn, advances_at};
 use glyph_names::{Kept, names_of};
 use metrics::Tables;
 use positions::Positions;
@@ -86,10 +87,11 @@ fn font_of(
             Kept::Untold | Kept::Lost(_) => None,
         },
     };
+    let advances = advances_at(face, chosen);
     let written = if drawn.is_rounded {
-        rounded_table(alloc, &face.font, &chosen.place, &naming, &drawn.widths)
+        rounded_table(alloc, &face.font, &naming, &advances)
     } else {
-        table(alloc, &face.font, &chosen.place, &naming, &drawn.widths)
+        table(alloc, &face.font, &naming, &advances)
     };
     match written {
         Ok(font) => Ok(font),

@@ -3,6 +3,7 @@ use crate::failure::{Failure, Refusal};
 use crate::limit::Budget;
 use crate::progress::Progress;
 use crate::variable::{Chosen, VariableFace, advance_of, refusal_of};
+use postscript_instance::{AdvancesAt, Error};
 use postscript_outline::{Bounds, Outline, Point, Segment};
 use postscript_sfnt_write::Metric;
 use postscript_type2::Operand;
@@ -142,15 +143,38 @@ fn frame_of(
     Ok(outline.tight_bounds().map(Frame::round))
 }
 
-/// The advance of a glyph, where a charstring has room for it.
-fn width_of(face: &VariableFace<'_>, gid: u16, chosen: &Chosen) -> Result<u16, Failure> {
-    let advance = advance_of(face, gid, chosen);
-    match u16::try_from(advance) {
-        Ok(width) if width < 32768 => Ok(width),
-        _ => Err(Failure::Glyph {
-            gid,
-            refusal: Refusal::Advance(advance),
-        }),
+/// The advances of a face at a place.
+pub fn advances_at<'m>(face: &'m VariableFace<'_>, chosen: &'m Chosen) -> AdvancesAt<'m> {
+    AdvancesAt {
+        default: face.common.advances,
+        variations: face.advances,
+        coordinates: chosen.coordinates.as_slice(),
+    }
+}
+
+/// The advances of all glyphs, where charstrings have room for them.
+fn widths_of(
+    alloc: Global,
+    face: &VariableFace<'_>,
+    chosen: &Chosen,
+) -> Result<Vec<Operand>, Failure> {
+    let glyphs = face.font.char_strings.len();
+    match advances_at(face, chosen).operands(alloc, glyphs) {
+        Ok(widths) => Ok(widths),
+        Err(Error::Advance(glyph)) => {
+            let gid = u16::try_from(glyph).unwrap_or(u16::MAX);
+            let refusal = Refusal::Advance(advance_of(face, gid, chosen));
+            Err(Failure::Glyph { gid, refusal })
+        }
+        Err(error) => Err(Failure::Static(error)),
+    }
+}
+
+/// An advance that is from 0 to 32767, in whole units.
+fn whole(width: Operand) -> u16 {
+    match width.to_int() {
+        Some(width) => width.cast_unsigned(),
+        None => 0,
     }
 }
 
@@ -165,8 +189,6 @@ impl Drawn {
             advance: width,
             bearing,
         })?;
-        self.widths
-            .push(Operand::from_int(i16::try_from(width).unwrap_or(0)))?;
         if let Some(frame) = frame {
             let right = i64::from(width).saturating_sub(frame.right);
             self.least_right = self.least_right.min(right);
@@ -178,8 +200,8 @@ impl Drawn {
         Ok(())
     }
 
-    /// Draws each glyph at a place, where it is asked for with each point at the nearest whole units, and measures it. The first one is refused that takes more than its share, whose run is refused, or
-    /// whose advance a charstring has no room for.
+    /// Draws each glyph at a place, where it is asked for with each point at the nearest whole units, and measures it. The first one is
+    /// refused whose advance a charstring has no room for; then the first one that takes more than its share, or whose run is refused.
     pub fn of(
         rt: &HostRuntime,
         face: &VariableFace<'_>,
@@ -191,14 +213,17 @@ impl Drawn {
         let mut progress = Progress::new(rt, glyphs);
         let mut drawn = Drawn {
             metrics: Vec::new(rt.alloc()),
-            widths: Vec::new(rt.alloc()),
+            widths: widths_of(rt.alloc(), face, chosen)?,
             frame: None,
             least_right: 32767,
             is_rounded,
         };
         for gid in 0..glyphs {
             progress.at(gid);
-            let width = width_of(face, gid, chosen)?;
+            let width = drawn
+                .widths
+                .get(usize::from(gid))
+                .map_or(0, |width: &Operand| whole(*width));
             let frame = frame_of(rt.alloc(), face, gid, chosen, budget, is_rounded)?;
             drawn.put(width, frame)?;
         }

@@ -1,5 +1,7 @@
-//! The tables `GDEF` and `GPOS` of a place (OpenType 1.9). What a number varies by is added to it where it stands, and the device table
-//! that tells it is named no more; no byte moves.
+//! The tables `GDEF` and `GPOS` of a place (OpenType 1.9). What a number varies by is added to it where it stands; the device table that tells
+//! it is named no more, and taken out. An anchor without device tables has the shorter form. Where a part of `GPOS` is not known, no byte
+//! moves.
+use super::gaps::Gaps;
 use super::values::{set_signed, set_word, word};
 use crate::variable::{Chosen, VariableFace};
 use postscript_items::number::number_within;
@@ -25,6 +27,11 @@ fn words(place: usize, count: usize) -> usize {
     place.saturating_add(count.saturating_mul(2))
 }
 
+/// Where the offset of a record stands that has a tag before it, in a list that begins with a count.
+fn record(list: usize, i: usize) -> usize {
+    behind(list, i.saturating_mul(6).saturating_add(6))
+}
+
 /// How many bytes the fields of a format take that stand before that of a bit.
 fn room(format: u16, bit: u16) -> usize {
     let mut room = 0usize;
@@ -42,6 +49,7 @@ fn room(format: u16, bit: u16) -> usize {
 #[derive(Drop)]
 struct Varied<'v> {
     bytes: Vec<u8>,
+    gaps: Gaps,
     store: Store<'v>,
     coordinates: &'v [i16],
     /// How many steps are left.
@@ -57,7 +65,8 @@ impl<'v> Varied<'v> {
     }
 
     /// Where a table stands that is named at a place. None where none is.
-    fn named(&self, parent: usize, place: usize) -> Option<usize> {
+    fn named(&mut self, parent: usize, place: usize) -> Option<usize> {
+        self.gaps.offset(parent, place);
         match self.word(place) {
             0 => None,
             offset => Some(behind(parent, offset)),
@@ -120,6 +129,7 @@ impl<'v> Varied<'v> {
             },
         }
         set_word(&mut self.bytes, place, 0);
+        self.gaps.take_out(device, 6);
     }
 
     /// A value of a format.
@@ -137,11 +147,16 @@ impl<'v> Varied<'v> {
         }
     }
 
-    /// An anchor.
+    /// An anchor: of format 3, and of format 1 where it has no device tables then.
     fn anchor(&mut self, place: usize) {
-        if self.word(place) == 3 {
-            self.vary(place, Some(behind(place, 2)), behind(place, 6));
-            self.vary(place, Some(behind(place, 4)), behind(place, 8));
+        if self.word(place) != 3 {
+            return;
+        }
+        self.vary(place, Some(behind(place, 2)), behind(place, 6));
+        self.vary(place, Some(behind(place, 4)), behind(place, 8));
+        if self.word(behind(place, 6)) == 0 && self.word(behind(place, 8)) == 0 {
+            set_word(&mut self.bytes, place, 1);
+            self.gaps.take_out(behind(place, 6), 4);
         }
     }
 
@@ -187,24 +202,33 @@ impl<'v> Varied<'v> {
     /// Single adjustments.
     fn single(&mut self, table: usize) {
         let formats = [self.format(behind(table, 4)), 0];
-        if self.word(table) == 1 {
-            self.values(table, behind(table, 6), 1, formats, 0);
-        } else {
-            let count = self.word(behind(table, 6));
-            self.values(table, behind(table, 8), count, formats, 0);
+        match self.word(table) {
+            1 => self.values(table, behind(table, 6), 1, formats, 0),
+            2 => {
+                let count = self.word(behind(table, 6));
+                self.values(table, behind(table, 8), count, formats, 0);
+            }
+            _ => self.gaps.keep_all(),
         }
     }
 
     /// Adjustments of pairs.
     fn pairs(&mut self, table: usize) {
         let formats = [self.format(behind(table, 4)), self.format(behind(table, 6))];
-        if self.word(table) == 1 {
-            self.pair_sets(table, formats);
-        } else {
-            let classes = self.word(behind(table, 12));
-            let count = classes.saturating_mul(self.word(behind(table, 14)));
-            self.values(table, behind(table, 16), count, formats, 0);
+        match self.word(table) {
+            1 => self.pair_sets(table, formats),
+            2 => self.pair_classes(table, formats),
+            _ => self.gaps.keep_all(),
         }
+    }
+
+    /// Adjustments of pairs, class by class.
+    fn pair_classes(&mut self, table: usize, formats: [u16; 2]) {
+        self.gaps.offset(table, behind(table, 8));
+        self.gaps.offset(table, behind(table, 10));
+        let classes = self.word(behind(table, 12));
+        let count = classes.saturating_mul(self.word(behind(table, 14)));
+        self.values(table, behind(table, 16), count, formats, 0);
     }
 
     /// Adjustments of pairs, glyph by glyph.
@@ -243,6 +267,7 @@ impl<'v> Varied<'v> {
 
     /// Marks that are attached to glyphs.
     fn attached(&mut self, table: usize, to_ligatures: bool) {
+        self.gaps.offset(table, behind(table, 4));
         let classes = self.word(behind(table, 6));
         if let Some(marks) = self.named(table, behind(table, 8)) {
             self.marks(marks);
@@ -258,6 +283,8 @@ impl<'v> Varied<'v> {
 
     /// A subtable of a lookup of a type that is no extension.
     fn adjusted(&mut self, kind: usize, table: usize) {
+        // Coverage
+        self.gaps.offset(table, behind(table, 2));
         match kind {
             1 => self.single(table),
             2 => self.pairs(table),
@@ -267,7 +294,7 @@ impl<'v> Varied<'v> {
             }
             4 | 6 => self.attached(table, false),
             5 => self.attached(table, true),
-            _ => {}
+            _ => self.gaps.keep_all(),
         }
     }
 
@@ -278,6 +305,7 @@ impl<'v> Varied<'v> {
             return;
         }
         let place = behind(table, 4);
+        self.gaps.long_offset(table, place);
         let offset = number_within(&self.bytes, place, 4).unwrap_or(0);
         self.adjusted(self.word(behind(table, 2)), behind(table, offset));
     }
@@ -288,6 +316,42 @@ impl<'v> Varied<'v> {
         for i in 0..self.word(behind(table, 4)) {
             if let Some(subtable) = self.follow(table, words(behind(table, 6), i)) {
                 self.subtable(kind, subtable);
+            }
+        }
+    }
+
+    /// The scripts of a table `GPOS`, and their languages.
+    fn scripts(&mut self) {
+        let Some(list) = self.named(0, 4) else {
+            return;
+        };
+        for i in 0..self.word(list) {
+            if let Some(script) = self.follow(list, record(list, i)) {
+                self.gaps.offset(script, script);
+                self.languages(script);
+            }
+        }
+    }
+
+    /// The languages of a script but its default one.
+    fn languages(&mut self, script: usize) {
+        for i in 0..self.word(behind(script, 2)) {
+            self.take(1);
+            if self.is_over {
+                return;
+            }
+            self.gaps.offset(script, record(behind(script, 2), i));
+        }
+    }
+
+    /// The features of a table `GPOS`.
+    fn features(&mut self) {
+        let Some(list) = self.named(0, 6) else {
+            return;
+        };
+        for i in 0..self.word(list) {
+            if let Some(feature) = self.follow(list, record(list, i)) {
+                self.gaps.offset(feature, feature);
             }
         }
     }
@@ -315,8 +379,20 @@ impl<'v> Varied<'v> {
         }
     }
 
+    /// Takes the store of a table `GDEF` out, where it stands behind all others, and these are lists of classes, which name no tables.
+    fn take_store_out(&mut self) {
+        let store = number_within(&self.bytes, 14, 4).unwrap_or(0);
+        let classes = self.word(4).max(self.word(10));
+        let others = self.word(6).max(self.word(8)).max(self.word(12));
+        if others == 0 && classes < store {
+            self.gaps
+                .take_out(store, self.bytes.len().saturating_sub(store));
+        }
+    }
+
     /// The ligatures of a table `GDEF`, which names no store any more.
     fn definitions(&mut self) {
+        self.take_store_out();
         set_word(&mut self.bytes, 14, 0);
         set_word(&mut self.bytes, 16, 0);
         let Some(list) = self.named(0, 8) else {
@@ -330,8 +406,11 @@ impl<'v> Varied<'v> {
     }
 
     /// The table, where all of it came to stand at the place.
-    fn end(self) -> Option<Vec<u8>> {
-        if self.is_over { None } else { Some(self.bytes) }
+    fn end(self, alloc: Global) -> Result<Option<Vec<u8>>, AllocError> {
+        if self.is_over {
+            return Ok(None);
+        }
+        Ok(Some(self.gaps.close(alloc, self.bytes)?))
     }
 }
 
@@ -362,6 +441,7 @@ fn begun<'v>(
 ) -> Result<Varied<'v>, AllocError> {
     Ok(Varied {
         bytes: Vec::from_slice(alloc, table)?,
+        gaps: Gaps::new(alloc, table.len())?,
         store,
         coordinates,
         steps: STEPS,
@@ -388,13 +468,15 @@ impl Positions {
         let coordinates = chosen.coordinates.as_slice();
         let mut gdef = begun(alloc, table, store, coordinates)?;
         gdef.definitions();
-        made.gdef = gdef.end();
+        made.gdef = gdef.end(alloc)?;
         let table = face.file.table(*b"GPOS").unwrap_or(&[]);
         let minor = number_within(table, 2, 2).unwrap_or(1);
         if minor == 0 || number_within(table, 10, 4).unwrap_or(1) == 0 {
             let mut gpos = begun(alloc, table, store, coordinates)?;
+            gpos.scripts();
+            gpos.features();
             gpos.lookups();
-            made.gpos = gpos.end();
+            made.gpos = gpos.end(alloc)?;
         }
         Ok(made)
     }

@@ -1,14 +1,19 @@
-use Rattle.std.proofs.Common.{subst}
-use Rattle.postscript_view.specs.Layout.{IsLaidOut}
-use Rattle.postscript_instance.specs.Glyphs.{DoesAt}
-use Rattle.postscript_instance.specs.Naming.{IsCalled}
-use Rattle.postscript_instance.specs.Tables.{IsPlainFont}
-use Rattle.postscript_instance.proofs.Codes.{table-of}
+use Rattle.std.proofs.Common.{inr, subst}
+use Rattle.postscript_instance.specs.Glyphs.{DoesAt, LacksCode}
+use Rattle.postscript_instance.specs.Tables.{IsTable}
 use Rattle.postscript_instance.proofs.tables.table.Goals as goal
 
-pub returns-clause-written : goal.returns-clause-written
-returns-clause-written c =
-    let back = c.in_ok-read_back.ensures.font in
-    table-of (DoesAt c.args.font.now c.args.place.now) c.args.naming.now c.args.advances.now c.in_ok-bytes.bytes.items c.in_ok-codes.codes.items back.0 c.in_ok-codes.ensures.are
-    (subst (λ bytes. IsLaidOut bytes 0 back.0) c.deref-2.ensures.value back.1) (subst (IsPlainFont back.0) c.deref-3.ensures.value back.2)
-    (subst (λ bytes. IsCalled c.args.naming.now bytes back.0) c.deref-2.ensures.value back.3)
+pub returns-in-Ok-clause-written : goal.returns-in-Ok-clause-written
+returns-in-Ok-clause-written c = record {
+  place = c.in_ok-place.place;
+  is_place = c.in_ok-place.ensures.is;
+  widths = c.in_ok-widths.widths.items;
+  are_widths = c.in_ok-widths.ensures.are;
+  is_table = subst (λ widths. IsTable (DoesAt c.args.font.now c.in_ok-place.place) c.args.naming.now widths c.in-Ok.bytes.items) c.deref.ensures.value
+      c.in-Ok.ensures.written;
+}
+
+pub returns-clause-refused : goal.returns-clause-refused
+returns-clause-refused c =
+    let lacks = subst (λ widths. LacksCode c.args.font.now c.in_ok-place.place widths c.in-Err.e) c.deref.ensures.value c.in-Err.ensures.refused in
+    inr (inr (c.in_ok-place.place, c.in_ok-widths.widths.items, c.in_ok-place.ensures.is, c.in_ok-widths.ensures.are, lacks))

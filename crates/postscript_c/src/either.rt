@@ -1,0 +1,212 @@
+//! Faces with outlines in a table `CFF2` or `CFF `: what C is told of either.
+ghost use Rattle.std.specs.Prelude.{◌≡◌, MatchOption};
+ghost use Rattle.postscript_c.specs.Either.{HasNoPlain, HasPlain, TellsCount, TellsCountEitherOf, TellsCountPlain, TellsDrawn, TellsEither, TellsEitherOf, TellsGlyphOf, TellsGlyphsOf, TellsPlain, TellsPlainAt, within as the_font_within};
+ghost use Rattle.postscript_c.specs.Law.{IsFontOf};
+ghost use Rattle.postscript_c.specs.Shown.{found_shown};
+ghost use Rattle.postscript_c.specs.Varied.{outline_room};
+
+use crate::counted::tell_count_of;
+use crate::files::file_status;
+use crate::fill::PsfSegment;
+use crate::font::{PsfFont, opened};
+use crate::glyph::part_at;
+use crate::picture::{Found, found_glyph};
+use crate::place::{coordinates_at, unplaced_status};
+use crate::status::NO_GLYPH;
+use crate::tight::PsfBounds;
+use crate::told::{status, undrawn_status};
+use crate::varied::{hand, tell_varied_of};
+use postscript_base::Result as Opening;
+use postscript_drawing::Result as Drawing;
+use postscript_sfnt::FontFile;
+use std::alloc::Global;
+
+/// The table `CFF ` of a face that has no table `CFF2`. None of another.
+fn plain_table<'l>(file: &FontFile<'l>) -> Option<&'l [u8]>
+    ensures { MatchOption result (HasNoPlain file.now) (λ table. HasPlain file.now table.now) }
+{
+    match file.table(*b"CFF2") {
+        Some(_) => None,
+        None => file.table(*b"CFF "),
+    }
+}
+
+/// Tells what a glyph draws.
+fn tell_drawn(
+    answer: &Drawing<Option<Found>>,
+    segments: &mut [PsfSegment],
+    count: &mut usize,
+    bounds: &mut PsfBounds,
+) -> i32
+    ensures { TellsDrawn (found_shown answer.now) result (outline_room segments.old count.old bounds.old)
+        (outline_room segments.new count.new bounds.new) }
+{
+    match answer {
+        Ok(Some(found)) => hand(&found.sketch, segments, count, bounds),
+        Ok(None) => NO_GLYPH,
+        Err(e) => undrawn_status(e),
+    }
+}
+
+/// Tells the outline of a glyph of a font.
+fn tell_glyph_of(
+    alloc: Global,
+    bytes: &[u8],
+    font: &PsfFont,
+    glyph: usize,
+    segments: &mut [PsfSegment],
+    count: &mut usize,
+    bounds: &mut PsfBounds,
+) -> i32
+    ensures { TellsGlyphOf bytes.now font.now glyph result (outline_room segments.old count.old bounds.old)
+        (outline_room segments.new count.new bounds.new) }
+{
+    match part_at(alloc, bytes, font, glyph) {
+        Ok(part) => tell_drawn(
+            &found_glyph(alloc, bytes, font, part, glyph),
+            segments,
+            count,
+            bounds,
+        ),
+        Err(status) => status,
+    }
+}
+
+/// The font with another limit.
+fn within(limit: u64, font: &PsfFont) -> PsfFont
+    ensures { result ≡ the_font_within limit font.now }
+{
+    PsfFont { limit, ..*font }
+}
+
+/// Tells the outline of a glyph of the font that bytes begin with, within a limit.
+fn tell_plain(
+    alloc: Global,
+    bytes: &[u8],
+    glyph: usize,
+    limit: u64,
+    segments: &mut [PsfSegment],
+    count: &mut usize,
+    bounds: &mut PsfBounds,
+) -> i32
+    ensures { TellsPlain bytes.now glyph limit result (outline_room segments.old count.old bounds.old)
+        (outline_room segments.new count.new bounds.new) }
+{
+    match opened(alloc, bytes) {
+        Ok(font) => tell_glyph_of(
+            alloc,
+            bytes,
+            &within(limit, &font),
+            glyph,
+            segments,
+            count,
+            bounds,
+        ),
+        Err(e) => status(&e),
+    }
+}
+
+/// Tells the same of the table of a face, where values name a place of it.
+fn tell_plain_at(
+    alloc: Global,
+    file: &FontFile<'_>,
+    table: &[u8],
+    values: &[i32],
+    glyph: usize,
+    limit: u64,
+    segments: &mut [PsfSegment],
+    count: &mut usize,
+    bounds: &mut PsfBounds,
+) -> i32
+    ensures { TellsPlainAt file.now table.now values.now glyph limit result (outline_room segments.old count.old bounds.old)
+        (outline_room segments.new count.new bounds.new) }
+{
+    match coordinates_at(alloc, file, values) {
+        Ok(_) => tell_plain(alloc, table, glyph, limit, segments, count, bounds),
+        Err(e) => unplaced_status(&e),
+    }
+}
+
+/// Tells the outline of a glyph of a face at the place that values name.
+fn tell_either_of(
+    alloc: Global,
+    file: &FontFile<'_>,
+    values: &[i32],
+    glyph: usize,
+    limit: u64,
+    segments: &mut [PsfSegment],
+    count: &mut usize,
+    bounds: &mut PsfBounds,
+) -> i32
+    ensures { TellsEitherOf file.now values.now glyph limit result (outline_room segments.old count.old bounds.old)
+        (outline_room segments.new count.new bounds.new) }
+{
+    match plain_table(file) {
+        Some(table) => tell_plain_at(
+            alloc, file, table, values, glyph, limit, segments, count, bounds,
+        ),
+        None => tell_varied_of(alloc, file, values, glyph, limit, segments, count, bounds),
+    }
+}
+
+/// Tells the same of a face of a file.
+pub(crate) fn tell_either(
+    alloc: Global,
+    bytes: &[u8],
+    face: usize,
+    values: &[i32],
+    glyph: usize,
+    limit: u64,
+    segments: &mut [PsfSegment],
+    count: &mut usize,
+    bounds: &mut PsfBounds,
+) -> i32
+    ensures { TellsEither bytes.now face values.now glyph limit result (outline_room segments.old count.old bounds.old)
+        (outline_room segments.new count.new bounds.new) }
+{
+    match FontFile::read(bytes, face) {
+        Ok(file) => tell_either_of(alloc, &file, values, glyph, limit, segments, count, bounds),
+        Err(e) => file_status(e),
+    }
+}
+
+/// Tells how many glyphs a font has.
+fn tell_glyphs_of(answer: &Opening<PsfFont>, count: &mut usize) -> i32
+    ensures { TellsGlyphsOf answer.now result count.old count.new }
+{
+    match answer {
+        Ok(font) => {
+            *count = font.glyphs as usize;
+            0
+        }
+        Err(e) => status(e),
+    }
+}
+
+/// Tells how many glyphs the font has that bytes begin with.
+fn tell_count_plain(alloc: Global, bytes: &[u8], count: &mut usize) -> i32
+    ensures { TellsCountPlain bytes.now result count.old count.new }
+{
+    let answer = opened(alloc, bytes);
+    tell_glyphs_of(&answer, count)
+}
+
+/// Tells how many glyphs a face has.
+fn tell_count_either_of(alloc: Global, file: &FontFile<'_>, count: &mut usize) -> i32
+    ensures { TellsCountEitherOf file.now result count.old count.new }
+{
+    match plain_table(file) {
+        Some(table) => tell_count_plain(alloc, table, count),
+        None => tell_count_of(file, count),
+    }
+}
+
+/// Tells the same of a face of a file.
+pub(crate) fn tell_count(alloc: Global, bytes: &[u8], face: usize, count: &mut usize) -> i32
+    ensures { TellsCount bytes.now face result count.old count.new }
+{
+    match FontFile::read(bytes, face) {
+        Ok(file) => tell_count_either_of(alloc, &file, count),
+        Err(e) => file_status(e),
+    }
+}

@@ -1,0 +1,127 @@
+//! Bytes that are taken out of a table, and the offsets that lead over them.
+use super::values::{set_word, word};
+use std::alloc::{AllocError, Global};
+
+/// What is done with a byte of a table.
+#[derive(Clone, Copy)]
+enum Byte {
+    Kept,
+    Gone,
+    /// An offset of two bytes begins here, and counts from this place.
+    Offset(u32),
+    /// An offset of four bytes.
+    LongOffset(u32),
+}
+
+/// What is done with the bytes of a table.
+#[derive(Drop)]
+pub struct Gaps {
+    bytes: Vec<Byte>,
+    /// Whether each offset of the table is known.
+    is_known: bool,
+}
+
+/// Where the bytes come to stand, and the one behind them.
+fn places_of(alloc: Global, bytes: &[Byte]) -> Result<Vec<u32>, AllocError> {
+    let mut places = Vec::new(alloc);
+    let mut place = 0u32;
+    for byte in bytes {
+        places.push(place)?;
+        match byte {
+            Byte::Gone => {}
+            Byte::Kept | Byte::Offset(_) | Byte::LongOffset(_) => place = place.saturating_add(1),
+        }
+    }
+    places.push(place)?;
+    Ok(places)
+}
+
+/// An offset that counts from a place, when bytes come to stand elsewhere. One that leads out of the table stays, and so does 0.
+fn moved(places: &[u32], base: u32, offset: u32) -> u32 {
+    let target = base.saturating_add(offset) as usize;
+    match (places.get(base as usize), places.get(target)) {
+        (Some(from), Some(to)) if offset != 0 => to.saturating_sub(*from),
+        _ => offset,
+    }
+}
+
+impl Gaps {
+    /// None, in a table of so many bytes.
+    pub fn new(alloc: Global, size: usize) -> Result<Gaps, AllocError> {
+        let mut bytes = Vec::new(alloc);
+        bytes.resize(size, Byte::Kept)?;
+        Ok(Gaps {
+            bytes,
+            is_known: true,
+        })
+    }
+
+    /// Says what is done with a byte.
+    fn set(&mut self, place: usize, what: Byte) {
+        if let Some(byte) = self.bytes.get_mut(place) {
+            *byte = what;
+        }
+    }
+
+    /// An offset of two bytes stands at a place.
+    pub fn offset(&mut self, base: usize, place: usize) {
+        self.set(place, Byte::Offset(u32::try_from(base).unwrap_or(u32::MAX)));
+    }
+
+    /// An offset of four bytes stands at a place.
+    pub fn long_offset(&mut self, base: usize, place: usize) {
+        self.set(
+            place,
+            Byte::LongOffset(u32::try_from(base).unwrap_or(u32::MAX)),
+        );
+    }
+
+    /// Bytes are taken out.
+    pub fn take_out(&mut self, place: usize, size: usize) {
+        for i in 0..size {
+            self.set(place.saturating_add(i), Byte::Gone);
+        }
+    }
+
+    /// A part of the table has offsets that are not known, so that nothing is taken out.
+    pub fn keep_all(&mut self) {
+        self.is_known = false;
+    }
+
+    /// Writes the offsets as they are when the bytes come to stand at these places.
+    fn lead_over(&self, table: &mut Vec<u8>, places: &[u32]) {
+        for place in 0..self.bytes.len() {
+            match self.bytes[place] {
+                Byte::Kept | Byte::Gone => {}
+                Byte::Offset(base) => {
+                    let offset = u32::from(word(table, place));
+                    set_word(table, place, moved(places, base, offset) as u16);
+                }
+                Byte::LongOffset(base) => {
+                    let high = u32::from(word(table, place));
+                    let low = u32::from(word(table, place.saturating_add(2)));
+                    let offset = moved(places, base, high * 65536 + low);
+                    set_word(table, place, (offset / 65536) as u16);
+                    set_word(table, place.saturating_add(2), (offset % 65536) as u16);
+                }
+            }
+        }
+    }
+
+    /// The table without the bytes that are taken out.
+    pub fn close(self, alloc: Global, mut table: Vec<u8>) -> Result<Vec<u8>, AllocError> {
+        if !self.is_known {
+            return Ok(table);
+        }
+        let places = places_of(alloc, &self.bytes)?;
+        self.lead_over(&mut table, &places);
+        let mut kept = Vec::new(alloc);
+        for (what, byte) in self.bytes.iter().zip(table.iter()) {
+            match what {
+                Byte::Gone => {}
+                Byte::Kept | Byte::Offset(_) | Byte::LongOffset(_) => kept.push(*byte)?,
+            }
+        }
+        Ok(kept)
+    }
+}
