@@ -27,8 +27,8 @@ use Rattle.postscript_c.specs.Law.{IsFontOf, NamesSelection}
 use Rattle.postscript_c.specs.Parts.{IsPartIn, TellsNoPart, no_glyph, no_dictionary, refused}
 use Rattle.postscript_c.specs.Places as told
 use Rattle.postscript_c.specs.Places.{Places, codes, placed, places, places_of}
-use Rattle.postscript_c.specs.SameParts.{HasNoPart, HasNumberIn, IsNoneIn, IsSamePart, IsToldNone, KeepsParts, NamesNoStart, NamesSubroutines, NamesSubroutinesOf, SamePart, TellsPart, TellsParts, naming}
-use Rattle.postscript_c.specs.Widths.{AreWidths}
+use Rattle.postscript_c.specs.SameParts.{HasNoPart, HasNumberIn, HasSameSubroutines, HasSameWidths, IsNoneIn, IsToldNone, KeepsParts, NamesNoStart, NamesSubroutines, NamesSubroutinesOf, SamePart, TellsPart, TellsParts, naming}
+use Rattle.postscript_c.specs.Widths.{AreWidths, IsWidth}
 use Rattle.postscript_c.specs.declared.font.PsfFont.{PsfFont}
 use Rattle.postscript_c.specs.declared.part.PsfPart.{PsfPart}
 use Rattle.postscript_compact1.proofs.OperandLaws.{placed_has, placed_is}
@@ -245,13 +245,21 @@ length_shown [] = refl
 length_shown (p ∷ ps) = ap (λ (n : ℕ). suc n) (length_shown ps)
 
 -- ---- a part of a dictionary is the same
-same_of : (bytes : List ℕ) (map : Dictionary) (part : Part) (found : PsfPart) (at next : ℕ) → HasLocals bytes map part.dictionary (items_of part.subroutines) → (NamesSubroutines bytes map part.dictionary 0 → ⊥)
-    → told.part map bytes at ≡ Got found.local_subroutines next → AreWidths bytes map found.default_width found.nominal_width → IsSamePart bytes part found
-same_of bytes map part found at next locals none reads widths =
-    let t = part_told bytes map part.dictionary (items_of part.subroutines) locals none in
-    let there = (got _ _ _ _ (sym (t.1 at) ∙ reads)).0 in
-    let w = same_widths bytes map part.dictionary (items_of part.subroutines) found.default_width found.nominal_width locals widths in
-    record { subroutines = subst (λ (p : ℕ). index_at p bytes 0 ≡ Got (items_of part.subroutines) 0) there t.2; default = w.0; nominal = w.1 }
+abbrev Same : List ℕ → (start : Type 0) → Part → PsfPart → Type 0
+Same bytes start part found = HasSameWidths part found × ((start → ⊥) → HasSameSubroutines bytes part found)
+
+same_of : (bytes : List ℕ) (map : Dictionary) (part : Part) (found : PsfPart) (at next : ℕ) (start : Type 0) → HasLocals bytes map part.dictionary (items_of part.subroutines)
+    → ((start → ⊥) → NamesSubroutines bytes map part.dictionary 0 → ⊥) → told.part map bytes at ≡ Got found.local_subroutines next → AreWidths bytes map found.default_width found.nominal_width → Same bytes start part found
+same_of bytes map part found at next start locals names reads widths = (record { default = w.0; nominal = w.1 }, subs)
+  where
+    w : IsWidth (first_of (look part.dictionary operators.DefaultWidthX)) found.default_width × IsWidth (first_of (look part.dictionary operators.NominalWidthX)) found.nominal_width
+    w = same_widths bytes map part.dictionary (items_of part.subroutines) found.default_width found.nominal_width locals widths
+
+    subs : (start → ⊥) → HasSameSubroutines bytes part found
+    subs none =
+        let t = part_told bytes map part.dictionary (items_of part.subroutines) locals (names none) in
+        let there = (got _ _ _ _ (sym (t.1 at) ∙ reads)).0 in
+        subst (λ (p : ℕ). index_at p bytes 0 ≡ Got (items_of part.subroutines) 0) there t.2
 
 shown_at : (ps : List Part) (fd : ℕ) (p : Part) → slice_get ps fd ≡ Some p → slice_get (parts_shown ps) fd ≡ Some (part_shown p)
 shown_at ps fd p e = slice_get-map part_shown ps fd ∙ ap (option_map part_shown) e
@@ -338,15 +346,15 @@ plain_number bytes font v glyph fd c is single = (there, back)
 
 plain_same : (bytes : List ℕ) (font : PsfFont) (v : FontView) (glyph : ℕ) (q : order.Part) → Common bytes font v → font.is_cid ≡ 0 → look v.dictionary operators.ROS ≡ None
     → IsPart bytes v.dictionary None q → parts_shown v.parts.items ≡ q ∷ [] → (fd : ℕ) (p : Part) (found : PsfPart) → fd ≡ 0 → slice_get v.parts.items fd ≡ Some p
-    → IsPartIn bytes font glyph found → (NamesSubroutinesOf v p 0 → ⊥) → IsSamePart bytes p found
-plain_same bytes font v glyph q c is plain part alone fd p found first-one e in_c none =
+    → IsPartIn bytes font glyph found → Same bytes (NamesSubroutinesOf v p 0) p found
+plain_same bytes font v glyph q c is plain part alone fd p found first-one e in_c =
     let at_zero = subst (λ (n : ℕ). slice_get (parts_shown v.parts.items) n ≡ Some (part_shown p)) first-one (shown_at v.parts.items fd p e) in
     let first : Some q ≡ Some (part_shown p) = subst (λ (ps : List order.Part). slice_get ps 0 ≡ Some (part_shown p)) alone at_zero in
     let same : q ≡ part_shown p = cc in
     let are = subst (λ (q : order.Part). IsPart bytes v.dictionary None q) same part in
     let named : naming v.dictionary p.font_dictionary ≡ v.dictionary = ap (naming v.dictionary) are.1 in
-    let of = same_of bytes v.dictionary p font.part c.at c.next are.0 (not_start bytes v v.dictionary p c.there named none) (plain_local bytes v.dictionary c.at font.part.local_subroutines c.next plain c.local) (c.widths plain) in
-    subst (λ (found : PsfPart). IsSamePart bytes p found) (sym (in_c.0 is)) of
+    let of = same_of bytes v.dictionary p font.part c.at c.next (NamesSubroutinesOf v p 0) are.0 (not_start bytes v v.dictionary p c.there named) (plain_local bytes v.dictionary c.at font.part.local_subroutines c.next plain c.local) (c.widths plain) in
+    subst (λ (found : PsfPart). Same bytes (NamesSubroutinesOf v p 0) p found) (sym (in_c.0 is)) of
 
 plain_tells : (bytes : List ℕ) (font : PsfFont) (v : FontView) (glyph : ℕ) (q : order.Part) → Common bytes font v → font.is_cid ≡ 0 → look v.dictionary operators.ROS ≡ None
     → IsPart bytes v.dictionary None q → parts_shown v.parts.items ≡ q ∷ [] → length v.parts.items ≡ 1 → TellsPart bytes font v glyph
@@ -357,7 +365,8 @@ plain_tells bytes font v glyph q c is plain part alone single =
     record {
       number = λ fd. (number fd).0;
       only = λ found in_c below. (0, first below);
-      same = λ fd p found h e in_c none. plain_same bytes font v glyph q c is plain part alone fd p found (zero_of fd h) e in_c none;
+      widths = λ p found b. (plain_same bytes font v glyph q c is plain part alone b.0 p found (zero_of b.0 b.1) b.2 b.3).0;
+      subroutines = λ p found b. (plain_same bytes font v glyph q c is plain part alone b.0 p found (zero_of b.0 b.1) b.2 b.3).1;
       none = λ none. elim (cases_lt glyph font.glyphs) [
         | inl below ↦ absurd (none 0 (first below))
         | inr behind ↦ inl behind
@@ -369,7 +378,8 @@ plain_all bytes font v glyph c start is single tells = record {
   number = λ fd. plain_number bytes font v glyph fd c is single;
   has = λ fd h. (font.part, ((λ _. refl), λ keyed. absurd (keyed is)));
   only = tells.only;
-  same = λ fd p found h e in_c. tells.same fd p found h e in_c (start.subroutines fd p e);
+  widths = tells.widths;
+  subroutines = λ p found b. tells.subroutines p found b (start.subroutines b.0 p b.2);
   none = (
     λ lacks. elim lacks [
       | inl behind ↦ λ fd h. let below = h.glyph_there in let glyphs = c.glyphs in absurd (omega arith)
@@ -444,15 +454,15 @@ same_item bytes font v glyph fd item other c k h there d =
     cc
 
 keyed_same : (bytes : List ℕ) (font : PsfFont) (v : FontView) (glyph fd : ℕ) (p : Part) (found : PsfPart) → Common bytes font v → (k : Keyed bytes font v) → HasPartNumber v glyph fd → slice_get v.parts.items fd ≡ Some p
-    → IsPartIn bytes font glyph found → (NamesSubroutinesOf v p 0 → ⊥) → IsSamePart bytes p found
-keyed_same bytes font v glyph fd p found c k h e in_c none =
+    → IsPartIn bytes font glyph found → Same bytes (NamesSubroutinesOf v p 0) p found
+keyed_same bytes font v glyph fd p found c k h e in_c =
     let i = keyed_item bytes font v fd p c.there k e in
     let has = in_c.1 k.is in
     let of = has.2 in
     let same : has.0 ≡ i.item = same_item bytes font v glyph fd i.item has.0 c k h i.listed has.1 in
     let spelled = subst (λ (item : List ℕ). map_of item bytes 0 ≡ Got of.map 0) same of.spelled in
     let map : of.map ≡ i.map = (got _ _ _ _ (sym spelled ∙ i.spelled)).0 in
-    same_of bytes i.map p found 0 0 i.locals (i.start none) (subst (λ (m : Dictionary). told.part m bytes 0 ≡ Got found.local_subroutines 0) map of.subroutines)
+    same_of bytes i.map p found 0 0 (NamesSubroutinesOf v p 0) i.locals i.start (subst (λ (m : Dictionary). told.part m bytes 0 ≡ Got found.local_subroutines 0) map of.subroutines)
     (subst (λ (m : Dictionary). AreWidths bytes m found.default_width found.nominal_width) map of.widths)
 
 -- a glyph that has no number in place has no font dictionary in what C has
@@ -474,7 +484,8 @@ keyed_tells bytes font v glyph c k =
     record {
       number = λ fd. keyed_number bytes font v glyph fd c k;
       only = λ found in_c below. let h = in_c.1 k.is in (h.1.2.fd, keyed_number bytes font v glyph h.1.2.fd c k (numbered_in bytes font glyph h.0 k.is h.1));
-      same = λ fd p found h e in_c none. keyed_same bytes font v glyph fd p found c k h e in_c none;
+      widths = λ p found b. (keyed_same bytes font v glyph b.0 p found c k b.1 b.2 b.3).0;
+      subroutines = λ p found b. (keyed_same bytes font v glyph b.0 p found c k b.1 b.2 b.3).1;
       none = keyed_lacks bytes font v glyph items.0 c k items.1;
     }
 
@@ -555,7 +566,8 @@ keyed_all bytes font v glyph c start k tells = record {
   number = λ fd. (tells.number fd, keyed_back bytes font v glyph fd c start k);
   has = λ fd h. keyed_has bytes font v glyph fd c start k h;
   only = tells.only;
-  same = λ fd p found h e in_c. tells.same fd p found h e in_c (start.subroutines fd p e);
+  widths = tells.widths;
+  subroutines = λ p found b. tells.subroutines p found b (start.subroutines b.0 p b.2);
   none = (keyed_none bytes font v glyph c start k, tells.none);
   status = λ status partless. keyed_status bytes font v glyph status c start k partless.1;
   missing = λ found. missing_is bytes font v glyph found c start;

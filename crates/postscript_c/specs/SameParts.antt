@@ -33,12 +33,19 @@ pub record HasNumberIn (bytes : List ℕ) (font : PsfFont) (glyph fd : ℕ) : Ty
 abbrev pub HasNoPart : List ℕ → PsfFont → (glyph : ℕ) → Type 0
 HasNoPart bytes font glyph = (font.glyphs ≤ glyph) ⊎ ((font.is_cid ≢ 0) × LacksDictionary bytes font glyph)
 
--- The part that C has is this part of the font in place: the INDEX at its place has the local subroutines, and its widths are those of the
--- private dictionary, in 65536ths of a unit, cut towards zero.
-pub record IsSamePart (bytes : List ℕ) (part : Part) (told : PsfPart) : Type 0 where
-  pub subroutines : index_at told.local_subroutines bytes 0 ≡ Got (items_of part.subroutines) 0
+-- the INDEX at the place that C is told has the local subroutines of a part; at 0 there are none
+abbrev pub HasSameSubroutines : List ℕ → Part → PsfPart → Type 0
+HasSameSubroutines bytes part told = index_at told.local_subroutines bytes 0 ≡ Got (items_of part.subroutines) 0
+
+-- the widths that C is told are those of the private dictionary of a part, in 65536ths of a unit, cut towards zero
+pub record HasSameWidths (part : Part) (told : PsfPart) : Type 0 where
   pub default : IsWidth (first_of (look part.dictionary operators.DefaultWidthX)) told.default_width
   pub nominal : IsWidth (first_of (look part.dictionary operators.NominalWidthX)) told.nominal_width
+
+-- In place a glyph has this part, and C has that one of it.
+abbrev pub AreBoth : (bytes : List ℕ) (font : PsfFont) (view : FontView) (glyph : ℕ) → Part → PsfPart → Type 0
+AreBoth bytes font view glyph part told =
+    (fd : ℕ) × HasPartNumber view glyph fd × (slice_get view.parts.items fd ≡ Some part) × IsPartIn bytes font glyph told
 
 -- the dictionary that names the private dictionary of a part: its font dictionary, or else that of the font
 abbrev pub naming : Dictionary → Option Dictionary → Dictionary
@@ -72,13 +79,14 @@ IsToldNone font view glyph status =
     ⊎ (((status ≡ pos 42) × (glyph < font.glyphs) × IsNoneIn view glyph)
     ⊎ (status ≡ pos 3))
 
--- What C has of a glyph is so in place: its number, and the part of that number, unless the subroutines of the part are to stand at 0.
--- Where the glyph has no part in place, it has none for C.
+-- What C has of a glyph is so in place: its number, and the widths and the subroutines of the part of that number, unless these are to
+-- stand at 0. Where the glyph has no part in place, it has none for C.
 pub record TellsPart (bytes : List ℕ) (font : PsfFont) (view : FontView) (glyph : ℕ) : Type 0 where
   pub number : (fd : ℕ) → HasNumberIn bytes font glyph fd → HasPartNumber view glyph fd
   pub only : (told : PsfPart) → IsPartIn bytes font glyph told → glyph < font.glyphs → (fd : ℕ) × HasPartNumber view glyph fd
-  pub same : (fd : ℕ) (part : Part) (told : PsfPart) → HasPartNumber view glyph fd → slice_get view.parts.items fd ≡ Some part
-      → IsPartIn bytes font glyph told → (NamesSubroutinesOf view part 0 → ⊥) → IsSamePart bytes part told
+  pub widths : (part : Part) (told : PsfPart) → AreBoth bytes font view glyph part told → HasSameWidths part told
+  pub subroutines : (part : Part) (told : PsfPart) → AreBoth bytes font view glyph part told → (NamesSubroutinesOf view part 0 → ⊥)
+      → HasSameSubroutines bytes part told
   pub none : IsNoneIn view glyph → HasNoPart bytes font glyph
 
 -- For C a glyph has the number that it has in place, and the part of that number; and it has none where it has none in place. A program is
@@ -87,8 +95,8 @@ pub record SamePart (bytes : List ℕ) (font : PsfFont) (view : FontView) (glyph
   pub number : (fd : ℕ) → HasNumberIn bytes font glyph fd ↔ HasPartNumber view glyph fd
   pub has : (fd : ℕ) → HasPartNumber view glyph fd → (told : PsfPart) × IsPartIn bytes font glyph told
   pub only : (told : PsfPart) → IsPartIn bytes font glyph told → glyph < font.glyphs → (fd : ℕ) × HasPartNumber view glyph fd
-  pub same : (fd : ℕ) (part : Part) (told : PsfPart) → HasPartNumber view glyph fd → slice_get view.parts.items fd ≡ Some part
-      → IsPartIn bytes font glyph told → IsSamePart bytes part told
+  pub widths : (part : Part) (told : PsfPart) → AreBoth bytes font view glyph part told → HasSameWidths part told
+  pub subroutines : (part : Part) (told : PsfPart) → AreBoth bytes font view glyph part told → HasSameSubroutines bytes part told
   pub none : HasNoPart bytes font glyph ↔ IsNoneIn view glyph
   pub status : (status : ℤ) → IsPartless bytes font glyph status → IsToldNone font view glyph status
   pub missing : (told : PsfPart) → HasNone bytes font told glyph ↔ (font.glyphs ≤ glyph)
