@@ -30,7 +30,7 @@ both (Fault r) f g b n c m e h = let is : Fault r ≡ Got b n = e in absurd (cc)
 both Past f g b n c m e h = let is : Past ≡ Got b n = e in absurd (cc)
 
 -- a chain that has a value: so has its first reading
-one : {A B : Type 0} (o : Outcome A) (f : A → ℕ → Outcome B) (b : B) (n : ℕ) → after o f ≡ Got b n → (v : A) × (at : ℕ) × (o ≡ Got v at) × (f v at ≡ Got b n)
+pub one : {A B : Type 0} (o : Outcome A) (f : A → ℕ → Outcome B) (b : B) (n : ℕ) → after o f ≡ Got b n → (v : A) × (at : ℕ) × (o ≡ Got v at) × (f v at ≡ Got b n)
 one o f b n e = let d = both o f f b n b n e e in (d.0, d.1, d.2, d.3)
 
 tables_same : (bytes : List ℕ) (place : ℕ) (t : Tables) (n : ℕ) (u : Dictionary × ℕ) (m : ℕ) → tables 0 bytes place ≡ Got t n → told.tables bytes place ≡ Got u m
@@ -109,7 +109,7 @@ agrees bytes v n p m e h =
     }
 
 -- the dictionary of which C is told is that of the view
-dictionary_same : (bytes : List ℕ) (v : View) (n size : ℕ) (map : Dictionary) (global : ℕ) → view bytes 0 ≡ Got v n → header_size bytes 0 ≡ Got size 0 → aside size told.tables bytes 0 ≡ Got (map, global) 0 → map ≡ v.tables.dictionary
+pub dictionary_same : (bytes : List ℕ) (v : View) (n size : ℕ) (map : Dictionary) (global : ℕ) → view bytes 0 ≡ Got v n → header_size bytes 0 ≡ Got size 0 → aside size told.tables bytes 0 ≡ Got (map, global) 0 → map ≡ v.tables.dictionary
 unfolding view_of
 dictionary_same bytes v n size map global e header stands =
     let a = one (header_size bytes 0) _ v n e in

@@ -1,12 +1,13 @@
 -- Widths that are cut to 65536ths.
 use Rattle.std.proofs.Common.{◌≡◌, refl, sym, ap, subst, ◌∙◌, ℕ, zero, suc, ◌+◌, ◌*◌, ◌/◌, ◌-◌, ◌^◌, ◌<◌, ◌≤◌, inl, inr, min, ℤ, pos, negsuc, arith}
-use Rattle.std.specs.Prelude.{Bool, true, false, int_lt, Option, Some}
+use Rattle.std.specs.Prelude.{Bool, true, false, int_lt, Option, Some, None}
 use Rattle.std.specs.Int.{saturate_signed, w64}
 use Rattle.std.specs.Int.RustNames.{unsigned_abs}
 use Rattle.std.proofs.Math.Nat.{one-le-pow, div-mul-le_self, div-le_self, div-eq_of_lt, min-eq_left, min-eq_right, le-mul_of_pos_right}
 use Rattle.std.proofs.lemmas.Bool.{cases_lt}
 use Rattle.std.proofs.lemmas.Bool.Decides.{nat_tests}
 use Rattle.postscript_base.specs.Compact1.Decimal.{Decimal, signed}
+use Rattle.postscript_base.specs.Compact1.Defaults.{decimal}
 use Rattle.postscript_c.specs.Widths.{AreIn, IsWidth}
 
 tens : (k : ℕ) → 0 < 10 ^ k
@@ -79,3 +80,23 @@ cut width w m e n told bits is m-is e-is n-is found told-is =
     let all : IsWidth (Some w) bits =
     (signed negative found.0, record { magnitude = found.0; are_in = in-it; has_sign = refl }, bits-are ∙ ap (λ n. saturate_signed w64 (signed negative n)) found.2 ∙ capped negative found.0) in
     subst (λ (width : Option Decimal). IsWidth width bits) (sym is) all
+
+-- each width has so many 65536ths
+bits-in : (m : ℕ) (e : ℤ) → (bits : ℕ) × AreIn m e bits
+bits-in m (pos n) = (m * 65536 * 10 ^ n, record { at_least = omega arith; less_than = omega arith })
+bits-in m (negsuc n) =
+    let a = m * 65536 in
+    let t = 10 ^ suc n in
+    let at_least : a / t * t ≤ a * 1 = omega (arith, div-mul-le_self a t) in
+    let less_than : a * 1 < (a / t + 1) * t = omega (arith, within a t (tens (suc n))) in
+    (a / t, record { at_least = at_least; less_than = less_than })
+
+pub every-width : (width : Option Decimal) → (bits : ℤ) × IsWidth width bits
+every-width None = (pos 0, refl)
+every-width (Some w) =
+    let found = bits-in (unsigned_abs w.mantissa) w.exponent in
+    let cut = signed (int_lt w.mantissa (pos 0)) found.0 in
+    (saturate_signed w64 cut, (cut, record { magnitude = found.0; are_in = found.1; has_sign = refl }, refl))
+
+pub zero-width : IsWidth (Some (decimal (pos 0) (pos 0))) (pos 0)
+zero-width = (pos 0, record { magnitude = 0; are_in = record { at_least = omega arith; less_than = omega arith }; has_sign = refl }, refl)

@@ -94,15 +94,19 @@ abbrev pub TellsFont : Result PsfFont Cause → (status : ℤ) → (old new : Ps
 TellsFont (Ok font) status old new = (status ≡ pos 0) × (new ≡ font)
 TellsFont (Err e) status old new = (status ≡ pos (code e)) × (new ≡ old)
 
--- the bounds of lines and curves that are told, if there is a point
+-- the bounds that C holds, if there is a point
 abbrev pub sides_of : PsfBounds → Option Bounds
 sides_of told = if told.has_bounds == 0 then None else Some (record { low = point told.left told.bottom; high = point told.right told.top })
+
+-- bounds are 0 where there is no point
+abbrev pub AreZeros : PsfBounds → Type 0
+AreZeros told = told.has_bounds ≡ 0 → (told.left ≡ pos 0) × (told.bottom ≡ pos 0) × (told.right ≡ pos 0) × (told.top ≡ pos 0)
 
 -- What C is told of the bounds of an answer's lines and curves: a refusal by its number, and 31 where there is no such glyph.
 abbrev pub TellsBounds : Result (Option Glyph) Error → (status : ℤ) → (old new : PsfBounds) → Type 0
 TellsBounds (Ok (Some found)) status old new =
     (status ≡ pos 0) × IsTightBoundsOf (sides_of new) (arcs (point (pos 0) (pos 0)) found.drawn.segments)
-    × (new.has_bounds ≡ 0 → (new.left ≡ pos 0) × (new.bottom ≡ pos 0) × (new.right ≡ pos 0) × (new.top ≡ pos 0))
+    × AreZeros new
 TellsBounds (Ok None) status old new = (status ≡ pos 31) × (new ≡ old)
 TellsBounds (Err e) status old new = (status ≡ pos (undrawn_code e)) × (new ≡ old)
 

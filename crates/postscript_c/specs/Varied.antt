@@ -2,7 +2,7 @@
 -- (CFF) version 2").
 use Rattle.std.specs.Prelude.{◌≡◌, ◌≢◌, ◌⊎◌, ℕ, ◌<◌, ℤ, pos, List, [], ◌++◌, codes, drop, length, map, Option, Some, None, Result, Ok, Err, IfOk, IfErr}
 use Rattle.postscript_base.specs.Numbers.{big_endian}
-use Rattle.postscript_c.specs.Answers.{sides_of, undrawn_code}
+use Rattle.postscript_c.specs.Answers.{AreZeros, sides_of, undrawn_code}
 use Rattle.postscript_c.specs.Costs.{CostsBeyond, CostsWithin}
 use Rattle.postscript_c.specs.Placed.{AreCoordinatesAt, IsUnplaced, unplaced_code}
 use Rattle.postscript_c.specs.Segments.{shown}
@@ -131,10 +131,6 @@ pub record OutlineRoom : Type 0 where
 
 abbrev pub outline_room : List PsfSegment → ℕ → PsfBounds → OutlineRoom
 outline_room segments count bounds = record { segments = segments; count = count; bounds = bounds }
-
--- bounds are 0 where there is no point
-abbrev pub AreZeros : PsfBounds → Type 0
-AreZeros told = told.has_bounds ≡ 0 → (told.left ≡ pos 0) × (told.bottom ≡ pos 0) × (told.right ≡ pos 0) × (told.top ≡ pos 0)
 
 -- The number of segments is told, and the bounds of their points. On 0 they stand at the front of the room, and what is behind them stays;
 -- on 32 they are more than the room, which stays.

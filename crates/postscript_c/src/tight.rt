@@ -1,9 +1,7 @@
 //! The bounds of the lines and curves of a glyph.
-ghost use Rattle.std.specs.Prelude.{◌≡◌, pos};
-ghost use Rattle.postscript_c.specs.Answers.{IsOf, TellsBounds, sides_of};
+ghost use Rattle.std.specs.Prelude.{◌≡◌};
+ghost use Rattle.postscript_c.specs.Answers.{AreZeros, IsOf, TellsBounds, sides_of};
 ghost use Rattle.postscript_c.specs.Shown.{traced_shown};
-ghost use Rattle.postscript_outline.specs.Points.{point};
-ghost use Rattle.postscript_outline.specs.Tight.{IsTightBoundsOf, arcs};
 
 use crate::drawn::draw_over;
 use crate::font::PsfFont;
@@ -11,7 +9,7 @@ use crate::part::PsfPart;
 use crate::status::NO_GLYPH;
 use crate::told::undrawn_status;
 use postscript_drawing::Result;
-use postscript_outline::Outline;
+use postscript_outline::{Bounds, Outline};
 use std::alloc::Global;
 
 /// The outline of a glyph, and its part.
@@ -54,26 +52,28 @@ pub struct PsfBounds {
     pub has_bounds: u32,
 }
 
-/// The bounds of the lines and curves of an outline.
-pub(crate) fn tight(outline: &Outline) -> PsfBounds
-    ensures bounds { IsTightBoundsOf (sides_of result) (arcs (point (pos 0) (pos 0)) outline.now.segments.items) }
-    ensures none { result.has_bounds ≡ 0 → (result.left ≡ pos 0) × (result.bottom ≡ pos 0) × (result.right ≡ pos 0) × (result.top ≡ pos 0) }
-{
-    match outline.tight_bounds() {
-        Some(bounds) => PsfBounds {
-            left: bounds.low.x,
-            bottom: bounds.low.y,
-            right: bounds.high.x,
-            top: bounds.high.y,
-            has_bounds: 1,
-        },
-        None => PsfBounds {
-            left: 0,
-            bottom: 0,
-            right: 0,
-            top: 0,
-            has_bounds: 0,
-        },
+impl PsfBounds {
+    /// Bounds as C holds them, where there are any.
+    pub(crate) fn of(bounds: Option<Bounds>) -> PsfBounds
+        ensures sides { sides_of result ≡ bounds }
+        ensures zeros { AreZeros result }
+    {
+        match bounds {
+            Some(bounds) => PsfBounds {
+                left: bounds.low.x,
+                bottom: bounds.low.y,
+                right: bounds.high.x,
+                top: bounds.high.y,
+                has_bounds: 1,
+            },
+            None => PsfBounds {
+                left: 0,
+                bottom: 0,
+                right: 0,
+                top: 0,
+                has_bounds: 0,
+            },
+        }
     }
 }
 
@@ -83,7 +83,7 @@ pub(crate) fn bound(answer: &Result<Option<Traced>>, bounds: &mut PsfBounds) -> 
 {
     match answer {
         Ok(Some(found)) => {
-            *bounds = tight(&found.outline);
+            *bounds = PsfBounds::of(found.outline.tight_bounds());
             0
         }
         Ok(None) => NO_GLYPH,

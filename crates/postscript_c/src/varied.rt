@@ -1,9 +1,7 @@
 //! Glyphs of variable fonts, drawn at a place of the design space.
 ghost use Rattle.std.specs.Prelude.{◌≡◌, [], pos, Some, IfErr, IfOk};
-ghost use Rattle.postscript_c.specs.Answers.{sides_of};
 ghost use Rattle.postscript_c.specs.VariedShown.{segments_of, sketch_shown};
-ghost use Rattle.postscript_c.specs.Varied.{AreZeros, HandsOutline, HasFont, HasNoFont, HasNoPlaceIn, IsDrawnWithin, IsPlaceAt, IsPlaceIn, IsVaried, NamesNoPlace, TellsAnswer, TellsVariedOf, outline_room, table_code, unvaried_code};
-ghost use Rattle.postscript_outline.specs.Bounds.{IsBoundsOf, points};
+ghost use Rattle.postscript_c.specs.Varied.{HandsOutline, HasFont, HasNoFont, HasNoPlaceIn, IsDrawnWithin, IsPlaceAt, IsPlaceIn, IsVaried, NamesNoPlace, TellsAnswer, TellsVariedOf, outline_room, table_code, unvaried_code};
 
 use crate::costs::is_within;
 use crate::fill::{PsfSegment, fill};
@@ -167,29 +165,6 @@ fn varied(
     }
 }
 
-/// The bounds of all points of a sketch.
-fn bounds_of(sketch: &Sketch) -> PsfBounds
-    ensures bounds { IsBoundsOf (sides_of result) (points (segments_of sketch.now)) }
-    ensures zeros { AreZeros result }
-{
-    match sketch.bounds() {
-        Some(bounds) => PsfBounds {
-            left: bounds.low.x,
-            bottom: bounds.low.y,
-            right: bounds.high.x,
-            top: bounds.high.y,
-            has_bounds: 1,
-        },
-        None => PsfBounds {
-            left: 0,
-            bottom: 0,
-            right: 0,
-            top: 0,
-            has_bounds: 0,
-        },
-    }
-}
-
 /// Hands an outline over: 0, or `NO_ROOM`.
 pub(crate) fn hand(
     sketch: &Sketch,
@@ -202,7 +177,7 @@ pub(crate) fn hand(
 {
     let drawn = &sketch.segments;
     *count = drawn.len();
-    *bounds = bounds_of(sketch);
+    *bounds = PsfBounds::of(sketch.bounds());
     if segments.len() < drawn.len() {
         return NO_ROOM;
     }

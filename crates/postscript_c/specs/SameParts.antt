@@ -1,0 +1,112 @@
+-- The part of a glyph is the same for C and for the font that is opened in place.
+use Rattle.std.specs.Prelude.{◌≡◌, ◌≢◌, ◌⊎◌, ◌↔◌, ℕ, ◌<◌, ◌≤◌, ℤ, pos, ◌+ℤ◌, List, length, slice_get, Option, Some, None, Ok}
+use Rattle.postscript_base.specs.Compact1.Defaults.{look, first_of}
+use Rattle.postscript_base.specs.Compact1.Dictionary.{Dictionary}
+use Rattle.postscript_base.specs.Tape.Outcome.{Got}
+use Rattle.postscript_base.specs.declared.compact1.operator.Operator.TheVariants as operators
+use Rattle.postscript_c.specs.CidParts.{HasNumber, LacksDictionary}
+use Rattle.postscript_c.specs.Drawn.{HasNone, IsFirst}
+use Rattle.postscript_c.specs.Glyphs.{index_at}
+use Rattle.postscript_c.specs.Law.{IsFontOf}
+use Rattle.postscript_c.specs.Parts.{IsPartIn, IsPartless}
+use Rattle.postscript_c.specs.Widths.{IsWidth}
+use Rattle.postscript_c.specs.declared.font.PsfFont.{PsfFont}
+use Rattle.postscript_c.specs.declared.part.PsfPart.{PsfPart}
+use Rattle.postscript_compact1.specs.FontSet.Layout.{HasFirst, HasPrivate}
+use Rattle.postscript_items.specs.Lent.{items_of}
+use Rattle.postscript_view.specs.Glyphs.{HasPartNumber}
+use Rattle.postscript_view.specs.declared.font.FontView.{FontView}
+use Rattle.postscript_view.specs.declared.part.Part.{Part}
+
+-- The number of a glyph's part for C: 0 in a font that is not CID-keyed, else the number of its font dictionary, which stands in FDArray.
+abbrev pub IsNumberIn : List ℕ → PsfFont → (glyph fd : ℕ) → Type 0
+IsNumberIn bytes font glyph fd =
+    ((font.is_cid ≡ 0) × (fd ≡ 0))
+    ⊎ ((font.is_cid ≢ 0) × ((items : List (List ℕ)) × (index_at font.font_dictionaries bytes 0 ≡ Got items 0) × (fd < length items)
+    × HasNumber bytes font (length items) glyph fd))
+
+pub record HasNumberIn (bytes : List ℕ) (font : PsfFont) (glyph fd : ℕ) : Type 0 where
+  pub there : glyph < font.glyphs
+  pub number : IsNumberIn bytes font glyph fd
+
+-- for C a glyph has no part: there is no such glyph, or it has no font dictionary
+abbrev pub HasNoPart : List ℕ → PsfFont → (glyph : ℕ) → Type 0
+HasNoPart bytes font glyph = (font.glyphs ≤ glyph) ⊎ ((font.is_cid ≢ 0) × LacksDictionary bytes font glyph)
+
+-- the INDEX at the place that C is told has the local subroutines of a part; at 0 there are none
+abbrev pub HasSameSubroutines : List ℕ → Part → PsfPart → Type 0
+HasSameSubroutines bytes part told = index_at told.local_subroutines bytes 0 ≡ Got (items_of part.subroutines) 0
+
+-- the widths that C is told are those of the private dictionary of a part, in 65536ths of a unit, cut towards zero
+pub record HasSameWidths (part : Part) (told : PsfPart) : Type 0 where
+  pub default : IsWidth (first_of (look part.dictionary operators.DefaultWidthX)) told.default_width
+  pub nominal : IsWidth (first_of (look part.dictionary operators.NominalWidthX)) told.nominal_width
+
+-- In place a glyph has this part, and C has that one of it.
+abbrev pub AreBoth : (bytes : List ℕ) (font : PsfFont) (view : FontView) (glyph : ℕ) → Part → PsfPart → Type 0
+AreBoth bytes font view glyph part told =
+    (fd : ℕ) × HasPartNumber view glyph fd × (slice_get view.parts.items fd ≡ Some part) × IsPartIn bytes font glyph told
+
+-- the dictionary that names the private dictionary of a part: its font dictionary, or else that of the font
+abbrev pub naming : Dictionary → Option Dictionary → Dictionary
+naming map None = map
+naming map (Some font_dictionary) = font_dictionary
+
+-- the local subroutines of the private dictionary that a dictionary names are to stand at a place
+abbrev pub NamesSubroutines : List ℕ → (map local : Dictionary) → (place : ℕ) → Type 0
+NamesSubroutines bytes map local place =
+    (offset : ℕ) × (z : ℤ) × HasPrivate bytes 0 map offset local × HasFirst local operators.Subrs z × (pos offset +ℤ z ≡ pos place)
+
+-- those of a part of a font in place
+abbrev pub NamesSubroutinesOf : FontView → Part → (place : ℕ) → Type 0
+NamesSubroutinesOf view part place = NamesSubroutines view.bytes.now (naming view.dictionary part.font_dictionary) part.dictionary place
+
+-- The dictionaries of a font name nothing that is to stand at the place 0, where its header does. For C a place of 0 is nothing.
+pub record NamesNoStart (view : FontView) : Type 0 where
+  pub char_strings : HasFirst view.dictionary operators.CharStrings (pos 0) → ⊥
+  pub array : HasFirst view.dictionary operators.FDArray (pos 0) → ⊥
+  pub selection : HasFirst view.dictionary operators.FDSelect (pos 0) → ⊥
+  pub subroutines : (fd : ℕ) (part : Part) → slice_get view.parts.items fd ≡ Some part → NamesSubroutinesOf view part 0 → ⊥
+
+-- the font in place has no part for a glyph
+abbrev pub IsNoneIn : FontView → (glyph : ℕ) → Type 0
+IsNoneIn view glyph = (fd : ℕ) → HasPartNumber view glyph fd → ⊥
+
+-- What each status tells of a glyph that C has no part of: there is no such glyph, it has no part, or memory is wanting.
+abbrev pub IsToldNone : PsfFont → FontView → (glyph : ℕ) (status : ℤ) → Type 0
+IsToldNone font view glyph status =
+    ((status ≡ pos 31) × (font.glyphs ≤ glyph))
+    ⊎ (((status ≡ pos 42) × (glyph < font.glyphs) × IsNoneIn view glyph)
+    ⊎ (status ≡ pos 3))
+
+-- What C has of a glyph is so in place: its number, and the widths and the subroutines of the part of that number, unless these are to
+-- stand at 0. Where the glyph has no part in place, it has none for C.
+pub record TellsPart (bytes : List ℕ) (font : PsfFont) (view : FontView) (glyph : ℕ) : Type 0 where
+  pub number : (fd : ℕ) → HasNumberIn bytes font glyph fd → HasPartNumber view glyph fd
+  pub only : (told : PsfPart) → IsPartIn bytes font glyph told → glyph < font.glyphs → (fd : ℕ) × HasPartNumber view glyph fd
+  pub widths : (part : Part) (told : PsfPart) → AreBoth bytes font view glyph part told → HasSameWidths part told
+  pub subroutines : (part : Part) (told : PsfPart) → AreBoth bytes font view glyph part told → (NamesSubroutinesOf view part 0 → ⊥)
+      → HasSameSubroutines bytes part told
+  pub none : IsNoneIn view glyph → HasNoPart bytes font glyph
+
+-- For C a glyph has the number that it has in place, and the part of that number; and it has none where it has none in place. A program is
+-- lacking, which C tells by 31, where there is no such glyph.
+pub record SamePart (bytes : List ℕ) (font : PsfFont) (view : FontView) (glyph : ℕ) : Type 0 where
+  pub number : (fd : ℕ) → HasNumberIn bytes font glyph fd ↔ HasPartNumber view glyph fd
+  pub has : (fd : ℕ) → HasPartNumber view glyph fd → (told : PsfPart) × IsPartIn bytes font glyph told
+  pub only : (told : PsfPart) → IsPartIn bytes font glyph told → glyph < font.glyphs → (fd : ℕ) × HasPartNumber view glyph fd
+  pub widths : (part : Part) (told : PsfPart) → AreBoth bytes font view glyph part told → HasSameWidths part told
+  pub subroutines : (part : Part) (told : PsfPart) → AreBoth bytes font view glyph part told → HasSameSubroutines bytes part told
+  pub none : HasNoPart bytes font glyph ↔ IsNoneIn view glyph
+  pub status : (status : ℤ) → IsPartless bytes font glyph status → IsToldNone font view glyph status
+  pub missing : (told : PsfPart) → HasNone bytes font told glyph ↔ (font.glyphs ≤ glyph)
+
+-- A law: so it is with each glyph of a font that C is told, where the same bytes begin with a font in place.
+abbrev pub TellsParts : Type 0
+TellsParts = (bytes : List ℕ) (font : PsfFont) (view : FontView) (glyph : ℕ) → IsFontOf bytes (Ok font) → IsFirst bytes view
+    → TellsPart bytes font view glyph
+
+-- A law: where besides nothing is named at 0, C and the font in place have the same parts.
+abbrev pub KeepsParts : Type 0
+KeepsParts = (bytes : List ℕ) (font : PsfFont) (view : FontView) (glyph : ℕ) → IsFontOf bytes (Ok font) → IsFirst bytes view
+    → NamesNoStart view → SamePart bytes font view glyph

@@ -1,0 +1,16 @@
+//! Laws of the definitions.
+ghost use Rattle.postscript_c.specs.SameParts.{KeepsParts, TellsParts};
+
+/// A law: of each font that `psf_font_open` tells, what C has of a glyph's part is so in the font that `FontView::read` answers for the
+/// same bytes: the glyph has this number there, and the part of that number has these local subroutines and widths. Where
+/// `FontView::part_of` answers none, C has none. It does nothing and is never refused.
+pub fn tells_parts()
+    ensures law { TellsParts }
+{}
+
+/// A law: and where the font's dictionaries name nothing at the place 0, where C has nothing, the two are the same: C has a part of each
+/// glyph that `FontView::part_of` answers a number for, of that number, and of no other glyph; else it tells 31 where there is no such
+/// glyph, 42 where there is, and 3 where memory is wanting. It does nothing and is never refused.
+pub fn keeps_parts()
+    ensures law { KeepsParts }
+{}
