@@ -1,5 +1,5 @@
 -- Identifiers of one glyph after the other.
-use Rattle.std.proofs.Common.{◌≡◌, ℕ, ◌+◌, ℤ, List, [], ◌∷◌, ◌++◌, length, subst, arith}
+use Rattle.std.proofs.Common.{ℕ, ◌+◌, ℤ, List, [], ◌∷◌, ◌++◌, length, subst, arith}
 use Rattle.postscript_c.specs.Identifiers.{AreFrom, IsIdentifier}
 use Rattle.postscript_view.specs.declared.char_set.CharSetView.{CharSetView}
 

@@ -1,5 +1,5 @@
 -- A limit that a program spends while its operations are told.
-use Rattle.std.proofs.Common.{◌≡◌, ◌⊎◌, inl, inr, refl, ap, ◌∙◌, subst, true, false, ℕ, ℤ, List, [], ◌∷◌, Option, Some, None, Result, Ok, Err, arith}
+use Rattle.std.proofs.Common.{◌≡◌, ◌⊎◌, inl, inr, refl, ap, subst, true, false, ℕ, ℤ, List, [], ◌∷◌, Option, Some, None, Result, Ok, Err, arith}
 use denote.Ref.{Bor}
 use Rattle.postscript_base.specs.Refusal.{refusal_of}
 use Rattle.postscript_base.specs.declared.error.Error.{Error}

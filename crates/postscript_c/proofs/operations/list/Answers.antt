@@ -1,6 +1,6 @@
 use Rattle.std.proofs.lemmas.List.{append-nil}
 use Rattle.std.proofs.lemmas.Result.{err_from_is_err_and}
-use Rattle.std.proofs.Common.{◌≡◌, refl, ap, sym, ◌∙◌, Ok, subst, rules, ◌∷◌, ◌++◌, [], ℤ, List, length, map}
+use Rattle.std.proofs.Common.{◌≡◌, refl, ap, sym, ◌∙◌, Ok, rules, ◌∷◌, ◌++◌, [], ℤ, List, length, map}
 use Rattle.postscript_c.proofs.Operands.{one_more, theirs_too}
 use Rattle.postscript_c.proofs.Spending.{on-operation, on-end, on-pause, on-refusal}
 use Rattle.postscript_c.specs.Operations.{answered, held}

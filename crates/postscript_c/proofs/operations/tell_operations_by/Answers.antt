@@ -1,4 +1,4 @@
-use Rattle.std.proofs.Common.{ap, ◌≡◌, ◌∙◌, Ok, Err, Some, None, rules, inr, refl, sym, subst, ℕ, ℤ, List, to_z, of_z, w32}
+use Rattle.std.proofs.Common.{ap, ◌≡◌, ◌∙◌, Ok, Err, Some, None, rules, inr, refl, sym, subst, ℤ, to_z, of_z, w32}
 use Rattle.postscript_c.specs.Listing.{HandsOperations, rooms}
 use Rattle.postscript_c.specs.Operations.{listed_at, shown}
 use Rattle.postscript_c.specs.declared.operations.Listed.{Listed}
