@@ -278,12 +278,12 @@ item_of bytes (item ∷ items) (q ∷ ps) (suc fd) p h e = item_of bytes items p
 item_of bytes [] (q ∷ ps) fd p h e = absurd h
 item_of bytes (item ∷ items) [] fd p h e = absurd h
 
-there_is : {A : Type 0} (xs : List A) (i : ℕ) → i < length xs → (x : A) × (slice_get xs i ≡ Some x)
+pub there_is : {A : Type 0} (xs : List A) (i : ℕ) → i < length xs → (x : A) × (slice_get xs i ≡ Some x)
 there_is [] i h = absurd (omega arith)
 there_is (x ∷ xs) zero h = (x, refl)
 there_is (x ∷ xs) (suc i) h = there_is xs i (omega arith)
 
-length_shown : (ps : List Part) → length (parts_shown ps) ≡ length ps
+pub length_shown : (ps : List Part) → length (parts_shown ps) ≡ length ps
 length_shown [] = refl
 length_shown (p ∷ ps) = ap (λ (n : ℕ). suc n) (length_shown ps)
 
@@ -304,7 +304,7 @@ same_of bytes map part found at next start locals names reads widths = (record {
         let there = (got _ _ _ _ (sym (t.1 at) ∙ reads)).0 in
         subst (λ (p : ℕ). index_at p bytes 0 ≡ Got (items_of part.subroutines) 0) there t.2
 
-shown_at : (ps : List Part) (fd : ℕ) (p : Part) → slice_get ps fd ≡ Some p → slice_get (parts_shown ps) fd ≡ Some (part_shown p)
+pub shown_at : (ps : List Part) (fd : ℕ) (p : Part) → slice_get ps fd ≡ Some p → slice_get (parts_shown ps) fd ≡ Some (part_shown p)
 shown_at ps fd p e = slice_get-map part_shown ps fd ∙ ap (option_map part_shown) e
 
 -- its subroutines are not to stand at 0
