@@ -1,6 +1,6 @@
 -- The part of a glyph is the same for C and for the font that is opened in place.
 use Rattle.std.proofs.Common.{◌≡◌, ◌≢◌, ◌⊎◌, refl, sym, ap, subst, ◌∙◌, inl, inr, ℕ, zero, suc, ◌+◌, ◌<◌, ◌≤◌, ◌^◌, ◌==◌, ℤ, pos, negsuc, ◌+ℤ◌, List, [], ◌∷◌, length, arith}
-use Rattle.std.specs.Prelude.{◌↔◌, true, false, Option, Some, None, Ok, IsSome, slice_get, option_map}
+use Rattle.std.specs.Prelude.{◌↔◌, true, false, Option, Some, None, IsSome, slice_get, option_map}
 use Rattle.std.specs.Option.{option_and_then}
 use Rattle.std.proofs.lemmas.Int.{ints}
 use Rattle.std.proofs.lemmas.Option.{slice_get-map, slice_get_past, slice_get_within}
@@ -23,11 +23,11 @@ use Rattle.postscript_c.specs.Drawn.{HasNone, IsFirst}
 use Rattle.postscript_c.specs.FontWidths.{HaveWidths}
 use Rattle.postscript_c.specs.Glyphs.{index_at, program_at, program_of}
 use Rattle.postscript_c.specs.Keyed.{IsKeyedBy, IsPlaceOrNone}
-use Rattle.postscript_c.specs.Law.{IsFontOf, NamesSelection}
+use Rattle.postscript_c.specs.Law.{NamesSelection}
 use Rattle.postscript_c.specs.Parts.{IsPartIn, TellsNoPart, no_glyph, no_dictionary, refused}
 use Rattle.postscript_c.specs.Places as told
 use Rattle.postscript_c.specs.Places.{Places, codes, placed, places, places_of}
-use Rattle.postscript_c.specs.SameParts.{HasNoPart, HasNumberIn, HasSameSubroutines, HasSameWidths, IsNoneIn, IsToldNone, KeepsParts, NamesNoStart, NamesSubroutines, NamesSubroutinesOf, SamePart, TellsPart, TellsParts, naming, program_in}
+use Rattle.postscript_c.specs.SameParts.{HasNoPart, HasNumberIn, HasSameSubroutines, HasSameWidths, IsNoneIn, IsToldNone, IsToldOf, KeepsParts, NamesNoStart, NamesSubroutines, NamesSubroutinesOf, SamePart, TellsPart, TellsParts, naming, program_in}
 use Rattle.postscript_c.specs.Widths.{AreWidths, IsWidth}
 use Rattle.postscript_c.specs.declared.font.PsfFont.{PsfFont}
 use Rattle.postscript_c.specs.declared.part.PsfPart.{PsfPart}
@@ -164,8 +164,9 @@ globals_behind bytes p m e =
     let behind = tables_behind bytes a.0 t.0 t.1 t.2 in
     omega arith
 
-common : (bytes : List ℕ) (font : PsfFont) (v : FontView) → IsFontOf bytes (Ok font) → IsFirst bytes v → Common bytes font v
-common bytes font v is first =
+common : (bytes : List ℕ) (font : PsfFont) (v : FontView) → IsToldOf bytes font → IsFirst bytes v → Common bytes font v
+common bytes font v told_of first =
+    let is = told_of.1 in
     let w = is.widths in
     let same : w.map ≡ v.dictionary = dictionary_same bytes (view_shown v) 0 w.size w.map w.global first.shown w.header w.stands in
     let of = is.same (view_shown v) 0 first.shown in

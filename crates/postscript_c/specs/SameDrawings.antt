@@ -1,9 +1,8 @@
 -- What C draws of a glyph is what the font in place draws.
-use Rattle.std.specs.Prelude.{ℕ, ℤ, List, Option, Ok}
+use Rattle.std.specs.Prelude.{ℕ, ℤ, List, Option}
 use Rattle.postscript_c.specs.Drawn.{IsDrawnOver, IsFirst}
-use Rattle.postscript_c.specs.Law.{IsFontOf}
 use Rattle.postscript_c.specs.Parts.{IsPartIn}
-use Rattle.postscript_c.specs.SameParts.{NamesNoStart}
+use Rattle.postscript_c.specs.SameParts.{IsToldOf, NamesNoStart}
 use Rattle.postscript_c.specs.declared.font.PsfFont.{PsfFont}
 use Rattle.postscript_c.specs.declared.part.PsfPart.{PsfPart}
 use Rattle.postscript_drawing.specs.Drawn.{IsDrawnAs}
@@ -18,5 +17,5 @@ DrawsSame bytes font view glyph =
 
 -- A law: so it is with each glyph of a font that C is told, where the same bytes begin with a font in place that names nothing at 0.
 abbrev pub DrawsInPlace : Type 0
-DrawsInPlace = (bytes : List ℕ) (font : PsfFont) (view : FontView) (glyph : ℕ) → IsFontOf bytes (Ok font) → IsFirst bytes view
+DrawsInPlace = (bytes : List ℕ) (font : PsfFont) (view : FontView) (glyph : ℕ) → IsToldOf bytes font → IsFirst bytes view
     → NamesNoStart view → DrawsSame bytes font view glyph

@@ -2,9 +2,10 @@
 ghost use Rattle.postscript_c.specs.SameDrawings.{DrawsInPlace};
 ghost use Rattle.postscript_c.specs.SameParts.{KeepsParts, TellsParts};
 
-/// A law: of each font that `psf_font_open` tells, what C has of a glyph's part is so in the font that `FontView::read` answers for the
-/// same bytes: the glyph has this number there, and the part of that number has these widths and, unless they are to stand at the place 0,
-/// these local subroutines. Where `FontView::part_of` answers none, C has none. It does nothing and is never refused.
+/// A law: of each font that `psf_font_open` tells, whatever limit the caller has put since, what C has of a glyph's part is so in the font
+/// that `FontView::read` answers for the same bytes: the glyph has this number there, and the part of that number has these widths and,
+/// unless they are to stand at the place 0, these local subroutines. Where `FontView::part_of` answers none, C has none. It does nothing
+/// and is never refused.
 pub fn tells_parts()
     ensures law { TellsParts }
 {}
