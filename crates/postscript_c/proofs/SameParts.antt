@@ -1,6 +1,6 @@
 -- The part of a glyph is the same for C and for the font that is opened in place.
 use Rattle.std.proofs.Common.{◌≡◌, ◌≢◌, ◌⊎◌, refl, sym, ap, subst, ◌∙◌, inl, inr, ℕ, zero, suc, ◌+◌, ◌<◌, ◌≤◌, ◌^◌, ◌==◌, ℤ, pos, negsuc, ◌+ℤ◌, List, [], ◌∷◌, length, arith}
-use Rattle.std.specs.Prelude.{◌↔◌, true, false, Option, Some, None, Ok, IsSome, slice_get, option_map}
+use Rattle.std.specs.Prelude.{◌↔◌, true, false, Option, Some, None, IsSome, slice_get, option_map}
 use Rattle.std.specs.Option.{option_and_then}
 use Rattle.std.proofs.lemmas.Int.{ints}
 use Rattle.std.proofs.lemmas.Option.{slice_get-map, slice_get_past, slice_get_within}
@@ -23,11 +23,11 @@ use Rattle.postscript_c.specs.Drawn.{HasNone, IsFirst}
 use Rattle.postscript_c.specs.FontWidths.{HaveWidths}
 use Rattle.postscript_c.specs.Glyphs.{index_at, program_at, program_of}
 use Rattle.postscript_c.specs.Keyed.{IsKeyedBy, IsPlaceOrNone}
-use Rattle.postscript_c.specs.Law.{IsFontOf, NamesSelection}
+use Rattle.postscript_c.specs.Law.{NamesSelection}
 use Rattle.postscript_c.specs.Parts.{IsPartIn, TellsNoPart, no_glyph, no_dictionary, refused}
 use Rattle.postscript_c.specs.Places as told
 use Rattle.postscript_c.specs.Places.{Places, codes, placed, places, places_of}
-use Rattle.postscript_c.specs.SameParts.{HasNoPart, HasNumberIn, HasSameSubroutines, HasSameWidths, IsNoneIn, IsToldNone, KeepsParts, NamesNoStart, NamesSubroutines, NamesSubroutinesOf, SamePart, TellsPart, TellsParts, naming}
+use Rattle.postscript_c.specs.SameParts.{HasNoPart, HasNumberIn, HasSameSubroutines, HasSameWidths, IsNoneIn, IsToldNone, IsToldOf, KeepsParts, NamesNoStart, NamesSubroutines, NamesSubroutinesOf, SamePart, TellsPart, TellsParts, naming, program_in}
 use Rattle.postscript_c.specs.Widths.{AreWidths, IsWidth}
 use Rattle.postscript_c.specs.declared.font.PsfFont.{PsfFont}
 use Rattle.postscript_c.specs.declared.part.PsfPart.{PsfPart}
@@ -36,15 +36,19 @@ use Rattle.postscript_compact1.proofs.Outcomes.{got}
 use Rattle.postscript_compact1.specs.FontSet.Layout.{HasFirst, IsPlace}
 use Rattle.postscript_compact1.specs.FontSet.Operands.{place_at, type_two}
 use Rattle.postscript_compact1.specs.Kinds.{map_of}
+use Rattle.postscript_items.proofs.Opening.{opened_only}
 use Rattle.postscript_items.specs.Items.{opened}
 use Rattle.postscript_items.specs.Lent.{items_of}
+use Rattle.postscript_type2.specs.Program.Evaluation.{run_of}
+use Rattle.postscript_type2.specs.Program.Programs.{begun}
+use Rattle.postscript_type2.specs.Program.Routines.{lent}
 use Rattle.postscript_view.proofs.LayoutLaws.{reads_layout, whole_offset}
 use Rattle.postscript_view.proofs.Selecting.{one_named}
 use Rattle.postscript_view.proofs.Wider.{map_is}
 use Rattle.postscript_view.specs.Glyphs.{HasPartNumber, IsPartNumber}
 use Rattle.postscript_view.specs.Layout.{AreParts, ArePartsOf, HasLocals, IsLaidOut, IsPart, NamesIndex, OfFont, OfFontDictionaries}
 use Rattle.postscript_view.specs.Order as order
-use Rattle.postscript_view.specs.Order.{View, aside, header_size, view}
+use Rattle.postscript_view.specs.Order.{View, aside, header_size, map_from, view}
 use Rattle.postscript_view.specs.Select.{IsSelected, Selects, offset_from, offset_of}
 use Rattle.postscript_view.specs.Value.{part_shown, parts_shown, view_shown}
 use Rattle.postscript_view.specs.declared.font.FontView.{FontView}
@@ -91,6 +95,8 @@ record Common (bytes : List ℕ) (font : PsfFont) (v : FontView) : Type 0 where
   selection : NamesSelection font (view_shown v)
   named : HasFirst v.dictionary operators.CharStrings (pos font.char_strings)
   codes : (next : ℕ) × (opened bytes font.char_strings ≡ Got (items_of v.char_strings) next)
+  globals : (next : ℕ) × (opened bytes font.global_subroutines ≡ Got (items_of v.global_subroutines) next)
+  behind : 0 < font.global_subroutines
 
 local_read : (bytes : List ℕ) (p : Places) (m size : ℕ) (map : Dictionary) (global : ℕ) → places bytes 0 ≡ Got p m → header_size bytes 0 ≡ Got size 0 → aside size told.tables bytes 0 ≡ Got (map, global) 0
     → ((at : ℕ) × (next : ℕ) × (told.local map bytes at ≡ Got p.local_subroutines next)) × ((at : ℕ) × (next : ℕ) × (count : ℕ) × (codes map bytes at ≡ Got (p.char_strings, count) next))
@@ -123,8 +129,44 @@ codes_named bytes map at next there count e =
     let from : p.1 ≡ a.0 = omega (arith, p.4) in
     subst (HasFirst map operators.CharStrings) (whole_offset p.0 p.1 p.3 ∙ ap pos (from ∙ same)) p.2
 
-common : (bytes : List ℕ) (font : PsfFont) (v : FontView) → IsFontOf bytes (Ok font) → IsFirst bytes v → Common bytes font v
-common bytes font v is first =
+-- global subroutines stand behind three INDEXes, and so not at 0
+next_behind : (bytes : List ℕ) (place : ℕ) (items : List (List ℕ)) (next : ℕ) → opened bytes place ≡ Got items next → place < next
+next_behind bytes place items next e = elim (opened_only bytes place items next e) [
+  | inl empty ↦ let behind = empty.behind in omega arith
+  | inr spread ↦ let behind = spread.laid.behind in omega arith
+]
+
+tables_behind : (bytes : List ℕ) (place : ℕ) (u : Dictionary × ℕ) (m : ℕ) → told.tables bytes place ≡ Got u m → 0 < u.1
+unfolding told.tables
+tables_behind bytes place u m e =
+    let a = one (opened bytes place) _ u m e in
+    let b = one (opened bytes a.1) _ u m a.3 in
+    let c = one (opened bytes b.1) _ u m b.3 in
+    let d = one (opened bytes c.1) _ u m c.3 in
+    let x = one (map_from (slice_get b.0 0) bytes d.1) _ u m d.3 in
+    let U = got (x.0, c.1) u x.1 m x.3 in
+    let there : c.1 ≡ u.1 = ap (λ (u : Dictionary × ℕ). u.1) U.0 in
+    let behind = next_behind bytes b.1 c.0 c.1 c.2 in
+    omega arith
+
+globals_behind : (bytes : List ℕ) (p : Places) (m : ℕ) → places bytes 0 ≡ Got p m → 0 < p.global_subroutines
+unfolding places places_of
+globals_behind bytes p m e =
+    let a = one (header_size bytes 0) _ p m e in
+    let b = one (aside a.0 told.tables bytes a.1) _ p m a.3 in
+    let c = one (codes b.0.0 bytes b.1) _ p m b.3 in
+    let d = one (told.local b.0.0 bytes c.1) _ p m c.3 in
+    let D = got (record { char_strings = c.0.0; global_subroutines = b.0.1; local_subroutines = d.0; glyphs = c.0.1 }) p d.1 m d.3 in
+    let there : b.0.1 ≡ p.global_subroutines = ap (λ (p : Places). p.global_subroutines) D.0 in
+    let t = one (told.tables bytes a.0) _ b.0 b.1 b.2 in
+    let T = got t.0 b.0 a.1 b.1 t.3 in
+    let same : t.0.1 ≡ b.0.1 = ap (λ (u : Dictionary × ℕ). u.1) T.0 in
+    let behind = tables_behind bytes a.0 t.0 t.1 t.2 in
+    omega arith
+
+common : (bytes : List ℕ) (font : PsfFont) (v : FontView) → IsToldOf bytes font → IsFirst bytes v → Common bytes font v
+common bytes font v told_of first =
+    let is = told_of.1 in
     let w = is.widths in
     let same : w.map ≡ v.dictionary = dictionary_same bytes (view_shown v) 0 w.size w.map w.global first.shown w.header w.stands in
     let of = is.same (view_shown v) 0 first.shown in
@@ -143,6 +185,8 @@ common bytes font v is first =
       selection = is.selection (view_shown v) 0 first.shown;
       named = subst (λ (m : Dictionary). HasFirst m operators.CharStrings (pos font.char_strings)) same (codes_named bytes w.map named.0 named.1 font.char_strings named.2 named.3);
       codes = of.codes;
+      globals = of.globals;
+      behind = globals_behind bytes (placed font) 0 is.reads;
     }
 
 -- ---- the number by FDSelect
@@ -235,12 +279,12 @@ item_of bytes (item ∷ items) (q ∷ ps) (suc fd) p h e = item_of bytes items p
 item_of bytes [] (q ∷ ps) fd p h e = absurd h
 item_of bytes (item ∷ items) [] fd p h e = absurd h
 
-there_is : {A : Type 0} (xs : List A) (i : ℕ) → i < length xs → (x : A) × (slice_get xs i ≡ Some x)
+pub there_is : {A : Type 0} (xs : List A) (i : ℕ) → i < length xs → (x : A) × (slice_get xs i ≡ Some x)
 there_is [] i h = absurd (omega arith)
 there_is (x ∷ xs) zero h = (x, refl)
 there_is (x ∷ xs) (suc i) h = there_is xs i (omega arith)
 
-length_shown : (ps : List Part) → length (parts_shown ps) ≡ length ps
+pub length_shown : (ps : List Part) → length (parts_shown ps) ≡ length ps
 length_shown [] = refl
 length_shown (p ∷ ps) = ap (λ (n : ℕ). suc n) (length_shown ps)
 
@@ -261,7 +305,7 @@ same_of bytes map part found at next start locals names reads widths = (record {
         let there = (got _ _ _ _ (sym (t.1 at) ∙ reads)).0 in
         subst (λ (p : ℕ). index_at p bytes 0 ≡ Got (items_of part.subroutines) 0) there t.2
 
-shown_at : (ps : List Part) (fd : ℕ) (p : Part) → slice_get ps fd ≡ Some p → slice_get (parts_shown ps) fd ≡ Some (part_shown p)
+pub shown_at : (ps : List Part) (fd : ℕ) (p : Part) → slice_get ps fd ≡ Some p → slice_get (parts_shown ps) fd ≡ Some (part_shown p)
 shown_at ps fd p e = slice_get-map part_shown ps fd ∙ ap (option_map part_shown) e
 
 -- its subroutines are not to stand at 0
@@ -293,17 +337,38 @@ some_program bytes font found glyph codes code is there h =
     let never = (got _ _ _ _ b.3).0 in
     absurd (cc)
 
+program_is : (bytes : List ℕ) (font : PsfFont) (found : PsfPart) (glyph : ℕ) (codes globals locals : List (List ℕ)) (code : List ℕ) → index_at font.char_strings bytes 0 ≡ Got codes 0 → slice_get codes glyph ≡ Some code
+    → index_at font.global_subroutines bytes 0 ≡ Got globals 0 → index_at found.local_subroutines bytes 0 ≡ Got locals 0 → program_at font found glyph bytes 0 ≡ Got (Some (begun (run_of (lent globals locals) code))) 0
+unfolding program_at program_of
+program_is bytes font found glyph codes globals locals code are there global local = rw (are, there, global, local) refl
+
 codes_told : (bytes : List ℕ) (font : PsfFont) (v : FontView) → Common bytes font v → font.char_strings ≢ 0 → index_at font.char_strings bytes 0 ≡ Got (items_of v.char_strings) 0
 unfolding index_at
 codes_told bytes font v c some =
     let no : (font.char_strings == 0) ≡ false = grind (arith, nat_tests) in
     rw (no, c.codes.1) refl
 
+globals_told : (bytes : List ℕ) (font : PsfFont) (v : FontView) → Common bytes font v → index_at font.global_subroutines bytes 0 ≡ Got (items_of v.global_subroutines) 0
+unfolding index_at
+globals_told bytes font v c =
+    let behind = c.behind in
+    let no : (font.global_subroutines == 0) ≡ false = grind (arith, nat_tests) in
+    rw (no, c.globals.1) refl
+
+-- the char strings are not to stand at 0
+codes_there : (bytes : List ℕ) (font : PsfFont) (v : FontView) → Common bytes font v → NamesNoStart v → index_at font.char_strings bytes 0 ≡ Got (items_of v.char_strings) 0
+codes_there bytes font v c start = codes_told bytes font v c (λ zero. start.char_strings (subst (λ (n : ℕ). HasFirst v.dictionary operators.CharStrings (pos n)) zero c.named))
+
+same_program : (bytes : List ℕ) (font : PsfFont) (v : FontView) (glyph : ℕ) (code : List ℕ) (part : Part) (found : PsfPart) → Common bytes font v → NamesNoStart v → slice_get (items_of v.char_strings) glyph ≡ Some code
+    → HasSameSubroutines bytes part found → program_at font found glyph bytes 0 ≡ Got (Some (program_in v code part)) 0
+same_program bytes font v glyph code part found c start there local =
+    program_is bytes font found glyph (items_of v.char_strings) (items_of v.global_subroutines) (items_of part.subroutines) code (codes_there bytes font v c start) there (globals_told bytes font v c) local
+
 missing_is : (bytes : List ℕ) (font : PsfFont) (v : FontView) (glyph : ℕ) (found : PsfPart) → Common bytes font v → NamesNoStart v → HasNone bytes font found glyph ↔ (font.glyphs ≤ glyph)
 missing_is bytes font v glyph found c start = (behind, lacks)
   where
     codes : index_at font.char_strings bytes 0 ≡ Got (items_of v.char_strings) 0
-    codes = codes_told bytes font v c (λ zero. start.char_strings (subst (λ (n : ℕ). HasFirst v.dictionary operators.CharStrings (pos n)) zero c.named))
+    codes = codes_there bytes font v c start
 
     behind : HasNone bytes font found glyph → font.glyphs ≤ glyph
     behind h = elim (cases_lt glyph font.glyphs) [
@@ -380,6 +445,8 @@ plain_all bytes font v glyph c start is single tells = record {
   only = tells.only;
   widths = tells.widths;
   subroutines = λ p found b. tells.subroutines p found b (start.subroutines b.0 p b.2);
+  program = λ code p found g in_c.
+      same_program bytes font v glyph code p found c start g.has_code (tells.subroutines p found (g.number, g.has_number, g.has_part, in_c) (start.subroutines g.number p g.has_part));
   none = (
     λ lacks. elim lacks [
       | inl behind ↦ λ fd h. let below = h.glyph_there in let glyphs = c.glyphs in absurd (omega arith)
@@ -568,6 +635,8 @@ keyed_all bytes font v glyph c start k tells = record {
   only = tells.only;
   widths = tells.widths;
   subroutines = λ p found b. tells.subroutines p found b (start.subroutines b.0 p b.2);
+  program = λ code p found g in_c.
+      same_program bytes font v glyph code p found c start g.has_code (tells.subroutines p found (g.number, g.has_number, g.has_part, in_c) (start.subroutines g.number p g.has_part));
   none = (keyed_none bytes font v glyph c start k, tells.none);
   status = λ status partless. keyed_status bytes font v glyph status c start k partless.1;
   missing = λ found. missing_is bytes font v glyph found c start;

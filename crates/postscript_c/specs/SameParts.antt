@@ -6,7 +6,7 @@ use Rattle.postscript_base.specs.Tape.Outcome.{Got}
 use Rattle.postscript_base.specs.declared.compact1.operator.Operator.TheVariants as operators
 use Rattle.postscript_c.specs.CidParts.{HasNumber, LacksDictionary}
 use Rattle.postscript_c.specs.Drawn.{HasNone, IsFirst}
-use Rattle.postscript_c.specs.Glyphs.{index_at}
+use Rattle.postscript_c.specs.Glyphs.{index_at, program_at}
 use Rattle.postscript_c.specs.Law.{IsFontOf}
 use Rattle.postscript_c.specs.Parts.{IsPartIn, IsPartless}
 use Rattle.postscript_c.specs.Widths.{IsWidth}
@@ -14,7 +14,10 @@ use Rattle.postscript_c.specs.declared.font.PsfFont.{PsfFont}
 use Rattle.postscript_c.specs.declared.part.PsfPart.{PsfPart}
 use Rattle.postscript_compact1.specs.FontSet.Layout.{HasFirst, HasPrivate}
 use Rattle.postscript_items.specs.Lent.{items_of}
-use Rattle.postscript_view.specs.Glyphs.{HasPartNumber}
+use Rattle.postscript_type2.specs.Program.Evaluation.{run_of}
+use Rattle.postscript_type2.specs.Program.Programs.{Pending, begun}
+use Rattle.postscript_type2.specs.Program.Routines.{lent}
+use Rattle.postscript_view.specs.Glyphs.{HasGlyph, HasPartNumber}
 use Rattle.postscript_view.specs.declared.font.FontView.{FontView}
 use Rattle.postscript_view.specs.declared.part.Part.{Part}
 
@@ -79,6 +82,10 @@ IsToldNone font view glyph status =
     ⊎ (((status ≡ pos 42) × (glyph < font.glyphs) × IsNoneIn view glyph)
     ⊎ (status ≡ pos 3))
 
+-- the program of a code over the subroutines of a font in place and of a part of it
+abbrev pub program_in : FontView → List ℕ → Part → Pending
+program_in view code part = begun (run_of (lent (items_of view.global_subroutines) (items_of part.subroutines)) code)
+
 -- What C has of a glyph is so in place: its number, and the widths and the subroutines of the part of that number, unless these are to
 -- stand at 0. Where the glyph has no part in place, it has none for C.
 pub record TellsPart (bytes : List ℕ) (font : PsfFont) (view : FontView) (glyph : ℕ) : Type 0 where
@@ -89,24 +96,30 @@ pub record TellsPart (bytes : List ℕ) (font : PsfFont) (view : FontView) (glyp
       → HasSameSubroutines bytes part told
   pub none : IsNoneIn view glyph → HasNoPart bytes font glyph
 
--- For C a glyph has the number that it has in place, and the part of that number; and it has none where it has none in place. A program is
--- lacking, which C tells by 31, where there is no such glyph.
+-- For C a glyph has the number that it has in place, the part of that number and its program; and it has none where it has none in place.
+-- The program is lacking, which C tells by 31, where there is no such glyph.
 pub record SamePart (bytes : List ℕ) (font : PsfFont) (view : FontView) (glyph : ℕ) : Type 0 where
   pub number : (fd : ℕ) → HasNumberIn bytes font glyph fd ↔ HasPartNumber view glyph fd
   pub has : (fd : ℕ) → HasPartNumber view glyph fd → (told : PsfPart) × IsPartIn bytes font glyph told
   pub only : (told : PsfPart) → IsPartIn bytes font glyph told → glyph < font.glyphs → (fd : ℕ) × HasPartNumber view glyph fd
   pub widths : (part : Part) (told : PsfPart) → AreBoth bytes font view glyph part told → HasSameWidths part told
   pub subroutines : (part : Part) (told : PsfPart) → AreBoth bytes font view glyph part told → HasSameSubroutines bytes part told
+  pub program : (code : List ℕ) (part : Part) (told : PsfPart) → HasGlyph view glyph code part → IsPartIn bytes font glyph told
+      → program_at font told glyph bytes 0 ≡ Got (Some (program_in view code part)) 0
   pub none : HasNoPart bytes font glyph ↔ IsNoneIn view glyph
   pub status : (status : ℤ) → IsPartless bytes font glyph status → IsToldNone font view glyph status
   pub missing : (told : PsfPart) → HasNone bytes font told glyph ↔ (font.glyphs ≤ glyph)
 
+-- The numbers are those that C is told of the font that bytes begin with, but for the limit, which a caller may change.
+abbrev pub IsToldOf : List ℕ → PsfFont → Type 0
+IsToldOf bytes font = (limit : ℕ) × IsFontOf bytes (Ok (record font { limit = limit }))
+
 -- A law: so it is with each glyph of a font that C is told, where the same bytes begin with a font in place.
 abbrev pub TellsParts : Type 0
-TellsParts = (bytes : List ℕ) (font : PsfFont) (view : FontView) (glyph : ℕ) → IsFontOf bytes (Ok font) → IsFirst bytes view
+TellsParts = (bytes : List ℕ) (font : PsfFont) (view : FontView) (glyph : ℕ) → IsToldOf bytes font → IsFirst bytes view
     → TellsPart bytes font view glyph
 
 -- A law: where besides nothing is named at 0, C and the font in place have the same parts.
 abbrev pub KeepsParts : Type 0
-KeepsParts = (bytes : List ℕ) (font : PsfFont) (view : FontView) (glyph : ℕ) → IsFontOf bytes (Ok font) → IsFirst bytes view
+KeepsParts = (bytes : List ℕ) (font : PsfFont) (view : FontView) (glyph : ℕ) → IsToldOf bytes font → IsFirst bytes view
     → NamesNoStart view → SamePart bytes font view glyph
