@@ -379,14 +379,30 @@ impl<'v> Varied<'v> {
         }
     }
 
-    /// Takes the store of a table `GDEF` out, where it stands behind all others, and these are lists of classes, which name no tables.
+    /// The last place where a set of marks of a table `GDEF` begins. 0 where there is none.
+    fn last_set(&self) -> usize {
+        let sets = self.word(12);
+        let mut last = sets;
+        if sets == 0 {
+            return 0;
+        }
+        for i in 0..self.word(behind(sets, 2)) {
+            let place = words(behind(sets, 4), i.saturating_mul(2));
+            last = last.max(behind(sets, number_within(&self.bytes, place, 4).unwrap_or(0)));
+        }
+        last
+    }
+
+    /// Takes the store of a table `GDEF` out, where it stands behind all other tables, and these are lists of classes and sets of marks. Else no
+    /// byte moves.
     fn take_store_out(&mut self) {
         let store = number_within(&self.bytes, 14, 4).unwrap_or(0);
-        let classes = self.word(4).max(self.word(10));
-        let others = self.word(6).max(self.word(8)).max(self.word(12));
-        if others == 0 && classes < store {
-            self.gaps
-                .take_out(store, self.bytes.len().saturating_sub(store));
+        let last = self.word(4).max(self.word(10)).max(self.last_set());
+        if self.word(6).max(self.word(8)) != 0 || store <= last {
+            self.gaps.keep_all();
+        } else {
+            let size = self.bytes.len().saturating_sub(store);
+            self.gaps.take_out(store, size);
         }
     }
 
