@@ -72,6 +72,24 @@ fn has_hint(
     }
 }
 
+/// Whether a glyph of this number has a hint. One whose run takes longer than the limit is judged by the operations up to there, and
+/// told of.
+fn sees_hint(
+    alloc: Global,
+    gid: u16,
+    glyph: &Glyph<'_, '_>,
+    budget: &mut Budget,
+    stopped: &mut Stopped<'_>,
+) -> std::result::Result<bool, Failure> {
+    match has_hint(alloc, glyph, budget)? {
+        Ok(has_hint) => Ok(has_hint),
+        Err(refusal) => {
+            stopped.add(gid, &refusal)?;
+            Ok(false)
+        }
+    }
+}
+
 /// How many glyphs of a face have a hint. Those whose runs take longer than the limit are judged by the operations up to there, and
 /// told of.
 pub fn hinted(
@@ -85,10 +103,8 @@ pub fn hinted(
     for gid in 0..count(face) {
         progress.at(gid);
         if let Some(glyph) = face.font.glyph(usize::from(gid)) {
-            match has_hint(rt.alloc(), &glyph, budget)? {
-                Ok(true) => hinted = hinted.saturating_add(1),
-                Ok(false) => {}
-                Err(refusal) => stopped.add(gid, &refusal)?,
+            if sees_hint(rt.alloc(), gid, &glyph, budget, stopped)? {
+                hinted = hinted.saturating_add(1);
             }
         }
     }

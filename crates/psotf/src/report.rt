@@ -142,6 +142,21 @@ fn write_page(
     save(rt, path.as_str(), page.as_slice())
 }
 
+/// Writes all pages.
+fn write_pages(
+    rt: &HostRuntime,
+    common: &Common<'_, '_, '_>,
+    budget: &mut Budget,
+    stopped: &mut Stopped<'_>,
+) -> Result<(), Failure> {
+    for page in 0..PAGES {
+        if let Some(first) = common.pages.first_of(page) {
+            write_page(rt, common, first, budget, stopped)?;
+        }
+    }
+    Ok(())
+}
+
 /// Where words say that the first page is written to.
 fn path_of<'w>(words: &'w ArgMatches<'_>) -> &'w str {
     match words.get_str("out") {
@@ -195,10 +210,6 @@ pub fn write(
         mapped: mapped.as_slice(),
         hinted: hinted(rt, face, budget, &mut stopped)?,
     };
-    for page in 0..PAGES {
-        if let Some(first) = pages.first_of(page) {
-            write_page(rt, &common, first, budget, &mut stopped)?;
-        }
-    }
+    write_pages(rt, &common, budget, &mut stopped)?;
     stopped.end()
 }

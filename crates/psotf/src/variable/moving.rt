@@ -9,6 +9,7 @@ use crate::saving;
 use crate::svg::picture_of;
 use crate::text::Text;
 use clap::ArgMatches;
+use postscript_outline::Outline;
 use postscript_variation::{Axis, Setting};
 use std::alloc::{AllocError, Global};
 use std::io::Write;
@@ -48,14 +49,32 @@ fn stop(axis: &Axis, number: i64) -> Option<i32> {
     }
 }
 
-/// The glyphs of a text, whose characters all have one.
-fn glyphs_of(alloc: Global, face: &VariableFace<'_>, text: &str) -> Result<Vec<u16>, Failure> {
-    has_all(alloc, face, text)?;
+/// The glyph of a number, or those of a text.
+fn glyphs_of(
+    alloc: Global,
+    face: &VariableFace<'_>,
+    gid: Option<u16>,
+    text: &str,
+) -> Result<Vec<u16>, AllocError> {
     let mut gids = Vec::new(alloc);
+    if let Some(gid) = gid {
+        gids.push(gid)?;
+        return Ok(gids);
+    }
     for char in text.chars() {
         gids.push(glyph_of(&face.common.map, u32::from(char)))?;
     }
     Ok(gids)
+}
+
+/// The first glyph of some that the face does not have.
+fn beyond(face: &VariableFace<'_>, gids: &[u16]) -> Option<u16> {
+    for gid in gids {
+        if *gid >= count(face) {
+            return Some(*gid);
+        }
+    }
+    None
 }
 
 /// The glyphs that words name.
@@ -64,20 +83,26 @@ fn asked(
     face: &VariableFace<'_>,
     words: &ArgMatches<'_>,
 ) -> Result<Vec<u16>, Failure> {
-    let gids = match words.get_one::<u16>("gid") {
-        Some(gid) => {
-            let mut gids = Vec::with_capacity(alloc, 1)?;
-            gids.push(gid)?;
-            gids
-        }
-        None => glyphs_of(alloc, face, words.get_str("text").unwrap_or(""))?,
-    };
-    for gid in &gids {
-        if *gid >= count(face) {
-            return Err(Failure::Missing(Missing::Glyph(*gid)));
-        }
+    let gid = words.get_one::<u16>("gid");
+    let text = words.get_str("text").unwrap_or("");
+    if gid.is_none() {
+        has_all(alloc, face, text)?;
     }
-    Ok(gids)
+    let gids = glyphs_of(alloc, face, gid, text)?;
+    match beyond(face, &gids) {
+        Some(gid) => Err(Failure::Missing(Missing::Glyph(gid))),
+        None => Ok(gids),
+    }
+}
+
+impl Frame {
+    /// Adds a glyph beside the others.
+    fn put(&mut self, alloc: Global, outline: &Outline, advance: i64) -> Result<(), AllocError> {
+        self.paths.push(format!(in alloc; "{outline}")?)?;
+        self.starts.push(self.width)?;
+        self.width = self.width.saturating_add(advance);
+        Ok(())
+    }
 }
 
 /// Glyphs side by side at a place.
@@ -95,12 +120,9 @@ fn frame_of(
     };
     for gid in gids {
         match outline_of(alloc, face, *gid, chosen, budget) {
-            Ok(outline) => frame.paths.push(format!(in alloc; "{outline}")?)?,
+            Ok(outline) => frame.put(alloc, &outline, advance_of(face, *gid, chosen))?,
             Err(refusal) => return Err(Failure::Glyph { gid: *gid, refusal }),
         }
-        frame.starts.push(frame.width)?;
-        let advance = advance_of(face, *gid, chosen);
-        frame.width = frame.width.saturating_add(advance);
     }
     Ok(frame)
 }
@@ -210,6 +232,30 @@ fn elements(alloc: Global, frames: &[Frame], glyphs: usize) -> Result<String, Al
     picture.end()
 }
 
+/// A picture of frames of so many glyphs.
+fn picture(
+    alloc: Global,
+    units: u16,
+    frames: &[Frame],
+    glyphs: usize,
+) -> Result<String, AllocError> {
+    let paths = elements(alloc, frames, glyphs)?;
+    picture_of(alloc, units, &width_of(frames), paths.as_str())
+}
+
+/// A picture of glyphs that goes through an axis.
+fn moving(
+    alloc: Global,
+    face: &VariableFace<'_>,
+    axis: &Axis,
+    gids: &[u16],
+    chosen: &Chosen,
+    budget: &mut Budget,
+) -> Result<String, Failure> {
+    let frames = frames_of(alloc, face, axis, gids, chosen, budget)?;
+    Ok(picture(alloc, face.common.units, &frames, gids.len())?)
+}
+
 /// Writes a picture of the glyph or the text that words name, which goes through an axis and back.
 pub fn write<W: Write>(
     rt: &HostRuntime,
@@ -223,9 +269,6 @@ pub fn write<W: Write>(
     let axis = axis_named(alloc, face, name)?;
     let gids = asked(alloc, face, words)?;
     let chosen = Chosen::read(rt, face, words)?;
-    let frames = frames_of(alloc, face, &axis, &gids, &chosen, budget)?;
-    let paths = elements(alloc, &frames, gids.len())?;
-    let width = width_of(&frames);
-    let picture = picture_of(alloc, face.common.units, &width, paths.as_str())?;
+    let picture = moving(alloc, face, &axis, &gids, &chosen, budget)?;
     saving::put(rt, words, picture.as_bytes(), out)
 }
