@@ -1,5 +1,5 @@
 //! What a glyph is.
-use crate::characters::{Mapped, by_glyph, of_glyph};
+use crate::characters::{Mapped, by_glyph, char_of, glyph_of, of_glyph};
 use crate::drawing::{OPERAND, count, draw, width_of};
 use crate::face::Face;
 use crate::failure::{Failure, Missing, Refusal};
@@ -215,14 +215,13 @@ fn asked(face: &Face<'_>, words: &ArgMatches<'_>) -> Result<u16, Failure> {
             None => Err(Failure::Missing(Missing::Part("glyph of this name"))),
         };
     }
-    let mut chars = words.get_str("char").unwrap_or("").chars();
-    let (Some(char), None) = (chars.next(), chars.next()) else {
+    let Some(char) = char_of(words.get_str("char")) else {
         return Err(Failure::Usage("--char takes one character"));
     };
-    let Some(map) = &face.map else {
+    if face.map.is_none() {
         return Err(Failure::Missing(Missing::Part("character map")));
-    };
-    match map.glyph_of(u32::from(char)) {
+    }
+    match glyph_of(&face.map, u32::from(char)) {
         0 => Err(Failure::Missing(Missing::Part("glyph of this character"))),
         gid => Ok(gid),
     }

@@ -88,11 +88,8 @@ pub fn put(alloc: Global, sheet: &mut Sheet, cff: &[u8]) {
 fn put_line(lines: &mut Text, reading: &str, refused: &Option<Refused>) {
     if let Some(Refused { error, spot }) = refused {
         let code = error.code();
-        let rule = rule_of(code);
-        writeln!(
-            lines,
-            "refused by the {reading} reading: {spot}: {error} (refusal {code}): {rule}"
-        );
+        write!(lines, "refused by the {reading} reading: {spot}: {error}");
+        writeln!(lines, " (refusal {code}): {}", rule_of(code));
     }
 }
 

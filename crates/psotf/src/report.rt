@@ -95,23 +95,24 @@ fn put_data(
     put_glyphs(rt, face, mapped, pages.glyphs(first), budget, stopped, page)
 }
 
-/// Adds what stands before the head of the block of JSON.
-fn begin(page: &mut Vec<u8>) -> Result<(), AllocError> {
-    for text in [BEFORE_STYLE, STYLE, BEFORE_DATA, "{\"head\":"] {
+/// Adds texts.
+fn put_texts(page: &mut Vec<u8>, texts: &[&str]) -> Result<(), AllocError> {
+    for text in texts {
         page.extend_from_slice(text.as_bytes())?;
     }
     Ok(())
 }
 
+/// Adds what stands before the head of the block of JSON.
+fn begin(page: &mut Vec<u8>) -> Result<(), AllocError> {
+    put_texts(page, &[BEFORE_STYLE, STYLE, BEFORE_DATA, "{\"head\":"])
+}
+
 /// Adds what stands behind its glyphs.
 fn end(page: &mut Vec<u8>) -> Result<(), AllocError> {
-    for text in ["]}\n", BEFORE_SCRIPT] {
-        page.extend_from_slice(text.as_bytes())?;
-    }
-    for part in SCRIPT {
-        page.extend_from_slice(part.as_bytes())?;
-    }
-    page.extend_from_slice(END.as_bytes())
+    put_texts(page, &["]}\n", BEFORE_SCRIPT])?;
+    put_texts(page, &SCRIPT)?;
+    put_texts(page, &[END])
 }
 
 /// The page that begins with a glyph.

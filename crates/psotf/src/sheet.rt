@@ -245,9 +245,9 @@ impl Sheet {
     /// A member with a name of the font, or null.
     pub fn name(&mut self, key: &str, name: Option<Name<'_>>) {
         self.key(key);
-        let Some(name) = name else {
+        if name.is_none() {
             return self.null();
-        };
+        }
         self.text.clear();
         self.text.put_name(name);
         self.put_own();

@@ -47,20 +47,26 @@ impl Text {
         }
     }
 
-    /// Adds the characters of a name.
-    pub fn put_name(&mut self, name: Name<'_>) {
-        for char in name.chars() {
-            self.push(char);
+    /// Adds the characters of a name, if there is one.
+    pub fn put_name(&mut self, name: Option<Name<'_>>) {
+        if let Some(name) = name {
+            for char in name.chars() {
+                self.push(char);
+            }
         }
     }
 
     /// Adds a line of a name behind its label.
     pub fn put_named(&mut self, label: &str, name: Option<Name<'_>>) {
-        write!(self, "{label}: ");
-        if let Some(name) = name {
-            self.put_name(name);
-        }
+        self.push_str(label);
+        self.push_str(": ");
+        self.put_name(name);
         self.push('\n');
+    }
+
+    /// Adds a line of a value behind its label.
+    pub fn put_told<T: Display>(&mut self, label: &str, value: &T) {
+        writeln!(self, "{label}: {value}");
     }
 
     /// Adds bytes as hex digits.

@@ -1,7 +1,7 @@
 //! Glyphs of variable fonts, at a place.
 use super::place::Chosen;
 use super::{VariableFace, moving};
-use crate::characters::{Mapped, by_glyph, glyph_of, missing, of_glyph};
+use crate::characters::{Mapped, by_glyph, char_of, glyph_of, missing, of_glyph};
 use crate::drawing::SEGMENT;
 use crate::failure::{Failure, Missing, Refusal};
 use crate::glyph::{chars, shape};
@@ -16,7 +16,7 @@ use postscript_drawing::Error as Undrawn;
 use postscript_outline::Outline;
 use postscript_variable_drawing::draw_glyph;
 use postscript_variation::in_whole;
-use std::alloc::Global;
+use std::alloc::{AllocError, Global};
 use std::io::Write;
 use std::ops::Range;
 
@@ -150,8 +150,7 @@ fn asked(face: &VariableFace<'_>, words: &ArgMatches<'_>) -> Result<u16, Failure
     if words.get_str("name").is_some() {
         return Err(Failure::Missing(Missing::Part("names of glyphs: CFF2 has none")));
     }
-    let mut chars = words.get_str("char").unwrap_or("").chars();
-    let (Some(char), None) = (chars.next(), chars.next()) else {
+    let Some(char) = char_of(words.get_str("char")) else {
         return Err(Failure::Usage("--char takes one character"));
     };
     match glyph_of(&face.common.map, u32::from(char)) {
@@ -294,25 +293,28 @@ fn put_text(
     Ok(x)
 }
 
-/// A picture of the glyph or the text that words name, at a place.
-fn still(
+/// Adds the path of the glyph or the paths of the text that words name, at a place, and tells the width.
+fn put_named(
     alloc: Global,
     face: &VariableFace<'_>,
     words: &ArgMatches<'_>,
     chosen: &Chosen,
     budget: &mut Budget,
-) -> Result<String, Failure> {
-    let mut paths = Text::new(alloc);
-    let told = match words.get_one::<u16>("gid") {
-        Some(gid) => put(alloc, face, gid, 0, chosen, budget, &mut paths),
+    picture: &mut Text,
+) -> Result<i64, Failure> {
+    match words.get_one::<u16>("gid") {
+        Some(gid) => put(alloc, face, gid, 0, chosen, budget, picture),
         None => {
             let text = words.get_str("text").unwrap_or("");
-            put_text(alloc, face, text, chosen, budget, &mut paths)
+            put_text(alloc, face, text, chosen, budget, picture)
         }
-    };
-    let width = told?;
+    }
+}
+
+/// A picture so wide of paths, in so many units to the em.
+pub fn framed(alloc: Global, units: u16, width: i64, paths: Text) -> Result<String, AllocError> {
     let paths = paths.end()?;
-    Ok(picture_of(alloc, face.common.units, &width, paths.as_str())?)
+    picture_of(alloc, units, &width, paths.as_str())
 }
 
 /// Writes a picture of the glyph or the text that words name, at the place that they name.
@@ -327,6 +329,8 @@ pub fn write_picture<W: Write>(
         return moving::write(rt, face, axis, words, budget, out);
     }
     let chosen = Chosen::read(rt, face, words)?;
-    let picture = still(rt.alloc(), face, words, &chosen, budget)?;
+    let mut paths = Text::new(rt.alloc());
+    let width = put_named(rt.alloc(), face, words, &chosen, budget, &mut paths)?;
+    let picture = framed(rt.alloc(), face.common.units, width, paths)?;
     saving::put(rt, words, picture.as_bytes(), out)
 }

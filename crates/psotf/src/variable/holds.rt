@@ -119,20 +119,21 @@ fn object<W: Write>(alloc: Global, face: &VariableFace<'_>, out: &mut W) -> Resu
     sheet.end(out)
 }
 
+/// Adds a value in 65536ths behind words.
+fn put_value(lines: &mut Text, words: &str, bits: i32) {
+    lines.push_str(words);
+    put_bits(lines, i64::from(bits));
+}
+
 /// Adds a line of an axis: from where to where it goes, and where its default is.
 fn axis_line(alloc: Global, lines: &mut Text, face: &VariableFace<'_>, axis: &Axis) {
     lines.push_str("axis ");
     lines.put_made(String::from_utf8_lossy(alloc, &axis.tag.to_be_bytes()));
     lines.push_str(": ");
-    if let Some(name) = name_of(face, axis.name) {
-        lines.put_name(name);
-    }
-    lines.push_str(", ");
-    put_bits(lines, i64::from(axis.minimum));
-    lines.push_str(" to ");
-    put_bits(lines, i64::from(axis.maximum));
-    lines.push_str(", by default ");
-    put_bits(lines, i64::from(axis.default));
+    lines.put_name(name_of(face, axis.name));
+    put_value(lines, ", ", axis.minimum);
+    put_value(lines, " to ", axis.maximum);
+    put_value(lines, ", by default ", axis.default);
     lines.push_str(if axis.flags % 2 == 1 {
         ", hidden\n"
     } else {
@@ -146,13 +147,10 @@ fn instance_line(lines: &mut Text, face: &VariableFace<'_>, axes: &Axes<'_>, i: 
         return;
     };
     lines.push_str("instance ");
-    if let Some(name) = name_of(face, instance.name) {
-        lines.put_name(name);
-    }
+    lines.put_name(name_of(face, instance.name));
     lines.push(':');
     for axis in 0..axes.len() {
-        lines.push(' ');
-        put_bits(lines, i64::from(axes.coordinate(i, axis).unwrap_or(0)));
+        put_value(lines, " ", axes.coordinate(i, axis).unwrap_or(0));
     }
     lines.push('\n');
 }
@@ -165,17 +163,21 @@ fn head_lines(alloc: Global, lines: &mut Text, face: &VariableFace<'_>) {
     lines.push_str("a variable font: its outlines stand in the table CFF2\n");
     let characters = lines.found(count(alloc, &face.common.map));
     for (key, count) in &counts(face, characters) {
-        writeln!(lines, "{key}: {count}");
+        lines.put_told(*key, count);
     }
 }
 
-/// Adds a line of each axis and of each instance.
-fn space_lines(alloc: Global, lines: &mut Text, face: &VariableFace<'_>, axes: &Axes<'_>) {
+/// Adds a line of each axis.
+fn axis_lines(alloc: Global, lines: &mut Text, face: &VariableFace<'_>, axes: &Axes<'_>) {
     for i in 0..axes.len() {
         if let Some(axis) = axes.get(i) {
             axis_line(alloc, lines, face, &axis);
         }
     }
+}
+
+/// Adds a line of each instance.
+fn instance_lines(lines: &mut Text, face: &VariableFace<'_>, axes: &Axes<'_>) {
     for i in 0..axes.instances() {
         instance_line(lines, face, axes, i);
     }
@@ -186,7 +188,8 @@ fn lines<W: Write>(alloc: Global, face: &VariableFace<'_>, out: &mut W) -> Resul
     let mut lines = Text::new(alloc);
     head_lines(alloc, &mut lines, face);
     if let Some(axes) = face.axes {
-        space_lines(alloc, &mut lines, face, &axes);
+        axis_lines(alloc, &mut lines, face, &axes);
+        instance_lines(&mut lines, face, &axes);
     }
     lines.end_in(out)
 }

@@ -1,12 +1,11 @@
 //! Pictures of a variable font that go through an axis.
 use super::VariableFace;
-use super::glyphs::{advance_of, count, has_all, outline_of};
+use super::glyphs::{advance_of, count, framed, has_all, outline_of};
 use super::place::{Chosen, axis_named};
 use crate::characters::glyph_of;
 use crate::failure::{Failure, Missing};
 use crate::limit::Budget;
 use crate::saving;
-use crate::svg::picture_of;
 use crate::text::Text;
 use clap::ArgMatches;
 use postscript_outline::Outline;
@@ -224,23 +223,12 @@ fn width_of(frames: &[Frame]) -> i64 {
 }
 
 /// The glyphs as elements that move.
-fn elements(alloc: Global, frames: &[Frame], glyphs: usize) -> Result<String, AllocError> {
+fn elements(alloc: Global, frames: &[Frame], glyphs: usize) -> Text {
     let mut picture = Text::new(alloc);
     for glyph in 0..glyphs {
         put_glyph(&mut picture, frames, glyph);
     }
-    picture.end()
-}
-
-/// A picture of frames of so many glyphs.
-fn picture(
-    alloc: Global,
-    units: u16,
-    frames: &[Frame],
-    glyphs: usize,
-) -> Result<String, AllocError> {
-    let paths = elements(alloc, frames, glyphs)?;
-    picture_of(alloc, units, &width_of(frames), paths.as_str())
+    picture
 }
 
 /// A picture of glyphs that goes through an axis.
@@ -253,7 +241,8 @@ fn moving(
     budget: &mut Budget,
 ) -> Result<String, Failure> {
     let frames = frames_of(alloc, face, axis, gids, chosen, budget)?;
-    Ok(picture(alloc, face.common.units, &frames, gids.len())?)
+    let paths = elements(alloc, &frames, gids.len());
+    Ok(framed(alloc, face.common.units, width_of(&frames), paths)?)
 }
 
 /// Writes a picture of the glyph or the text that words name, which goes through an axis and back.
