@@ -1,5 +1,5 @@
 //! What a glyph is.
-use crate::characters::{Mapped, by_glyph, char_of, glyph_of, of_glyph};
+use crate::characters::{Mapped, by_glyph, of_glyph};
 use crate::drawing::{OPERAND, count, draw, width_of};
 use crate::face::Face;
 use crate::failure::{Failure, Missing, Refusal};
@@ -182,6 +182,21 @@ fn lines<W: Write>(
     Ok(refused)
 }
 
+/// Writes a glyph as an object on a line, and tells whether it is drawn.
+fn object_line<W: Write>(
+    alloc: Global,
+    sheet: &mut Sheet,
+    face: &Face<'_>,
+    mapped: &[Mapped],
+    gid: u16,
+    budget: &mut Budget,
+    out: &mut W,
+) -> Result<bool, Failure> {
+    let is_drawn = object(alloc, sheet, face, mapped, gid, budget)?;
+    sheet.end(out)?;
+    Ok(is_drawn)
+}
+
 /// Writes glyphs, each as an object on a line, and tells how many are refused.
 fn objects<W: Write>(
     alloc: Global,
@@ -196,10 +211,9 @@ fn objects<W: Write>(
     let mut refused = 0u64;
     for gid in gids {
         progress.at(gid);
-        if !object(alloc, &mut sheet, face, &mapped, gid, budget)? {
+        if !object_line(alloc, &mut sheet, face, &mapped, gid, budget, out)? {
             refused = refused.saturating_add(1);
         }
-        sheet.end(out)?;
     }
     Ok(refused)
 }
@@ -215,13 +229,14 @@ fn asked(face: &Face<'_>, words: &ArgMatches<'_>) -> Result<u16, Failure> {
             None => Err(Failure::Missing(Missing::Part("glyph of this name"))),
         };
     }
-    let Some(char) = char_of(words.get_str("char")) else {
+    let mut chars = words.get_str("char").unwrap_or("").chars();
+    let (Some(char), None) = (chars.next(), chars.next()) else {
         return Err(Failure::Usage("--char takes one character"));
     };
-    if face.map.is_none() {
+    let Some(map) = &face.map else {
         return Err(Failure::Missing(Missing::Part("character map")));
-    }
-    match glyph_of(&face.map, u32::from(char)) {
+    };
+    match map.glyph_of(u32::from(char)) {
         0 => Err(Failure::Missing(Missing::Part("glyph of this character"))),
         gid => Ok(gid),
     }
@@ -240,17 +255,17 @@ fn named(face: &Face<'_>, words: &ArgMatches<'_>) -> Result<Range<u16>, Failure>
     Ok(gid..gid.saturating_add(1))
 }
 
-/// Writes the glyphs that words name, and tells how many are refused.
+/// Writes glyphs, and tells how many are refused.
 fn told<W: Write>(
     rt: &HostRuntime,
     face: &Face<'_>,
-    words: &ArgMatches<'_>,
+    gids: Range<u16>,
+    as_json: bool,
     budget: &mut Budget,
     out: &mut W,
 ) -> Result<u64, Failure> {
-    let gids = named(face, words)?;
     let mut progress = Progress::of_answers(rt, gids.end);
-    let refused = if words.get_flag("json") {
+    let refused = if as_json {
         objects(rt.alloc(), face, gids, budget, &mut progress, out)
     } else {
         lines(rt.alloc(), face, gids, budget, &mut progress, out)
@@ -267,7 +282,8 @@ pub fn write<W: Write>(
     budget: &mut Budget,
     out: &mut W,
 ) -> Result<(), Failure> {
-    match told(rt, face, words, budget, out)? {
+    let gids = named(face, words)?;
+    match told(rt, face, gids, words.get_flag("json"), budget, out)? {
         0 => Ok(()),
         refused => Err(Failure::Refused(refused)),
     }

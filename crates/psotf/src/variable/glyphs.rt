@@ -1,7 +1,7 @@
 //! Glyphs of variable fonts, at a place.
 use super::place::Chosen;
 use super::{VariableFace, moving};
-use crate::characters::{Mapped, by_glyph, char_of, glyph_of, missing, of_glyph};
+use crate::characters::{Mapped, by_glyph, glyph_of, missing, of_glyph};
 use crate::drawing::SEGMENT;
 use crate::failure::{Failure, Missing, Refusal};
 use crate::glyph::{chars, shape};
@@ -150,7 +150,8 @@ fn asked(face: &VariableFace<'_>, words: &ArgMatches<'_>) -> Result<u16, Failure
     if words.get_str("name").is_some() {
         return Err(Failure::Missing(Missing::Part("names of glyphs: CFF2 has none")));
     }
-    let Some(char) = char_of(words.get_str("char")) else {
+    let mut chars = words.get_str("char").unwrap_or("").chars();
+    let (Some(char), None) = (chars.next(), chars.next()) else {
         return Err(Failure::Usage("--char takes one character"));
     };
     match glyph_of(&face.common.map, u32::from(char)) {
