@@ -199,25 +199,28 @@ fn count_lines(lines: &mut Text, face: &Face<'_>, hinted: u64, characters: u64) 
         ("characters", characters),
     ];
     for (label, count) in &counts {
-        lines.put_told(*label, count);
+        writeln!(lines, "{label}: {count}");
     }
 }
 
 /// Adds lines of what the table `CFF ` holds once.
 fn font_lines(lines: &mut Text, face: &Face<'_>) {
     if face.font.is_cid_keyed() {
-        lines.put_told("CID-keyed, font dictionaries", &face.font.parts.len());
+        let fds = face.font.parts.len();
+        writeln!(lines, "CID-keyed, font dictionaries: {fds}");
     }
-    lines.put_told("encoding", &encoding(face));
-    lines.put_told("char set", &char_set(face).unwrap_or("refused"));
-    lines.put_told("global subroutines", &face.font.global_subroutines.len());
+    writeln!(lines, "encoding: {}", encoding(face));
+    writeln!(lines, "char set: {}", char_set(face).unwrap_or("refused"));
+    let globals = face.font.global_subroutines.len();
+    writeln!(lines, "global subroutines: {globals}");
     dictionaries::list(lines, "top", &face.font.dictionary, top_codes(face));
 }
 
 /// Adds lines of each private dictionary and its subroutines.
 fn part_lines(lines: &mut Text, face: &Face<'_>) {
     for part in &face.font.parts {
-        lines.put_told("local subroutines", &part.subroutines.len());
+        let locals = part.subroutines.len();
+        writeln!(lines, "local subroutines: {locals}");
         dictionaries::list(lines, "private", &part.dictionary, &PRIVATE);
     }
 }

@@ -64,11 +64,6 @@ impl Text {
         self.push('\n');
     }
 
-    /// Adds a line of a value behind its label.
-    pub fn put_told<T: Display>(&mut self, label: &str, value: &T) {
-        writeln!(self, "{label}: {value}");
-    }
-
     /// Adds bytes as hex digits.
     pub fn put_hex(&mut self, bytes: &[u8]) {
         for byte in bytes {

@@ -163,7 +163,7 @@ fn head_lines(alloc: Global, lines: &mut Text, face: &VariableFace<'_>) {
     lines.push_str("a variable font: its outlines stand in the table CFF2\n");
     let characters = lines.found(count(alloc, &face.common.map));
     for (key, count) in &counts(face, characters) {
-        lines.put_told(*key, count);
+        writeln!(lines, "{key}: {count}");
     }
 }
 
