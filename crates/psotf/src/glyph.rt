@@ -182,21 +182,6 @@ fn lines<W: Write>(
     Ok(refused)
 }
 
-/// Writes a glyph as an object on a line, and tells whether it is drawn.
-fn object_line<W: Write>(
-    alloc: Global,
-    sheet: &mut Sheet,
-    face: &Face<'_>,
-    mapped: &[Mapped],
-    gid: u16,
-    budget: &mut Budget,
-    out: &mut W,
-) -> Result<bool, Failure> {
-    let is_drawn = object(alloc, sheet, face, mapped, gid, budget)?;
-    sheet.end(out)?;
-    Ok(is_drawn)
-}
-
 /// Writes glyphs, each as an object on a line, and tells how many are refused.
 fn objects<W: Write>(
     alloc: Global,
@@ -211,9 +196,10 @@ fn objects<W: Write>(
     let mut refused = 0u64;
     for gid in gids {
         progress.at(gid);
-        if !object_line(alloc, &mut sheet, face, &mapped, gid, budget, out)? {
+        if !object(alloc, &mut sheet, face, &mapped, gid, budget)? {
             refused = refused.saturating_add(1);
         }
+        sheet.end(out)?;
     }
     Ok(refused)
 }
