@@ -33,7 +33,7 @@ pub use unread::write_refused;
 /// What a unit of a run may come to: it is drawn and told, looked at for hints, asked for its cost, and measured twice without calls.
 pub const RUNS: u64 = OBJECT + 4;
 
-/// Adds glyphs to a page, a row on a line each. Those whose runs take longer than the limit are told of.
+/// Adds glyphs to a page, a row on a line each, and the end of the block of JSON. Those whose runs take longer than the limit are told of.
 fn put_glyphs(
     rt: &HostRuntime,
     face: &Face<'_>,
@@ -57,7 +57,7 @@ fn put_glyphs(
         }
         sheet.end_in(page)?;
     }
-    page.push(b'\n')?;
+    page.extend_from_slice(b"\n]}\n")?;
     progress.end();
     Ok(())
 }
@@ -95,24 +95,21 @@ fn put_data(
     put_glyphs(rt, face, mapped, pages.glyphs(first), budget, stopped, page)
 }
 
-/// Adds texts.
-fn put_texts(page: &mut Vec<u8>, texts: &[&str]) -> Result<(), AllocError> {
-    for text in texts {
+/// Adds what stands before the head of the block of JSON.
+fn begin(page: &mut Vec<u8>) -> Result<(), AllocError> {
+    for text in [BEFORE_STYLE, STYLE, BEFORE_DATA, "{\"head\":"] {
         page.extend_from_slice(text.as_bytes())?;
     }
     Ok(())
 }
 
-/// Adds what stands before the head of the block of JSON.
-fn begin(page: &mut Vec<u8>) -> Result<(), AllocError> {
-    put_texts(page, &[BEFORE_STYLE, STYLE, BEFORE_DATA, "{\"head\":"])
-}
-
-/// Adds what stands behind its glyphs.
+/// Adds what stands behind the block of JSON.
 fn end(page: &mut Vec<u8>) -> Result<(), AllocError> {
-    put_texts(page, &["]}\n", BEFORE_SCRIPT])?;
-    put_texts(page, &SCRIPT)?;
-    put_texts(page, &[END])
+    page.extend_from_slice(BEFORE_SCRIPT.as_bytes())?;
+    for part in SCRIPT {
+        page.extend_from_slice(part.as_bytes())?;
+    }
+    page.extend_from_slice(END.as_bytes())
 }
 
 /// The page that begins with a glyph.

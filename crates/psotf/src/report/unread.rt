@@ -53,7 +53,7 @@ fn page_of(alloc: Global, head: &mut Sheet) -> Result<Vec<u8>, AllocError> {
     let mut page = Vec::new(alloc);
     begin(&mut page)?;
     head.end_in(&mut page)?;
-    page.extend_from_slice(b",\n\"glyphs\":[")?;
+    page.extend_from_slice(b",\n\"glyphs\":[]}\n")?;
     end(&mut page)?;
     Ok(page)
 }
