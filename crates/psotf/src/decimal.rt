@@ -1,83 +1,79 @@
 //! Decimals as texts.
+use crate::text::Text;
 use postscript_base::compact1::Operand;
-use std::alloc::AllocError;
 
 /// The greatest number of zeros, or of digits behind the point, that is written out.
 const MOST: u32 = 30;
 
 /// Adds a whole number with so many zeros behind it.
-fn put_whole(text: &mut String, number: i64, zeros: u32) -> Result<(), AllocError> {
-    write!(text, "{number}")?;
+fn put_whole(text: &mut Text, number: i64, zeros: u32) {
+    write!(text, "{number}");
     for _ in 0..zeros {
-        text.push('0')?;
+        text.push('0');
     }
-    Ok(())
 }
 
 /// Adds a decimal: without an exponent, where it is short so.
-pub fn put(text: &mut String, value: &Operand) -> Result<(), AllocError> {
+pub fn put(text: &mut Text, value: &Operand) {
     let (mantissa, exponent) = (value.mantissa(), value.exponent());
     let size = exponent.unsigned_abs();
     if size > MOST {
-        write!(text, "{value}")?;
-        return Ok(());
-    }
-    if exponent < 0 {
+        write!(text, "{value}");
+    } else if exponent < 0 {
         if mantissa < 0 {
-            text.push('-')?;
+            text.push('-');
         }
-        return put_fraction(text, mantissa.unsigned_abs(), size);
+        put_fraction(text, mantissa.unsigned_abs(), size);
+    } else {
+        put_whole(text, mantissa, size);
     }
-    put_whole(text, mantissa, size)
 }
 
 /// Adds a number with so many digits behind the point.
-fn put_fraction(text: &mut String, number: u64, places: u32) -> Result<(), AllocError> {
+fn put_fraction(text: &mut Text, number: u64, places: u32) {
     let mut unit = 1u128;
     for _ in 0..places {
         unit = unit.wrapping_mul(10);
     }
     let number = u128::from(number);
     let whole = number.checked_div(unit).unwrap_or(0);
-    write!(text, "{whole}.")?;
+    write!(text, "{whole}.");
     put_digits(
         text,
         number.wrapping_sub(whole.wrapping_mul(unit)),
         unit,
         places,
-    )
+    );
 }
 
 /// Adds the digits of a part of a unit.
-fn put_digits(text: &mut String, part: u128, unit: u128, places: u32) -> Result<(), AllocError> {
+fn put_digits(text: &mut Text, part: u128, unit: u128, places: u32) {
     let mut rest = part;
     for _ in 0..places {
         let ten = rest.wrapping_mul(10);
         let digit = ten.checked_div(unit).unwrap_or(0);
         rest = ten.wrapping_sub(digit.wrapping_mul(unit));
-        text.push(char::from_digit((digit % 10) as u32, 10).unwrap_or('0'))?;
+        text.push(char::from_digit((digit % 10) as u32, 10).unwrap_or('0'));
     }
-    Ok(())
 }
 
 /// Adds a number of 65536ths, with the digits that it has behind the point: at most sixteen.
-pub fn put_bits(text: &mut String, bits: i64) -> Result<(), AllocError> {
+pub fn put_bits(text: &mut Text, bits: i64) {
     if bits < 0 {
-        text.push('-')?;
+        text.push('-');
     }
     let size = bits.unsigned_abs();
     let whole = size / 65536;
-    write!(text, "{whole}")?;
+    write!(text, "{whole}");
     let mut part = size % 65536;
     if part > 0 {
-        text.push('.')?;
+        text.push('.');
     }
     for _ in 0..16 {
         if part > 0 {
             let ten = part.wrapping_mul(10);
-            text.push(char::from_digit((ten / 65536 % 10) as u32, 10).unwrap_or('0'))?;
+            text.push(char::from_digit((ten / 65536 % 10) as u32, 10).unwrap_or('0'));
             part = ten % 65536;
         }
     }
-    Ok(())
 }

@@ -1,10 +1,8 @@
 //! Dictionaries by the names of their operators.
 use crate::decimal;
-use crate::failure::Failure;
 use crate::sheet::Sheet;
+use crate::text::Text;
 use postscript_base::compact1::{Operand, Operations, Operator};
-use std::alloc::{AllocError, Global};
-use std::io;
 
 /// The operators of the dictionary of a font (Technical Note 5176, Table 9).
 pub const TOP: [u16; 25] = [
@@ -26,46 +24,37 @@ pub const PRIVATE: [u16; 18] = [
 ];
 
 /// Writes the operators that have operands, in the dictionary or by default.
-pub fn write(sheet: &mut Sheet, dictionary: &Operations, codes: &[u16]) -> Result<(), AllocError> {
-    sheet.json.begin_object()?;
+pub fn write(sheet: &mut Sheet, dictionary: &Operations, codes: &[u16]) {
+    sheet.begin_object();
     for code in codes {
         if let Ok(operator) = Operator::from(*code) {
             if let Some(operands) = dictionary.get(operator) {
-                sheet.json.key(operator.name())?;
-                sheet.decimals(operands.as_slice())?;
+                sheet.key(operator.name());
+                sheet.decimals(operands.as_slice());
             }
         }
     }
-    sheet.json.end_object()
+    sheet.end_object();
 }
 
-/// Adds operands, each behind a space.
-fn put_operands(line: &mut String, operands: &[Operand]) -> Result<(), AllocError> {
+/// Adds a line of an operator and its operands, behind the dictionary's title.
+fn put_line(lines: &mut Text, title: &str, operator: Operator, operands: &[Operand]) {
+    let name = operator.name();
+    write!(lines, "{title} {name}:");
     for operand in operands {
-        line.push(' ')?;
-        decimal::put(line, operand)?;
+        lines.push(' ');
+        decimal::put(lines, operand);
     }
-    Ok(())
+    lines.push('\n');
 }
 
-/// Writes a line for each operator that has operands, behind the dictionary's title.
-pub fn list<W: io::Write>(
-    alloc: Global,
-    title: &str,
-    dictionary: &Operations,
-    codes: &[u16],
-    out: &mut W,
-) -> Result<(), Failure> {
-    let mut line = String::new(alloc);
+/// Adds a line for each operator that has operands, behind the dictionary's title.
+pub fn list(lines: &mut Text, title: &str, dictionary: &Operations, codes: &[u16]) {
     for code in codes {
         if let Ok(operator) = Operator::from(*code) {
             if let Some(operands) = dictionary.get(operator) {
-                line.clear();
-                put_operands(&mut line, operands.as_slice())?;
-                let name = operator.name();
-                writeln!(out, "{title} {name}:{line}")?;
+                put_line(lines, title, operator, operands.as_slice());
             }
         }
     }
-    Ok(())
 }

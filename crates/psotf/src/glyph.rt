@@ -6,103 +6,86 @@ use crate::failure::{Failure, Missing, Refusal};
 use crate::limit::Budget;
 use crate::progress::Progress;
 use crate::sheet::Sheet;
+use crate::text::Text;
 use clap::ArgMatches;
 use postscript_outline::Outline;
 use postscript_type2::{Operand, Operator};
 use postscript_view::Glyph;
-use std::alloc::{AllocError, Global};
+use std::alloc::Global;
 use std::io::Write;
 use std::ops::Range;
 
 /// Writes the name of a glyph, or in a CID-keyed font its CID.
-pub fn name(alloc: Global, sheet: &mut Sheet, face: &Face<'_>, gid: u16) -> Result<(), AllocError> {
+fn name(sheet: &mut Sheet, face: &Face<'_>, gid: u16) {
     if face.font.is_cid_keyed() {
-        sheet.json.key("cid")?;
+        sheet.key("cid");
         match face.cid(gid) {
-            Some(cid) => sheet.json.u64(u64::from(cid))?,
-            None => sheet.json.null()?,
+            Some(cid) => sheet.u64(u64::from(cid)),
+            None => sheet.null(),
         }
     }
-    sheet.json.key("name")?;
-    match face.name(gid) {
-        Some(name) => sheet.bytes(alloc, name),
-        None => sheet.json.null(),
-    }
+    sheet.key("name");
+    sheet.bytes_or_null(face.name(gid));
 }
 
 /// Writes the characters of a glyph.
-pub fn chars(alloc: Global, sheet: &mut Sheet, chars: &[Mapped]) -> Result<(), AllocError> {
-    sheet.begin_list("chars")?;
+pub fn chars(sheet: &mut Sheet, chars: &[Mapped]) {
+    sheet.begin_list("chars");
     for mapped in chars {
-        let char = mapped.char;
-        let text = format!(in alloc; "U+{char:04X}")?;
-        sheet.json.string(text.as_str())?;
+        sheet.character(mapped.char);
     }
-    sheet.json.end_array()
+    sheet.end_array();
 }
 
-/// Writes the width of a glyph, and its bounds.
-pub fn measures(
-    sheet: &mut Sheet,
-    glyph: &Glyph<'_, '_>,
-    outline: &Outline,
-) -> Result<(), AllocError> {
-    sheet.json.key("width")?;
-    match width_of(glyph, outline) {
-        Some(bits) => sheet.bits(bits)?,
-        None => sheet.json.null()?,
-    }
-    sheet.bounds("bounds", outline.bounds())?;
-    sheet.bounds("tight_bounds", outline.tight_bounds())
+/// Writes the bounds of an outline, and its segments.
+pub fn shape(sheet: &mut Sheet, outline: &Outline) {
+    sheet.bounds("bounds", outline.bounds());
+    sheet.bounds("tight_bounds", outline.tight_bounds());
+    sheet.segments("segments", outline.segments.as_slice());
 }
 
 /// Writes what a glyph draws.
-fn drawn(sheet: &mut Sheet, glyph: &Glyph<'_, '_>, outline: &Outline) -> Result<(), AllocError> {
-    measures(sheet, glyph, outline)?;
-    sheet.begin_list("segments")?;
-    for segment in &outline.segments {
-        sheet.segment(*segment)?;
+fn drawn(sheet: &mut Sheet, glyph: &Glyph<'_, '_>, outline: &Outline) {
+    sheet.key("width");
+    match width_of(glyph, outline) {
+        Some(bits) => sheet.bits(bits),
+        None => sheet.null(),
     }
-    sheet.json.end_array()
+    shape(sheet, outline);
 }
 
 /// Writes of a glyph that is refused why it is, and nulls in the place of what it draws.
-fn refused(sheet: &mut Sheet, refusal: &Refusal) -> Result<(), AllocError> {
+fn refused(sheet: &mut Sheet, refusal: &Refusal) {
     for key in ["width", "bounds", "tight_bounds", "segments", "operations"] {
-        sheet.json.key(key)?;
-        sheet.json.null()?;
+        sheet.key(key);
+        sheet.null();
     }
-    sheet.tell("refused", refusal)
+    sheet.tell("refused", refusal);
 }
 
 /// Writes an operation as a text, and takes what that takes.
-fn operation(
-    sheet: &mut Sheet,
-    operator: Operator,
-    operands: &[Operand],
-    budget: &mut Budget,
-) -> Result<(), AllocError> {
+fn operation(sheet: &mut Sheet, operator: Operator, operands: &[Operand], budget: &mut Budget) {
     let count = (operands.len() as u64).saturating_add(1);
     budget.spend(count.saturating_mul(OPERAND));
-    sheet.operation(operator.name(), operands)
+    sheet.operation(operator.name(), operands);
 }
 
 /// Writes the operations of a glyph that was drawn, each as a text.
-pub fn operations(
+fn operations(
     alloc: Global,
     sheet: &mut Sheet,
     glyph: &Glyph<'_, '_>,
     budget: &mut Budget,
-) -> Result<(), Failure> {
+) -> postscript_base::Result<()> {
     let mut program = glyph.program(alloc);
-    sheet.begin_list("operations")?;
+    sheet.begin_list("operations");
     for _ in 0..u64::MAX {
         let Some((operator, operands)) = program.next()? else {
             break;
         };
-        operation(sheet, operator, operands.as_slice(), budget)?;
+        operation(sheet, operator, operands.as_slice(), budget);
     }
-    sheet.json.end_array()?;
+    sheet.end_array();
     Ok(())
 }
 
@@ -113,15 +96,15 @@ fn drawing(
     face: &Face<'_>,
     gid: u16,
     budget: &mut Budget,
-) -> Result<bool, Failure> {
+) -> postscript_base::Result<bool> {
     match draw(alloc, face, gid, budget) {
         Ok((glyph, outline)) => {
-            drawn(sheet, &glyph, &outline)?;
+            drawn(sheet, &glyph, &outline);
             operations(alloc, sheet, &glyph, budget)?;
             Ok(true)
         }
         Err(refusal) => {
-            refused(sheet, &refusal)?;
+            refused(sheet, &refusal);
             Ok(false)
         }
     }
@@ -135,42 +118,45 @@ fn object(
     mapped: &[Mapped],
     gid: u16,
     budget: &mut Budget,
-) -> Result<bool, Failure> {
-    sheet.json.begin_object()?;
-    sheet.number("gid", u64::from(gid))?;
-    name(alloc, sheet, face, gid)?;
-    chars(alloc, sheet, of_glyph(mapped, gid))?;
-    sheet.number("advance", u64::from(face.advances.of(gid)))?;
+) -> postscript_base::Result<bool> {
+    sheet.begin_object();
+    sheet.number("gid", u64::from(gid));
+    name(sheet, face, gid);
+    chars(sheet, of_glyph(mapped, gid));
+    sheet.number("advance", u64::from(face.advances.of(gid)));
     let is_drawn = drawing(alloc, sheet, face, gid, budget)?;
-    sheet.json.end_object()?;
+    sheet.end_object();
     Ok(is_drawn)
 }
 
-/// Writes a glyph as a line: its number, its name or CID, its advance and its path; and tells whether it is drawn.
-fn line<W: Write>(
+/// Adds the number of a glyph, its name or CID, and its advance.
+fn put_head(alloc: Global, line: &mut Text, face: &Face<'_>, gid: u16) {
+    write!(line, "{gid} ");
+    match face.cid(gid) {
+        Some(cid) => write!(line, "cid{cid:05}"),
+        None => line.put_made(String::from_utf8_lossy(alloc, face.name(gid).unwrap_or(b"-"))),
+    }
+    let advance = face.advances.of(gid);
+    write!(line, " {advance} ");
+}
+
+/// Adds a glyph as a line: its number, its name or CID, its advance and its path; and tells whether it is drawn.
+fn put_line(
     alloc: Global,
+    line: &mut Text,
     face: &Face<'_>,
     gid: u16,
     budget: &mut Budget,
-    out: &mut W,
-) -> Result<bool, Failure> {
-    write!(out, "{gid} ")?;
-    match face.cid(gid) {
-        Some(cid) => write!(out, "cid{cid:05}")?,
-        None => {
-            let name = String::from_utf8_lossy(alloc, face.name(gid).unwrap_or(b"-"))?;
-            write!(out, "{name}")?;
-        }
-    }
-    let advance = face.advances.of(gid);
+) -> bool {
+    put_head(alloc, line, face, gid);
     match draw(alloc, face, gid, budget) {
         Ok((_, outline)) => {
-            writeln!(out, " {advance} {outline}")?;
-            Ok(true)
+            writeln!(line, "{outline}");
+            true
         }
         Err(refusal) => {
-            writeln!(out, " {advance} refused: {refusal}")?;
-            Ok(false)
+            writeln!(line, "refused: {refusal}");
+            false
         }
     }
 }
@@ -184,12 +170,14 @@ fn lines<W: Write>(
     progress: &mut Progress<'_>,
     out: &mut W,
 ) -> Result<u64, Failure> {
+    let mut line = Text::new(alloc);
     let mut refused = 0u64;
     for gid in gids {
         progress.at(gid);
-        if !line(alloc, face, gid, budget, out)? {
+        if !put_line(alloc, &mut line, face, gid, budget) {
             refused = refused.saturating_add(1);
         }
+        line.end_in(out)?;
     }
     Ok(refused)
 }
@@ -211,7 +199,7 @@ fn objects<W: Write>(
         if !object(alloc, &mut sheet, face, &mapped, gid, budget)? {
             refused = refused.saturating_add(1);
         }
-        sheet = sheet.end(out)?;
+        sheet.end(out)?;
     }
     Ok(refused)
 }
@@ -253,17 +241,17 @@ fn named(face: &Face<'_>, words: &ArgMatches<'_>) -> Result<Range<u16>, Failure>
     Ok(gid..gid.saturating_add(1))
 }
 
-/// Writes the glyphs that words name, and tells how many are refused.
+/// Writes glyphs, and tells how many are refused.
 fn told<W: Write>(
     rt: &HostRuntime,
     face: &Face<'_>,
-    words: &ArgMatches<'_>,
+    gids: Range<u16>,
+    as_json: bool,
     budget: &mut Budget,
     out: &mut W,
 ) -> Result<u64, Failure> {
-    let gids = named(face, words)?;
     let mut progress = Progress::of_answers(rt, gids.end);
-    let refused = if words.get_flag("json") {
+    let refused = if as_json {
         objects(rt.alloc(), face, gids, budget, &mut progress, out)
     } else {
         lines(rt.alloc(), face, gids, budget, &mut progress, out)
@@ -280,7 +268,8 @@ pub fn write<W: Write>(
     budget: &mut Budget,
     out: &mut W,
 ) -> Result<(), Failure> {
-    match told(rt, face, words, budget, out)? {
+    let gids = named(face, words)?;
+    match told(rt, face, gids, words.get_flag("json"), budget, out)? {
         0 => Ok(()),
         refused => Err(Failure::Refused(refused)),
     }

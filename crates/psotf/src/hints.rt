@@ -6,7 +6,7 @@ use crate::limit::Budget;
 use crate::progress::Progress;
 use crate::stopped::Stopped;
 use postscript_base::{Error, Result};
-use postscript_type2::{Operator, Within};
+use postscript_type2::{Operator, Program, Within};
 use postscript_view::Glyph;
 use std::alloc::Global;
 
@@ -30,25 +30,33 @@ enum Answer {
     Refused,
     /// Neither: the share is used up.
     Stopped,
+    /// Neither: there is no memory.
+    NoMemory,
+}
+
+/// What a run comes to with its next operation. None where it goes on.
+fn step(program: &mut Program<'_>, share: &mut u64) -> Option<Answer> {
+    match program.step_within(share) {
+        Ok(Within::Operation(operator, _)) if is_hint(operator) => Some(Answer::Hint),
+        Ok(Within::Operation(_, _)) => None,
+        Ok(Within::End) => Some(Answer::End),
+        Ok(Within::Paused) => Some(Answer::Stopped),
+        Err(Error::Memory) => Some(Answer::NoMemory),
+        Err(_) => Some(Answer::Refused),
+    }
 }
 
 /// Whether the run of a glyph has a hint, as far as its share lasts.
-fn answer_of(alloc: Global, glyph: &Glyph<'_, '_>, share: &mut u64) -> Result<Answer> {
+fn answer_of(alloc: Global, glyph: &Glyph<'_, '_>, share: &mut u64) -> Answer {
     let mut program = glyph.program(alloc);
+    let mut answer = None;
     for _ in 0..u64::MAX {
-        match program.step_within(share) {
-            Ok(Within::Operation(operator, _)) => {
-                if is_hint(operator) {
-                    return Ok(Answer::Hint);
-                }
-            }
-            Ok(Within::End) => return Ok(Answer::End),
-            Ok(Within::Paused) => return Ok(Answer::Stopped),
-            Err(Error::Memory) => return Err(Error::Memory),
-            Err(_) => return Ok(Answer::Refused),
+        answer = step(&mut program, share);
+        if answer.is_some() {
+            break;
         }
     }
-    Ok(Answer::Stopped)
+    answer.unwrap_or(Answer::Stopped)
 }
 
 /// Whether a glyph has a hint; or why it is not known. One that is refused is judged by the operations before its fault.
@@ -59,7 +67,7 @@ fn has_hint(
 ) -> Result<std::result::Result<bool, Refusal>> {
     let share = budget.share();
     let mut left = share;
-    let answer = answer_of(alloc, glyph, &mut left)?;
+    let answer = answer_of(alloc, glyph, &mut left);
     budget.spend_whole(share.saturating_sub(left));
     match answer {
         Answer::Hint => Ok(Ok(true)),
@@ -69,6 +77,25 @@ fn has_hint(
             Ok(Ok(false))
         }
         Answer::Stopped => Ok(Err(budget.stop(share))),
+        Answer::NoMemory => Err(Error::Memory),
+    }
+}
+
+/// Whether a glyph of this number has a hint. One whose run takes longer than the limit is judged by the operations up to there, and
+/// told of.
+fn sees_hint(
+    alloc: Global,
+    gid: u16,
+    glyph: &Glyph<'_, '_>,
+    budget: &mut Budget,
+    stopped: &mut Stopped<'_>,
+) -> std::result::Result<bool, Failure> {
+    match has_hint(alloc, glyph, budget)? {
+        Ok(has_hint) => Ok(has_hint),
+        Err(refusal) => {
+            stopped.add(gid, &refusal)?;
+            Ok(false)
+        }
     }
 }
 
@@ -85,10 +112,8 @@ pub fn hinted(
     for gid in 0..count(face) {
         progress.at(gid);
         if let Some(glyph) = face.font.glyph(usize::from(gid)) {
-            match has_hint(rt.alloc(), &glyph, budget)? {
-                Ok(true) => hinted = hinted.saturating_add(1),
-                Ok(false) => {}
-                Err(refusal) => stopped.add(gid, &refusal)?,
+            if sees_hint(rt.alloc(), gid, &glyph, budget, stopped)? {
+                hinted = hinted.saturating_add(1);
             }
         }
     }

@@ -8,10 +8,11 @@ use crate::limit::Budget;
 use crate::readings;
 use crate::sheet::Sheet;
 use crate::stopped::Stopped;
+use crate::text::Text;
 use postscript_base::compact1::Operator;
 use postscript_sfnt::Name;
 use postscript_view::Identifiers;
-use std::alloc::{AllocError, Global};
+use std::alloc::Global;
 use std::io::Write;
 
 /// The family and the style.
@@ -70,30 +71,27 @@ fn top_codes(face: &Face<'_>) -> &'static [u16] {
 }
 
 /// Writes the private dictionaries, and how many local subroutines each has.
-fn parts(sheet: &mut Sheet, face: &Face<'_>) -> Result<(), AllocError> {
-    sheet.begin_list("local_subroutines")?;
+fn parts(sheet: &mut Sheet, face: &Face<'_>) {
+    sheet.begin_list("local_subroutines");
     for part in &face.font.parts {
-        sheet.json.u64(part.subroutines.len() as u64)?;
+        sheet.u64(part.subroutines.len() as u64);
     }
-    sheet.json.end_array()?;
+    sheet.end_array();
     if face.font.is_cid_keyed() {
-        sheet.json.key("privates")?;
-        return privates(sheet, face);
+        privates(sheet, face);
+    } else if let Some(part) = face.font.parts.get(0) {
+        sheet.key("private");
+        dictionaries::write(sheet, &part.dictionary, &PRIVATE);
     }
-    if let Some(part) = face.font.parts.get(0) {
-        sheet.json.key("private")?;
-        dictionaries::write(sheet, &part.dictionary, &PRIVATE)?;
-    }
-    Ok(())
 }
 
 /// Writes the private dictionaries as a list.
-fn privates(sheet: &mut Sheet, face: &Face<'_>) -> Result<(), AllocError> {
-    sheet.json.begin_array()?;
+fn privates(sheet: &mut Sheet, face: &Face<'_>) {
+    sheet.begin_list("privates");
     for part in &face.font.parts {
-        dictionaries::write(sheet, &part.dictionary, &PRIVATE)?;
+        dictionaries::write(sheet, &part.dictionary, &PRIVATE);
     }
-    sheet.json.end_array()
+    sheet.end_array();
 }
 
 /// How many font dictionaries a CID-keyed font has; 0 of another.
@@ -106,7 +104,7 @@ fn dictionary_count(face: &Face<'_>) -> u64 {
 }
 
 /// Writes numbers of what the table `CFF ` holds.
-fn counts(sheet: &mut Sheet, face: &Face<'_>, hinted: u64) -> Result<(), AllocError> {
+fn counts(sheet: &mut Sheet, face: &Face<'_>, hinted: u64) {
     let counts = [
         ("fds", dictionary_count(face)),
         ("glyphs", face.font.char_strings.len() as u64),
@@ -118,69 +116,54 @@ fn counts(sheet: &mut Sheet, face: &Face<'_>, hinted: u64) -> Result<(), AllocEr
         ),
     ];
     for (key, count) in &counts {
-        sheet.number(*key, *count)?;
+        sheet.number(*key, *count);
     }
-    Ok(())
 }
 
 /// Writes what the font is called, and by what its glyphs are.
-fn keys(alloc: Global, sheet: &mut Sheet, face: &Face<'_>) -> Result<(), AllocError> {
-    sheet.json.key("name")?;
-    match face.font.names.get(0) {
-        Some(name) => sheet.bytes(alloc, name)?,
-        None => sheet.json.null()?,
-    }
-    sheet.flag("is_cid", face.font.is_cid_keyed())?;
-    sheet.text("encoding", encoding(face))?;
-    sheet.json.key("char_set")?;
+fn keys(sheet: &mut Sheet, face: &Face<'_>) {
+    sheet.key("name");
+    sheet.bytes_or_null(face.font.names.get(0));
+    sheet.flag("is_cid", face.font.is_cid_keyed());
+    sheet.text("encoding", encoding(face));
+    sheet.key("char_set");
     match char_set(face) {
-        Some(name) => sheet.json.string(name),
-        None => sheet.json.null(),
+        Some(name) => sheet.string(name),
+        None => sheet.null(),
     }
 }
 
 /// Writes what the table `CFF ` holds.
-fn font(alloc: Global, sheet: &mut Sheet, face: &Face<'_>, hinted: u64) -> Result<(), AllocError> {
-    sheet.json.key("cff")?;
-    sheet.json.begin_object()?;
-    keys(alloc, sheet, face)?;
-    counts(sheet, face, hinted)?;
-    sheet.json.key("top")?;
-    dictionaries::write(sheet, &face.font.dictionary, top_codes(face))?;
-    parts(sheet, face)?;
-    readings::put(alloc, sheet, face.cff)?;
-    sheet.json.end_object()
+fn font(alloc: Global, sheet: &mut Sheet, face: &Face<'_>, hinted: u64) {
+    sheet.begin_member("cff");
+    keys(sheet, face);
+    counts(sheet, face, hinted);
+    sheet.key("top");
+    dictionaries::write(sheet, &face.font.dictionary, top_codes(face));
+    parts(sheet, face);
+    readings::put(alloc, sheet, face.cff);
+    sheet.end_object();
 }
 
 /// Writes the names and the numbers.
-fn head(alloc: Global, sheet: &mut Sheet, face: &Face<'_>) -> Result<(), AllocError> {
+fn head(alloc: Global, sheet: &mut Sheet, face: &Face<'_>) {
     let (family, style) = names(face);
-    sheet.name("family", family)?;
-    sheet.name("style", style)?;
-    sheet.name("version", version(face))?;
-    let counts = [
-        ("faces", face.faces as u64),
-        ("units_per_em", u64::from(face.units)),
-        ("glyphs", u64::from(face.glyphs)),
-        ("characters", count(alloc, &face.map)?),
-    ];
-    for (key, count) in &counts {
-        sheet.number(*key, *count)?;
-    }
-    Ok(())
+    sheet.name("family", family);
+    sheet.name("style", style);
+    sheet.name("version", version(face));
+    sheet.number("faces", face.faces as u64);
+    sheet.number("units_per_em", u64::from(face.units));
+    sheet.number("glyphs", u64::from(face.glyphs));
+    let characters = sheet.found(count(alloc, &face.map));
+    sheet.number("characters", characters);
 }
 
 /// Writes all that is told, as an object on a sheet.
-pub fn put(
-    alloc: Global,
-    sheet: &mut Sheet,
-    face: &Face<'_>,
-    hinted: u64,
-) -> Result<(), AllocError> {
-    sheet.json.begin_object()?;
-    head(alloc, sheet, face)?;
-    font(alloc, sheet, face, hinted)?;
-    sheet.json.end_object()
+pub fn put(alloc: Global, sheet: &mut Sheet, face: &Face<'_>, hinted: u64) {
+    sheet.begin_object();
+    head(alloc, sheet, face);
+    font(alloc, sheet, face, hinted);
+    sheet.end_object();
 }
 
 /// Writes an object of all that is told.
@@ -191,62 +174,55 @@ fn object<W: Write>(
     out: &mut W,
 ) -> Result<(), Failure> {
     let mut sheet = Sheet::new(alloc);
-    put(alloc, &mut sheet, face, hinted)?;
-    let _ = sheet.end(out)?;
-    Ok(())
+    put(alloc, &mut sheet, face, hinted);
+    sheet.end(out)
 }
 
-/// The characters of a name.
-fn text_of(alloc: Global, name: Option<Name<'_>>) -> Result<String, AllocError> {
-    let mut text = String::new(alloc);
-    if let Some(name) = name {
-        for char in name.chars() {
-            text.push(char)?;
-        }
-    }
-    Ok(text)
-}
-
-/// Writes a line of a name.
-fn name_line<W: Write>(
-    alloc: Global,
-    label: &str,
-    name: Option<Name<'_>>,
-    out: &mut W,
-) -> Result<(), Failure> {
-    writeln!(out, "{label}: {}", text_of(alloc, name)?)?;
-    Ok(())
-}
-
-/// Writes lines of the names.
-fn name_lines<W: Write>(alloc: Global, face: &Face<'_>, out: &mut W) -> Result<(), Failure> {
+/// Adds lines of the names.
+fn name_lines(alloc: Global, lines: &mut Text, face: &Face<'_>) {
     let (family, style) = names(face);
-    name_line(alloc, "family", family, out)?;
-    name_line(alloc, "style", style, out)?;
-    name_line(alloc, "version", version(face), out)?;
-    let name = String::from_utf8_lossy(alloc, face.font.names.get(0).unwrap_or(&[]))?;
-    writeln!(out, "name: {name}")?;
-    Ok(())
+    lines.put_named("family", family);
+    lines.put_named("style", style);
+    lines.put_named("version", version(face));
+    lines.push_str("name: ");
+    lines.put_made(String::from_utf8_lossy(alloc, face.font.names.get(0).unwrap_or(&[])));
+    lines.push('\n');
 }
 
-/// Writes lines of the numbers.
-fn count_lines<W: Write>(
-    alloc: Global,
-    face: &Face<'_>,
-    hinted: u64,
-    out: &mut W,
-) -> Result<(), Failure> {
+/// Adds lines of the numbers.
+fn count_lines(lines: &mut Text, face: &Face<'_>, hinted: u64, characters: u64) {
     let counts = [
         ("faces", face.faces as u64),
         ("units per em", u64::from(face.units)),
         ("glyphs", u64::from(face.glyphs)),
         ("glyphs with hints", hinted),
-        ("characters", count(alloc, &face.map)?),
+        ("characters", characters),
     ];
     for (label, count) in &counts {
-        writeln!(out, "{label}: {count}")?;
+        writeln!(lines, "{label}: {count}");
     }
-    Ok(())
+}
+
+/// Adds lines of what the table `CFF ` holds once.
+fn font_lines(lines: &mut Text, face: &Face<'_>) {
+    if face.font.is_cid_keyed() {
+        let fds = face.font.parts.len();
+        writeln!(lines, "CID-keyed, font dictionaries: {fds}");
+    }
+    writeln!(lines, "encoding: {}", encoding(face));
+    writeln!(lines, "char set: {}", char_set(face).unwrap_or("refused"));
+    let globals = face.font.global_subroutines.len();
+    writeln!(lines, "global subroutines: {globals}");
+    dictionaries::list(lines, "top", &face.font.dictionary, top_codes(face));
+}
+
+/// Adds lines of each private dictionary and its subroutines.
+fn part_lines(lines: &mut Text, face: &Face<'_>) {
+    for part in &face.font.parts {
+        let locals = part.subroutines.len();
+        writeln!(lines, "local subroutines: {locals}");
+        dictionaries::list(lines, "private", &part.dictionary, &PRIVATE);
+    }
 }
 
 /// Writes lines of all that is told.
@@ -256,34 +232,14 @@ fn lines<W: Write>(
     hinted: u64,
     out: &mut W,
 ) -> Result<(), Failure> {
-    name_lines(alloc, face, out)?;
-    count_lines(alloc, face, hinted, out)?;
-    font_lines(alloc, face, out)?;
-    part_lines(alloc, face, out)?;
-    readings::lines(alloc, face.cff, out)
-}
-
-/// Writes lines of what the table `CFF ` holds once.
-fn font_lines<W: Write>(alloc: Global, face: &Face<'_>, out: &mut W) -> Result<(), Failure> {
-    if face.font.is_cid_keyed() {
-        let fds = face.font.parts.len();
-        writeln!(out, "CID-keyed, font dictionaries: {fds}")?;
-    }
-    writeln!(out, "encoding: {}", encoding(face))?;
-    writeln!(out, "char set: {}", char_set(face).unwrap_or("refused"))?;
-    let globals = face.font.global_subroutines.len();
-    writeln!(out, "global subroutines: {globals}")?;
-    dictionaries::list(alloc, "top", &face.font.dictionary, top_codes(face), out)
-}
-
-/// Writes lines of each private dictionary and its subroutines.
-fn part_lines<W: Write>(alloc: Global, face: &Face<'_>, out: &mut W) -> Result<(), Failure> {
-    for part in &face.font.parts {
-        let locals = part.subroutines.len();
-        writeln!(out, "local subroutines: {locals}")?;
-        dictionaries::list(alloc, "private", &part.dictionary, &PRIVATE, out)?;
-    }
-    Ok(())
+    let mut lines = Text::new(alloc);
+    name_lines(alloc, &mut lines, face);
+    let characters = lines.found(count(alloc, &face.map));
+    count_lines(&mut lines, face, hinted, characters);
+    font_lines(&mut lines, face);
+    part_lines(&mut lines, face);
+    readings::put_lines(alloc, &mut lines, face.cff);
+    lines.end_in(out)
 }
 
 /// Writes what a face holds. It is refused behind that where the runs of glyphs take longer than the limit, with how many do.

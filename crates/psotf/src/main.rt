@@ -33,6 +33,7 @@ mod specimen;
 mod stopped;
 mod subset;
 mod svg;
+mod text;
 mod variable;
 mod weight;
 

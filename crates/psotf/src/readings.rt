@@ -1,12 +1,12 @@
 //! What the readings of a whole font answer to a table `CFF `.
-use crate::failure::Failure;
 use crate::refused::{Spot, rule_of, spot_by};
 use crate::sheet::Sheet;
+use crate::text::Text;
 use postscript_base::Error;
 use postscript_compact1::font_set::FontSet;
 use postscript_view::FontView;
-use std::alloc::{AllocError, Global};
-use std::io::{Cursor, Write};
+use std::alloc::Global;
+use std::io::Cursor;
 
 /// How many bytes both readings may pass over: each passes over the table once at most for each of its dictionaries.
 const PASSED: u64 = 1_000_000_000;
@@ -54,62 +54,55 @@ fn both(alloc: Global, cff: &[u8]) -> (Option<Refused>, Option<Refused>) {
 }
 
 /// Writes why a table is refused: the number of the refusal, what it says, the part, its place or null, and the rule.
-pub fn put_refusal(sheet: &mut Sheet, error: &Error, spot: &Spot) -> Result<(), AllocError> {
-    sheet.json.begin_object()?;
-    sheet.number("code", u64::from(error.code()))?;
-    sheet.tell("message", error)?;
-    sheet.text("part", spot.part)?;
-    sheet.json.key("place")?;
-    match spot.place {
-        Some(place) => sheet.json.u64(place)?,
-        None => sheet.json.null()?,
-    }
-    sheet.text("rule", rule_of(error.code()))?;
-    sheet.json.end_object()
+pub fn put_refusal(sheet: &mut Sheet, error: &Error, spot: &Spot) {
+    sheet.begin_object();
+    sheet.number("code", u64::from(error.code()));
+    sheet.tell("message", error);
+    sheet.text("part", spot.part);
+    sheet.key("place");
+    sheet.u64_or_null(spot.place);
+    sheet.text("rule", rule_of(error.code()));
+    sheet.end_object();
 }
 
 /// Writes why a reading refuses a table, or null.
-fn put_reading(sheet: &mut Sheet, key: &str, refused: &Option<Refused>) -> Result<(), AllocError> {
-    sheet.json.key(key)?;
+fn put_reading(sheet: &mut Sheet, key: &str, refused: &Option<Refused>) {
+    sheet.key(key);
     match refused {
-        None => sheet.json.null(),
+        None => sheet.null(),
         Some(Refused { error, spot }) => put_refusal(sheet, error, spot),
     }
 }
 
 /// Writes why each reading of the whole font refuses a table; or how many dictionaries there are, where the readings are not asked.
-pub fn put(alloc: Global, sheet: &mut Sheet, cff: &[u8]) -> Result<(), AllocError> {
+pub fn put(alloc: Global, sheet: &mut Sheet, cff: &[u8]) {
     if let Some(fonts) = too_many(cff) {
         return sheet.number("dictionaries_not_read", fonts);
     }
     let (strict, lenient) = both(alloc, cff);
-    put_reading(sheet, "strict", &strict)?;
-    put_reading(sheet, "lenient", &lenient)
+    put_reading(sheet, "strict", &strict);
+    put_reading(sheet, "lenient", &lenient);
 }
 
-/// Writes a line for a reading that refuses a table.
-fn line<W: Write>(reading: &str, refused: &Option<Refused>, out: &mut W) -> Result<(), Failure> {
+/// Adds a line for a reading that refuses a table.
+fn put_line(lines: &mut Text, reading: &str, refused: &Option<Refused>) {
     if let Some(Refused { error, spot }) = refused {
         let code = error.code();
-        let rule = rule_of(code);
-        writeln!(
-            out,
-            "refused by the {reading} reading: {spot}: {error} (refusal {code}): {rule}"
-        )?;
+        write!(lines, "refused by the {reading} reading: {spot}: {error}");
+        writeln!(lines, " (refusal {code}): {}", rule_of(code));
     }
-    Ok(())
 }
 
-/// Writes a line for each reading that refuses a table; or that the readings are not asked.
-pub fn lines<W: Write>(alloc: Global, cff: &[u8], out: &mut W) -> Result<(), Failure> {
+/// Adds a line for each reading that refuses a table; or that the readings are not asked.
+pub fn put_lines(alloc: Global, lines: &mut Text, cff: &[u8]) {
     if let Some(fonts) = too_many(cff) {
         writeln!(
-            out,
+            lines,
             "not read strictly or leniently: it has {fonts} dictionaries"
-        )?;
-        return Ok(());
+        );
+        return;
     }
     let (strict, lenient) = both(alloc, cff);
-    line("strict", &strict, out)?;
-    line("lenient", &lenient, out)
+    put_line(lines, "strict", &strict);
+    put_line(lines, "lenient", &lenient);
 }

@@ -23,9 +23,9 @@ use crate::sheet::Sheet;
 use crate::stopped::Stopped;
 use clap::ArgMatches;
 use page::{BEFORE_DATA, BEFORE_SCRIPT, BEFORE_STYLE, END};
-use pages::Pages;
+use pages::{PAGES, Pages};
 use script::SCRIPT;
-use std::alloc::{AllocError, Global};
+use std::alloc::AllocError;
 use std::ops::Range;
 use style::STYLE;
 pub use unread::write_refused;
@@ -33,16 +33,7 @@ pub use unread::write_refused;
 /// What a unit of a run may come to: it is drawn and told, looked at for hints, asked for its cost, and measured twice without calls.
 pub const RUNS: u64 = OBJECT + 4;
 
-/// Bytes as hex digits.
-fn hex(alloc: Global, bytes: &[u8]) -> Result<String, AllocError> {
-    let mut text = String::new(alloc);
-    for byte in bytes {
-        write!(text, "{byte:02x}")?;
-    }
-    Ok(text)
-}
-
-/// Adds glyphs to a page, a row on a line each. Those whose runs take longer than the limit are told of.
+/// Adds glyphs to a page, a row on a line each, and the end of the block of JSON. Those whose runs take longer than the limit are told of.
 fn put_glyphs(
     rt: &HostRuntime,
     face: &Face<'_>,
@@ -64,8 +55,9 @@ fn put_glyphs(
             Some(refusal) if refusal.is_by_limit() => stopped.add(gid, &refusal)?,
             _ => {}
         }
-        sheet = sheet.end_in(page)?;
+        sheet.end_in(page)?;
     }
+    page.extend_from_slice(b"\n]}\n")?;
     progress.end();
     Ok(())
 }
@@ -97,24 +89,21 @@ fn put_data(
         hinted,
     } = *common;
     let mut sheet = Sheet::new(rt.alloc());
-    head::put(rt.alloc(), &mut sheet, face, words, &pages, first, hinted)?;
-    page.extend_from_slice(b"{\"head\":")?;
-    let _ = sheet.end_in(page)?;
+    head::put(rt.alloc(), &mut sheet, face, words, &pages, first, hinted);
+    sheet.end_in(page)?;
     page.extend_from_slice(b",\n\"glyphs\":[\n")?;
-    put_glyphs(rt, face, mapped, pages.glyphs(first), budget, stopped, page)?;
-    page.extend_from_slice(b"\n]}\n")?;
-    Ok(())
+    put_glyphs(rt, face, mapped, pages.glyphs(first), budget, stopped, page)
 }
 
-/// Adds what stands before the block of JSON.
+/// Adds what stands before the head of the block of JSON.
 fn begin(page: &mut Vec<u8>) -> Result<(), AllocError> {
-    for text in [BEFORE_STYLE, STYLE, BEFORE_DATA] {
+    for text in [BEFORE_STYLE, STYLE, BEFORE_DATA, "{\"head\":"] {
         page.extend_from_slice(text.as_bytes())?;
     }
     Ok(())
 }
 
-/// Adds what stands behind it.
+/// Adds what stands behind the block of JSON.
 fn end(page: &mut Vec<u8>) -> Result<(), AllocError> {
     page.extend_from_slice(BEFORE_SCRIPT.as_bytes())?;
     for part in SCRIPT {
@@ -136,6 +125,34 @@ fn page_of(
     put_data(rt, common, first, budget, stopped, &mut page)?;
     end(&mut page)?;
     Ok(page)
+}
+
+/// Writes the page that begins with a glyph.
+fn write_page(
+    rt: &HostRuntime,
+    common: &Common<'_, '_, '_>,
+    first: u16,
+    budget: &mut Budget,
+    stopped: &mut Stopped<'_>,
+) -> Result<(), Failure> {
+    let page = page_of(rt, common, first, budget, stopped)?;
+    let path = common.pages.path_of(rt.alloc(), first)?;
+    save(rt, path.as_str(), page.as_slice())
+}
+
+/// Writes all pages.
+fn write_pages(
+    rt: &HostRuntime,
+    common: &Common<'_, '_, '_>,
+    budget: &mut Budget,
+    stopped: &mut Stopped<'_>,
+) -> Result<(), Failure> {
+    for page in 0..PAGES {
+        if let Some(first) = common.pages.first_of(page) {
+            write_page(rt, common, first, budget, stopped)?;
+        }
+    }
+    Ok(())
 }
 
 /// Where words say that the first page is written to.
@@ -191,10 +208,6 @@ pub fn write(
         mapped: mapped.as_slice(),
         hinted: hinted(rt, face, budget, &mut stopped)?,
     };
-    for first in &pages.firsts(rt.alloc())? {
-        let page = page_of(rt, &common, *first, budget, &mut stopped)?;
-        let path = pages.path_of(rt.alloc(), *first)?;
-        save(rt, path.as_str(), page.as_slice())?;
-    }
+    write_pages(rt, &common, budget, &mut stopped)?;
     stopped.end()
 }

@@ -8,6 +8,7 @@ use crate::progress::Progress;
 use crate::saving;
 use crate::stopped::Stopped;
 use crate::svg::SVG;
+use crate::text::Text;
 use clap::ArgMatches;
 use postscript_outline::Outline;
 use std::alloc::{AllocError, Global};
@@ -34,36 +35,29 @@ fn name_of(alloc: Global, face: &Face<'_>, gid: u16) -> Result<String, AllocErro
 }
 
 /// Adds the outline of a glyph in a cell of so many units to the em.
-fn put_outline(picture: &mut String, units: u64, outline: &Outline) -> Result<(), AllocError> {
+fn put_outline(picture: &mut Text, units: u64, outline: &Outline) {
     let (left, base) = (units / 4, units.saturating_add(units / 2));
     write!(
         picture,
         "<path transform=\"translate({left} {base}) scale(1 -1)\" d=\"{outline}\"/>"
-    )
+    );
 }
 
 /// Adds the number and the name of a glyph.
-fn put_names(
-    alloc: Global,
-    face: &Face<'_>,
-    gid: u16,
-    labels: &mut Labels<'_>,
-) -> Result<(), AllocError> {
-    let mut line = String::new(alloc);
-    let number = format!(in alloc; "{gid}")?;
-    labels.cut(number.as_str(), &mut line)?;
-    let name = name_of(alloc, face, gid)?;
-    labels.cut(name.as_str(), &mut line)
+fn put_names(alloc: Global, face: &Face<'_>, gid: u16, labels: &mut Labels<'_>) {
+    labels.number(u64::from(gid));
+    match name_of(alloc, face, gid) {
+        Ok(name) => labels.cut(name.as_str()),
+        Err(_) => labels.picture.fail(),
+    }
 }
 
 /// Adds why a glyph is refused.
-fn put_refusal(
-    alloc: Global,
-    refusal: &Refusal,
-    labels: &mut Labels<'_>,
-) -> Result<(), AllocError> {
-    let why = format!(in alloc; "{refusal}")?;
-    labels.wrapped(why.as_str(), &mut String::new(alloc))
+fn put_refusal(alloc: Global, refusal: &Refusal, labels: &mut Labels<'_>) {
+    match format!(in alloc; "{refusal}") {
+        Ok(why) => labels.wrapped(why.as_str()),
+        Err(_) => labels.picture.fail(),
+    }
 }
 
 /// Draws a glyph below its labels; or tells why it is refused in the place of its outline.
@@ -73,15 +67,15 @@ fn put_glyph(
     gid: u16,
     budget: &mut Budget,
     labels: &mut Labels<'_>,
-) -> Result<Option<Refusal>, AllocError> {
+) -> Option<Refusal> {
     match draw(alloc, face, gid, budget) {
         Ok((_, outline)) => {
-            put_outline(labels.picture, u64::from(face.units), &outline)?;
-            Ok(None)
+            put_outline(labels.picture, u64::from(face.units), &outline);
+            None
         }
         Err(refusal) => {
-            put_refusal(alloc, &refusal, labels)?;
-            Ok(Some(refusal))
+            put_refusal(alloc, &refusal, labels);
+            Some(refusal)
         }
     }
 }
@@ -93,22 +87,22 @@ fn put_cell(
     gid: u16,
     cell: u64,
     budget: &mut Budget,
-    picture: &mut String,
-) -> Result<Option<Refusal>, AllocError> {
+    picture: &mut Text,
+) -> Option<Refusal> {
     let units = u64::from(face.units);
     let x = (cell % COLUMNS).saturating_mul(units).saturating_mul(2);
     let y = (cell / COLUMNS).saturating_mul(units).saturating_mul(2);
-    write!(picture, "<g transform=\"translate({x} {y})\">")?;
+    write!(picture, "<g transform=\"translate({x} {y})\">");
     let size = label_size(units);
     let mut labels = Labels {
         picture,
         size,
         y: size,
     };
-    put_names(alloc, face, gid, &mut labels)?;
-    let refusal = put_glyph(alloc, face, gid, budget, &mut labels)?;
-    labels.picture.push_str("</g>\n")?;
-    Ok(refusal)
+    put_names(alloc, face, gid, &mut labels);
+    let refusal = put_glyph(alloc, face, gid, budget, &mut labels);
+    labels.picture.push_str("</g>\n");
+    refusal
 }
 
 /// Adds a cell for each of some glyphs. Those whose runs take longer than the limit are told of.
@@ -118,35 +112,54 @@ fn put_cells(
     gids: Range<u16>,
     budget: &mut Budget,
     stopped: &mut Stopped<'_>,
-    picture: &mut String,
+    picture: &mut Text,
 ) -> Result<(), Failure> {
     let from = gids.start;
     let mut progress = Progress::new(rt, gids.end);
     for gid in gids {
         progress.at(gid);
         let cell = u64::from(gid.saturating_sub(from));
-        match put_cell(rt.alloc(), face, gid, cell, budget, picture)? {
+        match put_cell(rt.alloc(), face, gid, cell, budget, picture) {
             Some(refusal) if refusal.is_by_limit() => stopped.add(gid, &refusal)?,
             _ => {}
+        }
+        if picture.has_failed() {
+            break;
         }
     }
     progress.end();
     Ok(())
 }
 
-/// How a picture of so many cells begins.
-fn opening(alloc: Global, face: &Face<'_>, cells: u64) -> Result<String, AllocError> {
+/// Adds how a picture of so many cells begins.
+fn put_opening(face: &Face<'_>, cells: u64, picture: &mut Text) {
     let units = u64::from(face.units);
     let rows = cells.saturating_add(COLUMNS - 1) / COLUMNS;
     let side = units.saturating_mul(2);
     let (width, height) = (side.saturating_mul(COLUMNS), side.saturating_mul(rows));
     let (wide, high) = (PIXELS.saturating_mul(COLUMNS), PIXELS.saturating_mul(rows));
     let size = label_size(units);
-    let mut picture = format!(in alloc;
+    write!(
+        picture,
         "<svg xmlns=\"{SVG}\" width=\"{wide}\" height=\"{high}\" viewBox=\"0 0 {width} {height}\""
-    )?;
-    writeln!(picture, " font-family=\"monospace\" font-size=\"{size}\">")?;
-    Ok(picture)
+    );
+    writeln!(picture, " font-family=\"monospace\" font-size=\"{size}\">");
+}
+
+/// A picture of glyphs.
+fn picture_of(
+    rt: &HostRuntime,
+    face: &Face<'_>,
+    gids: Range<u16>,
+    budget: &mut Budget,
+    stopped: &mut Stopped<'_>,
+) -> Result<String, Failure> {
+    let mut picture = Text::new(rt.alloc());
+    let cells = gids.end.saturating_sub(gids.start);
+    put_opening(face, u64::from(cells), &mut picture);
+    put_cells(rt, face, gids, budget, stopped, &mut picture)?;
+    picture.push_str("</svg>\n");
+    Ok(picture.end()?)
 }
 
 /// Writes a picture of the glyphs that words name; those that are refused have the reason in their cells. It is refused behind that
@@ -161,10 +174,8 @@ pub fn write<W: Write>(
     let from = words.get_one::<u16>("from").unwrap_or(0);
     let most = words.get_one::<u16>("count").unwrap_or(65535);
     let to = count(face).min(from.saturating_add(most));
-    let mut picture = opening(rt.alloc(), face, u64::from(to.saturating_sub(from)))?;
     let mut stopped = Stopped::new(rt);
-    put_cells(rt, face, from..to, budget, &mut stopped, &mut picture)?;
-    writeln!(picture, "</svg>")?;
+    let picture = picture_of(rt, face, from..to, budget, &mut stopped)?;
     saving::put(rt, words, picture.as_bytes(), out)?;
     stopped.end()
 }

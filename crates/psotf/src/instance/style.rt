@@ -1,6 +1,7 @@
 //! What a place is called (ISO/IEC 14496-22, 5.2.7; Adobe's Technical Note 5902).
 use super::values::word;
 use crate::decimal::put_bits;
+use crate::text::Text;
 use crate::variable::{Chosen, VariableFace, name_of, text_of};
 use postscript_variation::{Axes, Axis};
 use std::alloc::{AllocError, Global};
@@ -87,14 +88,13 @@ fn instance_at(axes: &Axes<'_>, chosen: &Chosen) -> Option<usize> {
 }
 
 /// Adds where a place stands along an axis: as 650wght.
-fn put_value(text: &mut String, axis: &Axis, value: i32) -> Result<(), AllocError> {
-    put_bits(text, i64::from(value))?;
+fn put_value(text: &mut Text, axis: &Axis, value: i32) {
+    put_bits(text, i64::from(value));
     for byte in axis.tag.to_be_bytes() {
         if byte.is_ascii_graphic() {
-            text.push(byte as char)?;
+            text.push(byte as char);
         }
     }
-    Ok(())
 }
 
 /// Where a place stands along the axes on which it is not at the default, with words between.
@@ -104,19 +104,19 @@ fn values(
     chosen: &Chosen,
     between: char,
 ) -> Result<String, AllocError> {
-    let mut text = String::new(alloc);
+    let mut text = Text::new(alloc);
     for i in 0..axes.len() {
         if let Some(axis) = axes.get(i) {
             let value = chosen.value(&axis);
             if value != axis.default {
                 if !text.is_empty() {
-                    text.push(between)?;
+                    text.push(between);
                 }
-                put_value(&mut text, &axis, value)?;
+                put_value(&mut text, &axis, value);
             }
         }
     }
-    Ok(text)
+    text.end()
 }
 
 /// The PostScript name that the face tells of an instance; empty where it tells none.

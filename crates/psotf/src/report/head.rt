@@ -1,6 +1,6 @@
 //! What a page tells of the file and of the face (docs/REPORT.md).
 use super::pages::{Pages, put_index};
-use super::{hex, parts};
+use super::parts;
 use crate::dictionaries::{self, CID_TOP};
 use crate::face::Face;
 use crate::inspect;
@@ -8,7 +8,7 @@ use crate::sheet::Sheet;
 use clap::ArgMatches;
 use postscript_items::Items;
 use postscript_sfnt::FontFile;
-use std::alloc::{AllocError, Global};
+use std::alloc::Global;
 
 /// What the items of a glyph's row are.
 const COLUMNS: [&str; 14] = [
@@ -29,83 +29,81 @@ const COLUMNS: [&str; 14] = [
 ];
 
 /// Writes the names of the columns.
-fn columns(sheet: &mut Sheet) -> Result<(), AllocError> {
-    sheet.begin_list("columns")?;
+fn columns(sheet: &mut Sheet) {
+    sheet.begin_list("columns");
     for column in &COLUMNS {
-        sheet.json.string(column)?;
+        sheet.string(column);
     }
-    sheet.json.end_array()
+    sheet.end_array();
 }
 
 /// Writes of each table its tag, its place and its size in bytes.
-pub fn tables(alloc: Global, sheet: &mut Sheet, file: &FontFile<'_>) -> Result<(), AllocError> {
-    sheet.begin_list("tables")?;
+pub fn tables(sheet: &mut Sheet, file: &FontFile<'_>) {
+    sheet.begin_list("tables");
     for i in 0..file.tables() {
         let tag = file.tag(i).unwrap_or(0);
         if let Some((place, size)) = file.span(tag) {
-            let name = String::from_utf8_lossy(alloc, &tag.to_be_bytes())?;
-            sheet.named(name.as_str(), place as u64, size as u64)?;
+            sheet.begin_array();
+            sheet.bytes(&tag.to_be_bytes());
+            sheet.u64(place as u64);
+            sheet.u64(size as u64);
+            sheet.end_array();
         }
     }
-    sheet.json.end_array()
+    sheet.end_array();
 }
 
 /// Writes the font dictionaries of a CID-keyed font.
-fn font_dictionaries(sheet: &mut Sheet, face: &Face<'_>) -> Result<(), AllocError> {
-    sheet.begin_list("font_dictionaries")?;
+fn font_dictionaries(sheet: &mut Sheet, face: &Face<'_>) {
+    sheet.begin_list("font_dictionaries");
     for part in &face.font.parts {
         if let Some(dictionary) = &part.font_dictionary {
-            dictionaries::write(sheet, dictionary, &CID_TOP)?;
+            dictionaries::write(sheet, dictionary, &CID_TOP);
         }
     }
-    sheet.json.end_array()
+    sheet.end_array();
 }
 
 /// Writes the codes of the encoding, each with its glyph.
-fn codes(sheet: &mut Sheet, face: &Face<'_>) -> Result<(), AllocError> {
-    sheet.begin_list("codes")?;
+fn codes(sheet: &mut Sheet, face: &Face<'_>) {
+    sheet.begin_list("codes");
     if let (Ok(encoding), Some(set)) = (face.font.encoding(), &face.set) {
         for code in 0..=255u8 {
             if let Some(glyph) = face.font.glyph_of_code(&encoding, set, code) {
-                sheet.numbers(&[u64::from(code), glyph as u64])?;
+                sheet.numbers(&[u64::from(code), glyph as u64]);
             }
         }
     }
-    sheet.json.end_array()
+    sheet.end_array();
 }
 
 /// Writes the bytes of subroutines.
-fn list(alloc: Global, sheet: &mut Sheet, items: &Items<'_>) -> Result<(), AllocError> {
-    sheet.json.begin_array()?;
+fn list(sheet: &mut Sheet, items: &Items<'_>) {
+    sheet.begin_array();
     for item in items.iter() {
-        sheet.json.string(hex(alloc, item)?.as_str())?;
+        sheet.hex(item);
     }
-    sheet.json.end_array()
+    sheet.end_array();
 }
 
 /// Writes the global subroutines, and the local ones of each part.
-fn subroutines(alloc: Global, sheet: &mut Sheet, face: &Face<'_>) -> Result<(), AllocError> {
-    sheet.json.key("global")?;
-    list(alloc, sheet, &face.font.global_subroutines)?;
-    sheet.begin_list("local")?;
+fn subroutines(sheet: &mut Sheet, face: &Face<'_>) {
+    sheet.key("global");
+    list(sheet, &face.font.global_subroutines);
+    sheet.begin_list("local");
     for part in &face.font.parts {
-        list(alloc, sheet, &part.subroutines)?;
+        list(sheet, &part.subroutines);
     }
-    sheet.json.end_array()
+    sheet.end_array();
 }
 
 /// Writes what the block is, how many bytes the file has, which face is shown, and with which glyph the page begins.
-pub fn begin(
-    sheet: &mut Sheet,
-    size: usize,
-    words: &ArgMatches<'_>,
-    first: u16,
-) -> Result<(), AllocError> {
-    sheet.text("format", "psotf report 3")?;
-    sheet.number("bytes", size as u64)?;
+pub fn begin(sheet: &mut Sheet, size: usize, words: &ArgMatches<'_>, first: u16) {
+    sheet.text("format", "psotf report 3");
+    sheet.number("bytes", size as u64);
     let number = words.get_one::<u16>("face").unwrap_or(0);
-    sheet.number("face", u64::from(number))?;
-    sheet.number("from", u64::from(first))
+    sheet.number("face", u64::from(number));
+    sheet.number("from", u64::from(first));
 }
 
 /// Writes what is told of the file and of the face, on the page that begins with a glyph.
@@ -117,20 +115,20 @@ pub fn put(
     pages: &Pages<'_>,
     first: u16,
     hinted: u64,
-) -> Result<(), AllocError> {
-    sheet.json.begin_object()?;
-    begin(sheet, face.size, words, first)?;
-    pages.put(alloc, sheet)?;
+) {
+    sheet.begin_object();
+    begin(sheet, face.size, words, first);
+    pages.put(alloc, sheet);
     if pages.glyphs(pages.first).end < pages.end {
-        put_index(alloc, sheet, &face.map)?;
+        put_index(alloc, sheet, &face.map);
     }
-    columns(sheet)?;
-    tables(alloc, sheet, &face.file)?;
-    parts::put(sheet, face)?;
-    sheet.json.key("font")?;
-    inspect::put(alloc, sheet, face, hinted)?;
-    font_dictionaries(sheet, face)?;
-    codes(sheet, face)?;
-    subroutines(alloc, sheet, face)?;
-    sheet.json.end_object()
+    columns(sheet);
+    tables(sheet, &face.file);
+    parts::put(sheet, face);
+    sheet.key("font");
+    inspect::put(alloc, sheet, face, hinted);
+    font_dictionaries(sheet, face);
+    codes(sheet, face);
+    subroutines(sheet, face);
+    sheet.end_object();
 }

@@ -1,12 +1,13 @@
 //! Operations, written short (docs/REPORT.md).
 use super::short;
 use crate::drawing::OPERAND;
-use crate::failure::Failure;
 use crate::limit::Budget;
 use crate::sheet::Sheet;
+use crate::text::Text;
+use postscript_base::Result;
 use postscript_type2::{Operand, Operator, Told, mask_of};
 use postscript_view::Glyph;
-use std::alloc::{AllocError, Global};
+use std::alloc::Global;
 
 /// The code of an operator that a run answers (Technical Note 5177, Appendix A), 0x0c00 and the second byte where it has two; 0 of
 /// all others.
@@ -48,36 +49,28 @@ fn has_mask(operator: Operator) -> bool {
 }
 
 /// Adds how many operands there are, and these.
-fn put_operands(text: &mut String, operands: &[Operand]) -> Result<(), AllocError> {
-    short::put_count(text, operands.len())?;
+fn put_operands(text: &mut Text, operands: &[Operand]) {
+    short::put_count(text, operands.len());
     for operand in operands {
-        short::put_bits(text, i64::from(operand.bits()))?;
+        short::put_bits(text, i64::from(operand.bits()));
     }
-    Ok(())
 }
 
 /// Adds how many bytes a mask has, and these.
-fn put_mask(text: &mut String, mask: &[u8]) -> Result<(), AllocError> {
-    short::put_count(text, mask.len())?;
+fn put_mask(text: &mut Text, mask: &[u8]) {
+    short::put_count(text, mask.len());
     for byte in mask {
-        short::put(text, i64::from(*byte))?;
+        short::put(text, i64::from(*byte));
     }
-    Ok(())
 }
 
 /// Adds the code of an operator, its operands, and the mask behind it, if it has one.
-fn put_operation(
-    text: &mut String,
-    operator: Operator,
-    operands: &[Operand],
-    mask: &[u8],
-) -> Result<(), AllocError> {
-    short::put(text, code_of(operator))?;
-    put_operands(text, operands)?;
+fn put_operation(text: &mut Text, operator: Operator, operands: &[Operand], mask: &[u8]) {
+    short::put(text, code_of(operator));
+    put_operands(text, operands);
     if has_mask(operator) {
-        put_mask(text, mask)?;
+        put_mask(text, mask);
     }
-    Ok(())
 }
 
 /// What it takes to write so many operands and bytes of a mask, and their operator.
@@ -94,18 +87,18 @@ pub fn put(
     sheet: &mut Sheet,
     glyph: &Glyph<'_, '_>,
     budget: &mut Budget,
-) -> Result<(), Failure> {
+) -> Result<()> {
     let mut program = glyph.program(alloc);
     let mut left = u64::MAX;
-    let mut text = String::new(alloc);
+    let mut text = Text::new(alloc);
     for _ in 0..u64::MAX {
         let Told::Operation(operator, operands, phrase) = program.tell_within(&mut left)? else {
             break;
         };
         let mask = mask_of(phrase);
         budget.spend(price(operands.len(), mask.len()));
-        put_operation(&mut text, operator, operands, mask)?;
+        put_operation(&mut text, operator, operands, mask);
     }
-    sheet.json.string(text.as_str())?;
+    sheet.put(&text);
     Ok(())
 }

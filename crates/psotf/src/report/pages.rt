@@ -1,6 +1,7 @@
 //! The pages of a report: which glyphs each one has, and what it is called.
 use super::short;
 use crate::sheet::Sheet;
+use crate::text::Text;
 use postscript_sfnt::CharacterMap;
 use std::alloc::{AllocError, Global};
 use std::ops::Range;
@@ -9,7 +10,7 @@ use std::ops::Range;
 pub const MOST: u16 = 10_000;
 
 /// The most pages.
-const PAGES: u32 = 7;
+pub const PAGES: u16 = 7;
 
 /// The pages of a report of glyphs that stand one behind the other.
 #[derive(Clone, Copy)]
@@ -27,18 +28,14 @@ impl<'w> Pages<'w> {
         first..self.end.min(first.saturating_add(MOST))
     }
 
-    /// The first glyph of each page.
-    pub fn firsts(&self, alloc: Global) -> Result<Vec<u16>, AllocError> {
-        let mut firsts = Vec::new(alloc);
-        let mut first = self.first;
-        for _ in 0..PAGES {
-            firsts.push(first)?;
-            first = first.saturating_add(MOST);
-            if first >= self.end {
-                break;
-            }
+    /// The first glyph of the page of this number, where there are so many pages. There is one at least.
+    pub fn first_of(&self, page: u16) -> Option<u16> {
+        let first = self.first.saturating_add(page.saturating_mul(MOST));
+        if page == 0 || first < self.end {
+            Some(first)
+        } else {
+            None
         }
-        Ok(firsts)
     }
 
     /// Where the page is written to that begins with a glyph: the first one where the words say, and the others beside it.
@@ -53,20 +50,23 @@ impl<'w> Pages<'w> {
     }
 
     /// Writes of a page its name without the folder, its first glyph and the one behind its last.
-    fn put_page(&self, alloc: Global, sheet: &mut Sheet, first: u16) -> Result<(), AllocError> {
-        let path = self.path_of(alloc, first)?;
+    fn put_page(&self, alloc: Global, sheet: &mut Sheet, first: u16) {
         let end = self.glyphs(first).end;
-        sheet.named(name_of(path.as_str()), u64::from(first), u64::from(end))
+        match self.path_of(alloc, first) {
+            Ok(path) => sheet.named(name_of(path.as_str()), u64::from(first), u64::from(end)),
+            Err(_) => sheet.fail(),
+        }
     }
 
     /// Writes of each page its name, its first glyph and the one behind its last.
-    pub fn put(&self, alloc: Global, sheet: &mut Sheet) -> Result<(), AllocError> {
-        let firsts = self.firsts(alloc)?;
-        sheet.begin_list("pages")?;
-        for first in &firsts {
-            self.put_page(alloc, sheet, *first)?;
+    pub fn put(&self, alloc: Global, sheet: &mut Sheet) {
+        sheet.begin_list("pages");
+        for page in 0..PAGES {
+            if let Some(first) = self.first_of(page) {
+                self.put_page(alloc, sheet, first);
+            }
         }
-        sheet.json.end_array()
+        sheet.end_array();
     }
 }
 
@@ -95,31 +95,27 @@ impl Run {
     }
 
     /// Adds the run, if there is one: its first character, the glyph of it, and how many there are.
-    fn put(&self, text: &mut String) -> Result<(), AllocError> {
-        if self.count == 0 {
-            return Ok(());
+    fn put(&self, text: &mut Text) {
+        if self.count > 0 {
+            short::put(text, i64::from(self.char));
+            short::put(text, i64::from(self.glyph));
+            short::put(text, i64::from(self.count));
         }
-        short::put(text, i64::from(self.char))?;
-        short::put(text, i64::from(self.glyph))?;
-        short::put(text, i64::from(self.count))
     }
 }
 
 /// Writes which glyph each character has, as one text of runs.
-pub fn put_index(
-    alloc: Global,
-    sheet: &mut Sheet,
-    map: &Option<CharacterMap<'_>>,
-) -> Result<(), AllocError> {
-    let mut text = String::new(alloc);
+pub fn put_index(alloc: Global, sheet: &mut Sheet, map: &Option<CharacterMap<'_>>) {
+    let mut text = Text::new(alloc);
     if let Some(map) = map {
-        put_runs(&mut text, map)?;
+        put_runs(&mut text, map);
     }
-    sheet.text("index", text.as_str())
+    sheet.key("index");
+    sheet.put(&text);
 }
 
 /// Adds the runs of a character map.
-fn put_runs(text: &mut String, map: &CharacterMap<'_>) -> Result<(), AllocError> {
+fn put_runs(text: &mut Text, map: &CharacterMap<'_>) {
     let mut run = Run {
         char: 0,
         glyph: 0,
@@ -131,7 +127,7 @@ fn put_runs(text: &mut String, map: &CharacterMap<'_>) -> Result<(), AllocError>
             break;
         };
         if !run.goes_on(char, glyph) {
-            run.put(text)?;
+            run.put(text);
             run = Run {
                 char,
                 glyph,
@@ -141,5 +137,5 @@ fn put_runs(text: &mut String, map: &CharacterMap<'_>) -> Result<(), AllocError>
         run.count = run.count.saturating_add(1);
         from = char.saturating_add(1);
     }
-    run.put(text)
+    run.put(text);
 }

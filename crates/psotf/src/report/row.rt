@@ -1,61 +1,55 @@
 //! What a page tells of a glyph: a row, whose columns `head` names (docs/REPORT.md).
-use super::{hex, operations, outlines, short};
+use super::{operations, outlines, short};
 use crate::characters::{Mapped, of_glyph};
 use crate::drawing::{draw, width_of};
 use crate::face::Face;
-use crate::failure::{Failure, Refusal};
+use crate::failure::Refusal;
 use crate::limit::Budget;
 use crate::sheet::Sheet;
+use crate::text::Text;
+use postscript_base::Result;
 use postscript_drawing::Accent;
 use postscript_outline::Outline;
 use postscript_type2::{Charstring, Subroutines};
 use postscript_view::Glyph;
-use std::alloc::{AllocError, Global};
+use std::alloc::Global;
 
 /// Writes the name of a glyph, in a CID-keyed font its CID, or null.
-fn name(alloc: Global, sheet: &mut Sheet, face: &Face<'_>, gid: u16) -> Result<(), AllocError> {
-    if let Some(cid) = face.cid(gid) {
-        return sheet.json.u64(u64::from(cid));
-    }
-    match face.name(gid) {
-        Some(name) => sheet.bytes(alloc, name),
-        None => sheet.json.null(),
+fn name(sheet: &mut Sheet, face: &Face<'_>, gid: u16) {
+    match face.cid(gid) {
+        Some(cid) => sheet.u64(u64::from(cid)),
+        None => sheet.bytes_or_null(face.name(gid)),
     }
 }
 
 /// Writes the characters of a glyph.
-fn chars(sheet: &mut Sheet, chars: &[Mapped]) -> Result<(), AllocError> {
-    sheet.json.begin_array()?;
+fn chars(sheet: &mut Sheet, chars: &[Mapped]) {
+    sheet.begin_array();
     for mapped in chars {
-        sheet.json.u64(u64::from(mapped.char))?;
+        sheet.u64(u64::from(mapped.char));
     }
-    sheet.json.end_array()
+    sheet.end_array();
 }
 
 /// Writes which part a glyph has, or null.
-fn part(sheet: &mut Sheet, face: &Face<'_>, gid: u16) -> Result<(), AllocError> {
+fn part(sheet: &mut Sheet, face: &Face<'_>, gid: u16) {
     match face.font.part_of(usize::from(gid)) {
-        Some(part) => sheet.json.u64(part as u64),
-        None => sheet.json.null(),
+        Some(part) => sheet.u64(part as u64),
+        None => sheet.null(),
     }
 }
 
 /// Writes the width of a glyph by its code, and the operand there that it comes from, if it has one; or null.
-fn width(
-    alloc: Global,
-    sheet: &mut Sheet,
-    glyph: &Glyph<'_, '_>,
-    outline: &Outline,
-) -> Result<(), AllocError> {
+fn width(alloc: Global, sheet: &mut Sheet, glyph: &Glyph<'_, '_>, outline: &Outline) {
     let Some(bits) = width_of(glyph, outline) else {
-        return sheet.json.null();
+        return sheet.null();
     };
-    let mut text = String::new(alloc);
-    short::put_bits(&mut text, bits)?;
+    let mut text = Text::new(alloc);
+    short::put_bits(&mut text, bits);
     if let Some(operand) = outline.width {
-        short::put_bits(&mut text, i64::from(operand.bits()))?;
+        short::put_bits(&mut text, i64::from(operand.bits()));
     }
-    sheet.json.string(text.as_str())
+    sheet.put(&text);
 }
 
 /// How many units a run takes that comes to its end, and the base and the accent of an accented glyph.
@@ -63,7 +57,7 @@ fn cost_of(
     alloc: Global,
     glyph: &Glyph<'_, '_>,
     budget: &mut Budget,
-) -> Result<(u64, Option<Accent>), Failure> {
+) -> Result<(u64, Option<Accent>)> {
     let share = budget.share();
     let mut left = share;
     let mut program = glyph.program(alloc);
@@ -80,20 +74,20 @@ fn costs(
     sheet: &mut Sheet,
     glyph: &Glyph<'_, '_>,
     budget: &mut Budget,
-) -> Result<Option<Accent>, Failure> {
+) -> Result<Option<Accent>> {
     let (cost, accent) = cost_of(alloc, glyph, budget)?;
     let subroutines = Subroutines::indexes(glyph.global_subroutines, glyph.part.subroutines);
     let code = glyph.code;
     let charstring = Charstring { code, subroutines };
-    sheet.json.u64(cost)?;
-    sheet.json.u64(charstring.flat_len(alloc)? as u64)?;
-    sheet.json.u64(charstring.inlined_len(alloc)? as u64)?;
+    sheet.u64(cost);
+    sheet.u64(charstring.flat_len(alloc)? as u64);
+    sheet.u64(charstring.inlined_len(alloc)? as u64);
     Ok(accent)
 }
 
 /// Writes the codes of a base and an accent.
-fn both(sheet: &mut Sheet, accent: &Accent) -> Result<(), AllocError> {
-    sheet.numbers(&[u64::from(accent.base), u64::from(accent.accent)])
+fn both(sheet: &mut Sheet, accent: &Accent) {
+    sheet.numbers(&[u64::from(accent.base), u64::from(accent.accent)]);
 }
 
 /// Writes what a glyph draws, by its run.
@@ -103,15 +97,15 @@ fn drawn(
     glyph: &Glyph<'_, '_>,
     outline: &Outline,
     budget: &mut Budget,
-) -> Result<(), Failure> {
-    width(alloc, sheet, glyph, outline)?;
-    outlines::put_bounds(alloc, sheet, outline)?;
+) -> Result<()> {
+    width(alloc, sheet, glyph, outline);
+    outlines::put_bounds(alloc, sheet, outline);
     let accent = costs(alloc, sheet, glyph, budget)?;
-    outlines::put(alloc, sheet, outline)?;
+    outlines::put(alloc, sheet, outline);
     operations::put(alloc, sheet, glyph, budget)?;
-    sheet.json.string(hex(alloc, glyph.code)?.as_str())?;
+    sheet.hex(glyph.code);
     if let Some(accent) = accent {
-        both(sheet, &accent)?;
+        both(sheet, &accent);
     }
     Ok(())
 }
@@ -124,22 +118,22 @@ pub fn put(
     mapped: &[Mapped],
     gid: u16,
     budget: &mut Budget,
-) -> Result<Option<Refusal>, Failure> {
-    sheet.json.begin_array()?;
-    name(alloc, sheet, face, gid)?;
-    chars(sheet, of_glyph(mapped, gid))?;
-    sheet.json.u64(u64::from(face.advances.of(gid)))?;
-    part(sheet, face, gid)?;
+) -> Result<Option<Refusal>> {
+    sheet.begin_array();
+    name(sheet, face, gid);
+    chars(sheet, of_glyph(mapped, gid));
+    sheet.u64(u64::from(face.advances.of(gid)));
+    part(sheet, face, gid);
     let refusal = match draw(alloc, face, gid, budget) {
         Ok((glyph, outline)) => {
             drawn(alloc, sheet, &glyph, &outline, budget)?;
             None
         }
         Err(refusal) => {
-            sheet.shown(&refusal)?;
+            sheet.shown(&refusal);
             Some(refusal)
         }
     };
-    sheet.json.end_array()?;
+    sheet.end_array();
     Ok(refusal)
 }

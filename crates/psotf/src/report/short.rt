@@ -1,17 +1,17 @@
 //! Numbers, written short (docs/REPORT.md).
-use std::alloc::AllocError;
+use crate::text::Text;
 
 /// The digits of numbers: a number ends with one of the first half.
 const DIGITS: &[u8; 64] = b"ABCDEFGHIJKLMNOPQRSTUVWXYZabcdefghijklmnopqrstuvwxyz0123456789+/";
 
 /// Adds a digit.
-fn put_digit(text: &mut String, digit: u64) -> Result<(), AllocError> {
+fn put_digit(text: &mut Text, digit: u64) {
     let letter = DIGITS.get(digit as usize).copied().unwrap_or(b'A');
-    text.push(letter as char)
+    text.push(letter as char);
 }
 
 /// Adds a whole number: its sign in the lowest bit, and digits of five bits, the lowest first.
-pub fn put(text: &mut String, number: i64) -> Result<(), AllocError> {
+pub fn put(text: &mut Text, number: i64) {
     let mut left = number.unsigned_abs().saturating_mul(2);
     if number < 0 {
         left = left.saturating_add(1);
@@ -20,23 +20,24 @@ pub fn put(text: &mut String, number: i64) -> Result<(), AllocError> {
         let digit = left % 32;
         left /= 32;
         if left == 0 {
-            return put_digit(text, digit);
+            put_digit(text, digit);
+            break;
         }
-        put_digit(text, digit.saturating_add(32))?;
+        put_digit(text, digit.saturating_add(32));
     }
-    Ok(())
 }
 
 /// Adds a number of 65536ths: as a whole one, or behind a point as many 65536ths.
-pub fn put_bits(text: &mut String, bits: i64) -> Result<(), AllocError> {
+pub fn put_bits(text: &mut Text, bits: i64) {
     if bits % 65536 == 0 {
-        return put(text, bits / 65536);
+        put(text, bits / 65536);
+    } else {
+        text.push('.');
+        put(text, bits);
     }
-    text.push('.')?;
-    put(text, bits)
 }
 
 /// Adds how many there are of something.
-pub fn put_count(text: &mut String, count: usize) -> Result<(), AllocError> {
-    put(text, i64::try_from(count).unwrap_or(0))
+pub fn put_count(text: &mut Text, count: usize) {
+    put(text, i64::try_from(count).unwrap_or(0));
 }

@@ -12,19 +12,12 @@ use postscript_sfnt::FontFile;
 use std::alloc::{AllocError, Global};
 
 /// Writes what each reading says of a table: the one in place, by which it is refused, and those of the whole font.
-fn put_readings(
-    alloc: Global,
-    sheet: &mut Sheet,
-    cff: &[u8],
-    error: &Error,
-    spot: &Spot,
-) -> Result<(), AllocError> {
-    sheet.json.key("readings")?;
-    sheet.json.begin_object()?;
-    sheet.json.key("in_place")?;
-    readings::put_refusal(sheet, error, spot)?;
-    readings::put(alloc, sheet, cff)?;
-    sheet.json.end_object()
+fn put_readings(alloc: Global, sheet: &mut Sheet, cff: &[u8], error: &Error, spot: &Spot) {
+    sheet.begin_member("readings");
+    sheet.key("in_place");
+    readings::put_refusal(sheet, error, spot);
+    readings::put(alloc, sheet, cff);
+    sheet.end_object();
 }
 
 /// Writes what is told of a file all the same: its tables, and the first parts of the table `CFF `, as far as they stand.
@@ -36,23 +29,33 @@ fn put_head(
     words: &ArgMatches<'_>,
     error: &Error,
     spot: &Spot,
-) -> Result<(), AllocError> {
+) {
     let cff = file.table(*b"CFF ").unwrap_or(&[]);
     let path = path_of(words);
-    sheet.json.begin_object()?;
-    head::begin(sheet, size, words, 0)?;
+    sheet.begin_object();
+    head::begin(sheet, size, words, 0);
     let pages = Pages {
         path,
         first: 0,
         end: 0,
     };
-    pages.put(alloc, sheet)?;
-    head::tables(alloc, sheet, file)?;
-    sheet.begin_list("parts")?;
-    parts::first(sheet, cff)?;
-    sheet.json.end_array()?;
-    put_readings(alloc, sheet, cff, error, spot)?;
-    sheet.json.end_object()
+    pages.put(alloc, sheet);
+    head::tables(sheet, file);
+    sheet.begin_list("parts");
+    parts::first(sheet, cff);
+    sheet.end_array();
+    put_readings(alloc, sheet, cff, error, spot);
+    sheet.end_object();
+}
+
+/// The page of a head, with no glyphs.
+fn page_of(alloc: Global, head: &mut Sheet) -> Result<Vec<u8>, AllocError> {
+    let mut page = Vec::new(alloc);
+    begin(&mut page)?;
+    head.end_in(&mut page)?;
+    page.extend_from_slice(b",\n\"glyphs\":[]}\n")?;
+    end(&mut page)?;
+    Ok(page)
 }
 
 /// Writes a page that shows why a table `CFF ` is refused, and what else the file holds. There is none where a command fails otherwise.
@@ -67,12 +70,7 @@ pub fn write_refused(
         return Ok(());
     };
     let mut sheet = Sheet::new(rt.alloc());
-    put_head(rt.alloc(), &mut sheet, file, size, words, error, spot)?;
-    let mut page = Vec::new(rt.alloc());
-    begin(&mut page)?;
-    page.extend_from_slice(b"{\"head\":")?;
-    let _ = sheet.end_in(&mut page)?;
-    page.extend_from_slice(b",\n\"glyphs\":[]}\n")?;
-    end(&mut page)?;
+    put_head(rt.alloc(), &mut sheet, file, size, words, error, spot);
+    let page = page_of(rt.alloc(), &mut sheet)?;
     save(rt, path_of(words), &page)
 }

@@ -4,12 +4,13 @@ use super::{VariableFace, moving};
 use crate::characters::{Mapped, by_glyph, glyph_of, missing, of_glyph};
 use crate::drawing::SEGMENT;
 use crate::failure::{Failure, Missing, Refusal};
-use crate::glyph::chars;
+use crate::glyph::{chars, shape};
 use crate::limit::Budget;
 use crate::progress::Progress;
 use crate::saving;
 use crate::sheet::Sheet;
 use crate::svg::picture_of;
+use crate::text::Text;
 use clap::ArgMatches;
 use postscript_drawing::Error as Undrawn;
 use postscript_outline::Outline;
@@ -86,21 +87,15 @@ pub fn outline_of(
 }
 
 /// Writes what a glyph draws, or why it is refused, and tells whether it is drawn.
-fn drawn(sheet: &mut Sheet, outline: &Result<Outline, Refusal>) -> Result<bool, AllocError> {
+fn drawn(sheet: &mut Sheet, outline: &Result<Outline, Refusal>) -> bool {
     match outline {
         Ok(outline) => {
-            sheet.bounds("bounds", outline.bounds())?;
-            sheet.bounds("tight_bounds", outline.tight_bounds())?;
-            sheet.begin_list("segments")?;
-            for segment in &outline.segments {
-                sheet.segment(*segment)?;
-            }
-            sheet.json.end_array()?;
-            Ok(true)
+            shape(sheet, outline);
+            true
         }
         Err(refusal) => {
-            sheet.tell("refused", refusal)?;
-            Ok(false)
+            sheet.tell("refused", refusal);
+            false
         }
     }
 }
@@ -114,35 +109,35 @@ fn object(
     gid: u16,
     chosen: &Chosen,
     budget: &mut Budget,
-) -> Result<bool, Failure> {
-    sheet.json.begin_object()?;
-    sheet.number("gid", u64::from(gid))?;
-    chars(alloc, sheet, of_glyph(mapped, gid))?;
-    sheet.json.key("advance")?;
-    sheet.json.i64(advance_of(face, gid, chosen))?;
-    let is_drawn = drawn(sheet, &outline_of(alloc, face, gid, chosen, budget))?;
-    sheet.json.end_object()?;
-    Ok(is_drawn)
+) -> bool {
+    sheet.begin_object();
+    sheet.number("gid", u64::from(gid));
+    chars(sheet, of_glyph(mapped, gid));
+    sheet.key("advance");
+    sheet.i64(advance_of(face, gid, chosen));
+    let is_drawn = drawn(sheet, &outline_of(alloc, face, gid, chosen, budget));
+    sheet.end_object();
+    is_drawn
 }
 
-/// Writes a glyph as a line: its number, its advance and its path; and tells whether it is drawn.
-fn line<W: Write>(
+/// Adds a glyph as a line: its number, its advance and its path; and tells whether it is drawn.
+fn put_line(
     alloc: Global,
+    line: &mut Text,
     face: &VariableFace<'_>,
     gid: u16,
     chosen: &Chosen,
     budget: &mut Budget,
-    out: &mut W,
-) -> Result<bool, Failure> {
+) -> bool {
     let advance = advance_of(face, gid, chosen);
     match outline_of(alloc, face, gid, chosen, budget) {
         Ok(outline) => {
-            writeln!(out, "{gid} {advance} {outline}")?;
-            Ok(true)
+            writeln!(line, "{gid} {advance} {outline}");
+            true
         }
         Err(refusal) => {
-            writeln!(out, "{gid} {advance} refused: {refusal}")?;
-            Ok(false)
+            writeln!(line, "{gid} {advance} refused: {refusal}");
+            false
         }
     }
 }
@@ -193,10 +188,10 @@ fn objects<W: Write>(
     let mut refused = 0u64;
     for gid in gids {
         progress.at(gid);
-        if !object(rt.alloc(), &mut sheet, face, &mapped, gid, chosen, budget)? {
+        if !object(rt.alloc(), &mut sheet, face, &mapped, gid, chosen, budget) {
             refused = refused.saturating_add(1);
         }
-        sheet = sheet.end(out)?;
+        sheet.end(out)?;
     }
     progress.end();
     Ok(refused)
@@ -212,12 +207,14 @@ fn lines<W: Write>(
     out: &mut W,
 ) -> Result<u64, Failure> {
     let mut progress = Progress::of_answers(rt, gids.end);
+    let mut line = Text::new(rt.alloc());
     let mut refused = 0u64;
     for gid in gids {
         progress.at(gid);
-        if !line(rt.alloc(), face, gid, chosen, budget, out)? {
+        if !put_line(rt.alloc(), &mut line, face, gid, chosen, budget) {
             refused = refused.saturating_add(1);
         }
+        line.end_in(out)?;
     }
     progress.end();
     Ok(refused)
@@ -252,7 +249,7 @@ fn put(
     x: i64,
     chosen: &Chosen,
     budget: &mut Budget,
-    picture: &mut String,
+    picture: &mut Text,
 ) -> Result<i64, Failure> {
     if gid >= count(face) {
         return Err(Failure::Missing(Missing::Glyph(gid)));
@@ -262,32 +259,63 @@ fn put(
             writeln!(
                 picture,
                 "<path transform=\"translate({x} 0)\" d=\"{outline}\"/>"
-            )?;
+            );
             Ok(advance_of(face, gid, chosen))
         }
         Err(refusal) => Err(Failure::Glyph { gid, refusal }),
     }
 }
 
-/// The paths of a text, whose characters all have a glyph, and its width.
-fn paths(
+/// Refuses a text of which a character has no glyph.
+pub fn has_all(alloc: Global, face: &VariableFace<'_>, text: &str) -> Result<(), Failure> {
+    let missing = missing(alloc, &face.common.map, text)?;
+    if missing.is_empty() {
+        Ok(())
+    } else {
+        Err(Failure::Missing(Missing::Chars(missing)))
+    }
+}
+
+/// Adds the paths of a text, whose characters all have a glyph, and tells its width.
+fn put_text(
     alloc: Global,
     face: &VariableFace<'_>,
     text: &str,
     chosen: &Chosen,
     budget: &mut Budget,
-) -> Result<(String, i64), Failure> {
-    let missing = missing(alloc, &face.common.map, text)?;
-    if !missing.is_empty() {
-        return Err(Failure::Missing(Missing::Chars(missing)));
-    }
-    let mut picture = String::new(alloc);
+    picture: &mut Text,
+) -> Result<i64, Failure> {
+    has_all(alloc, face, text)?;
     let mut x = 0i64;
     for char in text.chars() {
         let gid = glyph_of(&face.common.map, u32::from(char));
-        x = x.saturating_add(put(alloc, face, gid, x, chosen, budget, &mut picture)?);
+        x = x.saturating_add(put(alloc, face, gid, x, chosen, budget, picture)?);
     }
-    Ok((picture, x))
+    Ok(x)
+}
+
+/// Adds the path of the glyph or the paths of the text that words name, at a place, and tells the width.
+fn put_named(
+    alloc: Global,
+    face: &VariableFace<'_>,
+    words: &ArgMatches<'_>,
+    chosen: &Chosen,
+    budget: &mut Budget,
+    picture: &mut Text,
+) -> Result<i64, Failure> {
+    match words.get_one::<u16>("gid") {
+        Some(gid) => put(alloc, face, gid, 0, chosen, budget, picture),
+        None => {
+            let text = words.get_str("text").unwrap_or("");
+            put_text(alloc, face, text, chosen, budget, picture)
+        }
+    }
+}
+
+/// A picture so wide of paths, in so many units to the em.
+pub fn framed(alloc: Global, units: u16, width: i64, paths: Text) -> Result<String, AllocError> {
+    let paths = paths.end()?;
+    picture_of(alloc, units, &width, paths.as_str())
 }
 
 /// Writes a picture of the glyph or the text that words name, at the place that they name.
@@ -302,20 +330,8 @@ pub fn write_picture<W: Write>(
         return moving::write(rt, face, axis, words, budget, out);
     }
     let chosen = Chosen::read(rt, face, words)?;
-    let (paths, width) = match words.get_one::<u16>("gid") {
-        Some(gid) => {
-            let mut picture = String::new(rt.alloc());
-            let width = put(rt.alloc(), face, gid, 0, &chosen, budget, &mut picture)?;
-            (picture, width)
-        }
-        None => paths(
-            rt.alloc(),
-            face,
-            words.get_str("text").unwrap_or(""),
-            &chosen,
-            budget,
-        )?,
-    };
-    let picture = picture_of(rt.alloc(), face.common.units, &width, paths.as_str())?;
+    let mut paths = Text::new(rt.alloc());
+    let width = put_named(rt.alloc(), face, words, &chosen, budget, &mut paths)?;
+    let picture = framed(rt.alloc(), face.common.units, width, paths)?;
     saving::put(rt, words, picture.as_bytes(), out)
 }

@@ -1,13 +1,14 @@
 //! What a face of a variable font holds.
 use super::VariableFace;
-use super::place::{name_of, text_of};
+use super::place::name_of;
 use crate::characters::count;
 use crate::decimal::put_bits;
 use crate::failure::Failure;
 use crate::sheet::Sheet;
+use crate::text::Text;
 use postscript_sfnt::Name;
 use postscript_variation::{Axes, Axis};
-use std::alloc::{AllocError, Global};
+use std::alloc::Global;
 use std::io::Write;
 
 /// The family and the style.
@@ -42,164 +43,155 @@ fn counts(face: &VariableFace<'_>, characters: u64) -> [(&'static str, u64); 7] 
 }
 
 /// Writes an axis as an object.
-fn axis(
-    alloc: Global,
-    sheet: &mut Sheet,
-    face: &VariableFace<'_>,
-    axis: &Axis,
-) -> Result<(), AllocError> {
-    sheet.json.begin_object()?;
-    sheet.json.key("tag")?;
-    sheet.bytes(alloc, &axis.tag.to_be_bytes())?;
-    sheet.name("name", name_of(face, axis.name))?;
-    let values = [
-        ("min", axis.minimum),
-        ("default", axis.default),
-        ("max", axis.maximum),
-    ];
-    for (key, value) in &values {
-        sheet.json.key(*key)?;
-        sheet.bits(i64::from(*value))?;
-    }
-    sheet.flag("hidden", axis.flags % 2 == 1)?;
-    sheet.json.end_object()
+fn axis(sheet: &mut Sheet, face: &VariableFace<'_>, axis: &Axis) {
+    sheet.begin_object();
+    sheet.key("tag");
+    sheet.bytes(&axis.tag.to_be_bytes());
+    sheet.name("name", name_of(face, axis.name));
+    sheet.key("min");
+    sheet.bits(i64::from(axis.minimum));
+    sheet.key("default");
+    sheet.bits(i64::from(axis.default));
+    sheet.key("max");
+    sheet.bits(i64::from(axis.maximum));
+    sheet.flag("hidden", axis.flags % 2 == 1);
+    sheet.end_object();
 }
 
 /// Writes an instance as an object: its name, and its coordinate along each axis.
-fn instance(
-    sheet: &mut Sheet,
-    face: &VariableFace<'_>,
-    axes: &Axes<'_>,
-    i: usize,
-) -> Result<(), AllocError> {
+fn instance(sheet: &mut Sheet, face: &VariableFace<'_>, axes: &Axes<'_>, i: usize) {
     let Some(instance) = axes.instance(i) else {
-        return Ok(());
+        return;
     };
-    sheet.json.begin_object()?;
-    sheet.name("name", name_of(face, instance.name))?;
-    sheet.begin_list("coordinates")?;
+    sheet.begin_object();
+    sheet.name("name", name_of(face, instance.name));
+    sheet.begin_list("coordinates");
     for axis in 0..axes.len() {
-        sheet.bits(i64::from(axes.coordinate(i, axis).unwrap_or(0)))?;
+        sheet.bits(i64::from(axes.coordinate(i, axis).unwrap_or(0)));
     }
-    sheet.json.end_array()?;
-    sheet.json.end_object()
+    sheet.end_array();
+    sheet.end_object();
 }
 
-/// Writes the axes and the instances.
-fn space(alloc: Global, sheet: &mut Sheet, face: &VariableFace<'_>) -> Result<(), AllocError> {
-    sheet.begin_list("axes")?;
+/// Writes the axes.
+fn axes(sheet: &mut Sheet, face: &VariableFace<'_>) {
+    sheet.begin_list("axes");
     if let Some(axes) = face.axes {
         for i in 0..axes.len() {
             if let Some(found) = axes.get(i) {
-                axis(alloc, sheet, face, &found)?;
+                axis(sheet, face, &found);
             }
         }
     }
-    sheet.json.end_array()?;
-    sheet.begin_list("instances")?;
+    sheet.end_array();
+}
+
+/// Writes the instances.
+fn instances(sheet: &mut Sheet, face: &VariableFace<'_>) {
+    sheet.begin_list("instances");
     if let Some(axes) = face.axes {
         for i in 0..axes.instances() {
-            instance(sheet, face, &axes, i)?;
+            instance(sheet, face, &axes, i);
         }
     }
-    sheet.json.end_array()
+    sheet.end_array();
 }
 
 /// Writes all that is told, as an object on a sheet.
-fn put(alloc: Global, sheet: &mut Sheet, face: &VariableFace<'_>) -> Result<(), AllocError> {
-    sheet.json.begin_object()?;
+fn put(alloc: Global, sheet: &mut Sheet, face: &VariableFace<'_>) {
+    sheet.begin_object();
     let (family, style) = names(face);
-    sheet.name("family", family)?;
-    sheet.name("style", style)?;
-    let characters = count(alloc, &face.common.map)?;
+    sheet.name("family", family);
+    sheet.name("style", style);
+    let characters = sheet.found(count(alloc, &face.common.map));
     for (key, count) in &counts(face, characters) {
-        sheet.number(*key, *count)?;
+        sheet.number(*key, *count);
     }
-    space(alloc, sheet, face)?;
-    sheet.json.end_object()
+    axes(sheet, face);
+    instances(sheet, face);
+    sheet.end_object();
 }
 
 /// Writes an object of all that is told.
 fn object<W: Write>(alloc: Global, face: &VariableFace<'_>, out: &mut W) -> Result<(), Failure> {
     let mut sheet = Sheet::new(alloc);
-    put(alloc, &mut sheet, face)?;
-    let _ = sheet.end(out)?;
-    Ok(())
+    put(alloc, &mut sheet, face);
+    sheet.end(out)
 }
 
-/// A value in 65536ths as a text.
-fn shown(alloc: Global, bits: i32) -> Result<String, AllocError> {
-    let mut text = String::new(alloc);
-    put_bits(&mut text, i64::from(bits))?;
-    Ok(text)
+/// Adds a value in 65536ths behind words.
+fn put_value(lines: &mut Text, words: &str, bits: i32) {
+    lines.push_str(words);
+    put_bits(lines, i64::from(bits));
 }
 
-/// From where to where an axis goes, and where its default is.
-fn range_of(alloc: Global, axis: &Axis) -> Result<String, AllocError> {
-    let mut text = String::new(alloc);
-    put_bits(&mut text, i64::from(axis.minimum))?;
-    text.push_str(" to ")?;
-    put_bits(&mut text, i64::from(axis.maximum))?;
-    text.push_str(", by default ")?;
-    put_bits(&mut text, i64::from(axis.default))?;
-    Ok(text)
+/// Adds a line of an axis: from where to where it goes, and where its default is.
+fn axis_line(alloc: Global, lines: &mut Text, face: &VariableFace<'_>, axis: &Axis) {
+    lines.push_str("axis ");
+    lines.put_made(String::from_utf8_lossy(alloc, &axis.tag.to_be_bytes()));
+    lines.push_str(": ");
+    lines.put_name(name_of(face, axis.name));
+    put_value(lines, ", ", axis.minimum);
+    put_value(lines, " to ", axis.maximum);
+    put_value(lines, ", by default ", axis.default);
+    lines.push_str(if axis.flags % 2 == 1 {
+        ", hidden\n"
+    } else {
+        "\n"
+    });
 }
 
-/// Writes a line of each axis.
-fn axis_lines<W: Write>(
-    alloc: Global,
-    face: &VariableFace<'_>,
-    axes: &Axes<'_>,
-    out: &mut W,
-) -> Result<(), Failure> {
+/// Adds a line of an instance.
+fn instance_line(lines: &mut Text, face: &VariableFace<'_>, axes: &Axes<'_>, i: usize) {
+    let Some(instance) = axes.instance(i) else {
+        return;
+    };
+    lines.push_str("instance ");
+    lines.put_name(name_of(face, instance.name));
+    lines.push(':');
+    for axis in 0..axes.len() {
+        put_value(lines, " ", axes.coordinate(i, axis).unwrap_or(0));
+    }
+    lines.push('\n');
+}
+
+/// Adds lines of the names and the numbers.
+fn head_lines(alloc: Global, lines: &mut Text, face: &VariableFace<'_>) {
+    let (family, style) = names(face);
+    lines.put_named("family", family);
+    lines.put_named("style", style);
+    lines.push_str("a variable font: its outlines stand in the table CFF2\n");
+    let characters = lines.found(count(alloc, &face.common.map));
+    for (key, count) in &counts(face, characters) {
+        writeln!(lines, "{key}: {count}");
+    }
+}
+
+/// Adds a line of each axis.
+fn axis_lines(alloc: Global, lines: &mut Text, face: &VariableFace<'_>, axes: &Axes<'_>) {
     for i in 0..axes.len() {
         if let Some(axis) = axes.get(i) {
-            let name = text_of(alloc, name_of(face, axis.name))?;
-            let range = range_of(alloc, &axis)?;
-            let hidden = if axis.flags % 2 == 1 { ", hidden" } else { "" };
-            let tag = String::from_utf8_lossy(alloc, &axis.tag.to_be_bytes())?;
-            writeln!(out, "axis {tag}: {name}, {range}{hidden}")?;
+            axis_line(alloc, lines, face, &axis);
         }
     }
-    Ok(())
 }
 
-/// Writes a line of each instance.
-fn instance_lines<W: Write>(
-    alloc: Global,
-    face: &VariableFace<'_>,
-    axes: &Axes<'_>,
-    out: &mut W,
-) -> Result<(), Failure> {
+/// Adds a line of each instance.
+fn instance_lines(lines: &mut Text, face: &VariableFace<'_>, axes: &Axes<'_>) {
     for i in 0..axes.instances() {
-        if let Some(instance) = axes.instance(i) {
-            let name = text_of(alloc, name_of(face, instance.name))?;
-            write!(out, "instance {name}:")?;
-            for axis in 0..axes.len() {
-                let value = shown(alloc, axes.coordinate(i, axis).unwrap_or(0))?;
-                write!(out, " {value}")?;
-            }
-            writeln!(out, "")?;
-        }
+        instance_line(lines, face, axes, i);
     }
-    Ok(())
 }
 
 /// Writes lines of all that is told.
 fn lines<W: Write>(alloc: Global, face: &VariableFace<'_>, out: &mut W) -> Result<(), Failure> {
-    let (family, style) = names(face);
-    writeln!(out, "family: {}", text_of(alloc, family)?)?;
-    writeln!(out, "style: {}", text_of(alloc, style)?)?;
-    writeln!(out, "a variable font: its outlines stand in the table CFF2")?;
-    let characters = count(alloc, &face.common.map)?;
-    for (key, count) in &counts(face, characters) {
-        writeln!(out, "{key}: {count}")?;
-    }
+    let mut lines = Text::new(alloc);
+    head_lines(alloc, &mut lines, face);
     if let Some(axes) = face.axes {
-        axis_lines(alloc, face, &axes, out)?;
-        instance_lines(alloc, face, &axes, out)?;
+        axis_lines(alloc, &mut lines, face, &axes);
+        instance_lines(&mut lines, face, &axes);
     }
-    Ok(())
+    lines.end_in(out)
 }
 
 /// Writes what a face of a variable font holds.

@@ -1,13 +1,14 @@
 //! Pictures of a variable font that go through an axis.
 use super::VariableFace;
-use super::glyphs::{advance_of, count, outline_of};
+use super::glyphs::{advance_of, count, framed, has_all, outline_of};
 use super::place::{Chosen, axis_named};
-use crate::characters::{glyph_of, missing};
+use crate::characters::glyph_of;
 use crate::failure::{Failure, Missing};
 use crate::limit::Budget;
 use crate::saving;
-use crate::svg::picture_of;
+use crate::text::Text;
 use clap::ArgMatches;
+use postscript_outline::Outline;
 use postscript_variation::{Axis, Setting};
 use std::alloc::{AllocError, Global};
 use std::io::Write;
@@ -33,32 +34,46 @@ fn between(from: i32, to: i32, step: i64) -> i32 {
     i32::try_from(i64::from(from).saturating_add(gone)).unwrap_or(to)
 }
 
-/// The values along an axis at which glyphs are drawn: from its least to its default, where what varies may turn, and to its greatest.
-fn stops(alloc: Global, axis: &Axis) -> Result<Vec<i32>, AllocError> {
-    let mut stops = Vec::new(alloc);
-    if axis.minimum < axis.default {
-        for step in 0..STEPS {
-            stops.push(between(axis.minimum, axis.default, step))?;
-        }
+/// The value along an axis at the stop of a number, from -STEPS to STEPS: from its least to its default, where what varies may turn, and
+/// to its greatest. None where the axis has no stop of this number.
+fn stop(axis: &Axis, number: i64) -> Option<i32> {
+    if number >= STEPS {
+        Some(axis.maximum)
+    } else if number >= 0 {
+        Some(between(axis.default, axis.maximum, number))
+    } else if axis.minimum < axis.default {
+        Some(between(axis.minimum, axis.default, number.saturating_add(STEPS)))
+    } else {
+        None
     }
-    for step in 0..STEPS {
-        stops.push(between(axis.default, axis.maximum, step))?;
-    }
-    stops.push(axis.maximum)?;
-    Ok(stops)
 }
 
-/// The glyphs of a text, whose characters all have one.
-fn glyphs_of(alloc: Global, face: &VariableFace<'_>, text: &str) -> Result<Vec<u16>, Failure> {
-    let missing = missing(alloc, &face.common.map, text)?;
-    if !missing.is_empty() {
-        return Err(Failure::Missing(Missing::Chars(missing)));
-    }
+/// The glyph of a number, or those of a text.
+fn glyphs_of(
+    alloc: Global,
+    face: &VariableFace<'_>,
+    gid: Option<u16>,
+    text: &str,
+) -> Result<Vec<u16>, AllocError> {
     let mut gids = Vec::new(alloc);
+    if let Some(gid) = gid {
+        gids.push(gid)?;
+        return Ok(gids);
+    }
     for char in text.chars() {
         gids.push(glyph_of(&face.common.map, u32::from(char)))?;
     }
     Ok(gids)
+}
+
+/// The first glyph of some that the face does not have.
+fn beyond(face: &VariableFace<'_>, gids: &[u16]) -> Option<u16> {
+    for gid in gids {
+        if *gid >= count(face) {
+            return Some(*gid);
+        }
+    }
+    None
 }
 
 /// The glyphs that words name.
@@ -67,20 +82,26 @@ fn asked(
     face: &VariableFace<'_>,
     words: &ArgMatches<'_>,
 ) -> Result<Vec<u16>, Failure> {
-    let gids = match words.get_one::<u16>("gid") {
-        Some(gid) => {
-            let mut gids = Vec::with_capacity(alloc, 1)?;
-            gids.push(gid)?;
-            gids
-        }
-        None => glyphs_of(alloc, face, words.get_str("text").unwrap_or(""))?,
-    };
-    for gid in &gids {
-        if *gid >= count(face) {
-            return Err(Failure::Missing(Missing::Glyph(*gid)));
-        }
+    let gid = words.get_one::<u16>("gid");
+    let text = words.get_str("text").unwrap_or("");
+    if gid.is_none() {
+        has_all(alloc, face, text)?;
     }
-    Ok(gids)
+    let gids = glyphs_of(alloc, face, gid, text)?;
+    match beyond(face, &gids) {
+        Some(gid) => Err(Failure::Missing(Missing::Glyph(gid))),
+        None => Ok(gids),
+    }
+}
+
+impl Frame {
+    /// Adds a glyph beside the others.
+    fn put(&mut self, alloc: Global, outline: &Outline, advance: i64) -> Result<(), AllocError> {
+        self.paths.push(format!(in alloc; "{outline}")?)?;
+        self.starts.push(self.width)?;
+        self.width = self.width.saturating_add(advance);
+        Ok(())
+    }
 }
 
 /// Glyphs side by side at a place.
@@ -98,12 +119,9 @@ fn frame_of(
     };
     for gid in gids {
         match outline_of(alloc, face, *gid, chosen, budget) {
-            Ok(outline) => frame.paths.push(format!(in alloc; "{outline}")?)?,
+            Ok(outline) => frame.put(alloc, &outline, advance_of(face, *gid, chosen))?,
             Err(refusal) => return Err(Failure::Glyph { gid: *gid, refusal }),
         }
-        frame.starts.push(frame.width)?;
-        let advance = advance_of(face, *gid, chosen);
-        frame.width = frame.width.saturating_add(advance);
     }
     Ok(frame)
 }
@@ -118,106 +136,113 @@ fn frames_of(
     budget: &mut Budget,
 ) -> Result<Vec<Frame>, Failure> {
     let mut frames = Vec::new(alloc);
-    for value in &stops(alloc, axis)? {
-        let along = Setting {
-            tag: axis.tag,
-            value: *value,
-        };
-        let place = chosen.at(alloc, face, along)?;
-        frames.push(frame_of(alloc, face, gids, &place, budget)?)?;
+    for number in -STEPS..=STEPS {
+        if let Some(value) = stop(axis, number) {
+            let along = Setting {
+                tag: axis.tag,
+                value,
+            };
+            let place = chosen.at(alloc, face, along)?;
+            frames.push(frame_of(alloc, face, gids, &place, budget)?)?;
+        }
     }
     Ok(frames)
 }
 
-/// The frames there and back, by their numbers.
-fn there_and_back(alloc: Global, frames: usize) -> Result<Vec<usize>, AllocError> {
-    let mut order = Vec::new(alloc);
-    for i in 0..frames {
-        order.push(i)?;
+/// How many frames are shown there and back.
+fn shown(frames: &[Frame]) -> usize {
+    frames.len().saturating_mul(2).saturating_sub(1)
+}
+
+/// The frame that is shown as the one of this number.
+fn frame_at(frames: &[Frame], number: usize) -> Option<&Frame> {
+    let last = frames.len().saturating_sub(1);
+    if number <= last {
+        frames.get(number)
+    } else {
+        frames.get(last.saturating_mul(2).saturating_sub(number))
     }
-    for i in 1..frames {
-        order.push(frames - 1 - i)?;
-    }
-    Ok(order)
 }
 
 /// Adds the element that moves the path of a glyph.
-fn put_shapes(
-    picture: &mut String,
-    frames: &[Frame],
-    order: &[usize],
-    glyph: usize,
-) -> Result<(), AllocError> {
-    write!(picture, "<animate attributeName=\"d\" {TIME} values=\"")?;
+fn put_shapes(picture: &mut Text, frames: &[Frame], glyph: usize) {
+    write!(picture, "<animate attributeName=\"d\" {TIME} values=\"");
     let mut lead = "";
-    for i in order {
-        if let Some(frame) = frames.get(*i) {
+    for number in 0..shown(frames) {
+        if let Some(frame) = frame_at(frames, number) {
             if let Some(path) = frame.paths.get(glyph) {
-                write!(picture, "{lead}{path}")?;
+                write!(picture, "{lead}{path}");
                 lead = ";";
             }
         }
     }
-    picture.push_str("\"/>\n")
+    picture.push_str("\"/>\n");
 }
 
 /// Adds the element that moves the place of a glyph.
-fn put_starts(
-    picture: &mut String,
-    frames: &[Frame],
-    order: &[usize],
-    glyph: usize,
-) -> Result<(), AllocError> {
+fn put_starts(picture: &mut Text, frames: &[Frame], glyph: usize) {
     write!(
         picture,
         "<animateTransform attributeName=\"transform\" type=\"translate\" {TIME} values=\""
-    )?;
+    );
     let mut lead = "";
-    for i in order {
-        if let Some(frame) = frames.get(*i) {
+    for number in 0..shown(frames) {
+        if let Some(frame) = frame_at(frames, number) {
             if let Some(start) = frame.starts.get(glyph) {
-                write!(picture, "{lead}{start} 0")?;
+                write!(picture, "{lead}{start} 0");
                 lead = ";";
             }
         }
     }
-    picture.push_str("\"/>\n")
+    picture.push_str("\"/>\n");
 }
 
 /// Adds a glyph as an element that moves. It begins as it is in the first frame.
-fn put_glyph(
-    picture: &mut String,
-    frames: &[Frame],
-    order: &[usize],
-    glyph: usize,
-) -> Result<(), AllocError> {
+fn put_glyph(picture: &mut Text, frames: &[Frame], glyph: usize) {
     let Some(first) = frames.first() else {
-        return Ok(());
+        return;
     };
     if let (Some(start), Some(path)) = (first.starts.get(glyph), first.paths.get(glyph)) {
         writeln!(
             picture,
             "<path transform=\"translate({start} 0)\" d=\"{path}\">"
-        )?;
-        put_shapes(picture, frames, order, glyph)?;
-        put_starts(picture, frames, order, glyph)?;
-        picture.push_str("</path>\n")?;
+        );
+        put_shapes(picture, frames, glyph);
+        put_starts(picture, frames, glyph);
+        picture.push_str("</path>\n");
     }
-    Ok(())
 }
 
-/// The glyphs as elements that move, and how wide the widest frame is.
-fn elements(alloc: Global, frames: &[Frame], glyphs: usize) -> Result<(String, i64), AllocError> {
-    let order = there_and_back(alloc, frames.len())?;
-    let mut picture = String::new(alloc);
+/// How wide the widest frame is.
+fn width_of(frames: &[Frame]) -> i64 {
     let mut width = 0i64;
     for frame in frames {
         width = width.max(frame.width);
     }
+    width
+}
+
+/// The glyphs as elements that move.
+fn elements(alloc: Global, frames: &[Frame], glyphs: usize) -> Text {
+    let mut picture = Text::new(alloc);
     for glyph in 0..glyphs {
-        put_glyph(&mut picture, frames, &order, glyph)?;
+        put_glyph(&mut picture, frames, glyph);
     }
-    Ok((picture, width))
+    picture
+}
+
+/// A picture of glyphs that goes through an axis.
+fn moving(
+    alloc: Global,
+    face: &VariableFace<'_>,
+    axis: &Axis,
+    gids: &[u16],
+    chosen: &Chosen,
+    budget: &mut Budget,
+) -> Result<String, Failure> {
+    let frames = frames_of(alloc, face, axis, gids, chosen, budget)?;
+    let paths = elements(alloc, &frames, gids.len());
+    Ok(framed(alloc, face.common.units, width_of(&frames), paths)?)
 }
 
 /// Writes a picture of the glyph or the text that words name, which goes through an axis and back.
@@ -233,8 +258,6 @@ pub fn write<W: Write>(
     let axis = axis_named(alloc, face, name)?;
     let gids = asked(alloc, face, words)?;
     let chosen = Chosen::read(rt, face, words)?;
-    let frames = frames_of(alloc, face, &axis, &gids, &chosen, budget)?;
-    let (paths, width) = elements(alloc, &frames, gids.len())?;
-    let picture = picture_of(alloc, face.common.units, &width, paths.as_str())?;
+    let picture = moving(alloc, face, &axis, &gids, &chosen, budget)?;
     saving::put(rt, words, picture.as_bytes(), out)
 }
