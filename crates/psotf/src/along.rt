@@ -4,7 +4,7 @@ use crate::failure::Failure;
 use crate::limit::Budget;
 use postscript_drawing::{Accent, component_of};
 use postscript_view::FontView;
-use std::alloc::Global;
+use std::alloc::{AllocError, Global};
 
 /// A glyph that was not named, and the first one that is drawn with it.
 #[derive(Clone, Copy)]
@@ -25,7 +25,7 @@ struct Kept {
 
 impl Kept {
     /// Those that are named.
-    fn new(alloc: Global, named: &[usize], glyphs: usize) -> Result<Kept, Failure> {
+    fn new(alloc: Global, named: &[usize], glyphs: usize) -> Result<Kept, AllocError> {
         let mut kept = Kept {
             glyphs: Vec::new(alloc),
             marks: Vec::new(alloc),
@@ -39,7 +39,7 @@ impl Kept {
     }
 
     /// Adds a glyph of the font, and tells whether it was not there.
-    fn put(&mut self, glyph: usize) -> Result<bool, Failure> {
+    fn put(&mut self, glyph: usize) -> Result<bool, AllocError> {
         match self.marks.get_mut(glyph) {
             Some(mark) if !*mark => {
                 *mark = true;
@@ -50,22 +50,52 @@ impl Kept {
         }
     }
 
-    /// Adds the glyph of a code, if the font has one, as a component of a glyph.
-    fn put_component(&mut self, font: &FontView<'_>, code: u8, of: usize) -> Result<(), Failure> {
-        let Ok(glyph) = component_of(font, code) else {
-            return Ok(());
-        };
+    /// Adds a glyph as a component of another one.
+    fn put_component(&mut self, glyph: usize, of: usize) -> Result<(), AllocError> {
         if self.put(glyph)? {
             self.components.push(Component { glyph, of })?;
         }
         Ok(())
     }
 
-    /// Adds the base and the accent of a glyph.
-    fn put_both(&mut self, font: &FontView<'_>, accent: &Accent, of: usize) -> Result<(), Failure> {
-        self.put_component(font, accent.base, of)?;
-        self.put_component(font, accent.accent, of)
+    /// Adds the base and the accent of a glyph, as far as the font has them.
+    fn put_both(
+        &mut self,
+        font: &FontView<'_>,
+        accent: &Accent,
+        of: usize,
+    ) -> Result<(), AllocError> {
+        for code in [accent.base, accent.accent] {
+            if let Some(glyph) = component_in(font, code) {
+                self.put_component(glyph, of)?;
+            }
+        }
+        Ok(())
     }
+}
+
+/// The glyph of a code, if the font has one.
+fn component_in(font: &FontView<'_>, code: u8) -> Option<usize> {
+    component_of(font, code).ok()
+}
+
+/// Asks each glyph that is kept, also those that come along.
+fn ask_kept(
+    alloc: Global,
+    font: &FontView<'_>,
+    kept: &mut Kept,
+    budget: &mut Budget,
+) -> Result<(), Failure> {
+    for i in 0..font.char_strings.len() {
+        let Some(glyph) = kept.glyphs.get(i).copied() else {
+            break;
+        };
+        if let Some(accent) = ask(alloc, font, glyph, budget)? {
+            budget.search(font);
+            kept.put_both(font, &accent, glyph)?;
+        }
+    }
+    Ok(())
 }
 
 /// Asks each glyph that is kept, those that are named and those that come along, whether it keeps to its share; and which glyphs
@@ -77,15 +107,7 @@ pub fn asked(
     budget: &mut Budget,
 ) -> Result<Vec<Component>, Failure> {
     let mut kept = Kept::new(alloc, named, font.char_strings.len())?;
-    for i in 0..font.char_strings.len() {
-        let Some(glyph) = kept.glyphs.get(i).copied() else {
-            break;
-        };
-        if let Some(accent) = ask(alloc, font, glyph, budget)? {
-            budget.search(font);
-            kept.put_both(font, &accent, glyph)?;
-        }
-    }
+    ask_kept(alloc, font, &mut kept, budget)?;
     Ok(kept.components)
 }
 

@@ -4,6 +4,7 @@ ghost use Rattle.std.specs.Prelude.{◌≡◌};
 use crate::failure::{Failure, Refusal};
 use crate::limit::Budget;
 use postscript_drawing::Accent;
+use postscript_type2::Program;
 use postscript_view::{FontView, Glyph};
 use std::alloc::Global;
 
@@ -18,6 +19,15 @@ enum Answer {
     Stopped,
 }
 
+/// What a program comes to that is known to come to its end, or to be refused.
+fn end_of(program: &mut Program<'_>) -> Answer {
+    if program.next().is_err() {
+        return Answer::Refused;
+    }
+    let accent = Accent::named_by(program.operands_at_end());
+    Answer::End(accent.unwrap_or(None))
+}
+
 /// What the program of a glyph comes to within a share, of which the rest is left.
 fn answer_of(
     alloc: Global,
@@ -25,15 +35,10 @@ fn answer_of(
     share: &mut u64,
 ) -> postscript_base::Result<Answer> {
     let mut program = glyph.program(alloc);
-    if !program.fits(share)? {
-        return Ok(Answer::Stopped);
-    }
-    match program.next() {
-        Ok(_) => {
-            let accent = Accent::named_by(program.operands_at_end());
-            Ok(Answer::End(accent.unwrap_or(None)))
-        }
-        Err(_) => Ok(Answer::Refused),
+    match program.fits(share) {
+        Ok(true) => Ok(end_of(&mut program)),
+        Ok(false) => Ok(Answer::Stopped),
+        Err(error) => Err(error),
     }
 }
 

@@ -6,6 +6,9 @@ use clap::ArgMatches;
 use postscript_sfnt_write::Mapping;
 use std::alloc::{AllocError, Global};
 
+/// What is said of a list of characters that is none.
+const NOT_IN_HEX: &str = "--unicodes: a list of numbers in hex, as 41,U+42,61-7a";
+
 /// Glyphs, and characters with their glyphs.
 #[derive(Drop)]
 pub struct Choice {
@@ -14,23 +17,24 @@ pub struct Choice {
 }
 
 impl Choice {
-    /// Adds a character. One without a glyph is refused.
-    fn put_char(&mut self, face: &Face<'_>, char: u32) -> Result<(), Failure> {
-        let glyph = glyph_of(&face.map, char);
-        if glyph == 0 {
-            return Err(Failure::Missing(Missing::Char(char)));
-        }
+    /// Adds a character and its glyph.
+    fn put_pair(&mut self, char: u32, glyph: u16) -> Result<(), AllocError> {
         self.glyphs.push(usize::from(glyph))?;
         self.pairs.push(Mapping { char, glyph })?;
         Ok(())
     }
 
+    /// Adds a character. One without a glyph is refused.
+    fn put_char(&mut self, face: &Face<'_>, char: u32) -> Result<(), Failure> {
+        match glyph_of(&face.map, char) {
+            0 => Err(Failure::Missing(Missing::Char(char))),
+            glyph => Ok(self.put_pair(char, glyph)?),
+        }
+    }
+
     /// Adds the characters of a text. Those without a glyph are told together.
     fn put_text(&mut self, alloc: Global, face: &Face<'_>, text: &str) -> Result<(), Failure> {
-        let missing = missing(alloc, &face.map, text)?;
-        if !missing.is_empty() {
-            return Err(Failure::Missing(Missing::Chars(missing)));
-        }
+        refuse_missing(alloc, face, text)?;
         for char in text.chars() {
             self.put_char(face, u32::from(char))?;
         }
@@ -44,11 +48,7 @@ impl Choice {
             if *char > last {
                 break;
             }
-            self.glyphs.push(usize::from(*glyph))?;
-            self.pairs.push(Mapping {
-                char: *char,
-                glyph: *glyph,
-            })?;
+            self.put_pair(*char, *glyph)?;
         }
         Ok(())
     }
@@ -59,8 +59,13 @@ impl Choice {
             return Ok(());
         }
         let all = all_of(alloc, &face.map)?;
+        self.put_each(face, &all, list)
+    }
+
+    /// Adds the characters of the words of such a list.
+    fn put_each(&mut self, face: &Face<'_>, all: &[(u32, u16)], list: &str) -> Result<(), Failure> {
         for word in list.split(',') {
-            self.put_unicode(face, all.as_slice(), word)?;
+            self.put_unicode(face, all, word)?;
         }
         Ok(())
     }
@@ -72,14 +77,18 @@ impl Choice {
         all: &[(u32, u16)],
         word: &str,
     ) -> Result<(), Failure> {
-        match word.split_once('-') {
-            Some((first, last)) => Ok(self.put_range(all, char_of(first)?, char_of(last)?)?),
-            None => self.put_char(face, char_of(word)?),
+        match range_of(word) {
+            Some((Some(first), Some(last))) => Ok(self.put_range(all, first, last)?),
+            Some(_) => Err(Failure::Usage(NOT_IN_HEX)),
+            None => match char_of(word) {
+                Some(char) => self.put_char(face, char),
+                None => Err(Failure::Usage(NOT_IN_HEX)),
+            },
         }
     }
 
     /// Adds glyphs of these numbers.
-    fn put_numbers(&mut self, first: u32, last: u32) -> Result<(), Failure> {
+    fn put_numbers(&mut self, first: u32, last: u32) -> Result<(), AllocError> {
         for gid in first..last.saturating_add(1) {
             self.glyphs.push(gid as usize)?;
         }
@@ -106,6 +115,12 @@ impl Choice {
         Ok(())
     }
 
+    /// Adds the characters that a face has for the glyphs.
+    fn put_own_chars(&mut self, alloc: Global, face: &Face<'_>) -> Result<(), AllocError> {
+        let all = by_glyph(alloc, &face.map)?;
+        self.put_chars(&all)
+    }
+
     /// Adds what words name.
     fn put(
         &mut self,
@@ -121,8 +136,16 @@ impl Choice {
         }
         let list = words.get_str("gids").unwrap_or("");
         self.put_gids(list, face.font.char_strings.len())?;
-        let all = by_glyph(alloc, &face.map)?;
-        self.put_chars(&all)?;
+        Ok(self.put_own_chars(alloc, face)?)
+    }
+
+    /// Adds `.notdef`; then glyphs and characters rise.
+    fn order(&mut self) -> Result<(), AllocError> {
+        self.glyphs.push(0)?;
+        self.glyphs.sort()?;
+        self.glyphs.dedup();
+        self.pairs.sort_by_key(|pair: &Mapping| pair.char)?;
+        self.pairs.dedup_by_key(|pair: &mut Mapping| pair.char);
         Ok(())
     }
 
@@ -136,11 +159,7 @@ impl Choice {
         if choice.glyphs.is_empty() {
             return Err(Failure::Missing(Missing::Glyphs));
         }
-        choice.glyphs.push(0)?;
-        choice.glyphs.sort()?;
-        choice.glyphs.dedup();
-        choice.pairs.sort_by_key(|pair: &Mapping| pair.char)?;
-        choice.pairs.dedup_by_key(|pair: &mut Mapping| pair.char);
+        choice.order()?;
         Ok(choice)
     }
 }
@@ -157,24 +176,32 @@ fn put_chars_of(pairs: &mut Vec<Mapping>, all: &[Mapped], glyph: usize) -> Resul
     Ok(())
 }
 
-/// A character by its number in hex.
-fn char_of(word: &str) -> Result<u32, Failure> {
-    let digits = word.strip_prefix("U+").unwrap_or(word);
-    match u32::from_str_radix(digits, 16) {
-        Ok(char) => Ok(char),
-        Err(_) => Err(Failure::Usage("--unicodes: a list of numbers in hex, as 41,U+42,61-7a")),
+/// Refuses a text with characters that have no glyph: they are told together.
+fn refuse_missing(alloc: Global, face: &Face<'_>, text: &str) -> Result<(), Failure> {
+    let missing = missing(alloc, &face.map, text)?;
+    if missing.is_empty() {
+        Ok(())
+    } else {
+        Err(Failure::Missing(Missing::Chars(missing)))
     }
+}
+
+/// A character by its number in hex. None where the word is no such number.
+fn char_of(word: &str) -> Option<u32> {
+    let digits = word.strip_prefix("U+").unwrap_or(word);
+    u32::from_str_radix(digits, 16).ok()
+}
+
+/// The first and the last character of a range. None where the word is no range.
+fn range_of(word: &str) -> Option<(Option<u32>, Option<u32>)> {
+    let (first, last) = word.split_once('-')?;
+    Some((char_of(first), char_of(last)))
 }
 
 /// The first and the last glyph of a word: a number, or a range of two.
 fn gids_of(word: &str, glyphs: usize) -> Result<(u32, u32), Failure> {
-    match word.split_once('-') {
-        Some((first, last)) => Ok((gid_of(first, glyphs)?, gid_of(last, glyphs)?)),
-        None => {
-            let gid = gid_of(word, glyphs)?;
-            Ok((gid, gid))
-        }
-    }
+    let (first, last) = word.split_once('-').unwrap_or((word, word));
+    Ok((gid_of(first, glyphs)?, gid_of(last, glyphs)?))
 }
 
 /// A glyph by its number, one of so many.

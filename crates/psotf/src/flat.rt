@@ -8,7 +8,7 @@ use clap::ArgMatches;
 use postscript_sfnt::FontFile;
 use postscript_sfnt_write::{Table, file_of};
 use postscript_write::flat_font;
-use std::alloc::Global;
+use std::alloc::{AllocError, Global};
 use std::io::Write;
 
 /// The tag of the table that is written anew.
@@ -25,15 +25,12 @@ fn has(tables: &[Table<'_>], tag: u32) -> bool {
     tables.iter().any(|table| table.tag == tag)
 }
 
-/// The tables of a face, in the order of their tags, but for its signature, with another table `CFF `. They are refused where they
-/// overlap, so that together they have more bytes than the file.
+/// The tables of a face, in the order of their tags, but for its signature, with another table `CFF `.
 fn with_font<'t>(
     alloc: Global,
     file: &FontFile<'t>,
-    size: usize,
     font: &'t [u8],
-) -> Result<Vec<Table<'t>>, Failure> {
-    let mut left = size;
+) -> Result<Vec<Table<'t>>, AllocError> {
     let mut tables: Vec<Table<'t>> = Vec::new(alloc);
     tables.push(Table {
         tag: CFF,
@@ -43,16 +40,32 @@ fn with_font<'t>(
         let tag = file.tag(i).unwrap_or(DSIG);
         if tag != DSIG && !has(tables.as_slice(), tag) {
             if let Some(bytes) = file.table(tag.to_be_bytes()) {
-                if bytes.len() > left {
-                    return Err(Failure::Unread(Unread::Overlap));
-                }
-                left -= bytes.len();
                 tables.push(Table { tag, bytes })?;
             }
         }
     }
     tables.sort_by_key(|table: &Table<'_>| table.tag)?;
     Ok(tables)
+}
+
+/// Whether tables overlap, so that those of the face have more bytes together than its file.
+fn overlap(tables: &[Table<'_>], size: usize) -> bool {
+    let mut sum = 0usize;
+    for table in tables {
+        if table.tag != CFF {
+            sum = sum.saturating_add(table.bytes.len());
+        }
+    }
+    sum > size
+}
+
+/// The file of a face with another table `CFF `. It is refused where tables overlap.
+fn file_with(alloc: Global, face: &Face<'_>, font: &[u8]) -> Result<Vec<u8>, Failure> {
+    let tables = with_font(alloc, &face.file, font)?;
+    if overlap(&tables, face.size) {
+        return Err(Failure::Unread(Unread::Overlap));
+    }
+    Ok(file_of(alloc, &tables)?)
 }
 
 /// Writes a file of the face whose char strings call no subroutine, where the run of each glyph keeps to the limit.
@@ -65,7 +78,6 @@ pub fn write<W: Write>(
 ) -> Result<(), Failure> {
     ask_all(rt.alloc(), &face.font, budget)?;
     let font = flat_font(rt.alloc(), face.cff)?;
-    let tables = with_font(rt.alloc(), &face.file, face.size, font.as_slice())?;
-    let file = file_of(rt.alloc(), tables.as_slice())?;
-    saving::put(rt, words, file.as_slice(), out)
+    let file = file_with(rt.alloc(), face, &font)?;
+    saving::put(rt, words, &file, out)
 }
