@@ -48,11 +48,14 @@ fn bearing(hmtx: &[u8], advances: usize, glyph: usize) -> i16 {
         .cast_signed()
 }
 
-/// The table `hmtx` of some glyphs, with an advance for each.
-fn metrics(alloc: Global, face: &Face<'_>, glyphs: &[usize]) -> Result<Vec<u8>, Failure> {
-    let hhea = needed(&face.file, *b"hhea", "hhea")?;
-    let table = needed(&face.file, *b"hmtx", "hmtx")?;
-    let advances = number_within(hhea, 34, 2).unwrap_or(0);
+/// The metrics of some glyphs, by a table `hmtx` of so many advances.
+fn metrics_of(
+    alloc: Global,
+    face: &Face<'_>,
+    table: &[u8],
+    advances: usize,
+    glyphs: &[usize],
+) -> Result<Vec<Metric>, AllocError> {
     let mut metrics = Vec::new(alloc);
     for glyph in glyphs {
         let gid = u16::try_from(*glyph).unwrap_or(u16::MAX);
@@ -61,7 +64,33 @@ fn metrics(alloc: Global, face: &Face<'_>, glyphs: &[usize]) -> Result<Vec<u8>, 
             bearing: bearing(table, advances, *glyph),
         })?;
     }
-    Ok(hmtx(alloc, metrics.as_slice())?)
+    Ok(metrics)
+}
+
+/// The table `hmtx` of some glyphs, with an advance for each.
+fn metrics(alloc: Global, face: &Face<'_>, glyphs: &[usize]) -> Result<Vec<u8>, Failure> {
+    let hhea = needed(&face.file, *b"hhea", "hhea")?;
+    let table = needed(&face.file, *b"hmtx", "hmtx")?;
+    let advances = number_within(hhea, 34, 2).unwrap_or(0);
+    let metrics = metrics_of(alloc, face, table, advances, glyphs)?;
+    Ok(hmtx(alloc, &metrics)?)
+}
+
+/// The same of all glyphs, of which there are so many.
+fn all_metrics(alloc: Global, face: &Face<'_>, glyphs: usize) -> Result<Vec<u8>, Failure> {
+    let mut all = Vec::new(alloc);
+    for gid in 0..glyphs {
+        all.push(gid)?;
+    }
+    metrics(alloc, face, &all)
+}
+
+/// The tables that tell how many glyphs there are, and `post`.
+#[derive(Drop)]
+struct Counts {
+    hhea: Vec<u8>,
+    maxp: Vec<u8>,
+    post: Vec<u8>,
 }
 
 /// The tables that are made of those of the face.
@@ -69,10 +98,8 @@ fn metrics(alloc: Global, face: &Face<'_>, glyphs: &[usize]) -> Result<Vec<u8>, 
 struct Written {
     font: Vec<u8>,
     map: Vec<u8>,
-    hhea: Vec<u8>,
     hmtx: Vec<u8>,
-    maxp: Vec<u8>,
-    post: Vec<u8>,
+    counts: Counts,
 }
 
 /// The tables that stay as they are: `OS/2` and `head`.
@@ -81,15 +108,8 @@ const SAME: [u32; 2] = [0x4f532f32, 0x68656164];
 /// The table `name`.
 const NAME: u32 = 0x6e616d65;
 
-/// The tables of a face, by their number of glyphs.
-fn with_counts(
-    alloc: Global,
-    face: &Face<'_>,
-    font: Vec<u8>,
-    map: Vec<u8>,
-    hmtx: Vec<u8>,
-    glyphs: usize,
-) -> Result<Written, Failure> {
+/// Those of a face, by their number of glyphs.
+fn counted(alloc: Global, face: &Face<'_>, glyphs: usize) -> Result<Counts, Failure> {
     let hhea = needed(&face.file, *b"hhea", "hhea")?;
     let maxp = needed(&face.file, *b"maxp", "maxp")?;
     let post = match face.file.table(*b"post") {
@@ -97,11 +117,8 @@ fn with_counts(
         _ => &[0; 32],
     };
     let count = u16::try_from(glyphs).unwrap_or(0);
-    Ok(Written {
-        font,
-        map,
+    Ok(Counts {
         hhea: with_number_of_metrics(alloc, hhea, count)?,
-        hmtx,
         maxp: with_number_of_glyphs(alloc, maxp, count)?,
         post: without_names(alloc, post)?,
     })
@@ -117,7 +134,13 @@ fn renumbered(
     let font = subset(alloc, face.cff, &choice.glyphs)?;
     let map = cmap(alloc, &numbered(alloc, &choice.pairs, kept)?)?;
     let hmtx = metrics(alloc, face, kept)?;
-    with_counts(alloc, face, font, map, hmtx, kept.len())
+    let counts = counted(alloc, face, kept.len())?;
+    Ok(Written {
+        font,
+        map,
+        hmtx,
+        counts,
+    })
 }
 
 /// The tables of all glyphs with their numbers, where those that are not kept are empty.
@@ -125,12 +148,14 @@ fn keeping(alloc: Global, face: &Face<'_>, choice: &Choice) -> Result<Written, F
     let font = subset_keeping(alloc, face.cff, &choice.glyphs)?;
     let map = cmap(alloc, &choice.pairs)?;
     let glyphs = face.font.char_strings.len();
-    let mut all = Vec::new(alloc);
-    for gid in 0..glyphs {
-        all.push(gid)?;
-    }
-    let hmtx = metrics(alloc, face, &all)?;
-    with_counts(alloc, face, font, map, hmtx, glyphs)
+    let hmtx = all_metrics(alloc, face, glyphs)?;
+    let counts = counted(alloc, face, glyphs)?;
+    Ok(Written {
+        font,
+        map,
+        hmtx,
+        counts,
+    })
 }
 
 /// A table of the face as it is, if there is one.
@@ -165,10 +190,10 @@ fn file_with(
     for (tag, bytes) in [
         (0x43464620, &made.font),
         (0x636d6170, &made.map),
-        (0x68686561, &made.hhea),
+        (0x68686561, &made.counts.hhea),
         (0x686d7478, &made.hmtx),
-        (0x6d617870, &made.maxp),
-        (0x706f7374, &made.post),
+        (0x6d617870, &made.counts.maxp),
+        (0x706f7374, &made.counts.post),
     ] {
         tables.push(Table {
             tag,

@@ -18,6 +18,27 @@ const MAXP: [u8; 6] = [0, 0, 0x50, 0, 0, 0];
 /// From which widths on, in quarters of a percent, the next width class is nearer.
 const WIDTHS: [i64; 8] = [225, 275, 325, 375, 425, 475, 550, 700];
 
+/// A table that each face of one place has.
+#[derive(Clone, Copy)]
+enum Needed {
+    Head,
+    Hhea,
+    Hmtx,
+    Maxp,
+    Name,
+    Post,
+}
+
+/// Their tags.
+const NEEDED: [([u8; 4], Needed); 6] = [
+    (*b"head", Needed::Head),
+    (*b"hhea", Needed::Hhea),
+    (*b"hmtx", Needed::Hmtx),
+    (*b"maxp", Needed::Maxp),
+    (*b"name", Needed::Name),
+    (*b"post", Needed::Post),
+];
+
 /// A table that was made.
 #[derive(Drop)]
 pub struct MadeTable {
@@ -167,6 +188,18 @@ impl<'m, 'l> Maker<'m, 'l> {
         let count = u16::try_from(self.drawn.metrics.len()).unwrap_or(u16::MAX);
         Ok(with_number_of_glyphs(self.alloc, &MAXP, count)?)
     }
+
+    /// A table that each face has.
+    fn needed(&self, table: Needed) -> Result<Vec<u8>, Failure> {
+        match table {
+            Needed::Head => self.head(),
+            Needed::Hhea => self.hhea(),
+            Needed::Hmtx => Ok(hmtx(self.alloc, &self.drawn.metrics)?),
+            Needed::Maxp => self.maxp(),
+            Needed::Name => names_of(self.alloc, self.face, self.style),
+            Needed::Post => self.post(),
+        }
+    }
 }
 
 impl Tables {
@@ -174,6 +207,14 @@ impl Tables {
     fn put(&mut self, tag: [u8; 4], bytes: Vec<u8>) -> Result<(), AllocError> {
         let tag = u32::from_be_bytes(tag);
         self.tables.push(MadeTable { tag, bytes })?;
+        Ok(())
+    }
+
+    /// Adds those that each face has.
+    fn put_needed(&mut self, maker: &Maker<'_, '_>) -> Result<(), Failure> {
+        for (tag, table) in NEEDED {
+            self.put(tag, maker.needed(table)?)?;
+        }
         Ok(())
     }
 
@@ -212,12 +253,7 @@ impl Tables {
         let mut made = Tables {
             tables: Vec::new(alloc),
         };
-        made.put(*b"head", maker.head()?)?;
-        made.put(*b"hhea", maker.hhea()?)?;
-        made.put(*b"hmtx", hmtx(alloc, &drawn.metrics)?)?;
-        made.put(*b"maxp", maker.maxp()?)?;
-        made.put(*b"name", names_of(alloc, face, style)?)?;
-        made.put(*b"post", maker.post()?)?;
+        made.put_needed(&maker)?;
         made.put_others(&maker)?;
         Ok(made)
     }

@@ -63,37 +63,67 @@ fn version(alloc: Global, face: &VariableFace<'_>) -> Result<String, AllocError>
     String::from_str(alloc, number)
 }
 
-/// The texts of a style.
-fn texts(alloc: Global, face: &VariableFace<'_>, style: &Style) -> Result<Vec<Text>, AllocError> {
+/// The identifiers of the texts of a style that a family links, and of any other style.
+const LINKED: [usize; 5] = [1, 2, 3, 4, 6];
+
+const NOT_LINKED: [usize; 7] = [1, 2, 3, 4, 6, 16, 17];
+
+/// The family of a style among the four that a family links.
+fn linked_family(alloc: Global, style: &Style) -> Result<String, AllocError> {
     let family = style.family.as_str();
     let weight = style.weight.as_str();
-    let postscript = style.postscript.as_str();
-    let full = style.full(alloc)?;
-    let version = version(alloc, face)?;
-    let linked = if style.is_linked() {
-        String::from_str(alloc, family)?
+    if style.is_linked() {
+        String::from_str(alloc, family)
     } else {
-        format!(in alloc; "{family} {weight}")?
+        format!(in alloc; "{family} {weight}")
+    }
+}
+
+/// The unique name of a style.
+fn unique(alloc: Global, face: &VariableFace<'_>, style: &Style) -> Result<String, AllocError> {
+    let postscript = style.postscript.as_str();
+    let version = version(alloc, face)?;
+    format!(in alloc; "{version};{postscript}")
+}
+
+/// The full name of a style.
+fn full(alloc: Global, style: &Style) -> Result<String, AllocError> {
+    let family = style.family.as_str();
+    let full = style.full(alloc)?;
+    format!(in alloc; "{family} {full}")
+}
+
+/// The text of an identifier.
+fn text_by(
+    alloc: Global,
+    face: &VariableFace<'_>,
+    style: &Style,
+    identifier: usize,
+) -> Result<String, AllocError> {
+    match identifier {
+        1 => linked_family(alloc, style),
+        2 => String::from_str(alloc, style.linked()),
+        3 => unique(alloc, face, style),
+        4 => full(alloc, style),
+        6 => String::from_str(alloc, style.postscript.as_str()),
+        16 => String::from_str(alloc, style.family.as_str()),
+        _ => style.full(alloc),
+    }
+}
+
+/// The texts of a style.
+fn texts(alloc: Global, face: &VariableFace<'_>, style: &Style) -> Result<Vec<Text>, AllocError> {
+    let identifiers: &[usize] = if style.is_linked() {
+        &LINKED
+    } else {
+        &NOT_LINKED
     };
     let mut texts = Vec::new(alloc);
-    for (identifier, text) in [
-        (1, linked),
-        (2, String::from_str(alloc, style.linked())?),
-        (3, format!(in alloc; "{version};{postscript}")?),
-        (4, format!(in alloc; "{family} {full}")?),
-        (6, String::from_str(alloc, postscript)?),
-    ] {
-        texts.push(Text { identifier, text })?;
-    }
-    if !style.is_linked() {
-        let text = String::from_str(alloc, family)?;
+    for identifier in identifiers {
+        let text = text_by(alloc, face, style, *identifier)?;
         texts.push(Text {
-            identifier: 16,
+            identifier: *identifier,
             text,
-        })?;
-        texts.push(Text {
-            identifier: 17,
-            text: full,
         })?;
     }
     Ok(texts)
