@@ -94,8 +94,8 @@ impl Gaps {
             match self.bytes[place] {
                 Byte::Kept | Byte::Gone => {}
                 Byte::Offset(base) => {
-                    let offset = u32::from(word(table, place));
-                    set_word(table, place, moved(places, base, offset) as u16);
+                    let offset = moved(places, base, u32::from(word(table, place)));
+                    set_word(table, place, u16::try_from(offset).unwrap_or(0));
                 }
                 Byte::LongOffset(base) => {
                     let high = u32::from(word(table, place));
