@@ -8,11 +8,11 @@ use Rattle.postscript_outline.specs.Points.{point}
 use Rattle.postscript_drawing.specs.Outline.{outlined}
 use Rattle.postscript_type2.specs.declared.operation.Operator.{Operator}
 use Rattle.postscript_type2.specs.declared.operation.Operator.TheVariants.{RLineTo, RMoveTo, HLineTo, VLineTo, HMoveTo}
-use Rattle.postscript_type2.specs.Program.Runs.{Answer, UsedUp, Finished}
+use Rattle.postscript_type2.specs.Program.Runs.{Answer, UsedUp, Finished, no_hints}
 use Rattle.std.proofs.Common.{ℤ, List}
 
 abbrev says : Operator → List ℤ → Answer
-says op xs = record { operator = op; operands = xs; width = None }
+says op xs = record { operator = op; operands = xs; hints = no_hints; width = None }
 
 -- a triangle from (1, 2), and a contour of a point behind it: the moveto closes the triangle, and the end the point
 triangle : outlined (says RMoveTo (pos 1 ∷ pos 2 ∷ []) ∷ says HLineTo (pos 3 ∷ pos 4 ∷ []) ∷ says HMoveTo (pos 5 ∷ []) ∷ []) UsedUp

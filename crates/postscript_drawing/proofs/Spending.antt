@@ -7,7 +7,7 @@ use Rattle.postscript_type2.specs.declared.program.within.Within.{Within}
 use Rattle.postscript_type2.specs.declared.program.within.Within.TheVariants.{Operation, End, Paused}
 use Rattle.postscript_type2.specs.Program.Limit.{cost, Spends, nothing, one_more}
 use Rattle.postscript_type2.specs.Program.Programs.{Pending}
-use Rattle.postscript_type2.specs.Program.Runs.{Said}
+use Rattle.postscript_type2.specs.Program.Runs.{Hints, Said}
 use Rattle.postscript_type2.specs.Program.Within.{StepsWithin}
 
 -- what is left is spent on
@@ -24,6 +24,13 @@ lasts limit phrases left rest (one_more before said behind spends is_left costs)
 
 runs-out : {limit left : ℕ} {phrases rest : List Said} → Spends limit phrases left rest → left ≡ 0 → cost phrases < limit → ⊥
 runs-out {limit} {left} {phrases} {rest} spends none h = let more = lasts limit phrases left rest spends h in omega (arith, more, none)
+
+-- the operation that was told is the first answer
+pub head-is : (old new : Pending) {limit left : ℕ} {answer : Result Within Error} {op : Operator} {operands : Bor (List ℤ)} →
+    answer ≡ Ok (Operation op operands) → StepsWithin old limit answer new left →
+    (hints : Hints) × (old.answers ≡ record { operator = op; operands = operands.now; hints = hints; width = new.width } ∷ new.answers)
+head-is old new {limit} {left} {answer} {op} {operands} is steps =
+    let step = subst (λ (r : Result Within Error). StepsWithin old limit r new left) is steps in step.0.0
 
 -- what was paid once a step is answered
 pub on-operation : {first : ℕ} {phrases : List Said} (old new : Pending) {limit left : ℕ} {answer : Result Within Error} {op : Operator} {operands : Bor (List ℤ)} →

@@ -8,11 +8,11 @@ use Rattle.postscript_outline.specs.declared.segment.Segment.{Segment}
 use Rattle.postscript_drawing.specs.Drawing.{Drawing, ◌>>=◌, blank}
 use Rattle.postscript_drawing.specs.Outline.{finished}
 use Rattle.postscript_type2.specs.declared.operation.Operator.{Operator}
-use Rattle.postscript_type2.specs.Program.Runs.{Answer, Finished, Run, width_of}
+use Rattle.postscript_type2.specs.Program.Runs.{Answer, no_hints, Finished, Run, width_of}
 
--- an operation as a run answers it, with this width beside it
+-- an operation as a run answers it, with this width beside it and no hints
 abbrev pub answer_of : Option ℤ → Operator × Vec ℤ Global → Answer
-answer_of width operation = record { operator = operation.0; operands = operation.1.items; width = width }
+answer_of width operation = record { operator = operation.0; operands = operation.1.items; hints = no_hints; width = width }
 
 abbrev pub answers_of : Option ℤ → List (Operator × Vec ℤ Global) → List Answer
 answers_of width operations = map (answer_of width) operations

@@ -91,7 +91,7 @@ stems-counted stems before write pairs n after twice is =
 -- an operator over what is written before it
 step-as : (k : Kind) (lists : Lists) (x : Said) (behind : List ℕ) (stems after : ℕ) (before : Option (Option ℤ)) (write width : Option ℤ) → kind x.operator ≡ k → SayableAs k stems x after →
     IsSettled before (width_numbers write) width → Bears write x.operator →
-    Does lists x.operator (x.mask ++ behind) (pushed (numbers_of write x) (at_stems stems before)) (Clears x.operands after width (length x.mask))
+    Does lists x.operator (x.mask ++ behind) (pushed (numbers_of write x) (at_stems stems before)) (Clears x.operands x.stems after width (length x.mask))
 step-as (Draws takes) lists x behind stems after before write width k h settled bears =
     rw (h.0, h.1, h.3) (does.draws takes (width_numbers write) x.operands width k
     (takes-most takes write x.operands h.2 (λ w is. one-more-fails x.operator takes (length x.operands) (bears-width write x.operator w bears is) k h.2)) settled)
@@ -106,7 +106,7 @@ step-as (Masks takes) lists x behind stems after before write width k h settled 
     let whole : (n : ℕ) → length x.stems ≡ n * 2 → length x.stems % 2 ≡ 0 = λ n twice. omega (arith, twice) in
     let long : length (x.mask ++ behind) ≡ length x.mask + length behind = length-append x.mask behind in
     let room : mask_len after ≤ length (x.mask ++ behind) = omega (arith, long, h.1) in
-    let does : Does lists x.operator (x.mask ++ behind) (pushed (width_numbers write ++ x.stems) (at_stems stems before)) (Clears [] after width (mask_len after)) =
+    let does : Does lists x.operator (x.mask ++ behind) (pushed (width_numbers write ++ x.stems) (at_stems stems before)) (Clears [] x.stems after width (mask_len after)) =
     does.masks (width_numbers write) x.stems width after (mask-kind x.operator takes k) counts h.2 room refl few (whole h.3.0 pairs) settled in
     let all : x.stems ++ [] ≡ x.stems = append-nil x.stems in
     rw (h.0, h.1, all) does
@@ -119,10 +119,10 @@ step-as (IsRefused part) lists x behind stems after before write width k h settl
 
 moves : (lists : Lists) (x : Said) (behind : List ℕ) (stems after : ℕ) (before : Option (Option ℤ)) (write width : Option ℤ) → IsSayable stems x after → AreHeld (numbers_of write x) →
     IsSettled before (width_numbers write) width → Bears write x.operator →
-    Moves lists (at_stems stems before) (phrase_text write x) (numbers_of write x) x.operator (x.mask ++ behind) (Clears x.operands after width (length x.mask))
+    Moves lists (at_stems stems before) (phrase_text write x) (numbers_of write x) x.operator (x.mask ++ behind) (Clears x.operands x.stems after width (length x.mask))
 moves lists x behind stems after before write width is held settled bears = record {
   spelled = said-spelled (numbers_of write x) x.operator held (answered-kind (kind x.operator) stems after x is);
-  does = (operators.law lists x.operator (x.mask ++ behind) (pushed (numbers_of write x) (at_stems stems before)) (Clears x.operands after width (length x.mask))).0
+  does = (operators.law lists x.operator (x.mask ++ behind) (pushed (numbers_of write x) (at_stems stems before)) (Clears x.operands x.stems after width (length x.mask))).0
       (step-as (kind x.operator) lists x behind stems after before write width refl is settled bears);
 }
 
@@ -153,7 +153,7 @@ means-so lists [] stems after before write width sayable held settled bears =
 means-so lists (x ∷ xs) stems after before write width (more _ next _ _ _ is later) held settled bears =
     let rest = means-so lists xs next after (Some width) None width later held.1 (does.settled_before width []) tt in record {
       trace = by x.operator (phrase_text write x ++ x.mask) ∷ rest.trace;
-      means = rules.clears 0 (phrase_text write x) x.mask (code_text None xs) (numbers_of write x) x.operator (at_stems stems before) x.operands next width _ _ _
+      means = rules.clears 0 (phrase_text write x) x.mask (code_text None xs) (numbers_of write x) x.operator (at_stems stems before) x.operands x.stems next width _ _ _
           (moves lists x (code_text None xs) stems next before write width is held.0 settled (first-bears write x xs bears)) rest.means;
       spelled = one_more write x xs (phrase_text write x) rest.trace
           (said-spelled (numbers_of write x) x.operator held.0 (answered-kind (kind x.operator) stems next x is)) rest.spelled;

@@ -3,7 +3,7 @@
 use Rattle.std.specs.Prelude.{◌≡◌, ℕ, ◌≤◌, ℤ, Bool, true, false, List, [], ◌∷◌, ◌++◌, length, map, Option, Some, None}
 use Rattle.postscript_type2.specs.declared.operation.Operator.{Operator}
 use Rattle.postscript_type2.specs.declared.operation.Operator.TheVariants.{EndChar, HStem, VStem, VMoveTo, HStemHM, HintMask, CntrMask, RMoveTo, HMoveTo, VStemHM}
-use Rattle.postscript_type2.specs.Program.Meaning.{IsRunOf, answer}
+use Rattle.postscript_type2.specs.Program.Meaning.{IsRunOf, answer, hinting}
 use Rattle.postscript_type2.specs.Program.Phrases.{IsPhrase}
 use Rattle.postscript_type2.specs.Program.Routines.{Lists}
 use Rattle.postscript_type2.specs.Program.Runs as runs
@@ -23,11 +23,11 @@ pub data AreSpelled : (width : Option ℤ) → List Said → List runs.Said → 
       IsPhrase phrase (numbers_of width x) x.operator → AreSpelled None xs trace →
       AreSpelled width (x ∷ xs) (by x.operator (phrase ++ x.mask) ∷ trace)
 
--- what is said, as an answer beside this width
+-- what is said, as an answer with its hints beside this width
 abbrev pub answer_with : Option ℤ → Said → Answer
-answer_with width x = answer x.operator x.operands width
+answer_with width x = answer x.operator x.operands (hinting x.stems x.mask) width
 
--- Over these subroutines a code answers all that is said, operand by operand, with this width; its phrases are those of what is said; and
+-- Over these subroutines a code answers all that is said, operand by operand and hint by hint, with this width; its phrases are those of what is said; and
 -- endchar, which takes nothing, finishes it.
 pub record SaysSo (lists : Lists) (code : List ℕ) (width : Option ℤ) (says : List Said) : Type 0 where
   pub run : runs.Run

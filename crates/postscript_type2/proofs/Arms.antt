@@ -1,16 +1,18 @@
 -- What one phrase comes to, by the move of its operator.
-use Rattle.std.proofs.lemmas.List.{drop-drop}
+use Rattle.std.proofs.lemmas.List.{drop-drop, drop_all, length-take, length-take-le}
 use Rattle.std.proofs.lemmas.Bool.{eqb-false}
-use Rattle.std.proofs.Common.{◌≢◌, ◌==◌, ◌≡◌, ap, sym, subst, ◌∙◌, ◌⊎◌, inl, inr, ℕ, suc, ◌+◌, ◌-◌, ◌<◌, Bool, true, false, List, [], ◌∷◌, take, drop, length, ℤ, Option, if◌then◌else◌, length-drop, arith}
+use Rattle.std.proofs.Common.{◌≢◌, ◌==◌, ◌≡◌, ap, sym, subst, ◌∙◌, ◌⊎◌, inl, inr, ℕ, zero, suc, ◌+◌, ◌-◌, ◌<◌, ◌≤◌, Bool, true, false, List, [], ◌∷◌, take, drop, length, ℤ, Option, if◌then◌else◌, length-drop, arith}
 use Rattle.std.proofs.lemmas.Grind.{common_steps}
 use Rattle.postscript_type2.specs.declared.refused.Refused.{Refused}
 use Rattle.postscript_type2.specs.declared.refused.Refused.TheVariants.{Memory}
 use Rattle.postscript_base.specs.Refusal.{Refusal, return_without_caller, trailing_data, too_deep}
 use Rattle.postscript_type2.specs.Refused.{reason}
 use Rattle.postscript_type2.specs.declared.operation.Operator.{Operator}
-use Rattle.postscript_type2.specs.Program.Effects.{State, Move, Keeps, Clears, Calls, Returns, Ends, Refuses, effect, stacked, holding, cleared}
+use Rattle.postscript_type2.specs.Program.Effects.{State, Move, Keeps, Clears, Calls, Returns, Ends, Refuses, effect, stacked, holding, cleared, last_of}
+use Rattle.postscript_type2.specs.Program.Evaluation as answers
 use Rattle.postscript_type2.specs.Program.Evaluation.{with_phrase, with_answer, at_end, said, moved, stride}
 use Rattle.postscript_type2.specs.Program.Limit.{IsLast}
+use Rattle.postscript_type2.specs.Program.Meaning.{answer, hinting}
 use Rattle.postscript_type2.specs.Program.Parsing.{Complete, NoPhrase, phrase, fronted}
 use Rattle.postscript_type2.specs.Program.Routines.{Lists}
 use Rattle.postscript_type2.specs.Program.Runs.{Answer, Said, UsedUp, Finished, Fault, Run}
@@ -66,19 +68,34 @@ kept lists left cs {bytes} {rest} {front} {st} {now} {ys} {op} {more} read does 
       ap (λ (s : State). s.width) is,
     )
 
+-- the mask stands last in the bytes of a phrase
+mask-last : (bytes front : List ℕ) (more mask : ℕ) → front ≡ take (more + mask + 1) bytes → mask ≤ length (drop (more + 1) bytes) → drop (more + 1) front ≡ last_of front mask
+mask-last bytes front more zero is room =
+    let few = length-take (more + 0 + 1) bytes in
+    let long = ap length is in
+    drop_all (more + 1) front (omega (arith, few, long)) ∙ sym (drop_all (length front - 0) front (omega arith))
+mask-last bytes front more (suc mask) is room =
+    let behind = length-drop (more + 1) bytes in
+    let long : length front ≡ more + suc mask + 1 = ap length is ∙ length-take-le (more + suc mask + 1) bytes (omega (arith, behind, room)) in
+    ap (λ n. drop n front) (omega (arith, long))
+
 -- an operation is answered, and the bytes of its mask are passed
-pub answered : (lists : Lists) (left : ℕ) (cs : List (List ℕ)) {bytes rest behind front : List ℕ} {st : State} {ys : List ℤ} {op : Operator} {more mask : ℕ} {taken : List ℤ} {now : State} {width : Option ℤ} →
-    IsRead bytes rest st ys op more → effect lists op rest (stacked ys st) ≡ Clears taken now.stems width mask → now ≡ cleared now.stems width st → behind ≡ drop mask rest →
-    front ≡ take (length bytes - length behind) bytes →
-    still lists left bytes cs st ≡ with_phrase (with op front) (with_answer (record { operator = op; operands = taken; width = width }) (still lists left behind cs now))
-answered lists left cs {bytes} {rest} {behind} {front} {st} {ys} {op} {more} {mask} {taken} {now} {width} read does is past is_front =
-    let step = stepped lists left cs bytes rest st ys op more (Clears taken now.stems width mask) read does in
-    let answer : Answer = record { operator = op; operands = taken; width = width } in
+pub answered : (lists : Lists) (left : ℕ) (cs : List (List ℕ)) {bytes rest behind front : List ℕ} {st : State} {ys : List ℤ} {op : Operator} {more mask : ℕ} {taken pairs : List ℤ} {now : State} {width : Option ℤ} →
+    IsRead bytes rest st ys op more → effect lists op rest (stacked ys st) ≡ Clears taken pairs now.stems width mask → now ≡ cleared now.stems width st → behind ≡ drop mask rest →
+    mask ≤ length rest → front ≡ take (length bytes - length behind) bytes →
+    still lists left bytes cs st ≡ with_phrase (with op front) (with_answer (answer op taken (hinting pairs (last_of front mask)) width) (still lists left behind cs now))
+answered lists left cs {bytes} {rest} {behind} {front} {st} {ys} {op} {more} {mask} {taken} {pairs} {now} {width} read does is past room is_front =
+    let step = stepped lists left cs bytes rest st ys op more (Clears taken pairs now.stems width mask) read does in
+    let all : List ℕ = take (more + mask + 1) bytes in
+    let answer' : Answer = answers.answered op taken pairs more all width in
     let there : behind ≡ drop (more + mask + 1) bytes =
     past ∙ ap (drop mask) read.behind ∙ drop-drop mask (more + 1) bytes ∙ ap (λ n. drop n bytes) (omega arith) in
-    step ∙ ap (λ after. with_phrase (said op (more + mask) bytes) (with_answer answer (still lists left after cs (cleared now.stems width st)))) (sym there)
-    ∙ ap (λ s. with_phrase (said op (more + mask) bytes) (with_answer answer (still lists left behind cs s))) (sym is)
-    ∙ ap (λ front'. with_phrase (with op front') (with_answer answer (still lists left behind cs now))) (sym (front-of bytes behind front (more + mask + 1) there is_front))
+    let fronts : front ≡ all = front-of bytes behind front (more + mask + 1) there is_front in
+    step ∙ ap (λ after. with_phrase (said op (more + mask) bytes) (with_answer answer' (still lists left after cs (cleared now.stems width st)))) (sym there)
+    ∙ ap (λ s. with_phrase (said op (more + mask) bytes) (with_answer answer' (still lists left behind cs s))) (sym is)
+    ∙ ap (λ front'. with_phrase (with op front') (with_answer (answers.answered op taken pairs more front' width) (still lists left behind cs now))) (sym fronts)
+    ∙ ap (λ q. with_phrase (with op front) (with_answer (answer op taken (hinting pairs q) width) (still lists left behind cs now)))
+    (mask-last bytes front more mask fronts (subst (λ xs. mask ≤ length xs) read.behind room))
 
 -- a subroutine is entered
 pub entered : (lists : Lists) {left left' : ℕ} {cs cs' : List (List ℕ)} {bytes rest front code routine : List ℕ} {st now : State} {ys : List ℤ} {op : Operator} {more : ℕ} →

@@ -4,8 +4,9 @@ use Rattle.std.proofs.Common.{◌≡◌, refl, ap, sym, ◌∙◌, ℕ, zero, su
 use Rattle.postscript_base.specs.Refusal.{too_deep, return_without_caller}
 use Rattle.postscript_type2.specs.declared.operation.Operator.{Operator}
 use Rattle.postscript_type2.specs.Program.Effects.{State, Move, Keeps, Clears, Calls, Returns, Ends, Refuses, pushed, stacked, holding, cleared, effect}
-use Rattle.postscript_type2.specs.Program.Evaluation.{with_phrase, with_answer, at_end, moved, stride_by, mean}
+use Rattle.postscript_type2.specs.Program.Evaluation.{with_phrase, with_answer, at_end, answered, moved, stride_by, mean}
 use Rattle.postscript_type2.specs.Program.Inlined.{put_before, text}
+use Rattle.postscript_type2.specs.Program.Meaning.{answer, hinting}
 use Rattle.postscript_type2.specs.Program.Parsing.{Phrase, phrase, fronted, Complete, NoPhrase}
 use Rattle.postscript_type2.specs.Program.Routines.{Lists}
 use Rattle.postscript_type2.specs.Program.Runs.{Answer, Said, by, End, Finished, Fault, Run}
@@ -29,9 +30,13 @@ moved-past : (other : Lists) (left : ℕ) (front x : List ℕ) (op : Operator) (
     ≡ fronting front (next_still other left (λ k. drop (k + 1) x) [] (moved op more x st move))
 moved-past other left front x op more st (Keeps stack stored) =
     past (λ t d. with_phrase (by op t) (mean other left false d (holding stack stored st))) front x (length front + more + 1) (more + 1) (omega arith)
-moved-past other left front x op more st (Clears taken stems width mask) =
-    past (λ t d. with_phrase (by op t) (with_answer (record { operator = op; operands = taken; width = width }) (mean other left false d (cleared stems width st))))
+moved-past other left front x op more st (Clears taken pairs stems width mask) =
+    let bytes : List ℕ = take (more + mask + 1) x in
+    let behind : drop (length front + more + 1) (front ++ bytes) ≡ drop (more + 1) bytes =
+    ap (λ i. drop i (front ++ bytes)) (let e : length front + more + 1 ≡ length front + (more + 1) = omega arith in e) ∙ drop-append-add front bytes (more + 1) in
+    past (λ t d. with_phrase (by op t) (with_answer (answered op taken pairs (length front + more) t width) (mean other left false d (cleared stems width st))))
     front x (length front + more + mask + 1) (more + mask + 1) (omega arith)
+    ∙ ap (λ q. with_phrase (by op (front ++ bytes)) (with_answer (answer op taken (hinting pairs q) width) (mean other left false (drop (more + mask + 1) x) (cleared stems width st)))) behind
 moved-past other zero front x op more st (Calls routine stack) =
     past (λ t d. with_phrase (by op t) (at_end (Fault too_deep))) front x (length front + more + 1) (more + 1) (omega arith)
 moved-past other (suc left) front x op more st (Calls routine stack) =

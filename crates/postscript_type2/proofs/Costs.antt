@@ -31,7 +31,7 @@ some-taken k b r = rw add-one (omega arith)
 
 moved-has : (op : Operator) (more b : ℕ) (r : List ℕ) (st : State) (move : Move) → StrideHasByte (moved op more (b ∷ r) st move)
 moved-has op more b r st (Keeps stack stored) = some-taken more b r
-moved-has op more b r st (Clears taken stems width mask) = some-taken (more + mask) b r
+moved-has op more b r st (Clears taken pairs stems width mask) = some-taken (more + mask) b r
 moved-has op more b r st (Calls routine stack) = some-taken more b r
 moved-has op more b r st Returns = some-taken more b r
 moved-has op more b r st (Ends taken width) = some-taken more b r

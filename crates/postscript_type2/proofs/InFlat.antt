@@ -8,7 +8,7 @@ use Rattle.postscript_base.specs.Refusal.{Refusal, unexpected_eof, too_many_stem
 use Rattle.postscript_type2.specs.declared.operation.Operator.{Operator}
 use Rattle.postscript_type2.specs.declared.operation.Operator.TheVariants.{Drop}
 use Rattle.postscript_type2.specs.Program.Effects.{State, Move, Keeps, Clears, Calls, Returns, Ends, Refuses, clearing, stems_after, with_stems, mask_len, mask_clearing, work_move, store_move, subroutine, call_move, end_move, effect_of, effect, pushed, stacked, holding, cleared}
-use Rattle.postscript_type2.specs.Program.Evaluation.{with_phrase, with_answer, with_any_answer, at_end, Stride, On, Into, Back, Over, Faults, said, moved, stride_by, stride, mean}
+use Rattle.postscript_type2.specs.Program.Evaluation.{with_phrase, with_answer, with_any_answer, at_end, Stride, On, Into, Back, Over, Faults, said, answered, moved, stride_by, stride, mean}
 use Rattle.postscript_type2.specs.Program.Flat.{without_operator, dropping, flat_of, flat_by, flat_said}
 use Rattle.postscript_type2.specs.Operation.Kinds.{Kind, Draws, DeclaresStems, Masks, Works, Stores, CallsFrom, GoesBack, EndsGlyph, IsRefused, kind, taken}
 use Rattle.postscript_type2.specs.Program.Parsing.{Phrase, Complete, NoPhrase, phrase, fronted}
@@ -32,15 +32,15 @@ InFlat other left st (Back said st') = Tells other left st (flat_said said) (λ 
 InFlat other left st (Over said taken width more) = Tells other left st (flat_said said) (λ x. at_end (Finished taken width))
 InFlat other left st (Faults e) = Unit {0}
 
--- the same by an operator's move, where it neither calls nor returns
-abbrev MeansInFlat : (other : Lists) (left : ℕ) → State → Said → Operator → State → Move → Type 0
-MeansInFlat other left st said op st' (Keeps stack stored) = Tells other left st said (λ x. mean other left false x (holding stack stored st'))
-MeansInFlat other left st said op st' (Clears taken stems width mask) =
-    Tells other left st said (λ x. with_answer (record { operator = op; operands = taken; width = width }) (mean other left false x (cleared stems width st')))
-MeansInFlat other left st said op st' (Calls routine stack) = ⊥
-MeansInFlat other left st said op st' Returns = ⊥
-MeansInFlat other left st said op st' (Ends taken width) = Tells other left st said (λ x. at_end (Finished taken width))
-MeansInFlat other left st said op st' (Refuses e) = Unit {0}
+-- the same by an operator's move, where it neither calls nor returns, and these are its bytes
+abbrev MeansInFlat : (other : Lists) (left : ℕ) → State → Said → Operator → (more : ℕ) → List ℕ → State → Move → Type 0
+MeansInFlat other left st said op more bytes st' (Keeps stack stored) = Tells other left st said (λ x. mean other left false x (holding stack stored st'))
+MeansInFlat other left st said op more bytes st' (Clears taken pairs stems width mask) =
+    Tells other left st said (λ x. with_answer (answered op taken pairs more bytes width) (mean other left false x (cleared stems width st')))
+MeansInFlat other left st said op more bytes st' (Calls routine stack) = ⊥
+MeansInFlat other left st said op more bytes st' Returns = ⊥
+MeansInFlat other left st said op more bytes st' (Ends taken width) = Tells other left st said (λ x. at_end (Finished taken width))
+MeansInFlat other left st said op more bytes st' (Refuses e) = Unit {0}
 
 abbrev pub IsOwn : Move → Type 0
 IsOwn (Calls routine stack) = ⊥
@@ -49,11 +49,11 @@ IsOwn move = Unit {0}
 
 -- the bytes of a mask, and those of a phrase with them
 abbrev pub mask_of : Move → ℕ
-mask_of (Clears taken stems width mask) = mask
+mask_of (Clears taken pairs stems width mask) = mask
 mask_of move = 0
 
 abbrev extent : (more : ℕ) → Move → ℕ
-extent more (Clears taken stems width mask) = more + mask
+extent more (Clears taken pairs stems width mask) = more + mask
 extent more move = more
 
 extent-is : (more : ℕ) (move : Move) → extent more move ≡ more + mask_of move
@@ -66,7 +66,7 @@ cut P front x n h = grind (arith, take-append_seam, drop-append_seam)
 -- bytes that are a phrase with this move, whatever follows them
 phrase-in : (other : Lists) (left : ℕ) (bytes : List ℕ) (st : State) (ns : List ℤ) (op : Operator) (more : ℕ) (move : Move) → IsOwn move →
     ((x : List ℕ) → phrase (bytes ++ x) ≡ Complete ns op more) → ((x : List ℕ) → effect other op (drop (more + 1) (bytes ++ x)) (pushed ns st) ≡ move) →
-    length bytes ≡ extent more move + 1 → MeansInFlat other left st (record { operator = op; bytes = bytes }) op (pushed ns st) move
+    length bytes ≡ extent more move + 1 → MeansInFlat other left st (record { operator = op; bytes = bytes }) op more bytes (pushed ns st) move
 phrase-in other left bytes st ns op more move own reads does long = by_move move own long step
   where
     step : (x : List ℕ) → mean other left false (bytes ++ x) st ≡ next_still other left (λ k. drop (k + 1) (bytes ++ x)) [] (moved op more (bytes ++ x) (pushed ns st) move)
@@ -76,11 +76,11 @@ phrase-in other left bytes st ns op more move own reads does long = by_move move
 
     by_move : (move : Move) → IsOwn move → length bytes ≡ extent more move + 1 →
         ((x : List ℕ) → mean other left false (bytes ++ x) st ≡ next_still other left (λ k. drop (k + 1) (bytes ++ x)) [] (moved op more (bytes ++ x) (pushed ns st) move)) →
-        MeansInFlat other left st (record { operator = op; bytes = bytes }) op (pushed ns st) move
+        MeansInFlat other left st (record { operator = op; bytes = bytes }) op more bytes (pushed ns st) move
     by_move (Keeps stack stored) own l is = λ x.
         is x ∙ cut (λ t d. with_phrase (record { operator = op; bytes = t }) (mean other left false d (holding stack stored (pushed ns st)))) bytes x (more + 1) l
-    by_move (Clears taken stems width mask) own l is = λ x.
-        is x ∙ cut (λ t d. with_phrase (record { operator = op; bytes = t }) (with_answer (record { operator = op; operands = taken; width = width }) (mean other left false d (cleared stems width st)))) bytes x (more + mask + 1) l
+    by_move (Clears taken pairs stems width mask) own l is = λ x.
+        is x ∙ cut (λ t d. with_phrase (record { operator = op; bytes = t }) (with_answer (answered op taken pairs more t width) (mean other left false d (cleared stems width st)))) bytes x (more + mask + 1) l
     by_move (Calls routine stack) own l is = own
     by_move Returns own l is = own
     by_move (Ends taken width) own l is = λ x. is x ∙ cut (λ t d. with_phrase (record { operator = op; bytes = t }) (at_end (Finished taken width))) bytes x (more + 1) l
@@ -96,7 +96,7 @@ own-in : (other : Lists) (left : ℕ) (b : ℕ) (r : List ℕ) (st : State) (ns 
     (move : Move) → IsOwn move → stands_flat (kind op) ≡ true → more + mask_of move < length (b ∷ r) →
     ((after : List ℕ) → mask_of move ≤ length after → effect other op after (pushed ns st) ≡ move) → InFlat other left st (moved op more (b ∷ r) (pushed ns st) move)
 own-in other left b r st ns op more l move own flat room does =
-    by_move move own (subst (λ s. MeansInFlat other left st s op (pushed ns st) move) (sym (flat-own op bytes (kind op) refl flat)) means)
+    by_move move own (subst (λ s. MeansInFlat other left st s op more bytes (pushed ns st) move) (sym (flat-own op bytes (kind op) refl flat)) means)
   where
     bytes : List ℕ
     bytes = take (extent more move + 1) (b ∷ r)
@@ -114,12 +114,12 @@ own-in other left b r st ns op more l move own flat room does =
     enough : (x : List ℕ) → mask_of move ≤ length (drop (more + 1) (bytes ++ x))
     enough x = omega (arith, length-drop (more + 1) (bytes ++ x), length-append bytes x, long, extent-is more move)
 
-    means : MeansInFlat other left st (record { operator = op; bytes = bytes }) op (pushed ns st) move
+    means : MeansInFlat other left st (record { operator = op; bytes = bytes }) op more bytes (pushed ns st) move
     means = phrase-in other left bytes st ns op more move own (λ x. ap phrase (parts x) ∙ l.stands (mask ++ x)) (λ x. does (drop (more + 1) (bytes ++ x)) (enough x)) long
 
-    by_move : (move : Move) → IsOwn move → MeansInFlat other left st (flat_by op (take (extent more move + 1) (b ∷ r))) op (pushed ns st) move → InFlat other left st (moved op more (b ∷ r) (pushed ns st) move)
+    by_move : (move : Move) → IsOwn move → MeansInFlat other left st (flat_by op (take (extent more move + 1) (b ∷ r))) op more (take (extent more move + 1) (b ∷ r)) (pushed ns st) move → InFlat other left st (moved op more (b ∷ r) (pushed ns st) move)
     by_move (Keeps stack stored) own m = m
-    by_move (Clears taken stems width mask) own m = m
+    by_move (Clears taken pairs stems width mask) own m = m
     by_move (Calls routine stack) own m = absurd own
     by_move Returns own m = absurd own
     by_move (Ends taken width) own m = m

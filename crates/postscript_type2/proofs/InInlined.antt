@@ -37,7 +37,7 @@ own-tells other left st op bytes k is own go flat = grind (arith, flat-own)
 own-in : (other : Lists) (left : ℕ) (bytes : List ℕ) (st st' : State) (op : Operator) (more : ℕ) (k : Kind) → kind op ≡ k → stands_flat k ≡ true → (move : Move) → IsOwn move →
     InFlat other left st (moved op more bytes st' move) → InInlined other left st (moved op more bytes st' move)
 own-in other left bytes st st' op more k is own (Keeps stack stored) o flat = own-tells other left st op (take (more + 1) bytes) k is own (λ x. mean other left false x (holding stack stored st')) flat
-own-in other left bytes st st' op more k is own (Clears taken stems width mask) o flat = grind (arith, own-tells)
+own-in other left bytes st st' op more k is own (Clears taken pairs stems width mask) o flat = grind (arith, own-tells)
 own-in other left bytes st st' op more k is own (Calls routine stack) o flat = absurd o
 own-in other left bytes st st' op more k is own Returns o flat = absurd o
 own-in other left bytes st st' op more k is own (Ends taken width) o flat = own-tells other left st op (take (more + 1) bytes) k is own (λ x. at_end (Finished taken width)) flat

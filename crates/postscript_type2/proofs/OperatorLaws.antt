@@ -164,7 +164,7 @@ settled-is _ stack _ taken _ e (operand_beneath lower x) =
 settled-is _ stack _ taken _ e nothing_beneath = grind (arith, length-append, nat_tests, get-seam)
 
 clearing-is : (st : State) (stems : ℕ) (beneath taken : List ℤ) (width : Option ℤ) → st.stack ≡ beneath ++ taken → IsSettled st.width beneath width →
-    clearing st stems (Some (length taken)) ≡ Clears taken stems width 0
+    clearing st stems (Some (length taken)) ≡ Clears taken [] stems width 0
 clearing-is st stems beneath taken width e h = grind (arith, last-is, settled-is)
 
 stems-are : (st : State) (stems : ℕ) → StemsAfter st stems → stems_after st ≡ stems
@@ -181,13 +181,14 @@ taken-by : (op : Operator) (k : Kind) (n : ℕ) → kind op ≡ k → taken_of o
 taken-by op k n e = ap (λ k. greatest (lengths k) n) e
 
 mask-is : (st : State) (stems : ℕ) (beneath pairs : List ℤ) (width : Option ℤ) → st.stack ≡ beneath ++ pairs → length beneath < 2 → length pairs % 2 ≡ 0 → IsSettled st.width beneath width →
-    mask_clearing st stems (Some 0) ≡ Clears [] stems width (mask_len stems)
+    mask_clearing st stems (Some 0) ≡ Clears [] pairs stems width (mask_len stems)
 mask-is st stems beneath pairs width e few even h =
     let all : length st.stack ≡ length beneath + length pairs = ap length e ∙ length-append beneath pairs in
     let them : implied st.stack ≡ length pairs = omega arith in
-    ap (λ t. Clears t stems (settled st.width st.stack (implied st.stack)) (mask_len stems)) (last-is st.stack st.stack [] (sym (append-nil st.stack)))
-    ∙ ap (λ u. Clears [] stems (settled st.width st.stack u) (mask_len stems)) them
-    ∙ ap (λ w. Clears [] stems w (mask_len stems)) (settled-is st.width st.stack beneath pairs width e h)
+    ap (λ t. Clears t (last_of st.stack (implied st.stack)) stems (settled st.width st.stack (implied st.stack)) (mask_len stems)) (last-is st.stack st.stack [] (sym (append-nil st.stack)))
+    ∙ ap (λ u. Clears [] (last_of st.stack u) stems (settled st.width st.stack u) (mask_len stems)) them
+    ∙ ap (λ ps. Clears [] ps stems (settled st.width st.stack (length pairs)) (mask_len stems)) (last-is st.stack beneath pairs e)
+    ∙ ap (λ w. Clears [] pairs stems w (mask_len stems)) (settled-is st.width st.stack beneath pairs width e h)
 
 end-parts : (stack beneath taken : List ℤ) → TakesAtEnd stack beneath taken → stack ≡ beneath ++ taken
 end-parts _ _ _ (last_four beneath taken n) = refl
@@ -410,7 +411,7 @@ found-draws lists op behind st takes k = by_parts (taking takes st.stack)
     by_parts (inr nowhere) = (Refuses malformed_operands, draws_none takes k nowhere)
     by_parts (inl split) =
         let width = settle st.width split.0 in
-        (Clears split.1 st.stems width.0 0, draws takes split.0 split.1 width.0 k split.2 width.1)
+        (Clears split.1 [] st.stems width.0 0, draws takes split.0 split.1 width.0 k split.2 width.1)
 
 found-stems : (lists : Lists) (op : Operator) (behind : List ℕ) (st : State) (takes : ℕ → Bool) → kind op ≡ DeclaresStems takes → Found lists op behind st
 found-stems lists op behind st takes k = by_count (cases_lt (stems_after st) (2 ^ 32))
@@ -419,7 +420,7 @@ found-stems lists op behind st takes k = by_count (cases_lt (stems_after st) (2 
     by_parts few (inr nowhere) = (Refuses malformed_operands, declares_none takes (stems_after st) k (count-stems st) few nowhere)
     by_parts few (inl split) =
         let width = settle st.width split.0 in
-        (Clears split.1 (stems_after st) width.0 0, declares takes split.0 split.1 width.0 (stems_after st) k (count-stems st) few split.2 width.1)
+        (Clears split.1 [] (stems_after st) width.0 0, declares takes split.0 split.1 width.0 (stems_after st) k (count-stems st) few split.2 width.1)
 
     by_count : (stems_after st < 2 ^ 32) ⊎ (2 ^ 32 ≤ stems_after st) → Found lists op behind st
     by_count (inr many) = (Refuses too_many_stems, declares_too_many takes (stems_after st) k (count-stems st) many)
@@ -437,7 +438,7 @@ found-mask lists op behind st k = by_count (cases_lt (stems_after st) (2 ^ 32))
         let many : length rest ≡ length st.stack - odd = length-drop odd st.stack in
         let few_beneath : length beneath ≡ odd = length-take-le odd st.stack (omega arith) in
         let width = settle st.width beneath in (
-          Clears [] (stems_after st) width.0 (mask_len (stems_after st)),
+          Clears [] rest (stems_after st) width.0 (mask_len (stems_after st)),
           masks beneath rest width.0 (stems_after st) k (count-stems st) few there (sym (take-append-drop odd st.stack)) (omega arith) (omega arith) width.1,
         )
 

@@ -3,7 +3,7 @@ use Rattle.std.proofs.lemmas.List.Elements.{All-append, All-nil, All-cons, All-h
 use Rattle.std.proofs.Common.{◌≡◌, refl, ap, sym, subst, ◌∙◌, ◌⊎◌, inl, inr, ℕ, suc, ◌<◌, ℤ, List, [], ◌∷◌, ◌++◌, length, Option, Some, None, All, arith}
 use Rattle.postscript_type2.specs.declared.operation.Operator.{Operator}
 use Rattle.postscript_type2.specs.Program.Effects.{State, start, Move, Keeps, Clears, Calls, Ends, pushed, stacked, holding, cleared}
-use Rattle.postscript_type2.specs.Program.Meaning.{answer as answer_of, Moves, Means, keeps, clears as clears_phrase, calls as calls_phrase, calls_to_stop, calls_to_finish, returns as returns_phrase, finishes, Closes}
+use Rattle.postscript_type2.specs.Program.Meaning.{answer as answer_of, hinting, Moves, Means, keeps, clears as clears_phrase, calls as calls_phrase, calls_to_stop, calls_to_finish, returns as returns_phrase, finishes, Closes}
 use Rattle.postscript_type2.specs.Program.OperatorRules.{Does, draws, declares, masks, ends, IsSettled}
 use Rattle.postscript_type2.specs.Program.Routines.{Lists}
 use Rattle.postscript_type2.specs.Program.Runs.{Answer, Said, End, UsedUp, Returned, Finished, Fault, Run, last_width, width_by, width_of}
@@ -12,7 +12,7 @@ use Rattle.postscript_type2.proofs.OperatorLaws.{law as operators-law}
 
 -- a move where the width is settled already
 abbrev MovesWith : Option ℤ → Move → Type 0
-MovesWith width (Clears taken stems last mask) = last ≡ width
+MovesWith width (Clears taken pairs stems last mask) = last ≡ width
 MovesWith width (Ends taken last) = last ≡ width
 MovesWith width move = Unit {0}
 
@@ -49,10 +49,10 @@ keeping : (lists : Lists) (width : Option ℤ) (depth : ℕ) (rest : List ℕ) (
     st.width ≡ Some width → Means lists depth rest st answers trace end → Keeping width answers end
 keeping lists width _ _ _ _ _ _ e (keeps depth phrase behind numbers op st stack stored answers trace end m more) =
     keeping lists width depth behind (holding stack stored st) answers trace end e more
-keeping lists width _ _ _ _ _ _ e (clears_phrase depth phrase mask behind numbers op st taken stems last answers trace end m more) =
-    let same : last ≡ width = moves-with lists st phrase numbers op (mask ++ behind) (Clears taken stems last (length mask)) width e m in
+keeping lists width _ _ _ _ _ _ e (clears_phrase depth phrase mask behind numbers op st taken pairs stems last answers trace end m more) =
+    let same : last ≡ width = moves-with lists st phrase numbers op (mask ++ behind) (Clears taken pairs stems last (length mask)) width e m in
     let rest = keeping lists width depth behind (cleared stems last st) answers trace end (ap Some same) more in
-    record { each = All-cons (λ answer. answer.width ≡ width) (answer_of op taken last) answers same rest.each; last = rest.last }
+    record { each = All-cons (λ answer. answer.width ≡ width) (answer_of op taken (hinting pairs mask) last) answers same rest.each; last = rest.last }
 keeping lists width _ _ _ _ _ _ e (calls_phrase depth phrase behind numbers op st subroutine stack inner inner_trace back answers trace end m few within more) =
     let first = keeping lists width (suc depth) subroutine (stacked stack st) inner inner_trace (Returned back) e within in
     let rest = keeping lists width depth behind back answers trace end first.last more in
@@ -123,10 +123,10 @@ left : (lists : Lists) (depth : ℕ) (rest : List ℕ) (st : State) (answers : L
     st.width ≡ None → Means lists depth rest st answers trace end → Left lists depth rest st answers end
 left lists _ _ _ _ _ _ e (keeps depth phrase behind numbers op st stack stored answers trace end m more) =
     past-kept lists depth phrase behind numbers op st stack stored answers end m (left lists depth behind (holding stack stored st) answers trace end e more)
-left lists _ _ _ _ _ _ e (clears_phrase depth phrase mask behind numbers op st taken stems last answers trace end m more) =
+left lists _ _ _ _ _ _ e (clears_phrase depth phrase mask behind numbers op st taken pairs stems last answers trace end m more) =
     let rest = keeping lists last depth behind (cleared stems last st) answers trace end refl more in
-    settles last (first_clears depth phrase (mask ++ behind) numbers op st taken stems (length mask) m)
-    (record { each = All-cons (λ answer. answer.width ≡ last) (answer_of op taken last) answers refl rest.each; last = rest.last })
+    settles last (first_clears depth phrase (mask ++ behind) numbers op st taken pairs stems (length mask) m)
+    (record { each = All-cons (λ answer. answer.width ≡ last) (answer_of op taken (hinting pairs mask) last) answers refl rest.each; last = rest.last })
 left lists _ _ _ _ _ _ e (calls_phrase depth phrase behind numbers op st subroutine stack inner inner_trace back answers trace end m few within more) =
     past-call lists depth phrase behind numbers op st subroutine stack inner answers inner_trace trace back end m few within more
     (left lists (suc depth) subroutine (stacked stack st) inner inner_trace (Returned back) e within)

@@ -92,7 +92,7 @@ impl fmt::Display for Operand {
 
 /// An operator that draws, declares stems or masks, with the operands that it takes, the lowest first; a width beneath them is
 /// not among them. A mask takes none: neither its bytes nor the stems that it implies are told (Technical Note 5177, "Hint
-/// Operators").
+/// Operators"), but by `Program::tell_within`.
 pub type Operation = (Operator, Vec<Operand>);
 
 /// Operations in the order of the run.

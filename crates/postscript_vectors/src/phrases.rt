@@ -1,38 +1,56 @@
 //! Operations that are told with their phrases and their masks.
 use crate::checks::{bytes_of, holds};
 use crate::programs::routines_of;
-use postscript::type2::{Program, Told, mask_of};
+use postscript::type2::{Operand, Program, Told};
 use std::alloc::Global;
 use std::process::Abort;
 
-/// A phrase and its mask in hex.
-type Spelled = (&'static str, &'static str);
+/// A phrase and its mask in hex, and the operands of the stems that the mask implies.
+type Spelled = (&'static str, &'static str, &'static [i16]);
 
-/// A code and its local subroutines in hex, and how each operation is spelled.
+/// A code and its local subroutines in hex, and how each operation is spelled and hinted.
 #[rattlefmt::skip]
 const PHRASES: &[(&str, &str, &[Spelled])] = &[
-    ("8c8d150e", "", &[("8c8d15", "")]),
-    ("8c8d0113ff0e", "", &[("8c8d01", ""), ("13ff", "ff")]),
+    ("8c8d150e", "", &[("8c8d15", "", &[])]),
+    ("8c8d0113ff0e", "", &[("8c8d01", "", &[]), ("13ff", "ff", &[])]),
     // The operands of a mask are stems: four of them in all, and so one byte.
-    ("8c8d8e8f128c8d8e8f13f08c16", "", &[("8c8d8e8f12", ""), ("8c8d8e8f13f0", "f0"), ("8c16", "")]),
+    ("8c8d8e8f128c8d8e8f13f08c16", "", &[("8c8d8e8f12", "", &[]), ("8c8d8e8f13f0", "f0", &[1, 2, 3, 4]), ("8c16", "", &[])]),
+    // Beneath them is the width, once.
+    ("8b8c8d13808c16", "", &[("8b8c8d1380", "80", &[1, 2]), ("8c16", "", &[])]),
+    // Those that were calculated, or stand before a call, are told too.
+    ("8c8d8e0c0a200a", "14c0", &[("14c0", "c0", &[1, 5])]),
     // Nine stems: two bytes, of which each would be an operator.
-    ("8c8c8c8c8c8c8c8c8c8c8c8c8c8c8c8c8c8c12130c16140e050e", "", &[("8c8c8c8c8c8c8c8c8c8c8c8c8c8c8c8c8c8c12", ""), ("130c16", "0c16"), ("140e05", "0e05")]),
+    ("8c8c8c8c8c8c8c8c8c8c8c8c8c8c8c8c8c8c12130c16140e050e", "", &[("8c8c8c8c8c8c8c8c8c8c8c8c8c8c8c8c8c8c12", "", &[]), ("130c16", "0c16", &[]), ("140e05", "0e05", &[])]),
     // A number of each form before the operator, and one whose bytes would be operators.
-    ("1c0e0ef70efb0eff000e000e130e0e", "", &[("1c0e0ef70efb0eff000e000e130e", "0e")]),
+    ("1c0e0ef70efb0eff000e000e130e0e", "", &[("1c0e0ef70efb0eff000e000e130e", "0e", &[])]),
     // What stands before a call, and what is calculated, is no part of the phrase.
-    ("8c200a8d160e", "160b", &[("16", ""), ("8d16", "")]),
-    ("8c8d0c0a160e", "", &[("16", "")]),
+    ("8c200a8d160e", "160b", &[("16", "", &[]), ("8d16", "", &[])]),
+    ("8c8d0c0a160e", "", &[("16", "", &[])]),
     // An operator of two bytes.
-    ("8c8d8e8f9091920c220e", "", &[("8c8d8e8f9091920c22", "")]),
+    ("8c8d8e8f9091920c220e", "", &[("8c8d8e8f9091920c22", "", &[])]),
 ];
 
-/// Whether the next operation is spelled so.
+/// Whether operands are these whole numbers.
+fn are(operands: &[Operand], numbers: &[i16]) -> bool {
+    if operands.len() != numbers.len() {
+        return false;
+    }
+    for i in 0..numbers.len() {
+        if operands[i] != Operand::from_int(numbers[i]) {
+            return false;
+        }
+    }
+    true
+}
+
+/// Whether the next operation is spelled and hinted so.
 fn is_told<R: Abort>(rt: &R, alloc: Global, program: &mut Program<'_>, spelled: &Spelled) -> bool {
     let phrase = bytes_of(rt, alloc, spelled.0);
     let mask = bytes_of(rt, alloc, spelled.1);
     match program.tell_within(&mut 100) {
-        Ok(Told::Operation(_, _, told)) => {
-            told == phrase.as_slice() && mask_of(told) == mask.as_slice()
+        Ok(Told::Operation(_, _, hints, told)) => {
+            let is_hinted = hints.mask == mask.as_slice() && are(hints.stems, spelled.2);
+            is_hinted && told == phrase.as_slice()
         }
         _ => false,
     }

@@ -32,11 +32,12 @@ holding stack stored st = record { stack = stack; stems = st.stems; width = st.w
 abbrev pub cleared : (stems : ℕ) → Option ℤ → State → State
 cleared stems width st = record { stack = []; stems = stems; width = Some width; stored = st.stored }
 
--- What an operator does: it leaves a stack and stored numbers; it clears the stack, is answered with the operands taken, and so
--- many bytes of a mask are its own; it calls a routine; it returns; it ends the run, with the operands taken; or it is refused.
+-- What an operator does: it leaves a stack and stored numbers; it clears the stack, is answered with the operands taken, those of
+-- the stems that a mask implies are its own, and so many bytes of the mask; it calls a routine; it returns; it ends the run, with
+-- the operands taken; or it is refused.
 pub data Move : Type 0 where
   Keeps : (stack stored : List ℤ) → Move
-  Clears : (taken : List ℤ) (stems : ℕ) (width : Option ℤ) (mask : ℕ) → Move
+  Clears : (taken pairs : List ℤ) (stems : ℕ) (width : Option ℤ) (mask : ℕ) → Move
   Calls : (routine : List ℕ) (stack : List ℤ) → Move
   Returns : Move
   Ends : (taken : List ℤ) (width : Option ℤ) → Move
@@ -54,7 +55,7 @@ last_of xs n = drop (length xs - n) xs
 
 -- the stack is cleared, and its last n operands are answered
 abbrev pub clearing : State → (stems : ℕ) → (taken : Option ℕ) → Move
-clearing st stems (Some n) = Clears (last_of st.stack n) stems (settled st.width st.stack n) 0
+clearing st stems (Some n) = Clears (last_of st.stack n) [] stems (settled st.width st.stack n) 0
 clearing st stems None = Refuses malformed_operands
 
 -- each two operands are a stem ("Hint Operators")
@@ -74,9 +75,10 @@ mask_len stems = (stems + 7) / 8
 abbrev pub implied : List ℤ → ℕ
 implied stack = length stack - length stack % 2
 
--- a mask is answered with the operands taken, and the width is beneath the stems that it implies
+-- a mask is answered with the operands taken and those of the stems that it implies, and the width is beneath these
 abbrev pub mask_clearing : State → (stems : ℕ) → (taken : Option ℕ) → Move
-mask_clearing st stems (Some n) = Clears (last_of st.stack n) stems (settled st.width st.stack (implied st.stack)) (mask_len stems)
+mask_clearing st stems (Some n) =
+    Clears (last_of st.stack n) (last_of st.stack (implied st.stack)) stems (settled st.width st.stack (implied st.stack)) (mask_len stems)
 mask_clearing st stems None = Refuses malformed_operands
 
 -- an operator that works on the stack alone

@@ -56,11 +56,16 @@ pub data Stride : Type 0 where
 abbrev pub said : Operator → (more : ℕ) → List ℕ → Said
 said op more bytes = record { operator = op; bytes = take (more + 1) bytes }
 
+-- the answer of an operator, more bytes behind the first of its phrase, where these are the bytes of the phrase and of its mask
+abbrev pub answered : Operator → (taken pairs : List ℤ) → (more : ℕ) → List ℕ → (width : Option ℤ) → Answer
+answered op taken pairs more bytes width =
+    record { operator = op; operands = taken; hints = record { stems = pairs; mask = drop (more + 1) bytes }; width = width }
+
 -- the stride of a phrase at the front of these bytes, by its operator's move
 abbrev pub moved : Operator → (more : ℕ) → (bytes : List ℕ) → State → Move → Stride
 moved op more bytes st (Keeps stack stored) = On (said op more bytes) None (holding stack stored st) more
-moved op more bytes st (Clears taken stems width mask) =
-    On (said op (more + mask) bytes) (Some (record { operator = op; operands = taken; width = width })) (cleared stems width st) (more + mask)
+moved op more bytes st (Clears taken pairs stems width mask) =
+    On (said op (more + mask) bytes) (Some (answered op taken pairs more (said op (more + mask) bytes).bytes width)) (cleared stems width st) (more + mask)
 moved op more bytes st (Calls routine stack) = Into (said op more bytes) routine (stacked stack st) more
 moved op more bytes st Returns = Back (said op more bytes) st
 moved op more bytes st (Ends taken width) = Over (said op more bytes) taken width more

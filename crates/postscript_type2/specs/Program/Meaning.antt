@@ -6,11 +6,15 @@ use Rattle.postscript_type2.specs.declared.operation.Operator.{Operator}
 use Rattle.postscript_type2.specs.Program.Effects.{State, start, Move, Keeps, Clears, Calls, Returns, Ends, Refuses, effect, pushed, stacked, holding, cleared}
 use Rattle.postscript_type2.specs.Program.Phrases.{IsPhrase, HasNoPhrase}
 use Rattle.postscript_type2.specs.Program.Routines.{Lists}
-use Rattle.postscript_type2.specs.Program.Runs.{Answer, Said, by, End, UsedUp, Returned, Finished, Fault, Run}
+use Rattle.postscript_type2.specs.Program.Runs.{Answer, Hints, Said, by, End, UsedUp, Returned, Finished, Fault, Run}
 
 -- the answer of a clearing operator
-abbrev pub answer : Operator → (taken : List ℤ) → (width : Option ℤ) → Answer
-answer op taken width = record { operator = op; operands = taken; width = width }
+abbrev pub answer : Operator → (taken : List ℤ) → Hints → (width : Option ℤ) → Answer
+answer op taken hints width = record { operator = op; operands = taken; hints = hints; width = width }
+
+-- the hints of these stems and this mask
+abbrev pub hinting : (pairs : List ℤ) → (mask : List ℕ) → Hints
+hinting pairs mask = record { stems = pairs; mask = mask }
 
 -- How the glyph is finished at EndChar, so many calls open and these bytes behind it: in a subroutine no byte may follow.
 pub data Closes (taken : List ℤ) (width : Option ℤ) : (depth : ℕ) → (behind : List ℕ) → End → Type 0 where
@@ -47,10 +51,11 @@ pub data Means (lists : Lists) : (depth : ℕ) → (rest : List ℕ) → State �
       Means lists depth (phrase ++ behind) st answers (by op phrase ∷ trace) end
   -- the operator clears the stack and is answered, the bytes of a mask are its own, and what follows them goes on
   clears : (depth : ℕ) (phrase mask behind : List ℕ) (numbers : List ℤ) (op : Operator) (st : State)
-      (taken : List ℤ) (stems : ℕ) (width : Option ℤ) (answers : List Answer) (trace : List Said) (end : End) →
-      Moves lists st phrase numbers op (mask ++ behind) (Clears taken stems width (length mask)) →
+      (taken pairs : List ℤ) (stems : ℕ) (width : Option ℤ) (answers : List Answer) (trace : List Said) (end : End) →
+      Moves lists st phrase numbers op (mask ++ behind) (Clears taken pairs stems width (length mask)) →
       Means lists depth behind (cleared stems width st) answers trace end →
-      Means lists depth (phrase ++ (mask ++ behind)) st (answer op taken width ∷ answers) (by op (phrase ++ mask) ∷ trace) end
+      Means lists depth (phrase ++ (mask ++ behind)) st (answer op taken (hinting pairs mask) width ∷ answers)
+      (by op (phrase ++ mask) ∷ trace) end
   -- a call where ten are open
   calls_too_deep : (depth : ℕ) (phrase behind : List ℕ) (numbers : List ℤ) (op : Operator) (st : State)
       (subroutine : List ℕ) (stack : List ℤ) →

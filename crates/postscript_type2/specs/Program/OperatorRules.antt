@@ -140,17 +140,17 @@ pub data Does (lists : Lists) (op : Operator) (behind : List ℕ) (st : State) :
   without_meaning : (part : Part) → kind op ≡ IsRefused part → Does lists op behind st (Refuses (OfPart part))
   -- an operator that draws
   draws : (takes : ℕ → Bool) (beneath taken : List ℤ) (width : Option ℤ) → kind op ≡ Draws takes →
-      TakesMost takes st.stack beneath taken → IsSettled st.width beneath width → Does lists op behind st (Clears taken st.stems width 0)
+      TakesMost takes st.stack beneath taken → IsSettled st.width beneath width → Does lists op behind st (Clears taken [] st.stems width 0)
   draws_none : (takes : ℕ → Bool) → kind op ≡ Draws takes → TakesNone takes st.stack → Does lists op behind st (Refuses malformed_operands)
   -- one that declares stems, which 32 bits count
   declares : (takes : ℕ → Bool) (beneath taken : List ℤ) (width : Option ℤ) (stems : ℕ) → kind op ≡ DeclaresStems takes → StemsAfter st stems → stems < 2 ^ 32 →
-      TakesMost takes st.stack beneath taken → IsSettled st.width beneath width → Does lists op behind st (Clears taken stems width 0)
+      TakesMost takes st.stack beneath taken → IsSettled st.width beneath width → Does lists op behind st (Clears taken [] stems width 0)
   declares_none : (takes : ℕ → Bool) (stems : ℕ) → kind op ≡ DeclaresStems takes → StemsAfter st stems → stems < 2 ^ 32 →
       TakesNone takes st.stack → Does lists op behind st (Refuses malformed_operands)
   declares_too_many : (takes : ℕ → Bool) (stems : ℕ) → kind op ≡ DeclaresStems takes → StemsAfter st stems → 2 ^ 32 ≤ stems → Does lists op behind st (Refuses too_many_stems)
   -- a mask, which has a bit for each stem in whole bytes: all pairs on the stack are stems, and one operand may be beneath them
   masks : (beneath pairs : List ℤ) (width : Option ℤ) (stems : ℕ) → kind op ≡ Masks (exactly 0) → StemsAfter st stems → stems < 2 ^ 32 → mask_len stems ≤ length behind →
-      st.stack ≡ beneath ++ pairs → length beneath < 2 → length pairs % 2 ≡ 0 → IsSettled st.width beneath width → Does lists op behind st (Clears [] stems width (mask_len stems))
+      st.stack ≡ beneath ++ pairs → length beneath < 2 → length pairs % 2 ≡ 0 → IsSettled st.width beneath width → Does lists op behind st (Clears [] pairs stems width (mask_len stems))
   masks_cut : (takes : ℕ → Bool) (stems : ℕ) → kind op ≡ Masks takes → StemsAfter st stems → stems < 2 ^ 32 → length behind < mask_len stems → Does lists op behind st (Refuses unexpected_eof)
   masks_too_many : (takes : ℕ → Bool) (stems : ℕ) → kind op ≡ Masks takes → StemsAfter st stems → 2 ^ 32 ≤ stems → Does lists op behind st (Refuses too_many_stems)
   -- a call of the subroutine that the number on top names

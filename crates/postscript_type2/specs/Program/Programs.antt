@@ -5,7 +5,7 @@ use Rattle.postscript_base.specs.declared.error.Error.{Error}
 use Rattle.postscript_base.specs.declared.error.Error.TheVariants.{Memory, AlreadyFailed}
 use Rattle.postscript_base.specs.Refusal.{refusal_of}
 use Rattle.postscript_type2.specs.declared.operation.Operator.{Operator}
-use Rattle.postscript_type2.specs.Program.Runs.{Answer, Said, End, UsedUp, Returned, Finished, Fault, Run, taken_by}
+use Rattle.postscript_type2.specs.Program.Runs.{Answer, Hints, Said, End, UsedUp, Returned, Finished, Fault, Run, taken_by}
 
 -- the answers that are left, the phrases that are left, the end behind them, the width so far, and whether the end has been told
 pub record Pending : Type 0 where
@@ -44,9 +44,10 @@ told_at_end pending = if pending.is_told then taken_by pending.end else []
 
 -- The head of what is left is answered, with the width beside it, and the tail is left. With no head, None is answered at
 -- an end without fault, where the operands that EndChar took are kept, and the refusal at a fault; the width stays as it was
--- before a refusal. Want of memory may come in place of any answer.
+-- before a refusal. Want of memory may come in place of any answer. The hints of a mask are not told.
 abbrev pub Next : Pending → Result (Option (Operator × Vec ℤ Global)) Error → Pending → Type 0
 Next old (Ok (Some operation)) new =
-    (old.answers ≡ record { operator = operation.0; operands = operation.1.items; width = new.width } ∷ new.answers) × (new.end ≡ old.end) × (new.is_told ≡ false)
+    ((hints : Hints) × (old.answers ≡ record { operator = operation.0; operands = operation.1.items; hints = hints; width = new.width } ∷ new.answers))
+    × (new.end ≡ old.end) × (new.is_told ≡ false)
 Next old (Ok None) new = (old.answers ≡ []) × IsLastWidth old.end old.width new.width × (new ≡ ended_over (taken_by old.end) new.width)
 Next old (Err e) new = ((e ≡ Memory) ⊎ ((old.answers ≡ []) × (old.end ≡ Fault (refusal_of e)))) × (new ≡ failed old.width)

@@ -4,10 +4,20 @@ use Rattle.postscript_base.specs.Refusal.{Refusal}
 use Rattle.postscript_type2.specs.declared.operation.Operator.{Operator}
 use Rattle.postscript_type2.specs.Program.Effects.{State}
 
--- an operation, and the width after it
+-- what a mask says: the operands of the stems that it implies, and its bytes (Technical Note 5177, "Hint Operators")
+pub record Hints : Type 0 where
+  pub stems : List ℤ
+  pub mask : List ℕ
+
+-- those of any other operator
+abbrev pub no_hints : Hints
+no_hints = record { stems = []; mask = [] }
+
+-- an operation, the hints of a mask, and the width after it
 pub record Answer : Type 0 where
   pub operator : Operator
   pub operands : List ℤ
+  pub hints : Hints
   pub width : Option ℤ
 
 -- a phrase of the run: its operator, and its bytes with those of its mask
@@ -30,7 +40,7 @@ pub record Run : Type 0 where
   pub trace : List Said
   pub end : End
 
--- an answer without its width
+-- an answer without its hints and its width
 abbrev pub operation : Answer → Operator × List ℤ
 operation answer = (answer.operator, answer.operands)
 

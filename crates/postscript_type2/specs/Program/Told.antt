@@ -1,4 +1,4 @@
--- What a program tells of an operation within a limit: as `step_within`, and how it is spelled.
+-- What a program tells of an operation within a limit: as `step_within`, and the hints of a mask, and how it is spelled.
 use Rattle.std.specs.Prelude.{◌≡◌, ℕ, ℤ, List, [], ◌∷◌, ◌++◌, Result, Ok, Err}
 use Rattle.std.specs.Borrow.{Fml, MutBor}
 use Rattle.std.specs.Io.BufRead.{Rests}
@@ -12,16 +12,16 @@ use Rattle.postscript_type2.specs.declared.program.within.Within.{Within}
 use Rattle.postscript_type2.specs.declared.program.within.Within.TheVariants as within
 use Rattle.postscript_type2.specs.Program.Phrases.{IsPhrase}
 use Rattle.postscript_type2.specs.Program.Programs.{Pending}
-use Rattle.postscript_type2.specs.Program.Runs.{Said, by}
+use Rattle.postscript_type2.specs.Program.Runs.{Answer, Hints, Said, by}
 use Rattle.postscript_type2.specs.Program.Within.{StepsWithin}
 
 -- these phrases come to this one, behind those that are passed, and go on with the rest
 abbrev pub ComesTo : List Said → Said → (rest : List Said) → Type 0
 ComesTo phrases said rest = (passed : List Said) × (phrases ≡ passed ++ said ∷ rest)
 
--- what is told, less the phrase
+-- what is told, less the hints and the phrase
 abbrev less : Told → Within
-less (told.Operation operator operands phrase) = within.Operation operator operands
+less (told.Operation operator operands hints phrase) = within.Operation operator operands
 less told.End = within.End
 less told.Paused = within.Paused
 
@@ -31,7 +31,7 @@ within_of (Err e) = Err e
 
 -- the phrase of an operation is that to which the phrases of the run come
 abbrev pub TellsPhraseOf : Pending → Result Told Error → Pending → Type 0
-TellsPhraseOf old (Ok (told.Operation operator operands phrase)) new = ComesTo old.trace (by operator phrase.now) new.trace
+TellsPhraseOf old (Ok (told.Operation operator operands hints phrase)) new = ComesTo old.trace (by operator phrase.now) new.trace
 TellsPhraseOf old answer new = Unit {0}
 
 -- The operands and the phrase are lent, and once they are given back the program is as `StepsWithin` says.
@@ -39,6 +39,11 @@ abbrev pub LendsTold : MutBor Pending → (limit : ℕ) → Result Told Error �
 LendsTold program limit result left = Rests (the_row (record { mir = named 0; lft = [] })) program
     (λ new. StepsWithin program.now limit (within_of result) new left × TellsPhraseOf program.now result new)
 
--- the bytes of a mask, where these are a phrase and its mask
-abbrev pub IsMaskOf : (bytes mask : List ℕ) → Type 0
-IsMaskOf bytes mask = (phrase behind : List ℕ) (numbers : List ℤ) (op : Operator) → IsPhrase phrase numbers op → bytes ≡ phrase ++ behind → mask ≡ behind
+-- the first of these answers has these hints
+abbrev pub HeadHas : List Answer → Hints → Type 0
+HeadHas answers hints = (answer : Answer) × (rest : List Answer) × (answers ≡ answer ∷ rest) × (answer.hints ≡ hints)
+
+-- the hints of an operation are those of the first answer that is left
+abbrev pub TellsHintsOf : Pending → Result Told Error → Type 0
+TellsHintsOf old (Ok (told.Operation operator operands hints phrase)) = HeadHas old.answers (record { stems = hints.stems.now; mask = hints.mask.now })
+TellsHintsOf old answer = Unit {0}

@@ -9,8 +9,8 @@ use Rattle.postscript_type2.specs.Program.Runs.{Said, End, UsedUp, Returned, Fin
 -- The first operator that clears the stack or ends the glyph settles this width: the one at the front, one behind operators that
 -- do neither, one in a subroutine, or one behind a subroutine in which none does.
 pub data FirstSettles (lists : Lists) (width : Option ℤ) : (depth : ℕ) → (rest : List ℕ) → State → Type 0 where
-  clears : (depth : ℕ) (phrase behind : List ℕ) (numbers : List ℤ) (op : Operator) (st : State) (taken : List ℤ) (stems mask : ℕ) →
-      Moves lists st phrase numbers op behind (Clears taken stems width mask) → FirstSettles lists width depth (phrase ++ behind) st
+  clears : (depth : ℕ) (phrase behind : List ℕ) (numbers : List ℤ) (op : Operator) (st : State) (taken pairs : List ℤ) (stems mask : ℕ) →
+      Moves lists st phrase numbers op behind (Clears taken pairs stems width mask) → FirstSettles lists width depth (phrase ++ behind) st
   ends : (depth : ℕ) (phrase behind : List ℕ) (numbers : List ℤ) (op : Operator) (st : State) (taken : List ℤ) →
       Moves lists st phrase numbers op behind (Ends taken width) → FirstSettles lists width depth (phrase ++ behind) st
   behind_others : (depth : ℕ) (phrase behind : List ℕ) (numbers : List ℤ) (op : Operator) (st : State) (stack stored : List ℤ) →

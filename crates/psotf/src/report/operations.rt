@@ -5,7 +5,7 @@ use crate::limit::Budget;
 use crate::sheet::Sheet;
 use crate::text::Text;
 use postscript_base::Result;
-use postscript_type2::{Operand, Operator, Told, mask_of};
+use postscript_type2::{Operand, Operator, Told};
 use postscript_view::Glyph;
 use std::alloc::Global;
 
@@ -92,12 +92,11 @@ pub fn put(
     let mut left = u64::MAX;
     let mut text = Text::new(alloc);
     for _ in 0..u64::MAX {
-        let Told::Operation(operator, operands, phrase) = program.tell_within(&mut left)? else {
+        let Told::Operation(operator, operands, hints, _) = program.tell_within(&mut left)? else {
             break;
         };
-        let mask = mask_of(phrase);
-        budget.spend(price(operands.len(), mask.len()));
-        put_operation(&mut text, operator, operands, mask);
+        budget.spend(price(operands.len(), hints.mask.len()));
+        put_operation(&mut text, operator, operands, hints.mask);
     }
     sheet.put(&text);
     Ok(())

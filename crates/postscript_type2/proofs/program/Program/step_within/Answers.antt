@@ -1,5 +1,6 @@
-use Rattle.std.proofs.Common.{◌≡◌, arith, rules, refl}
+use Rattle.std.proofs.Common.{◌≡◌, Ok, arith, rules, refl, subst}
 use Rattle.postscript_type2.specs.Program.Limit.{Spends}
+use Rattle.postscript_type2.specs.Private.Limited.{StopsWithin}
 use Rattle.postscript_type2.specs.Private.Machines.{still_of, still_emptied}
 use Rattle.postscript_type2.specs.Private.Working.{settled_width}
 use Rattle.postscript_type2.proofs.EndingLaws.{machine-ends}
@@ -16,7 +17,9 @@ returns-in-Failed c =
 
 pub returns-in-Ok-At : goal.returns-in-Ok-At
 returns-in-Ok-At c =
-    ((refl, λ _. tt, search rules), record { steps = tt; head = (settled_width c.stop_within.new.self.state.width, (still_emptied c.stop_within.new.self).answers, search rules); listed = tt; ended = search rules; over = λ operands is. search rules; failed = search rules; suffices = search rules })
+    let before = c.match-self.self-inside.machine in
+    let stops = subst (λ stop. StopsWithin (still_of before) before.state.width (Ok stop) c.stop_within.new.self) c.in-Ok-At.field-0-is c.in-Ok-At.ensures.stops in
+    ((refl, λ _. tt, search rules), record { steps = tt; head = (stops.0.0, settled_width c.stop_within.new.self.state.width, (still_emptied c.stop_within.new.self).answers, search rules); listed = tt; ended = search rules; over = λ operands is. search rules; failed = search rules; suffices = search rules })
 
 pub returns-in-Ok-Paused : goal.returns-in-Ok-Paused
 returns-in-Ok-Paused c =

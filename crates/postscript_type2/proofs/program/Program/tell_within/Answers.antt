@@ -1,5 +1,6 @@
-use Rattle.std.proofs.Common.{◌≡◌, arith, rules, refl}
+use Rattle.std.proofs.Common.{◌≡◌, Ok, arith, rules, refl, subst}
 use Rattle.postscript_type2.specs.Program.Limit.{Spends}
+use Rattle.postscript_type2.specs.Private.Limited.{StopsWithin, TellsHints, stop_of}
 use Rattle.postscript_type2.specs.Private.Machines.{still_of, still_emptied}
 use Rattle.postscript_type2.specs.Private.Working.{settled_width}
 use Rattle.postscript_type2.proofs.EndingLaws.{machine-ends}
@@ -8,15 +9,18 @@ use Rattle.postscript_type2.proofs.program.Program.tell_within.Goals as goal
 
 pub returns-in-Ended : goal.returns-in-Ended
 returns-in-Ended c =
-    ((refl, λ _. tt, (stays-over c.self.inside.machine c.args.limit.now c.in-Ended.is c.self.view_is, tt)), record { steps = tt; head = search rules; listed = tt; ended = search rules; over = λ operands is. search rules; failed = search rules; suffices = search rules })
+    ((refl, λ _. tt, (stays-over c.self.inside.machine c.args.limit.now c.in-Ended.is c.self.view_is, tt)), record { steps = tt; head = search rules; hints = search rules; listed = tt; ended = search rules; over = λ operands is. search rules; failed = search rules; suffices = search rules })
 
 pub returns-in-Failed : goal.returns-in-Failed
 returns-in-Failed c =
-    ((refl, λ _. tt, (stays-refused c.self.inside.machine c.args.limit.now c.in-Failed.is c.self.view_is, tt)), record { steps = tt; head = search rules; listed = search rules; ended = search rules; over = λ operands is. search rules; failed = search rules; suffices = search rules })
+    ((refl, λ _. tt, (stays-refused c.self.inside.machine c.args.limit.now c.in-Failed.is c.self.view_is, tt)), record { steps = tt; head = search rules; hints = search rules; listed = search rules; ended = search rules; over = λ operands is. search rules; failed = search rules; suffices = search rules })
 
 pub returns-in-Ok-At : goal.returns-in-Ok-At
 returns-in-Ok-At c =
-    ((refl, λ _. tt, search rules), record { steps = tt; head = (settled_width c.tell_within.new.self.state.width, (still_emptied c.tell_within.new.self).answers, search rules); listed = tt; ended = search rules; over = λ operands is. search rules; failed = search rules; suffices = search rules })
+    let before = c.match-self.self-inside.machine in
+    let stops = subst (λ stop. StopsWithin (still_of before) before.state.width (stop_of (Ok stop)) c.tell_within.new.self) c.in-Ok-At.field-0-is c.in-Ok-At.ensures.stops in
+    let hints = subst (λ told. TellsHints (still_of before) (Ok told) c.tell_within.new.self) c.in-Ok-At.field-0-is c.in-Ok-At.ensures.hints in
+    ((refl, λ _. tt, search rules), record { steps = tt; head = (stops.0.0, settled_width c.tell_within.new.self.state.width, (still_emptied c.tell_within.new.self).answers, search rules); hints = search rules; listed = tt; ended = search rules; over = λ operands is. search rules; failed = search rules; suffices = search rules })
 
 pub returns-in-Ok-Paused : goal.returns-in-Ok-Paused
 returns-in-Ok-Paused c =
@@ -26,6 +30,7 @@ returns-in-Ok-Paused c =
       record {
         steps = tt;
         head = tt;
+        hints = tt;
         listed = tt;
         ended = search rules;
         over = λ operands is. search rules;
@@ -36,4 +41,4 @@ returns-in-Ok-Paused c =
 
 pub returns-in-Err : goal.returns-in-Err
 returns-in-Err c =
-    ((refl, λ _. tt, search rules), record { steps = tt; head = search rules; listed = grind (arith, machine-ends); ended = search rules; over = λ operands is. search rules; failed = search rules; suffices = search rules })
+    ((refl, λ _. tt, search rules), record { steps = tt; head = search rules; hints = search rules; listed = grind (arith, machine-ends); ended = search rules; over = λ operands is. search rules; failed = search rules; suffices = search rules })

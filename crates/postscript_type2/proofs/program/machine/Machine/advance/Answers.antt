@@ -1,7 +1,7 @@
-use Rattle.std.proofs.Common.{eqb-true, arith, ◌≡◌, ◌∙◌, ◌-◌, ap, sym, refl, take, length, inr, add-one, ◌<◌}
+use Rattle.std.proofs.Common.{eqb-true, arith, ◌≡◌, ◌∙◌, ◌-◌, ap, sym, refl, rules, take, length, inr, add-one, ◌<◌, ◌≤◌}
 use Rattle.std.proofs.lemmas.List.{drop_all}
 use Rattle.std.proofs.lemmas.Result.{err_from_is_err_and}
-use Rattle.postscript_type2.specs.Program.Effects.{State, cleared, stacked, settled, last_of}
+use Rattle.postscript_type2.specs.Program.Effects.{State, Clears, cleared, stacked, settled, last_of}
 use Rattle.postscript_type2.specs.Program.Evaluation.{at_end, with_phrase}
 use Rattle.postscript_type2.specs.Program.Runs.{by, Finished, UsedUp}
 use Rattle.postscript_type2.specs.Private.Machines.{still_of}
@@ -70,7 +70,11 @@ returns-in-Some-clause-advances c =
     let read : IsRead c.args.self.now.routine c.phrase.new.self (state_of c.args.self.now.state) c.phrase.new.stack.items c.in_ok-operator.operator c.in_ok-operator.ensures.0 =
     is-read c.rest-rest.ensures c.if-is_empty.ensures c.in_ok-operator.ensures.1 c.in_ok-operator.ensures.2 in
     let front : c.passed-bytes.result.now ≡ take (length c.args.self.now.routine - length c.phrase.new.self) c.args.self.now.routine = rw (← c.rest-rest.ensures) c.passed-bytes.ensures in
-    (answered _ c.args.self.now.left c.args.self.now.callers read (c.in-Some.ensures (lists_of c.args.self.now.lists) c.phrase.new.self) refl refl front, refl)
+    let stack = c.phrase.new.stack.items in
+    let none = drop_all (length stack - 0) stack (omega arith) in
+    let moves = c.in-Some.ensures (lists_of c.args.self.now.lists) c.phrase.new.self
+    ∙ ap (λ pairs. Clears (last_of stack c.in-Some.count) pairs c.args.self.now.state.stems (settled c.args.self.now.state.width stack c.in-Some.count) 0) (sym none) in
+    (answered _ c.args.self.now.left c.args.self.now.callers read moves refl refl (omega arith) front, refl)
 
 pub returns-in-Clears-clause-advances : goal.returns-in-Clears-clause-advances
 returns-in-Clears-clause-advances c =
@@ -80,7 +84,8 @@ returns-in-Clears-clause-advances c =
     let does = c.in_ok-act.ensures.value c.phrase.new.self (sym c.len-behind.ensures) in
     let moves = does.0 ∙ ap (λ done. move_of done (state_of c.act.new.self)) c.in-Clears.is in
     let becomes = does.1 ∙ ap (λ move. after_move move (stacked c.phrase.new.stack.items (state_of c.args.self.now.state))) moves in
-    (answered _ c.args.self.now.left c.args.self.now.callers read moves (ap (λ (s : State). cleared (state_of c.act.new.self).stems (settled (state_of c.act.new.self).width (state_of c.act.new.self).stack c.in-Clears.taken.counted) s) becomes) c.skip.ensures front, ap (λ (s : State). s.width) becomes)
+    let room : c.in-Clears.mask ≤ length c.phrase.new.self = search rules in
+    (answered _ c.args.self.now.left c.args.self.now.callers read moves (ap (λ (s : State). cleared (state_of c.act.new.self).stems (settled (state_of c.act.new.self).width (state_of c.act.new.self).stack c.in-Clears.taken.counted) s) becomes) c.skip.ensures room front, ap (λ (s : State). s.width) becomes)
 
 pub returns-then-self-eq0-clause-advances : goal.returns-then-self-eq0-clause-advances
 returns-then-self-eq0-clause-advances c =
