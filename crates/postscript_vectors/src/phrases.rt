@@ -5,8 +5,8 @@ use postscript::type2::{Operand, Program, Told};
 use std::alloc::Global;
 use std::process::Abort;
 
-/// A phrase and its mask in hex, and the operands of the stems that the mask implies.
-type Spelled = (&'static str, &'static str, &'static [i16]);
+/// A phrase and its mask in hex, and the operands of the stems that the mask implies, in 16.16 bits.
+type Spelled = (&'static str, &'static str, &'static [i32]);
 
 /// A code and its local subroutines in hex, and how each operation is spelled and hinted.
 #[rattlefmt::skip]
@@ -14,15 +14,15 @@ const PHRASES: &[(&str, &str, &[Spelled])] = &[
     ("8c8d150e", "", &[("8c8d15", "", &[])]),
     ("8c8d0113ff0e", "", &[("8c8d01", "", &[]), ("13ff", "ff", &[])]),
     // The operands of a mask are stems: four of them in all, and so one byte.
-    ("8c8d8e8f128c8d8e8f13f08c16", "", &[("8c8d8e8f12", "", &[]), ("8c8d8e8f13f0", "f0", &[1, 2, 3, 4]), ("8c16", "", &[])]),
+    ("8c8d8e8f128c8d8e8f13f08c16", "", &[("8c8d8e8f12", "", &[]), ("8c8d8e8f13f0", "f0", &[65_536, 131_072, 196_608, 262_144]), ("8c16", "", &[])]),
     // Beneath them is the width, once.
-    ("8b8c8d13808c16", "", &[("8b8c8d1380", "80", &[1, 2]), ("8c16", "", &[])]),
+    ("8b8c8d13808c16", "", &[("8b8c8d1380", "80", &[65_536, 131_072]), ("8c16", "", &[])]),
     // Those that were calculated, or stand before a call, are told too.
-    ("8c8d8e0c0a200a", "14c0", &[("14c0", "c0", &[1, 5])]),
+    ("8c8d8e0c0a200a", "14c0", &[("14c0", "c0", &[65_536, 327_680])]),
     // Nine stems: two bytes, of which each would be an operator.
     ("8c8c8c8c8c8c8c8c8c8c8c8c8c8c8c8c8c8c12130c16140e050e", "", &[("8c8c8c8c8c8c8c8c8c8c8c8c8c8c8c8c8c8c12", "", &[]), ("130c16", "0c16", &[]), ("140e05", "0e05", &[])]),
     // A number of each form before the operator, and one whose bytes would be operators.
-    ("1c0e0ef70efb0eff000e000e130e0e", "", &[("1c0e0ef70efb0eff000e000e130e", "0e", &[])]),
+    ("1c0e0ef70efb0eff000e000e130e0e", "", &[("1c0e0ef70efb0eff000e000e130e", "0e", &[235_798_528, 7_995_392, -7_995_392, 917_518])]),
     // What stands before a call, and what is calculated, is no part of the phrase.
     ("8c200a8d160e", "160b", &[("16", "", &[]), ("8d16", "", &[])]),
     ("8c8d0c0a160e", "", &[("16", "", &[])]),
@@ -30,13 +30,13 @@ const PHRASES: &[(&str, &str, &[Spelled])] = &[
     ("8c8d8e8f9091920c220e", "", &[("8c8d8e8f9091920c22", "", &[])]),
 ];
 
-/// Whether operands are these whole numbers.
-fn are(operands: &[Operand], numbers: &[i16]) -> bool {
-    if operands.len() != numbers.len() {
+/// Whether operands have these bits.
+fn are(operands: &[Operand], bits: &[i32]) -> bool {
+    if operands.len() != bits.len() {
         return false;
     }
-    for i in 0..numbers.len() {
-        if operands[i] != Operand::from_int(numbers[i]) {
+    for i in 0..bits.len() {
+        if operands[i].bits() != bits[i] {
             return false;
         }
     }
