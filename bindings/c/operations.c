@@ -1,4 +1,5 @@
-/* operations FONT GLYPH: prints the operations of a glyph of an OpenType font with a table CFF, each on a line. */
+/* operations FONT GLYPH: prints the operations of a glyph of an OpenType font with a table CFF, each on a line: its operands, and at a
+ * mask those of the stems that it implies; the code of its operator; and the bytes of the mask. */
 #include <stdio.h>
 #include <stdlib.h>
 
@@ -56,8 +57,12 @@ int main(int argc, char **argv) {
     status = psf_glyph_operations(cff, size, &font, glyph, operations, count, &count, operands, operand_count, &operand_count);
     if (status != PSF_OK) fail(argv[2], status);
     for (size_t i = 0; i < count; i++) {
-        for (uint64_t k = 0; k < operations[i].count; k++) printf("%g ", operands[operations[i].first + k] / 65536.0);
-        printf("0x%02x\n", (unsigned)operations[i].operator_code);
+        uint64_t numbers = operations[i].count + operations[i].stems;
+        const int32_t *own = operands + operations[i].first;
+        for (uint64_t k = 0; k < numbers; k++) printf("%g ", own[k] / 65536.0);
+        printf("0x%02x", (unsigned)operations[i].operator_code);
+        for (uint64_t k = 0; k < operations[i].mask; k++) printf(" %02x", (unsigned)own[numbers + k]);
+        printf("\n");
     }
     free(operands);
     free(operations);

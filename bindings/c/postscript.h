@@ -178,10 +178,13 @@ typedef struct psf_bounds {
     uint32_t has_bounds;              /* 1 where there is a point, else 0 */
 } psf_bounds;
 
-/* An operation of a glyph: its operator, and which of the operands of all operations are its own. */
+/* An operation of a glyph: its operator, and which of the operands of all operations are its own. Behind them stand the operands of
+ * the stems that a mask implies (vstemhm before hintmask may be left out), and behind these the bytes of the mask, each as a number. */
 typedef struct psf_operation {
     uint64_t first;          /* where its operands begin */
     uint64_t count;          /* how many they are */
+    uint64_t stems;          /* how many operands of implied stems are behind them, 0 but at a mask */
+    uint64_t mask;           /* how many bytes of a mask are behind these, 0 but at a mask */
     uint32_t operator_code;  /* its code; that of two bytes is 0x0c00 and the second, as 0x0c23 for flex */
 } psf_operation;
 
@@ -279,8 +282,10 @@ int32_t psf_glyph_flat(const uint8_t *cff, size_t length, const psf_font *font, 
                        uint8_t *code, size_t room, size_t *count);
 
 /* The operations of a glyph, in the order of its run, to the front of operations[0..room], and the operands of all of them to
- * the front of operands[0..operand_room]. Those of operations[i] are operands[first..first + count]. An accented glyph has its own
- * operations alone. Its run keeps to font->limit.
+ * the front of operands[0..operand_room]. Those of operations[i] are operands[first..first + count]; at hintmask and cntrmask those of
+ * the stems that the mask implies are the next ones, as many as stems tells, and then come as many numbers from 0 to 255 as mask
+ * tells, the bytes of the mask. So a glyph can be written again. An accented glyph has its own operations alone. Its run keeps to
+ * font->limit.
  * On PSF_OK and PSF_NO_ROOM *count and *operand_count tell how many there are of each; on PSF_NO_ROOM one of them is more than
  * its room, and nothing else is written. Also answered: PSF_NO_GLYPH, PSF_NO_PART as by psf_glyph_outline, PSF_TOO_LONG where the
  * limit is used up, and errors from 1 to 30; then nothing is written. */

@@ -142,6 +142,23 @@ static void check_operations(const uint8_t *cff, size_t size, const psf_font *fo
     holds(psf_glyph_operations(cff, size, font, 4, operations, 4, &count, operands, 8, &operand_count) == PSF_NO_GLYPH && count == 77, "past the end");
 }
 
+static void check_hints(void) {
+    /* a table of one glyph: 1 2 hintmask 10000000 3 hmoveto endchar, of which the mask implies a stem */
+    static const uint8_t table[] = {0x01, 0x00, 0x04, 0x01, 0x00, 0x01, 0x01, 0x01, 0x02, 0x41, 0x00, 0x01, 0x01, 0x01, 0x05, 0x1c, 0x00, 0x17,
+                                    0x11, 0x00, 0x00, 0x00, 0x00, 0x00, 0x01, 0x01, 0x01, 0x08, 0x8c, 0x8d, 0x13, 0x80, 0x8e, 0x16, 0x0e};
+    psf_font font;
+    psf_operation operations[2];
+    int32_t numbers[4];
+    size_t count, number_count;
+    holds(psf_font_open(table, sizeof table, &font) == PSF_OK, "a font with a mask");
+    holds(psf_glyph_operations(table, sizeof table, &font, 0, operations, 2, &count, numbers, 4, &number_count) == PSF_OK, "its operations");
+    holds(count == 2 && number_count == 4, "how many");
+    holds(operations[0].operator_code == 0x13 && operations[0].count == 0 && operations[0].stems == 2 && operations[0].mask == 1, "hintmask");
+    holds(numbers[0] == 65536 && numbers[1] == 131072 && numbers[2] == 0x80, "the stem that it implies, and its byte");
+    holds(operations[1].first == 3 && operations[1].count == 1 && operations[1].stems == 0 && operations[1].mask == 0, "hmoveto");
+    holds(numbers[3] == 3 * 65536, "its operand");
+}
+
 /* A font that is written is opened, and each of its glyphs draws what a glyph of the old one draws. */
 static void check_alike(const uint8_t *cff, size_t size, size_t glyph, const uint8_t *written, size_t length, size_t number) {
     psf_font font, other;
@@ -548,6 +565,7 @@ int main(int argc, char **argv) {
     check_names(file + place, size);
     check_flat(file + place, size, &font);
     check_operations(file + place, size, &font);
+    check_hints();
     check_written(file + place, size);
     check_refused(file + place, size);
     length = read_hex(argv[2], accents, sizeof accents);

@@ -21,7 +21,7 @@ import time
 import unittest
 
 import postscript
-from postscript import LIMIT, Error, Font, Status, VariableFont, WriteError
+from postscript import LIMIT, Error, Font, Operation, Status, VariableFont, WriteError
 
 FONTS = pathlib.Path("/usr/share/fonts/opentype")
 #: a variable font of Debian's package pango1.0-tests
@@ -145,9 +145,15 @@ class Small(Case):
 
     def test_operations(self):
         # 0 hmoveto 250 700 250 -700 rlineto endchar
-        self.assertEqual(self.font[2].operations(), [("hmoveto", (0,)), ("rlineto", (250, 700, 250, -700))])
+        self.assertEqual(self.font[2].operations(), [Operation("hmoveto", (0,)), Operation("rlineto", (250, 700, 250, -700))])
         self.assertEqual(self.font[1].operations(), [])
         self.refused(Status.NO_GLYPH, postscript.Glyph(self.font, 4).operations)
+
+    def test_hints(self):
+        # a table of one glyph: 1 2 hintmask 10000000 3 hmoveto endchar, of which the mask implies a stem
+        table = bytes.fromhex("01000401 000101010241 00010101051c001711 0000 0000 0001010108 8c8d13808e160e")
+        told = Font.from_table(table)[0].operations()
+        self.assertEqual(told, [Operation("hintmask", (), (1, 2), b"\x80"), Operation("hmoveto", (3,))])
 
     def drawn(self, table, glyphs):
         font = Font(table)
@@ -626,7 +632,7 @@ class Installed(unittest.TestCase):
 
 
 def operations_of(program):
-    """The operations of a program without calls and without arithmetic, as fontTools lists it: with its width, and a text behind each mask."""
+    """The operations of a program without calls and without arithmetic, as fontTools lists it: with its width, and its bytes behind each mask."""
     operations, numbers, tokens = [], [], iter(program)
     takes = {"rmoveto": 2, "hmoveto": 1, "vmoveto": 1, "hintmask": 0, "cntrmask": 0}
     for token in tokens:
@@ -635,10 +641,10 @@ def operations_of(program):
             continue
         if token == "endchar":
             break
+        taken, stems, mask = takes.get(token, len(numbers) // 2 * 2 if "stem" in token else len(numbers)), (), b""
         if token.endswith("mask"):
-            next(tokens)
-        taken = takes.get(token, len(numbers) // 2 * 2 if "stem" in token else len(numbers))
-        operations.append((token, tuple(numbers[len(numbers) - taken :])))
+            stems, mask = tuple(numbers[len(numbers) % 2 :]), next(tokens)
+        operations.append(Operation(token, tuple(numbers[len(numbers) - taken :]), stems, mask))
         numbers = []
     return operations
 

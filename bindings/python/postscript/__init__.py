@@ -40,7 +40,7 @@ import os
 from ctypes import POINTER, Structure, byref, c_char_p, c_int, c_int32, c_int64, c_size_t, c_ssize_t
 from ctypes import c_uint8, c_uint16, c_uint32, c_uint64, c_void_p
 from pathlib import Path
-from typing import Any, Callable, Dict, Iterable, Iterator, List, Mapping, NamedTuple, Optional, Protocol, Tuple, Type, Union
+from typing import Any, Callable, Dict, Iterable, Iterator, List, Mapping, NamedTuple, Optional, Protocol, Sequence, Tuple, Type, Union
 
 __all__ = [
     "LIMIT", "VERSION", "Axis", "Bounds", "Buffer", "CharacterMap", "Error", "Font", "Glyph", "Instance", "Operation", "Pen", "Place",
@@ -72,10 +72,14 @@ class Bounds(NamedTuple):
 
 
 class Operation(NamedTuple):
-    """An operation of a glyph: the operator's name and its operands, which are whole numbers of 65536ths, so they are exact."""
+    """An operation of a glyph: the operator's name and its operands, which are whole numbers of 65536ths, so they are exact. At
+    `hintmask` and `cntrmask` the operands of the stems that the mask implies, which no operator declared, and the bytes of the mask, a
+    bit for each stem (Technical Note 5177, "Hint Operators")."""
 
     operator: str
     operands: Tuple[float, ...]
+    stems: Tuple[float, ...] = ()
+    mask: bytes = b""
 
 
 class Pen(Protocol):
@@ -277,7 +281,7 @@ class _Bounds(Structure):
 
 
 class _Operation(Structure):
-    _fields_ = [("first", c_uint64), ("count", c_uint64), ("operator_code", c_uint32)]
+    _fields_ = [(name, c_uint64) for name in ("first", "count", "stems", "mask")] + [("operator_code", c_uint32)]
 
 
 class _Character(Structure):
@@ -760,7 +764,7 @@ class Glyph:
                 *cff.told, font, self.number, rows, room, byref(count), operands, operand_room, byref(operand_count)
             )
             if status == Status.OK:
-                return [_operation(row, operands[row.first : row.first + row.count]) for row in rows[: count.value]]
+                return [_operation(row, operands) for row in rows[: count.value]]
             if status != Status.NO_ROOM:
                 raise Error(status, glyph=self.number)
             room, operand_room = count.value, operand_count.value
@@ -1007,8 +1011,14 @@ def _bounds(told: Union[_Glyph, _Bounds]) -> Optional[Bounds]:
     return Bounds(told.left / 65536, told.bottom / 65536, told.right / 65536, told.top / 65536)
 
 
-def _operation(row: _Operation, operands: List[int]) -> Operation:
-    return Operation(_OPERATORS.get(row.operator_code, hex(row.operator_code)), tuple(bits / 65536 for bits in operands))
+def _operation(row: _Operation, numbers: Sequence[int]) -> Operation:
+    stems, mask = row.first + row.count, row.first + row.count + row.stems
+    return Operation(
+        _OPERATORS.get(row.operator_code, hex(row.operator_code)),
+        tuple(bits / 65536 for bits in numbers[row.first : stems]),
+        tuple(bits / 65536 for bits in numbers[stems:mask]),
+        bytes(numbers[mask : mask + row.mask]),
+    )
 
 
 def _segment(s: _Segment) -> Segment:

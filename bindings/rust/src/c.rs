@@ -79,13 +79,17 @@ pub struct Character {
 pub struct Operation {
     first: u64,
     count: u64,
+    stems: u64,
+    mask: u64,
     pub operator: u32,
 }
 
 impl Operation {
-    /// Its own operands among those of all operations.
-    pub fn own(self, operands: &[i32]) -> &[i32] {
-        &operands[self.first as usize..][..self.count as usize]
+    /// Its own among the numbers of all operations: its operands, those of the stems that a mask implies, and the mask's bytes.
+    pub fn own(self, numbers: &[i32]) -> (&[i32], &[i32], &[i32]) {
+        let (operands, hints) = numbers[self.first as usize..].split_at(self.count as usize);
+        let (stems, mask) = hints.split_at(self.stems as usize);
+        (operands, stems, &mask[..self.mask as usize])
     }
 }
 

@@ -2,7 +2,7 @@
 use crate::c;
 use alloc::vec::Vec;
 
-/// An operation of a glyph: an operator, and the operands that it takes.
+/// An operation of a glyph: an operator, the operands that it takes, and what a mask says.
 ///
 /// ```
 /// # let bytes = std::fs::read("examples/small.otf")?;
@@ -18,14 +18,23 @@ pub struct Operation {
     pub operator: u16,
     /// The operands, the lowest first. They are whole numbers of 65536ths, so they are exact.
     pub operands: Vec<f64>,
+    /// At `hintmask` and `cntrmask` the operands of the stems that it implies, which no operator declared (Technical Note 5177,
+    /// "Hint Operators").
+    pub stems: Vec<f64>,
+    /// The bytes of the mask, a bit for each stem; none but at `hintmask` and `cntrmask`.
+    pub mask: Vec<u8>,
 }
 
 impl Operation {
-    /// An operation as C tells it, with the operands of all operations.
-    pub(crate) fn of(told: c::Operation, operands: &[i32]) -> Operation {
+    /// An operation as C tells it, with the numbers of all operations.
+    pub(crate) fn of(told: c::Operation, numbers: &[i32]) -> Operation {
+        let (operands, stems, mask) = told.own(numbers);
+        let units = |bits: &i32| f64::from(*bits) / 65536.0;
         Operation {
             operator: told.operator as u16,
-            operands: told.own(operands).iter().map(|bits| f64::from(*bits) / 65536.0).collect(),
+            operands: operands.iter().map(units).collect(),
+            stems: stems.iter().map(units).collect(),
+            mask: mask.iter().map(|byte| *byte as u8).collect(),
         }
     }
 

@@ -138,8 +138,8 @@ fn operations() {
     let font = Font::from_file(&bytes, 0).unwrap();
     // 0 hmoveto 250 700 250 -700 rlineto endchar
     let expected = vec![
-        Operation { operator: 0x16, operands: vec![0.0] },
-        Operation { operator: 0x05, operands: vec![250.0, 700.0, 250.0, -700.0] },
+        Operation { operator: 0x16, operands: vec![0.0], stems: vec![], mask: vec![] },
+        Operation { operator: 0x05, operands: vec![250.0, 700.0, 250.0, -700.0], stems: vec![], mask: vec![] },
     ];
     let operations = font.operations(2).unwrap();
     assert_eq!(operations, expected);
@@ -147,6 +147,21 @@ fn operations() {
     assert_eq!(names, ["hmoveto", "rlineto"]);
     assert_eq!(font.operations(1), Ok(Vec::new()));
     assert_eq!(font.operations(4), Err(Error::NoGlyph));
+}
+
+/// A table of one glyph: 1 2 hintmask 10000000 3 hmoveto endchar, of which the mask implies a stem.
+const HINTED: [u8; 35] = [
+    0x01, 0x00, 0x04, 0x01, 0x00, 0x01, 0x01, 0x01, 0x02, 0x41, 0x00, 0x01, 0x01, 0x01, 0x05, 0x1c, 0x00, 0x17, 0x11, 0x00,
+    0x00, 0x00, 0x00, 0x00, 0x01, 0x01, 0x01, 0x08, 0x8c, 0x8d, 0x13, 0x80, 0x8e, 0x16, 0x0e,
+];
+
+#[test]
+fn hints() {
+    let expected = vec![
+        Operation { operator: 0x13, operands: vec![], stems: vec![1.0, 2.0], mask: vec![0x80] },
+        Operation { operator: 0x16, operands: vec![3.0], stems: vec![], mask: vec![] },
+    ];
+    assert_eq!(Font::from_table(&HINTED).unwrap().operations(0), Ok(expected));
 }
 
 /// Outlines with their advances, of these glyphs of a table.

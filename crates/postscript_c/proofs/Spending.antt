@@ -1,15 +1,19 @@
 -- A limit that a program spends while its operations are told.
-use Rattle.std.proofs.Common.{◌≡◌, ◌⊎◌, inl, inr, refl, ap, subst, true, false, ℕ, ℤ, List, [], ◌∷◌, Option, Some, None, Result, Ok, Err, arith}
+use Rattle.std.proofs.Common.{◌≡◌, ◌⊎◌, inl, inr, refl, ap, sym, ◌∙◌, subst, true, false, ℕ, ℤ, List, [], ◌∷◌, Option, Some, None, Result, Ok, Err, arith}
 use denote.Ref.{Bor}
 use Rattle.postscript_base.specs.Refusal.{refusal_of}
 use Rattle.postscript_base.specs.declared.error.Error.{Error}
 use Rattle.postscript_base.specs.declared.error.Error.TheVariants.{Memory}
 use Rattle.postscript_type2.specs.declared.operation.Operator.{Operator}
+use Rattle.postscript_type2.specs.declared.program.told.Hints as told
+use Rattle.postscript_type2.specs.declared.program.told.Told.{Told}
+use Rattle.postscript_type2.specs.declared.program.told.Told.TheVariants as tells
 use Rattle.postscript_type2.specs.declared.program.within.Within.{Within}
 use Rattle.postscript_type2.specs.declared.program.within.Within.TheVariants.{Operation, End, Paused}
 use Rattle.postscript_type2.specs.Program.Limit.{Spends, nothing, one_more}
 use Rattle.postscript_type2.specs.Program.Programs.{Pending, IsLastWidth}
 use Rattle.postscript_type2.specs.Program.Runs.{Said, End as TheEnd, UsedUp, Returned, Finished, Fault, fault_of}
+use Rattle.postscript_type2.specs.Program.Told.{within_of, TellsHintsOf}
 use Rattle.postscript_type2.specs.Program.Within.{StepsWithin, Fits}
 
 -- what is left is spent on
@@ -24,6 +28,17 @@ faultless UsedUp width new h = refl
 faultless (Finished taken last) width new h = refl
 faultless (Returned st) width new h = absurd h
 faultless (Fault e) width new h = absurd h
+
+-- the operation that was told is the first answer, with the hints that were told
+pub head-is : (old new : Pending) {limit left : ℕ} {answer : Result Told Error} {op : Operator} {operands : Bor (List ℤ)} {hints : told.Hints} {phrase : Bor (List ℕ)} →
+    answer ≡ Ok (tells.Operation op operands hints phrase) → StepsWithin old limit (within_of answer) new left → TellsHintsOf old answer →
+    old.answers ≡ record { operator = op; operands = operands.now; hints = record { stems = hints.stems.now; mask = hints.mask.now }; width = new.width } ∷ new.answers
+head-is old new {limit} {left} {answer} {op} {operands} {hints} is steps hinted =
+    let step = subst (λ (r : Result Told Error). StepsWithin old limit (within_of r) new left) is steps in
+    let has = subst (TellsHintsOf old) is hinted in
+    let same = sym step.0.0.1 ∙ has.2 in
+    let hint : step.0.0.0 ≡ has.0.hints = cc in
+    step.0.0.1 ∙ ap (λ h. record { operator = op; operands = operands.now; hints = h; width = new.width } ∷ new.answers) (hint ∙ has.3)
 
 -- what a program has come to, by how its last step was answered
 pub on-operation : {first : ℕ} {phrases : List Said} (old new : Pending) {limit left : ℕ} {answer : Result Within Error} {op : Operator} {operands : Bor (List ℤ)} →

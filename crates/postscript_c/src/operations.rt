@@ -1,5 +1,5 @@
 //! Operations of glyphs as C holds them.
-ghost use Rattle.std.specs.Prelude.{◌≡◌, ◌++◌, OnOk, IfErr};
+ghost use Rattle.std.specs.Prelude.{◌≡◌, ◌++◌, map, pos, OnOk, IfErr};
 ghost use Rattle.postscript_base.specs.declared.error.Error.TheVariants as errors;
 ghost use Rattle.postscript_c.specs.Fitting.{ReadsWithin, RunsWithin};
 ghost use Rattle.postscript_c.specs.Listing.{HandsOperations, TellsOperationsBy, rooms};
@@ -14,10 +14,12 @@ use crate::status::{NO_GLYPH, NO_ROOM, TOO_LONG};
 use crate::texts::copy;
 use crate::told::status;
 use postscript_base::Result;
-use postscript_type2::{Operand, Program, Within};
+use postscript_type2::{Operand, Program, Told};
 use std::alloc::Global;
 
-/// An operation of a glyph: its operator, and which of the operands of all operations are its own.
+/// An operation of a glyph: its operator, and which of the operands of all operations are its own. Those of the stems that a
+/// mask implies stand behind them, and behind these the bytes of the mask, each as a number (Technical Note 5177, "Hint
+/// Operators").
 #[repr(C)]
 #[derive(Clone, Copy)]
 pub struct PsfOperation {
@@ -25,11 +27,15 @@ pub struct PsfOperation {
     pub first: u64,
     /// How many they are.
     pub count: u64,
+    /// How many operands of implied stems are behind them.
+    pub stems: u64,
+    /// How many bytes of a mask are behind these.
+    pub mask: u64,
     /// The code of its operator; that of two bytes is 0x0c00 and the second.
     pub operator: u32,
 }
 
-/// The operations of a glyph, and the operands of all of them.
+/// The operations of a glyph, and the operands and hints of all of them.
 #[derive(Drop)]
 pub(crate) struct Listed {
     pub(crate) rows: Vec<PsfOperation>,
@@ -47,6 +53,17 @@ fn put(all: &mut Vec<i32>, operands: &[Operand]) -> Result<()>
     Ok(())
 }
 
+/// Appends the bytes of a mask.
+fn put_mask(all: &mut Vec<i32>, mask: &[u8]) -> Result<()>
+    ensures added { OnOk result (all.new.items ≡ all.old.items ++ map pos mask.now) }
+    ensures memory { IfErr result (λ e. e ≡ errors.Memory) }
+{
+    for i in 0..mask.len() {
+        all.push(i32::from(mask[i]))?;
+    }
+    Ok(())
+}
+
 /// All operations of a program, where its run fits the limit.
 fn list(alloc: Global, program: &mut Program<'_>, limit: &mut u64) -> Result<Option<Listed>>
     ensures within { RunsWithin shown listed program.old limit.old result limit.new }
@@ -54,17 +71,21 @@ fn list(alloc: Global, program: &mut Program<'_>, limit: &mut u64) -> Result<Opt
     let mut rows = Vec::new(alloc);
     let mut operands = Vec::new(alloc);
     loop {
-        match program.step_within(limit)? {
-            Within::Operation(operator, taken) => {
+        match program.tell_within(limit)? {
+            Told::Operation(operator, taken, hints, _) => {
                 rows.push(PsfOperation {
                     first: operands.len() as u64,
                     count: taken.len() as u64,
+                    stems: hints.stems.len() as u64,
+                    mask: hints.mask.len() as u64,
                     operator: code_of(operator),
                 })?;
                 put(&mut operands, taken)?;
+                put(&mut operands, hints.stems)?;
+                put_mask(&mut operands, hints.mask)?;
             }
-            Within::End => return Ok(Some(Listed { rows, operands })),
-            Within::Paused => return Ok(None),
+            Told::End => return Ok(Some(Listed { rows, operands })),
+            Told::Paused => return Ok(None),
         }
     }
 }
