@@ -152,7 +152,7 @@ class Small(Case):
     def test_hints(self):
         # a table of one glyph: 1 2 hintmask 10000000 3 hmoveto endchar, of which the mask implies a stem
         table = bytes.fromhex("01000401 000101010241 00010101051c001711 0000 0000 0001010108 8c8d13808e160e")
-        told = Font.from_table(table)[0].operations()
+        told = Font(table)[0].operations()
         self.assertEqual(told, [Operation("hintmask", (), (1, 2), b"\x80"), Operation("hmoveto", (3,))])
 
     def drawn(self, table, glyphs):

@@ -1,5 +1,5 @@
 -- Advances of a place (OpenType 1.9, "hmtx - Horizontal Metrics Table", "HVAR - Horizontal Metrics Variations Table").
-use Rattle.std.specs.Prelude.{◌≡◌, ◌⊎◌, ℕ, ◌<◌, ℤ, pos, ◌+ℤ◌, ◌*ℤ◌, ◌≤ℤ◌, ◌<ℤ◌, List, length, slice_get, Option, Some, None}
+use Rattle.std.specs.Prelude.{◌≡◌, ◌⊎◌, ℕ, ◌<◌, ◌≤◌, ℤ, pos, ◌+ℤ◌, ◌*ℤ◌, ◌≤ℤ◌, ◌<ℤ◌, List, length, slice_get, Option, Some, None}
 use Rattle.postscript_base.specs.declared.error.Error.TheVariants as causes
 use Rattle.postscript_instance.specs.declared.advances.AdvancesAt.{AdvancesAt}
 use Rattle.postscript_instance.specs.declared.error.Error.{Error}
@@ -33,9 +33,16 @@ pub record AreAdvancesAt (advances : AdvancesAt) (count : ℕ) (operands : List 
   pub counted : length operands ≡ count
   pub each : (glyph : ℕ) → glyph < count → (operand : ℤ) × (slice_get operands glyph ≡ Some operand) × IsOperand advances glyph operand
 
--- one of them has no room; or there are more glyphs than numbers of two bytes; or memory is wanting
+-- the advance of a glyph has no room, or its number has more than two bytes
+abbrev pub HasNoOperand : AdvancesAt → (glyph : ℕ) → Error → Type 0
+HasNoOperand advances glyph (errors.Advance number) = (number ≡ glyph) × (advance : ℤ) × IsAdvanceAt advances glyph advance × (HasRoom advance → ⊥)
+HasNoOperand advances glyph errors.TooLarge = 65536 ≤ glyph
+HasNoOperand advances glyph e = ⊥
+
+-- One of them has no room, the first that has not; or there are more glyphs than numbers of two bytes; or memory is wanting.
 abbrev pub LacksRoom : AdvancesAt → (count : ℕ) → Error → Type 0
-LacksRoom advances count (errors.Advance glyph) = (glyph < count) × (advance : ℤ) × IsAdvanceAt advances glyph advance × (HasRoom advance → ⊥)
+LacksRoom advances count (errors.Advance glyph) = (glyph < count) × HasNoOperand advances glyph (errors.Advance glyph)
+    × ((before : List ℤ) × AreAdvancesAt advances glyph before)
 LacksRoom advances count errors.TooLarge = 65536 < count
 LacksRoom advances count (errors.Font e) = e ≡ causes.Memory
 LacksRoom advances count e = ⊥

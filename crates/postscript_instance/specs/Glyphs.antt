@@ -32,11 +32,6 @@ NoStaticGlyph font glyph place width (errors.NoGlyph number) =
 NoStaticGlyph font glyph place width e =
     (charstring : Charstring) × IsCharstringOf font glyph place charstring × NotWritten charstring width e
 
--- a glyph of which no code is written, with its width; or memory is wanting
-abbrev pub LacksCode : Font → Place → (widths : List ℤ) → Error → Type 0
-LacksCode font place widths e = IsLate e ⊎
-    ((glyph : ℕ) × (width : ℤ) × (slice_get widths glyph ≡ Some width) × NoStaticGlyph font glyph place (Some width) e)
-
 -- there are names, and not as many as glyphs, or not one Font DICT
 abbrev pub IsMiscounted : Font → Naming → Error → Type 0
 IsMiscounted font naming errors.OtherNames = IfSome naming.glyphs (λ names. length names.now ≢ length (view_shown font).char_strings) × IsSome naming.glyphs
@@ -50,16 +45,6 @@ LacksWidths font naming advances e = IsMiscounted font naming e ⊎ LacksRoom ad
 -- the advances of all glyphs at the place, in 16.16 bits
 abbrev pub AreWidthsOf : Font → AdvancesAt → (widths : List ℤ) → Type 0
 AreWidthsOf font advances widths = AreAdvancesAt advances (length (view_shown font).char_strings) widths
-
--- There are no widths, or no place, or a glyph has no code there with its width, or what is written is too large or not read back; or memory
--- is wanting.
-abbrev pub LacksTable : (Font → Place → (widths : List ℤ) → Error → Type 0) → Font → Naming → AdvancesAt → Error → Type 0
-LacksTable lacks font naming advances e = LacksWidths font naming advances e ⊎ LacksPlace font.store e
-    ⊎ ((place : Place) × (widths : List ℤ) × IsPlaceIn font.store advances.coordinates.now place × AreWidthsOf font advances widths
-    × lacks font place widths e)
-
-abbrev pub NoTable : Font → Naming → AdvancesAt → Error → Type 0
-NoTable font naming advances e = LacksTable LacksCode font naming advances e
 
 -- so a code does what a glyph does at the place, with its width
 abbrev pub DoesAt : Font → Place → (glyph : ℕ) → (width : ℤ) → (code : List ℕ) → Type 0
@@ -88,10 +73,33 @@ NoRoundedGlyph font glyph place width e =
 abbrev pub DoesRoundedAt : Font → Place → (glyph : ℕ) → (width : ℤ) → (code : List ℕ) → Type 0
 DoesRoundedAt font place glyph width code = IsRoundedGlyph font glyph place (Some width) code
 
--- a glyph of which no code in whole units is written, with its width; or memory is wanting
+-- A glyph of which no code is written with its width, the first: those before it have codes that do what they are to do.
+pub record HasNoCode (does : (glyph : ℕ) → (width : ℤ) → (code : List ℕ) → Type 0) (none : (glyph : ℕ) → (width : ℤ) → Error → Type 0)
+    (widths : List ℤ) (e : Error) : Type 0 where
+  pub glyph : ℕ
+  pub width : ℤ
+  pub is_width : slice_get widths glyph ≡ Some width
+  pub before : List (Vec ℕ Global)
+  pub are_codes : AreCodes does widths glyph before
+  pub refused : none glyph width e
+
+-- there is one; or what is written is too large or not read back, or memory is wanting
+abbrev pub LacksCode : Font → Place → (widths : List ℤ) → Error → Type 0
+LacksCode font place widths e = IsLate e ⊎ HasNoCode (DoesAt font place) (λ glyph width e. NoStaticGlyph font glyph place (Some width) e) widths e
+
 abbrev pub LacksRoundedCode : Font → Place → (widths : List ℤ) → Error → Type 0
-LacksRoundedCode font place widths e = IsLate e ⊎
-    ((glyph : ℕ) × (width : ℤ) × (slice_get widths glyph ≡ Some width) × NoRoundedGlyph font glyph place (Some width) e)
+LacksRoundedCode font place widths e =
+    IsLate e ⊎ HasNoCode (DoesRoundedAt font place) (λ glyph width e. NoRoundedGlyph font glyph place (Some width) e) widths e
+
+-- There are no widths, or no place, or a glyph has no code there with its width, or what is written is too large or not read back; or memory
+-- is wanting.
+abbrev pub LacksTable : (Font → Place → (widths : List ℤ) → Error → Type 0) → Font → Naming → AdvancesAt → Error → Type 0
+LacksTable lacks font naming advances e = LacksWidths font naming advances e ⊎ LacksPlace font.store e
+    ⊎ ((place : Place) × (widths : List ℤ) × IsPlaceIn font.store advances.coordinates.now place × AreWidthsOf font advances widths
+    × lacks font place widths e)
+
+abbrev pub NoTable : Font → Naming → AdvancesAt → Error → Type 0
+NoTable font naming advances e = LacksTable LacksCode font naming advances e
 
 -- the same of a table in whole units
 abbrev pub NoRoundedTable : Font → Naming → AdvancesAt → Error → Type 0

@@ -1,6 +1,6 @@
 //! Advances of a place (OpenType 1.9, "hmtx - Horizontal Metrics Table", "HVAR - Horizontal Metrics Variations Table").
-ghost use Rattle.std.specs.Prelude.{◌≡◌, suc, pos, ◌+ℤ◌, IfOk, IfErr};
-ghost use Rattle.postscript_instance.specs.Advances.{AreAdvancesAt, IsAdded, IsAdvanceAt, IsOperand, LacksRoom};
+ghost use Rattle.std.specs.Prelude.{◌≡◌, pos, ◌+ℤ◌, IfOk, IfErr};
+ghost use Rattle.postscript_instance.specs.Advances.{AreAdvancesAt, HasNoOperand, IsAdded, IsAdvanceAt, IsOperand, LacksRoom};
 
 use crate::error::{Error, Result};
 use postscript_sfnt::Advances;
@@ -45,7 +45,7 @@ impl<'l> AdvancesAt<'l> {
     /// The advance of a glyph as the width of a charstring.
     fn operand(&self, glyph: usize) -> Result<Operand>
         ensures is { IfOk result (λ operand. IsOperand self.now glyph operand) }
-        ensures refused { IfErr result (λ e. LacksRoom self.now (suc glyph) e) }
+        ensures refused { IfErr result (λ e. HasNoOperand self.now glyph e) }
     {
         let Ok(number) = u16::try_from(glyph) else {
             return Err(Error::TooLarge);

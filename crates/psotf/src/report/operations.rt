@@ -5,7 +5,7 @@ use crate::limit::Budget;
 use crate::sheet::Sheet;
 use crate::text::Text;
 use postscript_base::Result;
-use postscript_type2::{Operand, Operator, Told};
+use postscript_type2::{Hints, Operand, Operator, Told};
 use postscript_view::Glyph;
 use std::alloc::Global;
 
@@ -56,27 +56,29 @@ fn put_operands(text: &mut Text, operands: &[Operand]) {
     }
 }
 
-/// Adds how many bytes a mask has, and these.
-fn put_mask(text: &mut Text, mask: &[u8]) {
-    short::put_count(text, mask.len());
-    for byte in mask {
+/// Adds how many operands of stems a mask implies, and these, and how many bytes it has, and these.
+fn put_hints(text: &mut Text, hints: Hints<'_>) {
+    put_operands(text, hints.stems);
+    short::put_count(text, hints.mask.len());
+    for byte in hints.mask {
         short::put(text, i64::from(*byte));
     }
 }
 
-/// Adds the code of an operator, its operands, and the mask behind it, if it has one.
-fn put_operation(text: &mut Text, operator: Operator, operands: &[Operand], mask: &[u8]) {
+/// Adds the code of an operator, its operands, and what a mask says, if it is one.
+fn put_operation(text: &mut Text, operator: Operator, operands: &[Operand], hints: Hints<'_>) {
     short::put(text, code_of(operator));
     put_operands(text, operands);
     if has_mask(operator) {
-        put_mask(text, mask);
+        put_hints(text, hints);
     }
 }
 
-/// What it takes to write so many operands and bytes of a mask, and their operator.
-fn price(operands: usize, mask: usize) -> u64 {
+/// What it takes to write so many operands, those of stems that a mask implies and its bytes, and their operator.
+fn price(operands: usize, hints: Hints<'_>) -> u64 {
     (operands as u64)
-        .saturating_add(mask as u64)
+        .saturating_add(hints.stems.len() as u64)
+        .saturating_add(hints.mask.len() as u64)
         .saturating_add(1)
         .saturating_mul(OPERAND)
 }
@@ -95,8 +97,8 @@ pub fn put(
         let Told::Operation(operator, operands, hints, _) = program.tell_within(&mut left)? else {
             break;
         };
-        budget.spend(price(operands.len(), hints.mask.len()));
-        put_operation(&mut text, operator, operands, hints.mask);
+        budget.spend(price(operands.len(), hints));
+        put_operation(&mut text, operator, operands, hints);
     }
     sheet.put(&text);
     Ok(())

@@ -1,4 +1,5 @@
-use Rattle.std.proofs.Common.{◌≡◌, [], ◌∷◌, ◌++◌, ◌+◌, rules, subst, sym}
+use Rattle.std.proofs.Common.{◌≡◌, [], ◌∷◌, ◌++◌, ◌+◌, inr, rules, subst, sym}
+use Rattle.std.proofs.lemmas.Result.{err_from_is_err_and}
 use Rattle.postscript_instance.specs.Glyphs.{AreCodes, DoesRoundedAt}
 use Rattle.postscript_instance.proofs.Codes.{found, one-code}
 use Rattle.postscript_instance.proofs.tables.rounded_codes_of.Goals as goal
@@ -13,3 +14,17 @@ loop-number-preserved c =
     subst (AreCodes does c.args.widths.now (n + 1)) (sym items)
     (one-code does c.args.widths.now n c.loop-number.codes.items code width c.loop-number.invariant
     (found c.args.widths.now n width c.index-widths-number.is c.loop-number-test.true) c.in_ok-rounded_glyph.ensures.written)
+
+pub returns-in_err-rounded_glyph : goal.returns-in_err-rounded_glyph
+returns-in_err-rounded_glyph c =
+    let error = err_from_is_err_and c.from_residual-in_err-rounded_glyph.result c.from_residual-in_err-rounded_glyph.ensures.1 in
+    let n = c.loop-number.number in
+    let width = c.index-widths-number.result in
+    rw (error.1, error.2) (record { are = tt; refused = inr (record {
+      glyph = n;
+      width = width;
+      is_width = found c.args.widths.now n width c.index-widths-number.is c.loop-number-test.true;
+      before = c.loop-number.codes.items;
+      are_codes = c.loop-number.invariant;
+      refused = c.in_err-rounded_glyph.ensures.refused;
+    }) })

@@ -97,7 +97,7 @@ class Glyph {
   }
   get path() { return this.segments.map((segment) => segment.text).join(""); }
 
-  // The operations of the run: the code of each operator, its operands, and the bytes of its mask.
+  // The operations of the run: the code of each operator, its operands, and those of the stems that a mask implies, and its bytes.
   get operations() {
     const told = numbers(this.row[11]);
     const operations = [];
@@ -105,7 +105,8 @@ class Glyph {
     const list = () => { const from = at + 1, end = from + told[at]; at = end; return told.slice(from, end); };
     while (at < told.length) {
       const code = told[at++];
-      operations.push({ code, operands: list(), mask: MASKS.includes(code) ? list() : [] });
+      const isMask = MASKS.includes(code);
+      operations.push({ code, operands: list(), stems: isMask ? list() : [], mask: isMask ? list() : [] });
     }
     return operations;
   }

@@ -1,6 +1,6 @@
 //! The script of the page: the operators of charstrings, and the walk along a glyph's bytes.
 
-/// It finds calls, implied stems and the operator behind a width, which the block does not tell.
+/// It finds calls and the operator behind a width, which the block does not tell.
 pub const WALK: &str = r##"
 // Operators of charstrings (Technical Note 5177, Appendix A): the name, and what the operands are.
 const FLEX = "two curves that may be drawn flat";
@@ -52,7 +52,7 @@ function numberAt(code, i) {
 }
 
 // Goes along the bytes of a glyph's code and of the subroutines that it calls. What is found is held against the operations that the
-// proved run told: each operator has to be the next one of these, with its operands and its mask. Where one is not, `why` says so, and
+// proved run told: each operator has to be the next one of these, with its operands, stems and mask. Where one is not, `why` says so, and
 // no call or stem is told. Operators that reckon are not followed.
 const MOST = 200000;
 class Walk {
@@ -132,8 +132,10 @@ class Walk {
     const told = this.next(operator);
     if (!told) return i;
     const declared = this.bands.length;
-    this.declare("V", this.stack);
-    const isSame = told.mask.length === Math.ceil(this.bands.length / 8) && told.mask.every((byte, n) => byte === code[i + n]);
+    this.declare("V", told.stems);
+    const stems = this.stack.slice(this.stack.length % 2);
+    const areSame = stems.length === told.stems.length && stems.every((operand, n) => operand === told.stems[n]);
+    const isSame = areSame && told.mask.length === Math.ceil(this.bands.length / 8) && told.mask.every((byte, n) => byte === code[i + n]);
     if (!isSame) { this.fail("its code and the run do not agree"); return i; }
     const named = this.bands.flatMap((_, n) => (told.mask[n >> 3] & (128 >> (n & 7)) ? [n] : []));
     if (operator === 19) this.active = named;
