@@ -5,7 +5,7 @@ use Rattle.postscript_base.specs.Tape.Outcome.{Answers, Got, Outcome, RefusedAs,
 use Rattle.postscript_base.specs.declared.error.Error.{Error}
 use Rattle.postscript_base.specs.declared.error.Error.TheVariants.{Memory}
 
--- a refusal that is one of these is not want of memory
+-- a refusal that is one of these is not that memory ran out
 three : IsOneOf (13 ∷ 14 ∷ 15 ∷ []) 3 → ⊥
 three (inl is) = absurd (omega (arith, is))
 three (inr (inl is)) = absurd (omega (arith, is))

@@ -51,7 +51,7 @@ HasPart bytes font glyph found = (item : List ℕ) × HasDictionary bytes font g
 abbrev pub NoPart : Error → List ℕ → PsfFont → (glyph : ℕ) → Type 0
 NoPart e bytes font glyph = RefusedAs e (index_at font.font_dictionaries bytes 0) ⊎ ((item : List ℕ) × HasDictionary bytes font glyph item × RefusedAs e (item_part item bytes 0))
 
--- What is answered: the part of a glyph, or that it has no font dictionary, or why its part is refused, where memory is not wanting.
+-- What is answered: the part of a glyph, or that it has no font dictionary, or why its part is refused, where memory does not run out.
 abbrev pub IsCidPart : List ℕ → PsfFont → (glyph : ℕ) → Result (Option PsfPart) Error → Type 0
 IsCidPart bytes font glyph (Ok (Some found)) = HasPart bytes font glyph found
 IsCidPart bytes font glyph (Ok None) = LacksDictionary bytes font glyph

@@ -76,7 +76,7 @@ pub data IsUsedUp (limit : ℕ) (bytes : List ℕ) (program : Pending) : Type 0 
   by_itself : (rest : List Said) → Spends limit program.trace 0 rest → IsUsedUp limit bytes program
   by_components : (font : FontView) (left : ℕ) → IsFirst bytes font → Spends limit program.trace left [] → SpendsOnRuns font 2 left 0 → IsUsedUp limit bytes program
 
--- memory is wanting, also where it is for the segments, or the limit is used up
+-- memory runs out, also where it is for the segments, or the limit is used up
 abbrev pub IsWantingIn : (limit : ℕ) (bytes : List ℕ) → Pending → Error → Type 0
 IsWantingIn limit bytes program TooLong = IsUsedUp limit bytes program
 IsWantingIn limit bytes program e = IsWanting 0 e

@@ -18,7 +18,7 @@ IsSetOf bytes view set = IsCharSetOf set bytes view.tables.dictionary (length vi
 abbrev pub LacksSet : List ℕ → View → (status : ℤ) → Type 0
 LacksSet bytes view status = (e : Error) × (status ≡ pos (code e)) × ((set : CharSetView) → IsSetOf bytes view set → ⊥)
 
--- no font is opened in the bytes: the status is the error's, and want of memory may be one
+-- no font is opened in the bytes: the status is the error's, which may be that memory runs out
 abbrev pub LacksFont : List ℕ → (status : ℤ) → Type 0
 LacksFont bytes status = (e : Error) × (status ≡ pos (code e)) × (e ≢ Memory → RefusedAs e (view bytes 0))
 

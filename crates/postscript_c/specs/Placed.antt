@@ -67,7 +67,7 @@ abbrev pub axes_in : Option Axes → ℕ
 axes_in None = 0
 axes_in (Some axes) = axis_count axes
 
--- Why a place is not named: a table is refused, there are more values than axes, or memory is wanting.
+-- Why a place is not named: a table is refused, there are more values than axes, or memory runs out.
 abbrev pub IsUnplaced : FontFile → (values : List ℤ) → Unplaced → Type 0
 IsUnplaced file values (BadAxes e) = HasBadAxes file e
 IsUnplaced file values (BadMaps e) = HasBadMaps file e

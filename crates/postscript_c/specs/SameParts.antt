@@ -75,7 +75,7 @@ pub record NamesNoStart (view : FontView) : Type 0 where
 abbrev pub IsNoneIn : FontView → (glyph : ℕ) → Type 0
 IsNoneIn view glyph = (fd : ℕ) → HasPartNumber view glyph fd → ⊥
 
--- What each status tells of a glyph that C has no part of: there is no such glyph, it has no part, or memory is wanting.
+-- What each status tells of a glyph that C has no part of: there is no such glyph, it has no part, or memory runs out.
 abbrev pub IsToldNone : PsfFont → FontView → (glyph : ℕ) (status : ℤ) → Type 0
 IsToldNone font view glyph status =
     ((status ≡ pos 31) × (font.glyphs ≤ glyph))

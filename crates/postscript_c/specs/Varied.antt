@@ -75,7 +75,7 @@ HasNoFont file (NoData number) = ⊥
 HasNoFont file FarPlace = ⊥
 HasNoFont file (Undrawn e) = ⊥
 
--- why a store has no place: memory is wanting, item variation data do not stand, or all scalars cost more than the limit
+-- why a store has no place: memory runs out, item variation data do not stand, or all scalars cost more than the limit
 abbrev pub HasNoPlaceIn : (limit : ℕ) → stores.Store → Unvaried → Type 0
 HasNoPlaceIn limit store NoTable = ⊥
 HasNoPlaceIn limit store (BadTable e) = ⊥

@@ -12,7 +12,7 @@ pub fn tells_parts()
 
 /// A law: and where the font's dictionaries name nothing at the place 0, where C has nothing, the two are the same. C has a part of each
 /// glyph that `FontView::part_of` answers a number for, of that number, and the program that `FontView::program` answers; and it has no
-/// part of any other glyph: it tells 31 where there is no such glyph, 42 where there is, and 3 where memory is wanting. It does nothing
+/// part of any other glyph: it tells 31 where there is no such glyph, 42 where there is, and 3 where memory runs out. It does nothing
 /// and is never refused.
 pub fn keeps_parts()
     ensures law { KeepsParts }

@@ -82,7 +82,7 @@ abbrev pub Gives : {A : Type 0} → Result A Refusal → Result A Error → Type
 Gives wanted (Ok value) = wanted ≡ Ok value
 Gives wanted (Err e) = wanted ≡ Err (refusal_of e)
 
--- the code draws what is to be drawn, or refuses likewise; want of memory may come in place of either
+-- the code draws what is to be drawn, or refuses likewise; running out of memory may come in place of either
 abbrev pub Draws : (wanted : Result Drawing Refusal) → Result (Unit {0}) Error → (new : Drawing) → Type 0
 Draws wanted (Ok done) new = wanted ≡ Ok new
 Draws wanted (Err e) new = (e ≡ errors.Memory) ⊎ (wanted ≡ Err (refusal_of e))

@@ -27,7 +27,7 @@ pub record DrawsFront {T : Type 0} (after : T → Segment → T) (origin : Point
   pub front : IfOk (outlined_at origin answers UsedUp) (λ segments. IsFront given segments)
   pub taken : new ≡ fold after old given
 
--- Memory is wanting, the sink takes no more, or nothing is left of the limit.
+-- Memory runs out, the sink takes no more, or nothing is left of the limit.
 abbrev pub IsWanting : (left : ℕ) → Error → Type 0
 IsWanting left (Font cause) = cause ≡ causes.Memory
 IsWanting left Full = Unit {0}

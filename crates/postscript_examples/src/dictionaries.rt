@@ -10,7 +10,7 @@ use postscript::{Error, Result, Value};
 use std::alloc::Global;
 use std::io::Cursor;
 
-/// The dictionary that bytes are. It is answered exactly where they are one, want of memory aside.
+/// The dictionary that bytes are. It is answered exactly where they are one, running out of memory aside.
 pub fn dictionary_of(alloc: Global, bytes: &[u8]) -> Result<Operations>
     ensures found { IfOk result (λ map. IsDictionary bytes.now 0 map) }
     ensures only { IfErr result (λ e. e ≢ Error.Memory → (map : Dictionary) → IsDictionary bytes.now 0 map → ⊥) }

@@ -13,7 +13,7 @@ use postscript::{Error, Result, Value};
 use std::alloc::Global;
 use std::io::Cursor;
 
-/// The font at the start of bytes. It is answered exactly where one stands, want of memory aside.
+/// The font at the start of bytes. It is answered exactly where one stands, running out of memory aside.
 pub fn font_of(alloc: Global, bytes: &[u8]) -> Result<FontSet>
     ensures found { IfOk result (λ font. (next : ℕ) × IsFont bytes.now 0 (font_shown font) next) }
     ensures only { IfErr result (λ e. e ≢ Error.Memory → (font : Font) (next : ℕ) → IsFont bytes.now 0 font next → ⊥) }
@@ -22,7 +22,7 @@ pub fn font_of(alloc: Global, bytes: &[u8]) -> Result<FontSet>
     FontSet::read(alloc, &mut tape)
 }
 
-/// The names of the fonts that bytes hold. They are answered exactly where a font stands, want of memory aside.
+/// The names of the fonts that bytes hold. They are answered exactly where a font stands, running out of memory aside.
 pub fn names_of(alloc: Global, bytes: &[u8]) -> Result<Vec<String>>
     ensures names { IfOk result (λ names. (font : Font) × (next : ℕ) × IsFont bytes.now 0 font next × (font.names ≡ map string_bytes names.items)) }
     ensures only { IfErr result (λ e. e ≢ Error.Memory → (font : Font) (next : ℕ) → IsFont bytes.now 0 font next → ⊥) }

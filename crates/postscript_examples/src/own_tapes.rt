@@ -73,7 +73,7 @@ impl ReadSeek for Held {
     }
 }
 
-/// The font at the start of a held file. It is answered exactly where one stands, want of memory aside.
+/// The font at the start of a held file. It is answered exactly where one stands, running out of memory aside.
 pub fn held_font(alloc: Global, bytes: Vec<u8>) -> Result<FontSet>
     ensures found { IfOk result (λ font. (next : ℕ) × IsFont bytes.items 0 (font_shown font) next) }
     ensures only { IfErr result (λ e. e ≢ Error.Memory → (font : Font) (next : ℕ) → IsFont bytes.items 0 font next → ⊥) }

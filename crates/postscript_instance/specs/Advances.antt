@@ -39,7 +39,7 @@ HasNoOperand advances glyph (errors.Advance number) = (number ≡ glyph) × (adv
 HasNoOperand advances glyph errors.TooLarge = 65536 ≤ glyph
 HasNoOperand advances glyph e = ⊥
 
--- One of them has no room, the first that has not; or there are more glyphs than numbers of two bytes; or memory is wanting.
+-- One of them has no room, the first that has not; or there are more glyphs than numbers of two bytes; or memory runs out.
 abbrev pub LacksRoom : AdvancesAt → (count : ℕ) → Error → Type 0
 LacksRoom advances count (errors.Advance glyph) = (glyph < count) × HasNoOperand advances glyph (errors.Advance glyph)
     × ((before : List ℤ) × AreAdvancesAt advances glyph before)

@@ -52,7 +52,7 @@ pub data LeadsOut : Point → List Said → Type 0 where
   later : (p : Point) (x : Said) (xs : List Said) → LeadsOut (behind p (strokes x.operator x.operands)) xs → LeadsOut p (x ∷ xs)
 
 -- The run is refused, a hint operator has too many numbers before it, the first may not have a width before its own, or something leads out
--- of the range; or memory is wanting.
+-- of the range; or memory runs out.
 abbrev pub NotRounded : Charstring → (width : Option ℤ) → Error → Type 0
 NotRounded charstring width errors.TooFar = (says : List Said) × Says charstring says × LeadsOut origin says
 NotRounded charstring width e = NotWritten charstring width e

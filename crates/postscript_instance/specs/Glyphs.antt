@@ -83,7 +83,7 @@ pub record HasNoCode (does : (glyph : ℕ) → (width : ℤ) → (code : List �
   pub are_codes : AreCodes does widths glyph before
   pub refused : none glyph width e
 
--- there is one; or what is written is too large or not read back, or memory is wanting
+-- there is one; or what is written is too large or not read back, or memory runs out
 abbrev pub LacksCode : Font → Place → (widths : List ℤ) → Error → Type 0
 LacksCode font place widths e = IsLate e ⊎ HasNoCode (DoesAt font place) (λ glyph width e. NoStaticGlyph font glyph place (Some width) e) widths e
 
@@ -91,8 +91,8 @@ abbrev pub LacksRoundedCode : Font → Place → (widths : List ℤ) → Error �
 LacksRoundedCode font place widths e =
     IsLate e ⊎ HasNoCode (DoesRoundedAt font place) (λ glyph width e. NoRoundedGlyph font glyph place (Some width) e) widths e
 
--- There are no widths, or no place, or a glyph has no code there with its width, or what is written is too large or not read back; or memory
--- is wanting.
+-- There are no widths, or no place, or a glyph has no code there with its width, or what is written is too large or not read back; or
+-- memory runs out.
 abbrev pub LacksTable : (Font → Place → (widths : List ℤ) → Error → Type 0) → Font → Naming → AdvancesAt → Error → Type 0
 LacksTable lacks font naming advances e = LacksWidths font naming advances e ⊎ LacksPlace font.store e
     ⊎ ((place : Place) × (widths : List ℤ) × IsPlaceIn font.store advances.coordinates.now place × AreWidthsOf font advances widths

@@ -13,7 +13,7 @@ abbrev pub IsPlaceIn : Option Store → (coordinates : List ℤ) → Place → T
 IsPlaceIn None coordinates place = place.tables.items ≡ []
 IsPlaceIn (Some store) coordinates place = AreTables store coordinates (table_count store) place.tables.items
 
--- item variation data of a number do not stand, the first that do not; or memory is wanting
+-- item variation data of a number do not stand, the first that do not; or memory runs out
 abbrev pub LacksPlaceIn : Store → Error → Type 0
 LacksPlaceIn store (errors.NoData number) = LacksData store number
 LacksPlaceIn store (errors.Font e) = e ≡ causes.Memory

@@ -143,7 +143,7 @@ abbrev pub AreNear : Point → List Said → Type 0
 AreNear p [] = Unit {0}
 AreNear p (x ∷ xs) = IsNear p x × AreNear (behind_steps p (steps_of x.operator x.operands)) xs
 
--- memory is wanting, or this is why something leads too far
+-- memory runs out, or this is why something leads too far
 abbrev pub IsFar : (why : Type 0) → Error → Type 0
 IsFar why (errors.Font e) = e ≡ causes.Memory
 IsFar why errors.TooFar = why

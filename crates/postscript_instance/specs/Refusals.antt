@@ -29,8 +29,8 @@ abbrev pub LacksMove : Option ℤ → List Said → Type 0
 LacksMove (Some width) (x ∷ xs) = bears_width x.operator ≡ false
 LacksMove width xs = ⊥
 
--- The run is refused, a hint operator has too many numbers before it, or the first may not have a width before its own; or memory is
--- wanting.
+-- The run is refused, a hint operator has too many numbers before it, or the first may not have a width before its own; or memory
+-- runs out.
 abbrev pub NotWritten : Charstring → (width : Option ℤ) → Error → Type 0
 NotWritten charstring width (errors.Font causes.Memory) = Unit {0}
 NotWritten charstring width (errors.Font e) = StopsWith charstring (refusal_of e)

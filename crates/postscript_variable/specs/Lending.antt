@@ -14,7 +14,7 @@ use Rattle.postscript_variable.specs.Meaning.{answer}
 use Rattle.postscript_variable.specs.Programs.{Pending, ended, failed}
 
 -- The head of what is left is answered, and the tail is left. With no head, None is answered at an end without fault, and the refusal at
--- a fault. Want of memory may come in place of any answer.
+-- a fault. Running out of memory may come in place of any answer.
 abbrev pub Steps : Pending → Result (Option (Operator × Bor (List ℤ))) Error → Pending → Type 0
 Steps old (Ok (Some operation)) new =
     (old.answers ≡ answer operation.0 operation.1.now ∷ new.answers) × (new.end ≡ old.end) × (new.is_told ≡ false)

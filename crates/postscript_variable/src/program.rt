@@ -41,7 +41,7 @@ impl<'l> Program<'l> {
     /// end. Once it has answered None it answers None from then on. It asks for memory only where the stack of operands or of
     /// callers grows. It keeps to no limit: `step_within` does.
     ///
-    /// Refused: with what the run is refused with by the rules (`specs/Meaning.antt`): `UnexpectedEof` where bytes are wanting,
+    /// Refused: with what the run is refused with by the rules (`specs/Meaning.antt`): `UnexpectedEof` where the input ends early,
     /// `UnknownOperator`, `ExpectedInteger` where no whole number is on top that an operator asks for, `ExpectedMoreOperands` where a
     /// `blend` names more than there are, `MalformedOperands`, `InvalidOperand` where a `vsindex` stands behind a `blend` or names no
     /// item variation data, or a `blend` has none, `MissingSubroutine`, `TooDeep`, `Overflow` of the stack or of a blended value,

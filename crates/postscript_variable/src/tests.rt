@@ -97,7 +97,7 @@ fn refusals(rt: HostRuntime) {
         // endchar, return
         (&[0x0e], Error::UnknownOperator),
         (&[0x0b], Error::UnknownOperator),
-        // 100 10 1 blend: a delta is wanting
+        // 100 10 1 blend: a delta is missing
         (&[0xef, 0x95, 0x8c, 0x10], Error::ExpectedMoreOperands),
         // 0 blend 0 vsindex
         (&[0x8b, 0x10, 0x8b, 0x0f], Error::InvalidOperand),

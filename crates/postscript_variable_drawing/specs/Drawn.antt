@@ -17,7 +17,7 @@ origin = point (pos 0) (pos 0)
 abbrev pub IsOutlineOf : (origin : Point) → Pending → List Segment → Type 0
 IsOutlineOf origin pending segments = outlined_at origin pending.answers pending.end ≡ Ok segments
 
--- Why they are not drawn: memory is wanting, the sink takes no more, or nothing is left of the limit; or the run is refused, or a
+-- Why they are not drawn: memory runs out, the sink takes no more, or nothing is left of the limit; or the run is refused, or a
 -- coordinate leaves the range.
 abbrev pub IsRefused : (origin : Point) → Pending → (left : ℕ) → Error → Type 0
 IsRefused origin pending left e = IsWanting left e ⊎ IsUndrawn origin e pending.answers pending.end

@@ -31,7 +31,7 @@ abbrev pub IsPlaceOf : Option (Bor Store) → (coordinates : List ℤ) → Place
 IsPlaceOf None coordinates place = place.tables.items ≡ []
 IsPlaceOf (Some store) coordinates place = AreTables store.now coordinates (table_count store.now) place.tables.items
 
--- item variation data of a number lack, the first that do; or memory is wanting
+-- item variation data of a number lack, the first that do; or memory runs out
 pub record LacksData (store : Store) (number : ℕ) : Type 0 where
   pub there : number < table_count store
   pub lacks : HasNoTable store number

@@ -19,7 +19,7 @@ pub(crate) enum Outcome {
     UsedUp,
 }
 
-/// How a run goes that ends with a refusal: it is no answer for want of memory.
+/// How a run goes that ends with a refusal: memory that runs out gives no answer.
 fn refused_by(e: Error) -> Result<Outcome>
     ensures { MatchResult result (λ outcome. (outcome ≡ Outcome.Refused) × (e ≢ errors.Memory)) (λ want. want ≡ errors.Memory) }
 {

@@ -150,7 +150,7 @@ not_opened sources bytes NoGlyphs h = absurd h
 not_opened sources bytes TooLarge h = absurd h
 not_opened sources bytes NotReadBack h = absurd h
 
--- the refusal of a glyph, want of memory aside
+-- the refusal of a glyph, running out of memory aside
 pub run_refused : (font : View) (glyph number : ℕ) (code : List ℕ) (part : Part) (cause : base.Error) (e : Error) → slice_get font.char_strings glyph ≡ Some code → slice_get font.parts number ≡ Some part →
     (cause ≡ causes.Memory) ⊎ (fault_of (run_in font part code).end ≡ Some (refusal_of cause)) →
     (e ≡ Refused causes.Memory) ⊎ ((cause ≢ causes.Memory) × (e ≡ Glyph glyph cause)) → RefusedFor font (Some glyph) number e

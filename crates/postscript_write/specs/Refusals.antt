@@ -1,4 +1,4 @@
--- Why a font is not written. Want of memory, `Refused Memory`, may come in the place of any other answer.
+-- Why a font is not written. Running out of memory, `Refused Memory`, may come in the place of any other answer.
 use Rattle.std.specs.Prelude.{◌≡◌, ◌≢◌, ◌⊎◌, ℕ, ◌<◌, ◌≤◌, List, [], Option, Some, None, length, slice_get, slice_index_or}
 use Rattle.postscript_base.specs.Refusal.{refusal_of}
 use Rattle.postscript_base.specs.Tape.Outcome.{Got, RefusedAs}

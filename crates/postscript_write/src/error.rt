@@ -70,7 +70,7 @@ impl<T: Drop> From<AllocFailed<T>> for Error {
     }
 }
 
-/// The refusal where writing is refused: `TooLarge`, want of memory aside.
+/// The refusal where writing is refused: `TooLarge`, running out of memory aside.
 pub(crate) fn unwritten(fault: Cause) -> Error
     ensures { IsLate result }
 {
@@ -81,7 +81,7 @@ pub(crate) fn unwritten(fault: Cause) -> Error
     }
 }
 
-/// The refusal where a font that was written is refused: `NotReadBack`, want of memory aside.
+/// The refusal where a font that was written is refused: `NotReadBack`, running out of memory aside.
 pub(crate) fn not_back(fault: Cause) -> Error
     ensures { IsLate result }
 {

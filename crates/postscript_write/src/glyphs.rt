@@ -49,7 +49,7 @@ pub(crate) fn numbers_of(
     Ok(numbers)
 }
 
-/// The refusal of a glyph, want of memory aside.
+/// The refusal of a glyph, running out of memory aside.
 fn refusal(glyph: usize, cause: Cause) -> Error
     ensures { (result ≡ errors.Refused causes.Memory) ⊎ ((cause ≢ causes.Memory) × (result ≡ errors.Glyph glyph cause)) }
 {

@@ -20,11 +20,14 @@ returns-in_err-glyph c =
     let error = err_from_is_err_and c.from_residual-in_err-glyph.result c.from_residual-in_err-glyph.ensures.1 in
     let n = c.loop-number.number in
     let width = c.index-widths-number.result in
-    rw (error.1, error.2) (record { are = tt; refused = inr (record {
-      glyph = n;
-      width = width;
-      is_width = found c.args.widths.now n width c.index-widths-number.is c.loop-number-test.true;
-      before = c.loop-number.codes.items;
-      are_codes = c.loop-number.invariant;
-      refused = c.in_err-glyph.ensures.refused;
-    }) })
+    rw (error.1, error.2) (record {
+      are = tt;
+      refused = inr (record {
+        glyph = n;
+        width = width;
+        is_width = found c.args.widths.now n width c.index-widths-number.is c.loop-number-test.true;
+        before = c.loop-number.codes.items;
+        are_codes = c.loop-number.invariant;
+        refused = c.in_err-glyph.ensures.refused;
+      });
+    })
