@@ -30,10 +30,10 @@ faultless (Returned st) width new h = absurd h
 faultless (Fault e) width new h = absurd h
 
 -- the operation that was told is the first answer, with the hints that were told
-pub head-is : (old new : Pending) {limit left : ℕ} {answer : Result Told Error} {op : Operator} {operands : Bor (List ℤ)} {hints : told.Hints} {phrase : Bor (List ℕ)} →
+pub head-is : (old new : Pending) (limit left : ℕ) {answer : Result Told Error} {op : Operator} {operands : Bor (List ℤ)} {hints : told.Hints} {phrase : Bor (List ℕ)} →
     answer ≡ Ok (tells.Operation op operands hints phrase) → StepsWithin old limit (within_of answer) new left → TellsHintsOf old answer →
     old.answers ≡ record { operator = op; operands = operands.now; hints = record { stems = hints.stems.now; mask = hints.mask.now }; width = new.width } ∷ new.answers
-head-is old new {limit} {left} {answer} {op} {operands} {hints} is steps hinted =
+head-is old new limit left {answer} {op} {operands} {hints} is steps hinted =
     let step = subst (λ (r : Result Told Error). StepsWithin old limit (within_of r) new left) is steps in
     let has = subst (TellsHintsOf old) is hinted in
     let same = sym step.0.0.1 ∙ has.2 in

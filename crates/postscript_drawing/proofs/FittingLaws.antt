@@ -31,13 +31,13 @@ fits-last op stack m is =
     let size : length (last_of stack m) ≡ m = length-drop (length stack - m) stack ∙ omega (arith, fits.0) in
     subst (λ n. taken op n ≡ Some n) (sym size) fits.1
 
-fits-clearing : (op : Operator) (st : State) (stems : ℕ) (o : Option ℕ) (t : List ℤ) (s m : ℕ) (w : Option ℤ) → taken op (length st.stack) ≡ o → clearing st stems o ≡ Clears t s w m → Fits op t
-fits-clearing op st stems (Some n) t s m w is e = let z : last_of st.stack n ≡ t = cc in subst (Fits op) z (fits-last op st.stack n is)
-fits-clearing op st stems None t s m w is e = cc
+fits-clearing : (op : Operator) (st : State) (stems : ℕ) (o : Option ℕ) (t u : List ℤ) (s m : ℕ) (w : Option ℤ) → taken op (length st.stack) ≡ o → clearing st stems o ≡ Clears t u s w m → Fits op t
+fits-clearing op st stems (Some n) t u s m w is e = let z : last_of st.stack n ≡ t = cc in subst (Fits op) z (fits-last op st.stack n is)
+fits-clearing op st stems None t u s m w is e = cc
 
-fits-mask : (op : Operator) (st : State) (stems : ℕ) (o : Option ℕ) (t : List ℤ) (s m : ℕ) (w : Option ℤ) → taken op (length st.stack) ≡ o → mask_clearing st stems o ≡ Clears t s w m → Fits op t
-fits-mask op st stems (Some n) t s m w is e = let z : last_of st.stack n ≡ t = cc in subst (Fits op) z (fits-last op st.stack n is)
-fits-mask op st stems None t s m w is e = cc
+fits-mask : (op : Operator) (st : State) (stems : ℕ) (o : Option ℕ) (t u : List ℤ) (s m : ℕ) (w : Option ℤ) → taken op (length st.stack) ≡ o → mask_clearing st stems o ≡ Clears t u s w m → Fits op t
+fits-mask op st stems (Some n) t u s m w is e = let z : last_of st.stack n ≡ t = cc in subst (Fits op) z (fits-last op st.stack n is)
+fits-mask op st stems None t u s m w is e = cc
 
 -- a move that is chosen by a test, and else is a refusal
 chosen : (b : Bool) (e : Refusal) (move other : Move) → (if b then move else Refuses e) ≡ other → ((r : Refusal) → other ≡ Refuses r → ⊥) → move ≡ other
@@ -48,33 +48,33 @@ chosen-not : (b : Bool) (e : Refusal) (move other : Move) → (if b then Refuses
 chosen-not true e move other is not = absurd (not e (sym is))
 chosen-not false e move other is not = is
 
-clears-apart : (t : List ℤ) (s m : ℕ) (w : Option ℤ) (r : Refusal) → Clears t s w m ≡ Refuses r → ⊥
-clears-apart t s m w r e = cc
+clears-apart : (t u : List ℤ) (s m : ℕ) (w : Option ℤ) (r : Refusal) → Clears t u s w m ≡ Refuses r → ⊥
+clears-apart t u s m w r e = cc
 
-no-work : (stored : List ℤ) (r : Result (Unit {0} × List ℤ) Refusal) (t : List ℤ) (s m : ℕ) (w : Option ℤ) → work_move stored r ≡ Clears t s w m → ⊥
-no-work stored (Ok done) t s m w e = cc
-no-work stored (Err r) t s m w e = cc
+no-work : (stored : List ℤ) (r : Result (Unit {0} × List ℤ) Refusal) (t u : List ℤ) (s m : ℕ) (w : Option ℤ) → work_move stored r ≡ Clears t u s w m → ⊥
+no-work stored (Ok done) t u s m w e = cc
+no-work stored (Err r) t u s m w e = cc
 
-no-store : (r : Result (List ℤ × List ℤ) Refusal) (t : List ℤ) (s m : ℕ) (w : Option ℤ) → store_move r ≡ Clears t s w m → ⊥
-no-store (Ok done) t s m w e = cc
-no-store (Err r) t s m w e = cc
+no-store : (r : Result (List ℤ × List ℤ) Refusal) (t u : List ℤ) (s m : ℕ) (w : Option ℤ) → store_move r ≡ Clears t u s w m → ⊥
+no-store (Ok done) t u s m w e = cc
+no-store (Err r) t u s m w e = cc
 
-no-call : (r : Result (List ℕ × List ℤ) Refusal) (t : List ℤ) (s m : ℕ) (w : Option ℤ) → call_move r ≡ Clears t s w m → ⊥
-no-call (Ok done) t s m w e = cc
-no-call (Err r) t s m w e = cc
+no-call : (r : Result (List ℕ × List ℤ) Refusal) (t u : List ℤ) (s m : ℕ) (w : Option ℤ) → call_move r ≡ Clears t u s w m → ⊥
+no-call (Ok done) t u s m w e = cc
+no-call (Err r) t u s m w e = cc
 
 -- what is answered where the stack is cleared
-fits-effect : (k : Kind) (lists : Lists) (op : Operator) (behind : List ℕ) (st : State) (t : List ℤ) (s m : ℕ) (w : Option ℤ) → effect_of k lists op behind st ≡ Clears t s w m → Fits op t
-fits-effect (Draws takes) lists op behind st t s m w e = fits-clearing op st st.stems _ t s m w refl e
-fits-effect (DeclaresStems takes) lists op behind st t s m w e = fits-clearing op st _ _ t s m w refl (chosen _ _ _ _ e (clears-apart t s m w))
-fits-effect (Masks takes) lists op behind st t s m w e =
-    fits-mask op st _ _ t s m w refl (chosen-not _ _ _ _ (chosen _ _ _ _ e (clears-apart t s m w)) (clears-apart t s m w))
-fits-effect (Works work) lists op behind st t s m w e = absurd (no-work _ _ t s m w e)
-fits-effect (Stores work) lists op behind st t s m w e = absurd (no-store _ t s m w e)
-fits-effect (CallsFrom routines) lists op behind st t s m w e = absurd (no-call _ t s m w e)
-fits-effect GoesBack lists op behind st t s m w e = cc
-fits-effect EndsGlyph lists op behind st t s m w e = cc
-fits-effect (IsRefused part) lists op behind st t s m w e = cc
+fits-effect : (k : Kind) (lists : Lists) (op : Operator) (behind : List ℕ) (st : State) (t u : List ℤ) (s m : ℕ) (w : Option ℤ) → effect_of k lists op behind st ≡ Clears t u s w m → Fits op t
+fits-effect (Draws takes) lists op behind st t u s m w e = fits-clearing op st st.stems _ t u s m w refl e
+fits-effect (DeclaresStems takes) lists op behind st t u s m w e = fits-clearing op st _ _ t u s m w refl (chosen _ _ _ _ e (clears-apart t u s m w))
+fits-effect (Masks takes) lists op behind st t u s m w e =
+    fits-mask op st _ _ t u s m w refl (chosen-not _ _ _ _ (chosen _ _ _ _ e (clears-apart t u s m w)) (clears-apart t u s m w))
+fits-effect (Works work) lists op behind st t u s m w e = absurd (no-work _ _ t u s m w e)
+fits-effect (Stores work) lists op behind st t u s m w e = absurd (no-store _ t u s m w e)
+fits-effect (CallsFrom routines) lists op behind st t u s m w e = absurd (no-call _ t u s m w e)
+fits-effect GoesBack lists op behind st t u s m w e = cc
+fits-effect EndsGlyph lists op behind st t u s m w e = cc
+fits-effect (IsRefused part) lists op behind st t u s m w e = cc
 
 fit-append : (xs ys : List Answer) → AllFit xs → AllFit ys → AllFit (xs ++ ys)
 fit-append [] ys h k = k
@@ -85,7 +85,7 @@ fit lists (rules.used_up d st) = tt
 fit lists (rules.unread d rest st e some none) = tt
 fit lists (rules.refused d p behind ns op st e moves) = tt
 fit lists (rules.keeps d p behind ns op st stack stored xs ts end moves later) = fit lists later
-fit lists (rules.clears d p q behind ns op st t s w xs ts end moves later) = (fits-effect (kind op) lists op (q ++ behind) (pushed ns st) t s (length q) w moves.does, fit lists later)
+fit lists (rules.clears d p q behind ns op st t u s w xs ts end moves later) = (fits-effect (kind op) lists op (q ++ behind) (pushed ns st) t u s (length q) w moves.does, fit lists later)
 fit lists (rules.calls_too_deep d p behind ns op st sub stack moves deep) = tt
 fit lists (rules.calls d p behind ns op st sub stack inner inner_trace back xs ts end moves room means later) = fit-append inner xs (fit lists means) (fit lists later)
 fit lists (rules.calls_to_stop d p behind ns op st sub stack inner inner_trace end moves room means stops) = fit lists means

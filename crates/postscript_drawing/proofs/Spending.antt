@@ -26,10 +26,10 @@ runs-out : {limit left : ℕ} {phrases rest : List Said} → Spends limit phrase
 runs-out {limit} {left} {phrases} {rest} spends none h = let more = lasts limit phrases left rest spends h in omega (arith, more, none)
 
 -- the operation that was told is the first answer
-pub head-is : (old new : Pending) {limit left : ℕ} {answer : Result Within Error} {op : Operator} {operands : Bor (List ℤ)} →
+pub head-is : (old new : Pending) (limit left : ℕ) {answer : Result Within Error} {op : Operator} {operands : Bor (List ℤ)} →
     answer ≡ Ok (Operation op operands) → StepsWithin old limit answer new left →
     (hints : Hints) × (old.answers ≡ record { operator = op; operands = operands.now; hints = hints; width = new.width } ∷ new.answers)
-head-is old new {limit} {left} {answer} {op} {operands} is steps =
+head-is old new limit left {answer} {op} {operands} is steps =
     let step = subst (λ (r : Result Within Error). StepsWithin old limit r new left) is steps in step.0.0
 
 -- what was paid once a step is answered

@@ -23,7 +23,7 @@ loop-operands-preserved c =
     let next = c.tell_within.follows.lender-at-none in
     let told = c.in_ok-operator.was ∙ ap Ok c.in-Operation.is in
     let answer : Answer = record { operator = c.in-Operation.operator; operands = ys; hints = record { stems = ss; mask = ms }; width = next.width } in
-    let left : c.loop-operands.program.answers ≡ answer ∷ next.answers = head-is c.loop-operands.program next told c.tell_within.follows.holds-at-none.0 c.tell_within.ensures.hints in
+    let left : c.loop-operands.program.answers ≡ answer ∷ next.answers = head-is c.loop-operands.program next c.loop-operands.limit c.tell_within.new.limit told c.tell_within.follows.holds-at-none.0 c.tell_within.ensures.hints in
     let last : Last ys ss ms c.code_of.result answer = record { named = c.code_of.ensures; operands = refl; stems = refl; mask = refl } in
     let end : next.end ≡ c.loop-operands.program.end = search rules in
     let pushed : c.push.new.self.items ≡ rows ++ last_row xs ys ss ms c.code_of.result ∷ [] = search rules in

@@ -17,7 +17,7 @@ loop-operator-init g c = record { far = at_first; end = refl; width = refl; spen
 pub loop-operator-preserved : goal.loop-operator-preserved
 loop-operator-preserved g c =
     let rest = c.step_within.follows.lender-at-none in
-    let left = (head-is c.loop-operator.program rest (c.in_ok-operator.was ∙ ap Ok c.in-Operation.is) c.step_within.follows.holds-at-none).1 in
+    let left = (head-is c.loop-operator.program rest c.loop-operator.limit c.step_within.new.limit (c.in_ok-operator.was ∙ ap Ok c.in-Operation.is) c.step_within.follows.holds-at-none).1 in
     record {
       far = so_more (strokes c.in-Operation.operator c.in-Operation.operands.now) (strokes_of rest.answers) (ap strokes_of left) c.loop-operator.invariant.far c.in_ok-draw_path-in-Operation.ensures;
       end = search rules;
@@ -47,7 +47,7 @@ pub returns-in_err-draw_path-in-Operation-clause-why : goal.returns-in_err-draw_
 returns-in_err-draw_path-in-Operation-clause-why g c =
     let program = c.args.program.now in
     let rest = c.step_within.follows.lender-at-none in
-    let left = (head-is c.loop-operator.program rest (c.in_ok-operator.was ∙ ap Ok c.in-Operation.is) c.step_within.follows.holds-at-none).1 in
+    let left = (head-is c.loop-operator.program rest c.loop-operator.limit c.step_within.new.limit (c.in_ok-operator.was ∙ ap Ok c.in-Operation.is) c.step_within.follows.holds-at-none).1 in
     let e = c.in_err-draw_path-in-Operation.field-0.0 in
     let back = c.from_residual-in_err-draw_path-in-Operation in
     if-err back.result (error_of e) _ back.ensures.1
@@ -56,7 +56,7 @@ returns-in_err-draw_path-in-Operation-clause-why g c =
 pub returns-in_err-draw_path-in-Operation-clause-front : goal.returns-in_err-draw_path-in-Operation-clause-front
 returns-in_err-draw_path-in-Operation-clause-front g c =
     let rest = c.step_within.follows.lender-at-none in
-    let left = (head-is c.loop-operator.program rest (c.in_ok-operator.was ∙ ap Ok c.in-Operation.is) c.step_within.follows.holds-at-none).1 in
+    let left = (head-is c.loop-operator.program rest c.loop-operator.limit c.step_within.new.limit (c.in_ok-operator.was ∙ ap Ok c.in-Operation.is) c.step_within.follows.holds-at-none).1 in
     on-err c.from_residual-in_err-draw_path-in-Operation.result
     (front-refused c.args.program.now.answers (so_refused (strokes c.in-Operation.operator c.in-Operation.operands.now) (strokes_of rest.answers) (ap strokes_of left) c.loop-operator.invariant.far c.in_err-draw_path-in-Operation.ensures))
 
