@@ -284,8 +284,7 @@ int32_t psf_glyph_flat(const uint8_t *cff, size_t length, const psf_font *font, 
 /* The operations of a glyph, in the order of its run, to the front of operations[0..room], and the operands of all of them to
  * the front of operands[0..operand_room]. Those of operations[i] are operands[first..first + count]; at hintmask and cntrmask those of
  * the stems that the mask implies are the next ones, as many as stems tells, and then come as many numbers from 0 to 255 as mask
- * tells, the bytes of the mask. So a glyph can be written again. An accented glyph has its own operations alone. Its run keeps to
- * font->limit.
+ * tells, the bytes of the mask. An accented glyph has its own operations alone. Its run keeps to font->limit.
  * On PSF_OK and PSF_NO_ROOM *count and *operand_count tell how many there are of each; on PSF_NO_ROOM one of them is more than
  * its room, and nothing else is written. Also answered: PSF_NO_GLYPH, PSF_NO_PART as by psf_glyph_outline, PSF_TOO_LONG where the
  * limit is used up, and errors from 1 to 30; then nothing is written. */
