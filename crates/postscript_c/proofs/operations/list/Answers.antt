@@ -1,4 +1,4 @@
-use Rattle.std.proofs.lemmas.List.{append-nil}
+use Rattle.std.proofs.lemmas.List.{append-nil, append_assoc}
 use Rattle.std.proofs.lemmas.Result.{err_from_is_err_and}
 use Rattle.std.proofs.Common.{◌≡◌, refl, ap, sym, ◌∙◌, Ok, rules, ◌∷◌, ◌++◌, [], ℕ, ℤ, pos, List, map}
 use Rattle.postscript_c.proofs.Operands.{Last, all_of, last_row, one_more, theirs_too}
@@ -28,7 +28,9 @@ loop-operands-preserved c =
     let end : next.end ≡ c.loop-operands.program.end = search rules in
     let pushed : c.push.new.self.items ≡ rows ++ last_row xs ys ss ms c.code_of.result ∷ [] = search rules in
     let added : c.put_mask.new.all.items ≡ all_of xs ys ss ms =
-    c.in_ok-put_mask-in-Operation.ensures.added ∙ ap (λ zs. zs ++ map pos ms) (c.in_ok-put-stems.ensures.added ∙ ap (λ zs. zs ++ ss) c.in_ok-put.ensures.added) in
+    c.in_ok-put_mask-in-Operation.ensures.added
+    ∙ ap (λ zs. zs ++ map pos ms) (c.in_ok-put-in-Operation-2.ensures.added ∙ ap (λ zs. zs ++ ss) c.in_ok-put-in-Operation.ensures.added)
+    ∙ append_assoc (xs ++ ys) ss (map pos ms) ∙ append_assoc xs ys (ss ++ map pos ms) in
     record {
       same = rw added (rw pushed (one_more xs ys ss ms rows c.code_of.result answer next.answers c.loop-operands.program.answers (map answered c.args.program.now.answers) last left
           c.loop-operands.invariant.theirs c.loop-operands.invariant.same));
