@@ -1,6 +1,7 @@
 -- Operands and hints of operations, one behind another.
 use Rattle.std.proofs.Common.{◌≡◌, refl, sym, ap, ◌∙◌, ℕ, ◌+◌, ◌-◌, ◌≤◌, ℤ, pos, List, [], ◌∷◌, ◌++◌, length, map, take, drop, arith}
-use Rattle.std.proofs.lemmas.List.{append_assoc, append-nil, drop-append-le, drop_at, length-append, length-drop, length-map, map-append, take-append-le, take-append_seam}
+use Rattle.std.proofs.lemmas.List.{append_assoc, append-nil, drop-append-le, drop_at, length-append, length-drop, length-map, map-append, take-append-le}
+use Rattle.std.proofs.Math.Seq.{take-append_seam}
 use Rattle.std.specs.Prelude.{Option, Some}
 use Rattle.postscript_c.specs.Operations.{Row, row_of, slice, answered, held}
 use Rattle.postscript_c.specs.declared.operations.PsfOperation.{PsfOperation}
@@ -39,7 +40,7 @@ rows_more xs ys (row ∷ rows) theirs =
 -- numbers between others
 between : (xs ys zs : List ℤ) (place count : ℕ) → place ≡ length xs → count ≡ length ys → slice place count (xs ++ (ys ++ zs)) ≡ ys
 between xs ys zs place count at long =
-    ap (take count) (drop_at xs (ys ++ zs) place at) ∙ ap (λ n. take n (ys ++ zs)) long ∙ take-append_seam ys zs
+    ap (take count) (drop_at xs (ys ++ zs) place (sym at)) ∙ ap (λ n. take n (ys ++ zs)) long ∙ take-append_seam ys zs
 
 -- the numbers of the last one: its operands, the stems, and the mask
 pub record Last (ys ss : List ℤ) (ms : List ℕ) (code : ℕ) (answer : Answer) : Type 0 where
@@ -70,7 +71,7 @@ held_last xs ys ss ms code answer last =
     let stems : slice second (length ss) all ≡ answer.hints.stems =
     ap (slice second (length ss)) two ∙ between (xs ++ ys) ss (map pos ms) second (length ss) (sym long) refl ∙ last.stems in
     let mask : slice third (length ms) all ≡ map pos answer.hints.mask =
-    ap (slice third (length ms)) three ∙ between ((xs ++ ys) ++ ss) (map pos ms) [] third (length ms) (omega (arith, long, longer)) (sym (length-map pos ms)) ∙ ap (map pos) last.mask in
+    ap (slice third (length ms)) three ∙ between ((xs ++ ys) ++ ss) (map pos ms) [] third (length ms) (omega (arith, long, longer)) (sym (length-map ms pos)) ∙ ap (map pos) last.mask in
     ap (λ op. row_of op (slice (length xs) (length ys) all) (slice second (length ss) all) (slice third (length ms) all)) last.named
     ∙ ap (λ o. row_of (Some answer.operator) o (slice second (length ss) all) (slice third (length ms) all)) own
     ∙ ap (λ o. row_of (Some answer.operator) answer.operands o (slice third (length ms) all)) stems
@@ -90,5 +91,5 @@ one_more xs ys ss ms rows code answer rest answers all last left theirs whole =
 
 pub theirs_too : (xs ys ss : List ℤ) (ms : List ℕ) (rows : List PsfOperation) (code : ℕ) → AllTheirs xs rows → AllTheirs (all_of xs ys ss ms) (rows ++ last_row xs ys ss ms code ∷ [])
 theirs_too xs ys ss ms [] code theirs =
-    (omega (arith, length-append xs (ys ++ (ss ++ map pos ms)), length-append ys (ss ++ map pos ms), length-append ss (map pos ms), length-map pos ms), tt)
+    (omega (arith, length-append xs (ys ++ (ss ++ map pos ms)), length-append ys (ss ++ map pos ms), length-append ss (map pos ms), length-map ms pos), tt)
 theirs_too xs ys ss ms (row ∷ rows) code theirs = (omega (arith, theirs.0, length-append xs (ys ++ (ss ++ map pos ms))), theirs_too xs ys ss ms rows code theirs.1)
