@@ -1,7 +1,7 @@
 //! Whether glyphs keep to the limit, asked before they are written.
 ghost use Rattle.std.specs.Prelude.{◌≡◌};
 
-use crate::failure::{Failure, Refusal};
+use crate::failure::Failure;
 use crate::limit::Budget;
 use postscript_drawing::Accent;
 use postscript_type2::Program;
@@ -65,10 +65,10 @@ pub fn ask(
             budget.refuse(&found);
             Ok(None)
         }
-        Answer::Stopped => Err(Failure::Glyph {
-            gid: u16::try_from(glyph).unwrap_or(u16::MAX),
-            refusal: budget.stop(share),
-        }),
+        Answer::Stopped => {
+            let refusal = budget.stop(share);
+            Err(Failure::glyph(u16::try_from(glyph).unwrap_or(u16::MAX), &refusal))
+        }
     }
 }
 

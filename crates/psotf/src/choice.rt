@@ -1,7 +1,7 @@
 //! Which glyphs of a face are kept, and which of its characters.
 use crate::characters::{Mapped, all_of, by_glyph, glyph_of, missing, of_glyph};
 use crate::face::Face;
-use crate::failure::{Failure, Missing};
+use crate::failure::Failure;
 use clap::ArgMatches;
 use postscript_sfnt_write::Mapping;
 use std::alloc::{AllocError, Global};
@@ -27,7 +27,7 @@ impl Choice {
     /// Adds a character. One without a glyph is refused.
     fn put_char(&mut self, face: &Face<'_>, char: u32) -> Result<(), Failure> {
         match glyph_of(&face.map, char) {
-            0 => Err(Failure::Missing(Missing::Char(char))),
+            0 => Err(Failure::no_char(char)),
             glyph => Ok(self.put_pair(char, glyph)?),
         }
     }
@@ -79,10 +79,10 @@ impl Choice {
     ) -> Result<(), Failure> {
         match range_of(word) {
             Some((Some(first), Some(last))) => Ok(self.put_range(all, first, last)?),
-            Some(_) => Err(Failure::Usage(NOT_IN_HEX)),
+            Some(_) => Err(Failure::usage(NOT_IN_HEX)),
             None => match char_of(word) {
                 Some(char) => self.put_char(face, char),
-                None => Err(Failure::Usage(NOT_IN_HEX)),
+                None => Err(Failure::usage(NOT_IN_HEX)),
             },
         }
     }
@@ -157,7 +157,7 @@ impl Choice {
         };
         choice.put(alloc, face, words)?;
         if choice.glyphs.is_empty() {
-            return Err(Failure::Missing(Missing::Glyphs));
+            return Err(Failure::no_glyphs());
         }
         choice.order()?;
         Ok(choice)
@@ -182,7 +182,7 @@ fn refuse_missing(alloc: Global, face: &Face<'_>, text: &str) -> Result<(), Fail
     if missing.is_empty() {
         Ok(())
     } else {
-        Err(Failure::Missing(Missing::Chars(missing)))
+        Err(Failure::no_chars(missing))
     }
 }
 
@@ -208,7 +208,7 @@ fn gids_of(word: &str, glyphs: usize) -> Result<(u32, u32), Failure> {
 fn gid_of(word: &str, glyphs: usize) -> Result<u32, Failure> {
     match word.parse::<u32>() {
         Ok(gid) if (gid as usize) < glyphs => Ok(gid),
-        Ok(gid) => Err(Failure::Missing(Missing::Gid(gid))),
-        Err(_) => Err(Failure::Usage("--gids: a list of numbers, as 1,7-12")),
+        Ok(gid) => Err(Failure::no_glyph(gid)),
+        Err(_) => Err(Failure::usage("--gids: a list of numbers, as 1,7-12")),
     }
 }

@@ -25,11 +25,11 @@ fn refusal_of(error: Undrawn, glyph: &Glyph<'_, '_>, share: u64, budget: &mut Bu
     match error {
         Undrawn::Font(fault) => {
             budget.refuse(glyph);
-            Refusal::Run(fault)
+            Refusal::run(fault)
         }
         Undrawn::NoSuchGlyph(_) => Refusal::NoPart,
         Undrawn::TooLong => budget.stop(share),
-        error => Refusal::Accent(error),
+        error => Refusal::accent(error),
     }
 }
 

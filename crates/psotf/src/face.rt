@@ -1,7 +1,8 @@
 //! Faces of files.
-use crate::failure::{Failure, Unread};
-use crate::refused::{rule_of, spot_of};
+use crate::failure::Failure;
+use crate::refused::{Spot, spot_of};
 use crate::weight::is_too_much;
+use postscript_base::Error;
 use postscript_sfnt::{Advances, CharacterMap, FontFile, Names, faces, glyphs, units_per_em};
 use postscript_view::{CharSetView, FontView};
 use std::alloc::Global;
@@ -42,7 +43,7 @@ pub fn needed<'l>(
 ) -> Result<&'l [u8], Failure> {
     match file.table(tag) {
         Some(table) => Ok(table),
-        None => Err(Failure::Unread(Unread::NoTable(name))),
+        None => Err(Failure::no_table(name)),
     }
 }
 
@@ -52,23 +53,25 @@ fn advances_of<'l>(file: &FontFile<'l>) -> Result<Advances<'l>, Failure> {
     let hmtx = needed(file, [b'h', b'm', b't', b'x'], "hmtx")?;
     match Advances::read(hhea, hmtx) {
         Some(advances) => Ok(advances),
-        None => Err(Failure::Unread(Unread::Cut("hmtx"))),
+        None => Err(Failure::cut("hmtx")),
     }
 }
 
 /// The font of a table `CFF `; where it is refused, in which part and by which rule.
 fn opened<'l>(alloc: Global, cff: &'l [u8]) -> Result<FontView<'l>, Failure> {
     if is_too_much(alloc, cff) {
-        return Err(Failure::Unread(Unread::Dictionaries));
+        return Err(Failure::dictionaries());
     }
     match FontView::read(alloc, cff) {
         Ok(font) => Ok(font),
-        Err(error) => Err(Failure::Unread(Unread::Cff {
-            spot: spot_of(alloc, cff),
-            rule: rule_of(error.code()),
-            error,
-        })),
+        Err(error) => Err(Failure::of_table(spot_of(alloc, cff), error)),
     }
+}
+
+/// Where and why a table `CFF ` is refused. None where it is not.
+pub fn refusal_of(alloc: Global, cff: &[u8]) -> Option<(Spot, Error)> {
+    let error = FontView::read(alloc, cff).err()?;
+    Some((spot_of(alloc, cff), error))
 }
 
 /// What a file is that holds no face for this program, if it is one of these.
@@ -97,7 +100,7 @@ fn cff_of<'l>(file: &FontFile<'l>) -> Result<&'l [u8], Failure> {
     match needed(file, *b"CFF ", "CFF") {
         Ok(table) => Ok(table),
         Err(failure) => match other_outlines(file) {
-            Some(kind) => Err(Failure::Unread(Unread::OtherKind(kind))),
+            Some(kind) => Err(Failure::other_kind(kind)),
             None => Err(failure),
         },
     }
@@ -109,10 +112,10 @@ impl<'l> Common<'l> {
         let head = needed(file, *b"head", "head")?;
         let maxp = needed(file, *b"maxp", "maxp")?;
         let Some(units) = units_per_em(head) else {
-            return Err(Failure::Unread(Unread::Cut("head")));
+            return Err(Failure::cut("head"));
         };
         let Some(glyphs) = glyphs(maxp) else {
-            return Err(Failure::Unread(Unread::Cut("maxp")));
+            return Err(Failure::cut("maxp"));
         };
         let advances = advances_of(file)?;
         let map = match file.table(*b"cmap") {
@@ -136,7 +139,7 @@ impl<'l> Common<'l> {
 /// The face of this number of a file, whatever outlines it has.
 pub fn file_of(bytes: &[u8], number: u16) -> Result<FontFile<'_>, Failure> {
     if let Some(kind) = other_kind(bytes) {
-        return Err(Failure::Unread(Unread::OtherKind(kind)));
+        return Err(Failure::other_kind(kind));
     }
     Ok(FontFile::read(bytes, usize::from(number))?)
 }

@@ -1,7 +1,7 @@
 //! Fonts without subroutines.
 use crate::asking::ask_all;
 use crate::face::Face;
-use crate::failure::{Failure, Unread};
+use crate::failure::Failure;
 use crate::limit::Budget;
 use crate::saving;
 use clap::ArgMatches;
@@ -63,7 +63,7 @@ fn overlap(tables: &[Table<'_>], size: usize) -> bool {
 fn file_with(alloc: Global, face: &Face<'_>, font: &[u8]) -> Result<Vec<u8>, Failure> {
     let tables = with_font(alloc, &face.file, font)?;
     if overlap(&tables, face.size) {
-        return Err(Failure::Unread(Unread::Overlap));
+        return Err(Failure::overlap());
     }
     Ok(file_of(alloc, &tables)?)
 }

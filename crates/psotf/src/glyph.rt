@@ -2,7 +2,7 @@
 use crate::characters::{Mapped, by_glyph, of_glyph};
 use crate::drawing::{OPERAND, count, draw, width_of};
 use crate::face::Face;
-use crate::failure::{Failure, Missing, Refusal};
+use crate::failure::{Failure, Refusal};
 use crate::limit::Budget;
 use crate::progress::Progress;
 use crate::sheet::Sheet;
@@ -212,18 +212,18 @@ fn asked(face: &Face<'_>, words: &ArgMatches<'_>) -> Result<u16, Failure> {
     if let Some(name) = words.get_str("name") {
         return match face.glyph_of_name(name.as_bytes()) {
             Some(gid) => Ok(u16::try_from(gid).unwrap_or(u16::MAX)),
-            None => Err(Failure::Missing(Missing::Part("glyph of this name"))),
+            None => Err(Failure::no_part("glyph of this name")),
         };
     }
     let mut chars = words.get_str("char").unwrap_or("").chars();
     let (Some(char), None) = (chars.next(), chars.next()) else {
-        return Err(Failure::Usage("--char takes one character"));
+        return Err(Failure::usage("--char takes one character"));
     };
     let Some(map) = &face.map else {
-        return Err(Failure::Missing(Missing::Part("character map")));
+        return Err(Failure::no_part("character map"));
     };
     match map.glyph_of(u32::from(char)) {
-        0 => Err(Failure::Missing(Missing::Part("glyph of this character"))),
+        0 => Err(Failure::no_part("glyph of this character")),
         gid => Ok(gid),
     }
 }
@@ -236,7 +236,7 @@ fn named(face: &Face<'_>, words: &ArgMatches<'_>) -> Result<Range<u16>, Failure>
     }
     let gid = asked(face, words)?;
     if gid >= glyphs {
-        return Err(Failure::Missing(Missing::Glyph(gid)));
+        return Err(Failure::no_glyph(u32::from(gid)));
     }
     Ok(gid..gid.saturating_add(1))
 }
@@ -271,6 +271,6 @@ pub fn write<W: Write>(
     let gids = named(face, words)?;
     match told(rt, face, gids, words.get_flag("json"), budget, out)? {
         0 => Ok(()),
-        refused => Err(Failure::Refused(refused)),
+        refused => Err(Failure::refused(refused)),
     }
 }

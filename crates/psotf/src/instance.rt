@@ -43,10 +43,7 @@ fn unwritten(
         };
         if let Err(error) = written {
             let gid = u16::try_from(i).unwrap_or(u16::MAX);
-            return Some(Failure::Glyph {
-                gid,
-                refusal: Refusal::Unwritten(error),
-            });
+            return Some(Failure::glyph(gid, &Refusal::unwritten(error)));
         }
     }
     None
@@ -65,9 +62,9 @@ fn refusal_of(
             alloc, face, chosen, drawn,
         ) {
             Some(failure) => failure,
-            None => Failure::Static(error),
+            None => Failure::from(error),
         },
-        error => Failure::Static(error),
+        error => Failure::from(error),
     }
 }
 

@@ -14,7 +14,7 @@ mod unread;
 use crate::characters::{Mapped, by_glyph};
 use crate::drawing::{OBJECT, count};
 use crate::face::Face;
-use crate::failure::{Failure, Unread};
+use crate::failure::Failure;
 use crate::hints::hinted;
 use crate::limit::Budget;
 use crate::progress::Progress;
@@ -196,7 +196,7 @@ pub fn write(
     budget: &mut Budget,
 ) -> Result<(), Failure> {
     if lists_too_many(face) {
-        return Err(Failure::Unread(Unread::Dictionaries));
+        return Err(Failure::dictionaries());
     }
     let mut stopped = Stopped::new(rt);
     let mapped = by_glyph(rt.alloc(), &face.map)?;

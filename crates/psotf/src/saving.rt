@@ -22,8 +22,7 @@ pub fn save(rt: &HostRuntime, path: &str, bytes: &[u8]) -> Result<(), Failure> {
         Ok(()) => Ok(()),
         Err(error) => {
             let _ = fs::remove_file(rt, beside.as_str());
-            let path = String::from_str(rt.alloc(), path)?;
-            Err(Failure::Saving { path, error })
+            Err(Failure::saving(rt.alloc(), path, error))
         }
     }
 }

@@ -37,7 +37,7 @@ impl<'r> Stopped<'r> {
     pub fn end(self) -> Result<(), Failure> {
         match self.count {
             0 => Ok(()),
-            count => Err(Failure::Refused(count)),
+            count => Err(Failure::refused(count)),
         }
     }
 }

@@ -2,7 +2,7 @@
 use crate::characters::missing;
 use crate::drawing::{count, draw};
 use crate::face::Face;
-use crate::failure::{Failure, Missing};
+use crate::failure::Failure;
 use crate::limit::Budget;
 use crate::saving;
 use clap::ArgMatches;
@@ -23,11 +23,11 @@ fn put(
     picture: &mut String,
 ) -> Result<(), Failure> {
     if gid >= count(face) {
-        return Err(Failure::Missing(Missing::Glyph(gid)));
+        return Err(Failure::no_glyph(u32::from(gid)));
     }
     let outline = match draw(alloc, face, gid, budget) {
         Ok((_, outline)) => outline,
-        Err(refusal) => return Err(Failure::Glyph { gid, refusal }),
+        Err(refusal) => return Err(Failure::glyph(gid, &refusal)),
     };
     writeln!(
         picture,
@@ -44,7 +44,7 @@ fn paths(
     budget: &mut Budget,
 ) -> Result<(String, u64), Failure> {
     let Some(map) = &face.map else {
-        return Err(Failure::Missing(Missing::Part("character map")));
+        return Err(Failure::no_part("character map"));
     };
     let mut picture = String::new(alloc);
     let mut x = 0u64;
@@ -69,8 +69,8 @@ fn paths_of(
     if !missing.is_empty() {
         match words.get_str("missing") {
             Some("draw") => eprintln!(rt; "psotf: the face has no glyph for:{missing}")?,
-            Some(_) => return Err(Failure::Usage("--missing takes the word draw")),
-            None => return Err(Failure::Missing(Missing::Chars(missing))),
+            Some(_) => return Err(Failure::usage("--missing takes the word draw")),
+            None => return Err(Failure::no_chars(missing)),
         }
     }
     paths(rt.alloc(), face, text, budget)

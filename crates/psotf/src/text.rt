@@ -128,6 +128,6 @@ impl Text {
         if let Some((lines, _)) = self.text.as_str().rsplit_once('\n') {
             writeln!(out, "{lines}")?;
         }
-        Err(Failure::Memory(AllocError))
+        Err(Failure::from(AllocError))
     }
 }

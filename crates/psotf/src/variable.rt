@@ -7,7 +7,7 @@ mod place;
 mod weight;
 
 use crate::face::Common;
-use crate::failure::{Failure, Missing, Unread};
+use crate::failure::Failure;
 use crate::instance;
 use crate::limit::Budget;
 use clap::ArgMatches;
@@ -37,7 +37,7 @@ pub struct VariableFace<'l> {
 pub fn read_as<T>(name: &'static str, read: postscript_variation::Result<T>) -> Result<T, Failure> {
     match read {
         Ok(read) => Ok(read),
-        Err(error) => Err(Failure::Unread(Unread::Variations(name, error))),
+        Err(error) => Err(Failure::variations(name, error)),
     }
 }
 
@@ -71,7 +71,7 @@ impl<'l> VariableFace<'l> {
             advances,
         };
         match heavy_table(&face) {
-            Some(name) => Err(Failure::Unread(Unread::Heavy(name))),
+            Some(name) => Err(Failure::heavy(name)),
             None => Ok(Some(face)),
         }
     }
@@ -80,11 +80,11 @@ impl<'l> VariableFace<'l> {
 /// Refuses an instance, and words that name a place, where the face is of no variable font.
 pub fn refuse(name: &str, words: &ArgMatches<'_>) -> Result<(), Failure> {
     if name == "instance" {
-        return Err(Failure::Missing(Missing::Places));
+        return Err(Failure::no_places());
     }
     for word in ["variations", "instance", "animate"] {
         if words.get_str(word).is_some() {
-            return Err(Failure::Usage(
+            return Err(Failure::usage(
                 "--variations, --instance and --animate want a variable font",
             ));
         }

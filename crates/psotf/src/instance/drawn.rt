@@ -124,12 +124,12 @@ fn frame_of(
     budget.spend_whole(taken);
     if let Err(error) = drawn {
         let refusal = refusal_of(error, face, share, budget);
-        return Err(Failure::Glyph { gid, refusal });
+        return Err(Failure::glyph(gid, &refusal));
     }
     let most = budget.limit / HELD;
     if taken > most {
         let refusal = Refusal::Held(most);
-        return Err(Failure::Glyph { gid, refusal });
+        return Err(Failure::glyph(gid, &refusal));
     }
     if is_rounded {
         for segment in &mut segments {
@@ -164,9 +164,9 @@ fn widths_of(
         Err(Error::Advance(glyph)) => {
             let gid = u16::try_from(glyph).unwrap_or(u16::MAX);
             let refusal = Refusal::Advance(advance_of(face, gid, chosen));
-            Err(Failure::Glyph { gid, refusal })
+            Err(Failure::glyph(gid, &refusal))
         }
-        Err(error) => Err(Failure::Static(error)),
+        Err(error) => Err(Failure::from(error)),
     }
 }
 

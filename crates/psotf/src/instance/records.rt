@@ -1,6 +1,6 @@
 //! The table `name` of one place (ISO/IEC 14496-22, 5.2.7).
 use super::style::Style;
-use crate::failure::{Failure, Missing};
+use crate::failure::Failure;
 use crate::naming::{Kept, MOST, Record, record_at};
 use crate::variable::{VariableFace, name_of, text_of};
 use postscript_items::number::number_within;
@@ -187,7 +187,7 @@ fn table_of(alloc: Global, records: &[Record<'_>]) -> Result<Vec<u8>, Failure> {
     }
     match kept.table(alloc)? {
         Some(table) => Ok(table),
-        None => Err(Failure::Missing(Missing::Part("room for more names in its table name"))),
+        None => Err(Failure::no_part("room for more names in its table name")),
     }
 }
 

@@ -1,21 +1,23 @@
 //! Pages of files whose table `CFF ` is refused.
 use super::pages::Pages;
 use super::{begin, end, head, parts, path_of};
-use crate::failure::{Failure, Unread};
+use crate::face::refusal_of;
+use crate::failure::Failure;
 use crate::readings;
-use crate::refused::Spot;
 use crate::saving::save;
 use crate::sheet::Sheet;
 use clap::ArgMatches;
-use postscript_base::Error;
 use postscript_sfnt::FontFile;
 use std::alloc::{AllocError, Global};
 
 /// Writes what each reading says of a table: the one in place, by which it is refused, and those of the whole font.
-fn put_readings(alloc: Global, sheet: &mut Sheet, cff: &[u8], error: &Error, spot: &Spot) {
+fn put_readings(alloc: Global, sheet: &mut Sheet, cff: &[u8]) {
     sheet.begin_member("readings");
     sheet.key("in_place");
-    readings::put_refusal(sheet, error, spot);
+    match refusal_of(alloc, cff) {
+        Some((spot, error)) => readings::put_refusal(sheet, &error, &spot),
+        None => sheet.fail(),
+    }
     readings::put(alloc, sheet, cff);
     sheet.end_object();
 }
@@ -27,8 +29,6 @@ fn put_head(
     file: &FontFile<'_>,
     size: usize,
     words: &ArgMatches<'_>,
-    error: &Error,
-    spot: &Spot,
 ) {
     let cff = file.table(*b"CFF ").unwrap_or(&[]);
     let path = path_of(words);
@@ -44,7 +44,7 @@ fn put_head(
     sheet.begin_list("parts");
     parts::first(sheet, cff);
     sheet.end_array();
-    put_readings(alloc, sheet, cff, error, spot);
+    put_readings(alloc, sheet, cff);
     sheet.end_object();
 }
 
@@ -66,11 +66,11 @@ pub fn write_refused(
     words: &ArgMatches<'_>,
     failure: &Failure,
 ) -> Result<(), Failure> {
-    let Failure::Unread(Unread::Cff { spot, error, .. }) = failure else {
+    if !failure.is_of_table() {
         return Ok(());
-    };
+    }
     let mut sheet = Sheet::new(rt.alloc());
-    put_head(rt.alloc(), &mut sheet, file, size, words, error, spot);
+    put_head(rt.alloc(), &mut sheet, file, size, words);
     let page = page_of(rt.alloc(), &mut sheet)?;
     save(rt, path_of(words), &page)
 }

@@ -3,7 +3,7 @@ use super::place::Chosen;
 use super::{VariableFace, moving};
 use crate::characters::{Mapped, by_glyph, glyph_of, missing, of_glyph};
 use crate::drawing::SEGMENT;
-use crate::failure::{Failure, Missing, Refusal};
+use crate::failure::{Failure, Refusal};
 use crate::glyph::{chars, shape};
 use crate::limit::Budget;
 use crate::progress::Progress;
@@ -48,11 +48,11 @@ pub fn refusal_of(
     match error {
         Undrawn::Font(fault) => {
             budget.spend_whole(face.font.bytes.len() as u64);
-            Refusal::Run(fault)
+            Refusal::run(fault)
         }
         Undrawn::NoSuchGlyph(_) => Refusal::NoPart,
         Undrawn::TooLong => budget.stop(share),
-        error => Refusal::Accent(error),
+        error => Refusal::accent(error),
     }
 }
 
@@ -148,14 +148,14 @@ fn asked(face: &VariableFace<'_>, words: &ArgMatches<'_>) -> Result<u16, Failure
         return Ok(gid);
     }
     if words.get_str("name").is_some() {
-        return Err(Failure::Missing(Missing::Part("names of glyphs: CFF2 has none")));
+        return Err(Failure::no_part("names of glyphs: CFF2 has none"));
     }
     let mut chars = words.get_str("char").unwrap_or("").chars();
     let (Some(char), None) = (chars.next(), chars.next()) else {
-        return Err(Failure::Usage("--char takes one character"));
+        return Err(Failure::usage("--char takes one character"));
     };
     match glyph_of(&face.common.map, u32::from(char)) {
-        0 => Err(Failure::Missing(Missing::Part("glyph of this character"))),
+        0 => Err(Failure::no_part("glyph of this character")),
         gid => Ok(gid),
     }
 }
@@ -168,7 +168,7 @@ fn named(face: &VariableFace<'_>, words: &ArgMatches<'_>) -> Result<Range<u16>, 
     }
     let gid = asked(face, words)?;
     if gid >= glyphs {
-        return Err(Failure::Missing(Missing::Glyph(gid)));
+        return Err(Failure::no_glyph(u32::from(gid)));
     }
     Ok(gid..gid.saturating_add(1))
 }
@@ -237,7 +237,7 @@ pub fn write<W: Write>(
     };
     match refused {
         0 => Ok(()),
-        refused => Err(Failure::Refused(refused)),
+        refused => Err(Failure::refused(refused)),
     }
 }
 
@@ -252,7 +252,7 @@ fn put(
     picture: &mut Text,
 ) -> Result<i64, Failure> {
     if gid >= count(face) {
-        return Err(Failure::Missing(Missing::Glyph(gid)));
+        return Err(Failure::no_glyph(u32::from(gid)));
     }
     match outline_of(alloc, face, gid, chosen, budget) {
         Ok(outline) => {
@@ -262,7 +262,7 @@ fn put(
             );
             Ok(advance_of(face, gid, chosen))
         }
-        Err(refusal) => Err(Failure::Glyph { gid, refusal }),
+        Err(refusal) => Err(Failure::glyph(gid, &refusal)),
     }
 }
 
@@ -272,7 +272,7 @@ pub fn has_all(alloc: Global, face: &VariableFace<'_>, text: &str) -> Result<(),
     if missing.is_empty() {
         Ok(())
     } else {
-        Err(Failure::Missing(Missing::Chars(missing)))
+        Err(Failure::no_chars(missing))
     }
 }
 

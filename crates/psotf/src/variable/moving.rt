@@ -3,7 +3,7 @@ use super::VariableFace;
 use super::glyphs::{advance_of, count, framed, has_all, outline_of};
 use super::place::{Chosen, axis_named};
 use crate::characters::glyph_of;
-use crate::failure::{Failure, Missing};
+use crate::failure::Failure;
 use crate::limit::Budget;
 use crate::saving;
 use crate::text::Text;
@@ -89,7 +89,7 @@ fn asked(
     }
     let gids = glyphs_of(alloc, face, gid, text)?;
     match beyond(face, &gids) {
-        Some(gid) => Err(Failure::Missing(Missing::Glyph(gid))),
+        Some(gid) => Err(Failure::no_glyph(u32::from(gid))),
         None => Ok(gids),
     }
 }
@@ -120,7 +120,7 @@ fn frame_of(
     for gid in gids {
         match outline_of(alloc, face, *gid, chosen, budget) {
             Ok(outline) => frame.put(alloc, &outline, advance_of(face, *gid, chosen))?,
-            Err(refusal) => return Err(Failure::Glyph { gid: *gid, refusal }),
+            Err(refusal) => return Err(Failure::glyph(*gid, &refusal)),
         }
     }
     Ok(frame)

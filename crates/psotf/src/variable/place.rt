@@ -1,7 +1,7 @@
 //! Places of the design space, as words name them.
 use super::VariableFace;
 use super::fixed::fixed_of;
-use crate::failure::{Failure, Missing, Unread};
+use crate::failure::Failure;
 use clap::ArgMatches;
 use postscript_sfnt::Name;
 use postscript_variable_font::Place;
@@ -19,6 +19,9 @@ pub struct Chosen {
     /// The number of the instance whose name is asked for.
     pub instance: Option<usize>,
 }
+
+/// What is said of a list of settings that is none.
+const NO_SETTINGS: &str = "--variations: a list of tags and numbers, as wght=650,opsz=12";
 
 /// The number of a tag of one to four bytes; spaces fill it.
 fn tag_of(word: &str) -> Option<u32> {
@@ -53,28 +56,27 @@ pub fn axis_named(alloc: Global, face: &VariableFace<'_>, name: &str) -> Result<
             return Ok(axis);
         }
     }
-    Err(Failure::Missing(Missing::Axis(String::from_str(alloc, name)?)))
+    Err(Failure::no_axis(String::from_str(alloc, name)?))
 }
 
 /// The axes of a face.
 fn axes_of<'l>(face: &VariableFace<'l>) -> Result<Axes<'l>, Failure> {
     match face.axes {
         Some(axes) => Ok(axes),
-        None => Err(Failure::Unread(Unread::NoTable("fvar"))),
+        None => Err(Failure::no_table("fvar")),
     }
 }
 
 /// The setting that a word such as wght=650 asks for. A value past the ends of the axis is told on standard error.
 fn setting_of(rt: &HostRuntime, axes: &Axes<'_>, word: &str) -> Result<Setting, Failure> {
-    let usage = Failure::Usage("--variations: a list of tags and numbers, as wght=650,opsz=12");
     let Some((name, number)) = word.split_once('=') else {
-        return Err(usage);
+        return Err(Failure::usage(NO_SETTINGS));
     };
     let (Some(tag), Some(value)) = (tag_of(name), fixed_of(number)) else {
-        return Err(usage);
+        return Err(Failure::usage(NO_SETTINGS));
     };
     let Some(axis) = axis_of(axes, tag) else {
-        return Err(Failure::Missing(Missing::Axis(String::from_str(rt.alloc(), name)?)));
+        return Err(Failure::no_axis(String::from_str(rt.alloc(), name)?));
     };
     if value < axis.minimum || value > axis.maximum {
         eprintln!(rt;
@@ -126,7 +128,7 @@ fn instance_of(
             }
         }
     }
-    Err(Failure::Missing(Missing::Instance(String::from_str(alloc, name)?)))
+    Err(Failure::no_instance(String::from_str(alloc, name)?))
 }
 
 /// The settings of an instance: a value for each axis.
