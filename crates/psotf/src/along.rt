@@ -2,6 +2,7 @@
 use crate::asking::ask;
 use crate::failure::Failure;
 use crate::limit::Budget;
+use crate::telling;
 use postscript_drawing::{Accent, component_of};
 use postscript_view::FontView;
 use std::alloc::{AllocError, Global};
@@ -116,7 +117,10 @@ pub fn asked(
 pub fn tell(rt: &HostRuntime, components: &[Component]) -> Result<(), Failure> {
     for component in components {
         let Component { glyph, of } = *component;
-        eprintln!(rt; "psotf: glyph {glyph} is kept, since glyph {of} is drawn with it")?;
+        telling::tell(
+            rt,
+            format_args!("glyph {glyph} is kept, since glyph {of} is drawn with it"),
+        )?;
     }
     Ok(())
 }

@@ -29,16 +29,12 @@ fn end_of(program: &mut Program<'_>) -> Answer {
 }
 
 /// What the program of a glyph comes to within a share, of which the rest is left.
-fn answer_of(
-    alloc: Global,
-    glyph: &Glyph<'_, '_>,
-    share: &mut u64,
-) -> postscript_base::Result<Answer> {
+fn answer_of(alloc: Global, glyph: &Glyph<'_, '_>, share: &mut u64) -> Result<Answer, Failure> {
     let mut program = glyph.program(alloc);
     match program.fits(share) {
         Ok(true) => Ok(end_of(&mut program)),
         Ok(false) => Ok(Answer::Stopped),
-        Err(error) => Err(error),
+        Err(error) => Err(Failure::from(error)),
     }
 }
 

@@ -68,6 +68,11 @@ fn file_with(alloc: Global, face: &Face<'_>, font: &[u8]) -> Result<Vec<u8>, Fai
     Ok(file_of(alloc, &tables)?)
 }
 
+/// The table `CFF ` of a face, written without subroutines.
+fn font_of(alloc: Global, face: &Face<'_>) -> Result<Vec<u8>, Failure> {
+    Ok(flat_font(alloc, face.cff)?)
+}
+
 /// Writes a file of the face whose char strings call no subroutine, where the run of each glyph keeps to the limit.
 pub fn write<W: Write>(
     rt: &HostRuntime,
@@ -77,7 +82,7 @@ pub fn write<W: Write>(
     out: &mut W,
 ) -> Result<(), Failure> {
     ask_all(rt.alloc(), &face.font, budget)?;
-    let font = flat_font(rt.alloc(), face.cff)?;
+    let font = font_of(rt.alloc(), face)?;
     let file = file_with(rt.alloc(), face, &font)?;
     saving::put(rt, words, &file, out)
 }

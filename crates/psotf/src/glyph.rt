@@ -76,7 +76,7 @@ fn operations(
     sheet: &mut Sheet,
     glyph: &Glyph<'_, '_>,
     budget: &mut Budget,
-) -> postscript_base::Result<()> {
+) -> Result<(), Failure> {
     let mut program = glyph.program(alloc);
     sheet.begin_list("operations");
     for _ in 0..u64::MAX {
@@ -96,7 +96,7 @@ fn drawing(
     face: &Face<'_>,
     gid: u16,
     budget: &mut Budget,
-) -> postscript_base::Result<bool> {
+) -> Result<bool, Failure> {
     match draw(alloc, face, gid, budget) {
         Ok((glyph, outline)) => {
             drawn(sheet, &glyph, &outline);
@@ -118,7 +118,7 @@ fn object(
     mapped: &[Mapped],
     gid: u16,
     budget: &mut Budget,
-) -> postscript_base::Result<bool> {
+) -> Result<bool, Failure> {
     sheet.begin_object();
     sheet.number("gid", u64::from(gid));
     name(sheet, face, gid);

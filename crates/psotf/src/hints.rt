@@ -5,7 +5,7 @@ use crate::failure::{Failure, Refusal};
 use crate::limit::Budget;
 use crate::progress::Progress;
 use crate::stopped::Stopped;
-use postscript_base::{Error, Result};
+use postscript_base::Error;
 use postscript_type2::{Operator, Program, Within};
 use postscript_view::Glyph;
 use std::alloc::Global;
@@ -64,7 +64,7 @@ fn has_hint(
     alloc: Global,
     glyph: &Glyph<'_, '_>,
     budget: &mut Budget,
-) -> Result<std::result::Result<bool, Refusal>> {
+) -> Result<Result<bool, Refusal>, Failure> {
     let share = budget.share();
     let mut left = share;
     let answer = answer_of(alloc, glyph, &mut left);
@@ -77,7 +77,7 @@ fn has_hint(
             Ok(Ok(false))
         }
         Answer::Stopped => Ok(Err(budget.stop(share))),
-        Answer::NoMemory => Err(Error::Memory),
+        Answer::NoMemory => Err(Failure::from(Error::Memory)),
     }
 }
 
@@ -89,7 +89,7 @@ fn sees_hint(
     glyph: &Glyph<'_, '_>,
     budget: &mut Budget,
     stopped: &mut Stopped<'_>,
-) -> std::result::Result<bool, Failure> {
+) -> Result<bool, Failure> {
     match has_hint(alloc, glyph, budget)? {
         Ok(has_hint) => Ok(has_hint),
         Err(refusal) => {
@@ -106,7 +106,7 @@ pub fn hinted(
     face: &Face<'_>,
     budget: &mut Budget,
     stopped: &mut Stopped<'_>,
-) -> std::result::Result<u64, Failure> {
+) -> Result<u64, Failure> {
     let mut hinted = 0u64;
     let mut progress = Progress::new(rt, count(face));
     for gid in 0..count(face) {

@@ -11,8 +11,8 @@ mod values;
 
 use crate::failure::{Failure, Refusal};
 use crate::limit::Budget;
-use crate::saving;
 use crate::variable::{Chosen, VariableFace};
+use crate::{saving, telling};
 use clap::ArgMatches;
 use drawn::{Drawn, advances_at};
 use glyph_names::{Kept, names_of};
@@ -168,7 +168,7 @@ fn made(
 /// Tells what is left out, in a line each: names of glyphs, and tables.
 fn tell(rt: &HostRuntime, face: &VariableFace<'_>, made: &StaticFile) -> Result<(), Failure> {
     if let Some(why) = made.lost {
-        eprintln!(rt; "psotf: names of glyphs left out: {why}")?;
+        telling::tell(rt, format_args!("names of glyphs left out: {why}"))?;
     }
     kept::tell(rt, face, &made.positions)
 }

@@ -1,5 +1,6 @@
 //! What a subset leaves out.
 use crate::failure::Failure;
+use crate::telling;
 use postscript_sfnt::FontFile;
 use std::alloc::{AllocError, Global};
 
@@ -47,6 +48,5 @@ pub fn tell(rt: &HostRuntime, file: &FontFile<'_>) -> Result<(), Failure> {
     } else {
         ""
     };
-    eprintln!(rt; "psotf: tables left out:{tags}{lost}")?;
-    Ok(())
+    telling::tell(rt, format_args!("tables left out:{tags}{lost}"))
 }

@@ -33,6 +33,7 @@ mod specimen;
 mod stopped;
 mod subset;
 mod svg;
+mod telling;
 mod text;
 mod variable;
 mod weight;
@@ -98,7 +99,7 @@ fn answer<W: Write>(
         Some(face) => of_variable(rt, &face, name, words, &mut budget, out),
         None => of_static(rt, bytes.as_slice(), file, name, words, &mut budget, out),
     };
-    out.flush()?;
+    telling::flush(out)?;
     told
 }
 

@@ -1,5 +1,6 @@
 //! Files that are there whole or not at all.
 use crate::failure::Failure;
+use crate::telling;
 use clap::ArgMatches;
 use std::fs::File;
 use std::io::Write;
@@ -36,9 +37,6 @@ pub fn put<W: Write>(
 ) -> Result<(), Failure> {
     match words.get_str("out") {
         Some(path) => save(rt, path, bytes),
-        None => {
-            out.write_all(bytes)?;
-            Ok(())
-        }
+        None => telling::put(out, bytes),
     }
 }

@@ -1,7 +1,7 @@
 //! Lines of JSON.
-use crate::decimal;
 use crate::failure::Failure;
 use crate::text::Text;
+use crate::{decimal, telling};
 use json::Writer;
 use postscript_base::compact1;
 use postscript_outline::{Bounds, Point, Segment};
@@ -345,7 +345,7 @@ impl Sheet {
     pub fn end<W: Write>(&mut self, out: &mut W) -> Result<(), Failure> {
         let mut bytes = self.take()?;
         bytes.push(b'\n')?;
-        out.write_all(&bytes)?;
+        telling::put(out, &bytes)?;
         self.begin_on(bytes);
         Ok(())
     }

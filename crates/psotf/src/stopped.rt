@@ -1,5 +1,6 @@
 //! Glyphs whose runs take longer than the limit.
 use crate::failure::{Failure, Refusal};
+use crate::telling::tell;
 
 /// The glyphs of a command whose runs take longer than the limit: they are told on standard error, and counted.
 #[derive(Drop)]
@@ -26,9 +27,12 @@ impl<'r> Stopped<'r> {
         match refusal {
             Refusal::UsedUp(_) => if !self.is_over {
                 self.is_over = true;
-                eprintln!(self.rt; "psotf: glyph {gid} and those behind it: {refusal}")?;
+                tell(
+                    self.rt,
+                    format_args!("glyph {gid} and those behind it: {refusal}"),
+                )?;
             },
-            _ => eprintln!(self.rt; "psotf: glyph {gid}: {refusal}")?,
+            _ => tell(self.rt, format_args!("glyph {gid}: {refusal}"))?,
         }
         Ok(())
     }

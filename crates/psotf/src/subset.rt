@@ -124,6 +124,21 @@ fn counted(alloc: Global, face: &Face<'_>, glyphs: usize) -> Result<Counts, Fail
     })
 }
 
+/// The glyphs of which a font is made: those that are named, and those that they are drawn with.
+fn kept_of(alloc: Global, face: &Face<'_>, glyphs: &[usize]) -> Result<Vec<usize>, Failure> {
+    Ok(kept_glyphs(alloc, face.cff, glyphs)?)
+}
+
+/// The table `CFF ` of the glyphs that are kept.
+fn font_of(alloc: Global, face: &Face<'_>, glyphs: &[usize]) -> Result<Vec<u8>, Failure> {
+    Ok(subset(alloc, face.cff, glyphs)?)
+}
+
+/// The same with all glyphs, where those that are not kept are empty.
+fn font_keeping(alloc: Global, face: &Face<'_>, glyphs: &[usize]) -> Result<Vec<u8>, Failure> {
+    Ok(subset_keeping(alloc, face.cff, glyphs)?)
+}
+
 /// The tables of the glyphs that are kept with new numbers, in their order.
 fn renumbered(
     alloc: Global,
@@ -131,7 +146,7 @@ fn renumbered(
     choice: &Choice,
     kept: &[usize],
 ) -> Result<Written, Failure> {
-    let font = subset(alloc, face.cff, &choice.glyphs)?;
+    let font = font_of(alloc, face, &choice.glyphs)?;
     let map = cmap(alloc, &numbered(alloc, &choice.pairs, kept)?)?;
     let hmtx = metrics(alloc, face, kept)?;
     let counts = counted(alloc, face, kept.len())?;
@@ -145,7 +160,7 @@ fn renumbered(
 
 /// The tables of all glyphs with their numbers, where those that are not kept are empty.
 fn keeping(alloc: Global, face: &Face<'_>, choice: &Choice) -> Result<Written, Failure> {
-    let font = subset_keeping(alloc, face.cff, &choice.glyphs)?;
+    let font = font_keeping(alloc, face, &choice.glyphs)?;
     let map = cmap(alloc, &choice.pairs)?;
     let glyphs = face.font.char_strings.len();
     let hmtx = all_metrics(alloc, face, glyphs)?;
@@ -222,7 +237,7 @@ fn made_for(
     words: &ArgMatches<'_>,
     choice: &Choice,
 ) -> Result<Written, Failure> {
-    let kept = kept_glyphs(alloc, face.cff, &choice.glyphs)?;
+    let kept = kept_of(alloc, face, &choice.glyphs)?;
     if words.get_flag("retain-gids") {
         keeping(alloc, face, choice)
     } else {

@@ -5,6 +5,7 @@ use crate::face::Face;
 use crate::failure::Failure;
 use crate::limit::Budget;
 use crate::saving;
+use crate::telling::tell;
 use clap::ArgMatches;
 use std::alloc::{AllocError, Global};
 use std::fmt::Display;
@@ -68,7 +69,7 @@ fn paths_of(
     let missing = missing(rt.alloc(), &face.map, text)?;
     if !missing.is_empty() {
         match words.get_str("missing") {
-            Some("draw") => eprintln!(rt; "psotf: the face has no glyph for:{missing}")?,
+            Some("draw") => tell(rt, format_args!("the face has no glyph for:{missing}"))?,
             Some(_) => return Err(Failure::usage("--missing takes the word draw")),
             None => return Err(Failure::no_chars(missing)),
         }

@@ -1,5 +1,6 @@
 //! Texts that are put together.
 use crate::failure::Failure;
+use crate::telling;
 use postscript_sfnt::Name;
 use std::alloc::{AllocError, Global};
 use std::fmt::Display;
@@ -121,12 +122,13 @@ impl Text {
     /// Writes the lines that stand in it, and takes them out. Where memory failed, nothing is written of the line that it failed in.
     pub fn end_in<W: Write>(&mut self, out: &mut W) -> Result<(), Failure> {
         if !self.failed {
-            out.write_all(self.text.as_bytes())?;
+            telling::put(out, self.text.as_bytes())?;
             self.text.clear();
             return Ok(());
         }
         if let Some((lines, _)) = self.text.as_str().rsplit_once('\n') {
-            writeln!(out, "{lines}")?;
+            telling::put(out, lines.as_bytes())?;
+            telling::put(out, b"\n")?;
         }
         Err(Failure::from(AllocError))
     }

@@ -3,6 +3,7 @@ use super::positions::Positions;
 use super::values::word;
 use crate::failure::Failure;
 use crate::leaving::put_tag;
+use crate::telling;
 use crate::variable::VariableFace;
 use postscript_items::number::number_within;
 use postscript_sfnt::FontFile;
@@ -160,6 +161,5 @@ pub fn tell(
         return Ok(());
     }
     let lost = lost(rt.alloc(), &face.file, positions)?;
-    eprintln!(rt; "psotf: tables left out:{tags}{lost}")?;
-    Ok(())
+    telling::tell(rt, format_args!("tables left out:{tags}{lost}"))
 }

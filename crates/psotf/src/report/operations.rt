@@ -1,10 +1,10 @@
 //! Operations, written short (docs/REPORT.md).
 use super::short;
 use crate::drawing::OPERAND;
+use crate::failure::Failure;
 use crate::limit::Budget;
 use crate::sheet::Sheet;
 use crate::text::Text;
-use postscript_base::Result;
 use postscript_type2::{Hints, Operand, Operator, Told};
 use postscript_view::Glyph;
 use std::alloc::Global;
@@ -89,7 +89,7 @@ pub fn put(
     sheet: &mut Sheet,
     glyph: &Glyph<'_, '_>,
     budget: &mut Budget,
-) -> Result<()> {
+) -> Result<(), Failure> {
     let mut program = glyph.program(alloc);
     let mut left = u64::MAX;
     let mut text = Text::new(alloc);

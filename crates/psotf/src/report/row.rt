@@ -3,11 +3,10 @@ use super::{operations, outlines, short};
 use crate::characters::{Mapped, of_glyph};
 use crate::drawing::{draw, width_of};
 use crate::face::Face;
-use crate::failure::Refusal;
+use crate::failure::{Failure, Refusal};
 use crate::limit::Budget;
 use crate::sheet::Sheet;
 use crate::text::Text;
-use postscript_base::Result;
 use postscript_drawing::Accent;
 use postscript_outline::Outline;
 use postscript_type2::{Charstring, Subroutines};
@@ -57,7 +56,7 @@ fn cost_of(
     alloc: Global,
     glyph: &Glyph<'_, '_>,
     budget: &mut Budget,
-) -> Result<(u64, Option<Accent>)> {
+) -> Result<(u64, Option<Accent>), Failure> {
     let share = budget.share();
     let mut left = share;
     let mut program = glyph.program(alloc);
@@ -74,7 +73,7 @@ fn costs(
     sheet: &mut Sheet,
     glyph: &Glyph<'_, '_>,
     budget: &mut Budget,
-) -> Result<Option<Accent>> {
+) -> Result<Option<Accent>, Failure> {
     let (cost, accent) = cost_of(alloc, glyph, budget)?;
     let subroutines = Subroutines::indexes(glyph.global_subroutines, glyph.part.subroutines);
     let code = glyph.code;
@@ -97,7 +96,7 @@ fn drawn(
     glyph: &Glyph<'_, '_>,
     outline: &Outline,
     budget: &mut Budget,
-) -> Result<()> {
+) -> Result<(), Failure> {
     width(alloc, sheet, glyph, outline);
     outlines::put_bounds(alloc, sheet, outline);
     let accent = costs(alloc, sheet, glyph, budget)?;
@@ -118,7 +117,7 @@ pub fn put(
     mapped: &[Mapped],
     gid: u16,
     budget: &mut Budget,
-) -> Result<Option<Refusal>> {
+) -> Result<Option<Refusal>, Failure> {
     sheet.begin_array();
     name(sheet, face, gid);
     chars(sheet, of_glyph(mapped, gid));

@@ -2,6 +2,7 @@
 use super::VariableFace;
 use super::fixed::fixed_of;
 use crate::failure::Failure;
+use crate::telling::tell;
 use clap::ArgMatches;
 use postscript_sfnt::Name;
 use postscript_variable_font::Place;
@@ -79,8 +80,9 @@ fn setting_of(rt: &HostRuntime, axes: &Axes<'_>, word: &str) -> Result<Setting, 
         return Err(Failure::no_axis(String::from_str(rt.alloc(), name)?));
     };
     if value < axis.minimum || value > axis.maximum {
-        eprintln!(rt;
-            "psotf: {number} is past the end of the axis {name}, which is taken instead"
+        tell(
+            rt,
+            format_args!("{number} is past the end of the axis {name}, which is taken instead"),
         )?;
     }
     Ok(Setting { tag, value })
