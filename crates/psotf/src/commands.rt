@@ -198,156 +198,93 @@ const SUBCOMMANDS: &[Subcommand] = &[
     },
 ];
 
-/// An argument, and what it asks for.
-fn plain<'a>(alloc: Global, name: &'a str, help: &'a str) -> Arg<'a> {
-    Arg::new(alloc, name).help(help)
-}
-
-/// The same behind its name.
-fn named<'a>(alloc: Global, name: &'a str, help: &'a str) -> Arg<'a> {
-    plain(alloc, name, help).long(name)
-}
-
-/// The same with a value that is called so.
-fn with_value<'a>(alloc: Global, name: &'a str, value: &'a str, help: &'a str) -> Arg<'a> {
-    named(alloc, name, help).value_name(value)
-}
-
-/// The same with a number.
+/// A word with a number.
 fn number<'a>(alloc: Global, name: &'a str, help: &'a str) -> Arg<'a> {
-    with_value(alloc, name, "N", help).value_parser(value_parser!(u16))
-}
-
-/// The same with a number of units.
-fn units<'a>(alloc: Global, name: &'a str, help: &'a str) -> Arg<'a> {
-    with_value(alloc, name, "N", help).value_parser(value_parser!(u64))
-}
-
-/// The file to write.
-fn out<'a>(alloc: Global, is_required: bool, help: &'a str) -> Arg<'a> {
-    let out = plain(alloc, "out", help).short('o');
-    out.value_name("OUT").required(is_required)
+    Arg::new(alloc, name)
+        .long(name)
+        .value_name("N")
+        .value_parser(value_parser!(u16))
+        .help(help)
 }
 
 /// A word as an argument.
 fn arg<'a>(alloc: Global, word: Word) -> Arg<'a> {
     match word {
-        Word::File(name, help) => plain(alloc, name, help).required(true),
-        Word::Flag(name, help) => named(alloc, name, help).action(ArgAction::SetTrue),
-        Word::Text(name, value, help) => with_value(alloc, name, value, help),
+        Word::File(name, help) => Arg::new(alloc, name).required(true).help(help),
+        Word::Flag(name, help) => Arg::new(alloc, name)
+            .long(name)
+            .action(ArgAction::SetTrue)
+            .help(help),
+        Word::Text(name, value, help) => Arg::new(alloc, name)
+            .long(name)
+            .value_name(value)
+            .help(help),
         Word::Number(name, help) => number(alloc, name, help),
         Word::Given(name, value, help) => number(alloc, name, help).default_value(value),
-        Word::Units(name, help) => units(alloc, name, help),
-        Word::Out(is_required, help) => out(alloc, is_required, help),
+        Word::Units(name, help) => Arg::new(alloc, name)
+            .long(name)
+            .value_name("N")
+            .value_parser(value_parser!(u64))
+            .help(help),
+        Word::Out(is_required, help) => Arg::new(alloc, "out")
+            .short('o')
+            .value_name("OUT")
+            .required(is_required)
+            .help(help),
     }
 }
 
-/// Adds a value to a list; or drops it, where memory is refused. A `match` in the place of a `?` has fewer parts to prove.
-fn put<T: Drop>(list: &mut Vec<T>, value: T) -> Result<(), AllocError> {
-    match list.push(value) {
-        Ok(()) => Ok(()),
-        Err(_) => Err(AllocError),
-    }
-}
-
-/// Adds words as arguments.
-fn put_words<'a>(alloc: Global, args: &mut Vec<Arg<'a>>, words: &[Word]) -> Result<(), AllocError> {
+/// A command with more words.
+fn with_words<'a>(
+    alloc: Global,
+    command: Command<'a>,
+    words: &[Word],
+) -> Result<Command<'a>, AllocError> {
+    let mut command = command;
     for word in words {
-        put(args, arg(alloc, *word))?;
+        command = command.arg(arg(alloc, *word))?;
     }
-    Ok(())
+    Ok(command)
 }
 
-/// Adds a word of a group.
-fn put_in_group<'a>(
+/// A command with words of which one has to be given.
+fn with_one_of<'a>(
     alloc: Global,
-    args: &mut Vec<Arg<'a>>,
-    group: &'a str,
-    word: Word,
-) -> Result<(), AllocError> {
-    let arg = arg(alloc, word).group(group)?;
-    put(args, arg)
-}
-
-/// Adds words of which one has to be given.
-fn put_group<'a>(
-    alloc: Global,
-    args: &mut Vec<Arg<'a>>,
+    command: Command<'a>,
     group: &'a str,
     words: &[Word],
-) -> Result<(), AllocError> {
+) -> Result<Command<'a>, AllocError> {
+    let mut command = command;
     for word in words {
-        put_in_group(alloc, args, group, *word)?;
+        command = command.arg(arg(alloc, *word).group(group)?)?;
     }
-    Ok(())
-}
-
-/// The arguments of a subcommand.
-fn args_of<'a>(alloc: Global, one: &Subcommand) -> Result<Vec<Arg<'a>>, AllocError> {
-    let mut args = Vec::new(alloc);
-    put_words(alloc, &mut args, FACE)?;
-    if one.takes_place {
-        put_words(alloc, &mut args, PLACE)?;
-    }
-    put_group(alloc, &mut args, one.group, one.one_of)?;
-    put_words(alloc, &mut args, one.others)?;
-    Ok(args)
-}
-
-/// A command without words, and what it does.
-fn bare<'a>(alloc: Global, name: &'a str, about: &'a str) -> Command<'a> {
-    Command::new(alloc, name).about(about)
-}
-
-/// A subcommand without its words. One of its group has to be given.
-fn without_words<'a>(alloc: Global, one: &Subcommand) -> Result<Command<'a>, AllocError> {
-    let command = bare(alloc, one.name, one.about);
-    if one.one_of.is_empty() {
-        return Ok(command);
-    }
-    command.group(ArgGroup::new(alloc, one.group).required(true))
+    command.group(ArgGroup::new(alloc, group).required(true))
 }
 
 /// A subcommand as a command.
 fn command_of<'a>(alloc: Global, one: &Subcommand) -> Result<Command<'a>, AllocError> {
-    let args = args_of(alloc, one)?;
-    without_words(alloc, one)?.args(args)
-}
-
-/// Adds a subcommand as a command.
-fn put_command<'a>(
-    alloc: Global,
-    commands: &mut Vec<Command<'a>>,
-    one: &Subcommand,
-) -> Result<(), AllocError> {
-    let command = command_of(alloc, one)?;
-    put(commands, command)
-}
-
-/// The subcommands as commands.
-fn commands<'a>(alloc: Global) -> Result<Vec<Command<'a>>, AllocError> {
-    let mut commands = Vec::new(alloc);
-    for one in SUBCOMMANDS {
-        put_command(alloc, &mut commands, one)?;
+    let plain = Command::new(alloc, one.name).about(one.about);
+    let mut command = with_words(alloc, plain, FACE)?;
+    if one.takes_place {
+        command = with_words(alloc, command, PLACE)?;
     }
-    Ok(commands)
-}
-
-/// The program's command without its subcommands, of which one has to be given.
-fn without_subcommands<'a>(alloc: Global) -> Command<'a> {
-    let command = bare(
-        alloc,
-        "psotf",
-        "Fonts with a table CFF or CFF2 in OpenType files",
-    );
-    let command = command.version("0.2.0").after_help(EXAMPLES);
-    command
-        .subcommand_required(true)
-        .arg_required_else_help(true)
+    if one.one_of.is_empty() {
+        return with_words(alloc, command, one.others);
+    }
+    let command = with_one_of(alloc, command, one.group, one.one_of)?;
+    with_words(alloc, command, one.others)
 }
 
 /// The program's command.
 pub fn psotf<'a>(alloc: Global) -> Result<Command<'a>, AllocError> {
-    let commands = commands(alloc)?;
-    without_subcommands(alloc).subcommands(commands)
+    let mut command = Command::new(alloc, "psotf")
+        .version("0.2.0")
+        .about("Fonts with a table CFF or CFF2 in OpenType files")
+        .after_help(EXAMPLES)
+        .subcommand_required(true)
+        .arg_required_else_help(true);
+    for one in SUBCOMMANDS {
+        command = command.subcommand(command_of(alloc, one)?)?;
+    }
+    Ok(command)
 }
