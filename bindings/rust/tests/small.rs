@@ -255,7 +255,7 @@ fn glyphs_of_a_cid_keyed_font() {
         let paths: Vec<String> = font.outlines().map(|outline| outline.unwrap().svg_path()).collect();
         assert_eq!(paths, ["", "M20 0Z", "M50 0Z", ""]);
         assert_eq!(font.cids().unwrap(), [Some(0), Some(10), Some(11), Some(100)]);
-        let called = Operation { operator: 0x16, operands: vec![20.0] };
+        let called = Operation { operator: 0x16, operands: vec![20.0], stems: vec![], mask: vec![] };
         assert_eq!(font.operations(1).unwrap(), [called]);
     }
 }
