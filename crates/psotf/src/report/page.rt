@@ -7,7 +7,7 @@ pub const BEFORE_STYLE: &str = r##"<!DOCTYPE html>
 <meta charset="utf-8">
 <meta name="viewport" content="width=device-width">
 <meta http-equiv="Content-Security-Policy" content="default-src 'none';
-  script-src 'sha256-7iwfaUa+wnwBa9rCBtN3HKBw7L54CoBinrb7W/D6Bds=';
+  script-src 'sha256-93WWx76JGpGAFWI333G6hiqb5tdEduh9oCTgv4UfrjU=';
   style-src 'sha256-oJgDk5ldYqbIqCPZyrtg/HBgBa7qJQzoz11XxmdOwIQ='; base-uri 'none'; form-action 'none'">
 <title>psotf report</title>
 <style>"##;
