@@ -43,7 +43,7 @@ from fontTools.varLib.varStore import VarStoreInstancer
 
 import building
 
-USES = "postscript_variation postscript_sfnt postscript_base postscript_items anyhow"
+USES = "postscript_variation postscript_sfnt postscript_base anyhow"
 TAGS = ["hasc", "xhgt", "undo", "cpht", "stro"]
 HB_SHAPE = os.environ.get("HB_SHAPE", "hb-shape")
 FEATURES = "--features=" + ",".join(f"-{feature}" for feature in "kern calt ccmp liga locl mark mkmk".split())

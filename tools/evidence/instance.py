@@ -42,7 +42,7 @@ import building
 from variable import NEAR, NO_HINTING, FreeType, drawn_by_fonttools, places_of, shapes_of
 from variable_fonts import files_in, mixed, variable
 
-USES = ("postscript_sfnt postscript_base postscript_items postscript_compact1 postscript_type2 postscript_view postscript_outline"
+USES = ("postscript_sfnt postscript_base postscript_compact1 postscript_type2 postscript_view postscript_outline"
         " postscript_drawing postscript_variation postscript_cff2"
         " postscript_variable postscript_variable_font postscript_instance anyhow")
 STACK = 48

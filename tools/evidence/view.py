@@ -30,7 +30,7 @@ import building
 from font_files import files_of
 from second_view import lines_of
 
-USES = "postscript_view postscript_sfnt postscript_base postscript_items postscript_type2 postscript_compact1 anyhow"
+USES = "postscript_view postscript_sfnt postscript_base postscript_type2 postscript_compact1 anyhow"
 DEFAULT_MATRIX = [Fraction(1, 1000), 0, 0, Fraction(1, 1000), 0, 0]
 BATCH = 100
 

@@ -23,7 +23,6 @@ PAGE = TOP / "docs" / "API.md"
 CRATES = (
     "postscript",
     "postscript_base",
-    "postscript_items",
     "postscript_compact1",
     "postscript_type2",
     "postscript_view",

@@ -31,7 +31,7 @@ sys.path.insert(0, str(pathlib.Path(__file__).resolve().parents[1]))
 import building
 from font_files import write_glyphs
 
-USES = "postscript_drawing postscript_outline postscript_type2 postscript_items postscript_base hex anyhow"
+USES = "postscript_drawing postscript_outline postscript_type2 postscript_base hex anyhow"
 ALONE = 300
 WAYS = ["step", "step_over", "step_within", "next", "next_over", "run", "flat_len", "flatten", "draw_program"]
 ALONE_WAYS = ["step", "step_within", "draw_program"]

@@ -29,8 +29,8 @@ from building import printed
 from font_files import fonts_of
 from fontTools.ttLib import TTFont
 
-USES = "postscript_view postscript_compact1 postscript_base postscript_items anyhow"
-VARIABLE_USES = ("postscript_sfnt postscript_base postscript_items postscript_type2 postscript_variation postscript_cff2 postscript_variable"
+USES = "postscript_view postscript_compact1 postscript_base anyhow"
+VARIABLE_USES = ("postscript_sfnt postscript_base postscript_type2 postscript_variation postscript_cff2 postscript_variable"
                  " postscript_variable_font anyhow")
 SHOWN = ("EBGaramond12-Regular", "FreeSerif", "unifont")
 

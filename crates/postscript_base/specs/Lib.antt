@@ -5,4 +5,5 @@ pub mod Error
 pub mod Numbers
 pub mod Tape
 pub mod Compact1
+pub mod Index
 pub mod Private

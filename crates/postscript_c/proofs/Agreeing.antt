@@ -14,7 +14,7 @@ use Rattle.postscript_c.specs.Places as told
 use Rattle.postscript_c.specs.Places.{Places, codes, placed, places, places_of}
 use Rattle.postscript_compact1.proofs.OperandLaws.{placed_has}
 use Rattle.postscript_compact1.proofs.Outcomes.{got}
-use Rattle.postscript_items.specs.Items.{opened}
+use Rattle.postscript_base.specs.Index.{opened}
 use Rattle.postscript_view.proofs.LayoutLaws.{whole_offset}
 use Rattle.postscript_view.specs.Select.{offset_from, offset_of}
 use Rattle.postscript_view.specs.Order.{View, Tables, aside, char_strings, map_from, header_size, parts, tables, view, view_of}
@@ -134,10 +134,10 @@ offset_named map operator place e =
     let on : p.1 ≡ place = omega (arith, p.4) in
     ap (λ (o : Option Decimal). offset_from (option_and_then to_i32 o)) p.2.1 ∙ ap offset_from p.2.2 ∙ ap (λ (z : ℤ). offset_from (Some z)) (whole_offset p.0 p.1 p.3) ∙ ap (λ (n : ℕ). Some n) on
 
-selection_named : (map : Dictionary) (font : PsfFont) → IsKeyedBy map font → font.is_cid ≢ 0 → font.selection ≢ 0 → offset_of map operators.FDSelect ≡ Some font.selection
+selection_named : (map : Dictionary) (font : PsfFont) → IsKeyedBy map font → font.is_cid ≢ 0 → font.fd_select ≢ 0 → offset_of map operators.FDSelect ≡ Some font.fd_select
 selection_named map font (inl plain) cid there = absurd (cid plain.1)
 selection_named map font (inr keyed) cid there = elim keyed.3 [
-  | inl named ↦ offset_named map operators.FDSelect font.selection named
+  | inl named ↦ offset_named map operators.FDSelect font.fd_select named
   | inr none ↦ absurd (there none.1)
 ]
 

@@ -18,7 +18,7 @@ use Rattle.postscript_type2.specs.Program.Evaluation.{run_of}
 use Rattle.postscript_type2.specs.Program.Limit.{Spends}
 use Rattle.postscript_type2.specs.Program.Programs.{Pending, begun}
 use Rattle.postscript_type2.specs.Program.Routines.{lent}
-use Rattle.postscript_type2.specs.Program.Runs.{Said, taken_by}
+use Rattle.postscript_type2.specs.Program.Runs.{Phrase, taken_by}
 use Rattle.postscript_view.specs.declared.font.FontView.{FontView}
 
 pub fold-append : {T : Type 0} (after : T → Segment → T) (t : T) (xs ys : List Segment) → fold after t (xs ++ ys) ≡ fold after (fold after t xs) ys
@@ -58,7 +58,7 @@ whole-drawn after old middle new bytes program width named limit left behind own
   more.2 ∙ ap (λ t. fold after t more.0) own.taken ∙ sym (fold-append after old own.segments more.0),
 )
 
-own-wanting : (limit : ℕ) (left : ℕ) (bytes : List ℕ) (program : Pending) (e : Error) (rest : List Said) → Spends limit program.trace left rest → IsWanting left e → IsWantingIn limit bytes program e
+own-wanting : (limit : ℕ) (left : ℕ) (bytes : List ℕ) (program : Pending) (e : Error) (rest : List Phrase) → Spends limit program.trace left rest → IsWanting left e → IsWantingIn limit bytes program e
 own-wanting limit left bytes program (Font cause) rest spends want = want
 own-wanting limit left bytes program Full rest spends want = tt
 own-wanting limit left bytes program TooLong rest spends want = by_itself rest (subst (λ n. Spends limit program.trace n rest) want spends)
@@ -68,7 +68,7 @@ own-wanting limit left bytes program NoAccents rest spends want = want
 own-wanting limit left bytes program (MissingComponent code) rest spends want = want
 own-wanting limit left bytes program (NestedAccent code) rest spends want = want
 
-pub by-program : (limit : ℕ) (left : ℕ) (bytes : List ℕ) (program : Pending) (e : Error) → (rest : List Said) × Spends limit program.trace left rest → IsProgramRefused zero_point program left e → IsWholeRefused limit bytes program e
+pub by-program : (limit : ℕ) (left : ℕ) (bytes : List ℕ) (program : Pending) (e : Error) → (rest : List Phrase) × Spends limit program.trace left rest → IsProgramRefused zero_point program left e → IsWholeRefused limit bytes program e
 by-program limit left bytes program e spends (inl want) = wanting (own-wanting limit left bytes program e spends.0 spends.1 want)
 by-program limit left bytes program e spends (inr why) = undrawn why
 

@@ -16,7 +16,7 @@ use Rattle.postscript_compact1.proofs.OperandLaws.{bounds_has, bounds_is, placed
 use Rattle.postscript_compact1.proofs.Outcomes.{got}
 use Rattle.postscript_compact1.specs.FontSet.Layout.{HasFirst, HasPrivate, IsPlace}
 use Rattle.postscript_compact1.specs.Kinds.{map_of}
-use Rattle.postscript_items.proofs.Opening.{opened_is}
+use Rattle.postscript_base.proofs.Opening.{opened_is}
 use Rattle.postscript_view.proofs.Wider.{map_is, slice_is}
 use Rattle.postscript_view.specs.Layout.{HasLocals, IsIndexAt, WithBoth, WithoutPrivate, WithoutSubrs}
 use Rattle.postscript_view.specs.Order.{slice_at}

@@ -16,7 +16,7 @@ use Rattle.postscript_compact1.proofs.Outcomes.{got}
 use Rattle.postscript_drawing.specs.Components.{IsComponent, glyphs_of, standard_identifier}
 use Rattle.postscript_drawing.specs.Drawn.{DrawsAccented, DrawsAt, DrawsComponent, DrawsComponents, DrawsPlain, IsDrawnAs, zero_point}
 use Rattle.postscript_drawing.specs.declared.accent.Accent.{Accent}
-use Rattle.postscript_items.specs.Lent.{items_of}
+use Rattle.postscript_base.specs.Index.Lent.{items_of}
 use Rattle.postscript_outline.specs.declared.point.Point.{Point}
 use Rattle.postscript_outline.specs.declared.segment.Segment.{Segment}
 use Rattle.postscript_type2.proofs.EndingLaws as endings
@@ -35,7 +35,7 @@ use Rattle.postscript_view.specs.Order.{View}
 use Rattle.postscript_view.specs.Select.{IsSelected}
 use Rattle.postscript_view.specs.Value.{part_shown, parts_shown}
 use Rattle.postscript_view.specs.declared.font.FontView.{FontView}
-use Rattle.postscript_view.specs.declared.part.Part.{Part}
+use Rattle.postscript_view.specs.declared.private_dict.PrivateDict.{PrivateDict}
 
 -- ---- two fonts in place that the same bytes begin with
 record Alike (u v : FontView) : Type 0 where
@@ -57,7 +57,7 @@ alike bytes u v f g =
     }
 
 count_alike : (u v : FontView) → Alike u v → length u.parts.items ≡ length v.parts.items
-count_alike u v a = sym (length_shown u.parts.items) ∙ ap (λ (ps : List order.Part). length ps) a.parts ∙ length_shown v.parts.items
+count_alike u v a = sym (length_shown u.parts.items) ∙ ap (λ (ps : List order.PrivateDict). length ps) a.parts ∙ length_shown v.parts.items
 
 glyphs_alike : (u v : FontView) → Alike u v → glyphs_of u ≡ glyphs_of v
 glyphs_alike u v a = ap (λ (codes : List (List ℕ)). length codes) a.codes
@@ -79,15 +79,15 @@ number_alike u v glyph fd a h =
     )
 
 -- a part of one is shown as that of the other in its place
-part_alike : (u v : FontView) (fd : ℕ) (p : Part) → Alike u v → fd < length v.parts.items → slice_get u.parts.items fd ≡ Some p → (q : Part) × (slice_get v.parts.items fd ≡ Some q) × (items_of p.subroutines ≡ items_of q.subroutines)
+part_alike : (u v : FontView) (fd : ℕ) (p : PrivateDict) → Alike u v → fd < length v.parts.items → slice_get u.parts.items fd ≡ Some p → (q : PrivateDict) × (slice_get v.parts.items fd ≡ Some q) × (items_of p.subroutines ≡ items_of q.subroutines)
 part_alike u v fd p a within e =
     let q = there_is v.parts.items fd within in
-    let first = subst (λ (ps : List order.Part). slice_get ps fd ≡ Some (part_shown p)) a.parts (shown_at u.parts.items fd p e) in
+    let first = subst (λ (ps : List order.PrivateDict). slice_get ps fd ≡ Some (part_shown p)) a.parts (shown_at u.parts.items fd p e) in
     let both : Some (part_shown p) ≡ Some (part_shown q.0) = sym first ∙ shown_at v.parts.items fd q.0 q.1 in
     let same : part_shown p ≡ part_shown q.0 = cc in
-    (q.0, q.1, ap (λ (p : order.Part). p.subroutines) same)
+    (q.0, q.1, ap (λ (p : order.PrivateDict). p.subroutines) same)
 
-run_alike : (u v : FontView) (glyph : ℕ) (part : Part) (run : Run) → Alike u v → HasRun u glyph part run → (part : Part) × HasRun v glyph part run
+run_alike : (u v : FontView) (glyph : ℕ) (part : PrivateDict) (run : Run) → Alike u v → HasRun u glyph part run → (part : PrivateDict) × HasRun v glyph part run
 run_alike u v glyph part run a h =
     let has = h.has in
     let number = number_alike u v glyph has.number a has.has_number in
@@ -138,7 +138,7 @@ named_draws bytes v run None own more segments first ends names draws draws_own 
 named_draws bytes v run (Some accent) own more segments first ends names draws draws_own all =
     inr (record { accent = accent; own = own; more = more; accented = names; draws_own = draws_own; draws_more = components_alike draws.0 v accent more (alike bytes draws.0 v draws.1 first) draws.2; all = all })
 
-drawn_in : (limit : ℕ) (bytes : List ℕ) (v : FontView) (glyph : ℕ) (code : List ℕ) (part : Part) (segments : List Segment) (width : Option ℤ) → IsFirst bytes v → HasGlyph v glyph code part → DrawsWhole limit bytes (program_in v code part) segments width
+drawn_in : (limit : ℕ) (bytes : List ℕ) (v : FontView) (glyph : ℕ) (code : List ℕ) (part : PrivateDict) (segments : List Segment) (width : Option ℤ) → IsFirst bytes v → HasGlyph v glyph code part → DrawsWhole limit bytes (program_in v code part) segments width
     → IsDrawnAs v glyph segments width
 drawn_in limit bytes v glyph code part segments width first has d =
     let lists = lent (items_of v.global_subroutines) (items_of part.subroutines) in

@@ -36,9 +36,9 @@ use Rattle.postscript_compact1.proofs.Outcomes.{got}
 use Rattle.postscript_compact1.specs.FontSet.Layout.{HasFirst, IsPlace}
 use Rattle.postscript_compact1.specs.FontSet.Operands.{place_at, type_two}
 use Rattle.postscript_compact1.specs.Kinds.{map_of}
-use Rattle.postscript_items.proofs.Opening.{opened_only}
-use Rattle.postscript_items.specs.Items.{opened}
-use Rattle.postscript_items.specs.Lent.{items_of}
+use Rattle.postscript_base.proofs.Opening.{opened_only}
+use Rattle.postscript_base.specs.Index.{opened}
+use Rattle.postscript_base.specs.Index.Lent.{items_of}
 use Rattle.postscript_type2.specs.Program.Evaluation.{run_of}
 use Rattle.postscript_type2.specs.Program.Programs.{begun}
 use Rattle.postscript_type2.specs.Program.Routines.{lent}
@@ -52,7 +52,7 @@ use Rattle.postscript_view.specs.Order.{View, aside, header_size, map_from, view
 use Rattle.postscript_view.specs.Select.{IsSelected, Selects, offset_from, offset_of}
 use Rattle.postscript_view.specs.Value.{part_shown, parts_shown, view_shown}
 use Rattle.postscript_view.specs.declared.font.FontView.{FontView}
-use Rattle.postscript_view.specs.declared.part.Part.{Part}
+use Rattle.postscript_view.specs.declared.private_dict.PrivateDict.{PrivateDict}
 
 -- ---- the place that an operator names
 small : (x : Decimal) (n : ℕ) → to_i32 x ≡ Some (pos n) → n < 2 ^ 64
@@ -190,23 +190,23 @@ common bytes font v told_of first =
     }
 
 -- ---- the number by FDSelect
-select_in : (bytes : List ℕ) (font : PsfFont) (v : FontView) (glyph fd : ℕ) → Common bytes font v → font.is_cid ≢ 0 → font.selection ≢ 0 → Selects bytes font.selection font.glyphs glyph fd
+select_in : (bytes : List ℕ) (font : PsfFont) (v : FontView) (glyph fd : ℕ) → Common bytes font v → font.is_cid ≢ 0 → font.fd_select ≢ 0 → Selects bytes font.fd_select font.glyphs glyph fd
     → IsSelected v.bytes.now v.dictionary (length (items_of v.char_strings)) glyph fd
 select_in bytes font v glyph fd c cid there selects = (
-  font.selection,
+  font.fd_select,
   c.selection cid there,
-  subst (λ (g : ℕ). Selects v.bytes.now font.selection g glyph fd) c.glyphs (subst (λ (b : List ℕ). Selects b font.selection font.glyphs glyph fd) (sym c.there) selects),
+  subst (λ (g : ℕ). Selects v.bytes.now font.fd_select g glyph fd) c.glyphs (subst (λ (b : List ℕ). Selects b font.fd_select font.glyphs glyph fd) (sym c.there) selects),
 )
 
-selected_place : (map : Dictionary) (font : PsfFont) (place : ℕ) → IsKeyedBy map font → font.is_cid ≢ 0 → HasFirst map operators.FDSelect (pos place) → font.selection ≡ place
+selected_place : (map : Dictionary) (font : PsfFont) (place : ℕ) → IsKeyedBy map font → font.is_cid ≢ 0 → HasFirst map operators.FDSelect (pos place) → font.fd_select ≡ place
 selected_place map font place (inl plain) cid h = absurd (cid plain.1)
-selected_place map font place (inr keyed) cid h = told_place map operators.FDSelect place font.selection h keyed.3
+selected_place map font place (inr keyed) cid h = told_place map operators.FDSelect place font.fd_select h keyed.3
 
 select_told : (bytes : List ℕ) (font : PsfFont) (v : FontView) (glyph fd : ℕ) → Common bytes font v → NamesNoStart v → font.is_cid ≢ 0
-    → IsSelected v.bytes.now v.dictionary (length (items_of v.char_strings)) glyph fd → (font.selection ≢ 0) × Selects bytes font.selection font.glyphs glyph fd
+    → IsSelected v.bytes.now v.dictionary (length (items_of v.char_strings)) glyph fd → (font.fd_select ≢ 0) × Selects bytes font.fd_select font.glyphs glyph fd
 select_told bytes font v glyph fd c start cid s =
     let h = offset_first v.dictionary operators.FDSelect s.0 s.1 in
-    let at : font.selection ≡ s.0 = selected_place v.dictionary font s.0 c.keyed cid h in
+    let at : font.fd_select ≡ s.0 = selected_place v.dictionary font s.0 c.keyed cid h in
     let here = subst (λ (b : List ℕ). Selects b s.0 (length (items_of v.char_strings)) glyph fd) c.there s.2 in
     let all = subst (λ (p : ℕ). Selects bytes p font.glyphs glyph fd) (sym at) (subst (λ (g : ℕ). Selects bytes s.0 g glyph fd) (sym c.glyphs) here) in
     (λ zero. start.selection (subst (λ (n : ℕ). HasFirst v.dictionary operators.FDSelect (pos n)) (sym at ∙ zero) h), all)
@@ -243,7 +243,7 @@ same_items bytes font v k items fd e within =
 
 -- ---- a font that is CID-keyed, and one that is not
 data Cases (bytes : List ℕ) (font : PsfFont) (v : FontView) : Type 0 where
-  OfPlain : (p : order.Part) → font.is_cid ≡ 0 → look v.dictionary operators.ROS ≡ None → IsPart bytes v.dictionary None p → parts_shown v.parts.items ≡ p ∷ [] → Cases bytes font v
+  OfPlain : (p : order.PrivateDict) → font.is_cid ≡ 0 → look v.dictionary operators.ROS ≡ None → IsPart bytes v.dictionary None p → parts_shown v.parts.items ≡ p ∷ [] → Cases bytes font v
   OfKeyed : Keyed bytes font v → Cases bytes font v
 
 some_none : (o : Option (List Decimal)) → IsSome o → o ≡ None → ⊥
@@ -265,16 +265,16 @@ cases bytes font v c (OfFontDictionaries items keyed named are) =
     OfKeyed (record { items = items; is = is; named = named; place = array_place v.dictionary font named.0 c.keyed is named.1; parts = are })
 
 -- ---- lists of parts
-same_length : (bytes : List ℕ) (items : List (List ℕ)) (ps : List order.Part) → ArePartsOf bytes items ps → length items ≡ length ps
+same_length : (bytes : List ℕ) (items : List (List ℕ)) (ps : List order.PrivateDict) → ArePartsOf bytes items ps → length items ≡ length ps
 same_length bytes [] [] h = refl
 same_length bytes (item ∷ items) (p ∷ ps) h = ap (λ (n : ℕ). suc n) (same_length bytes items ps h.3)
 same_length bytes [] (p ∷ ps) h = absurd h
 same_length bytes (item ∷ items) [] h = absurd h
 
-item_of : (bytes : List ℕ) (items : List (List ℕ)) (ps : List order.Part) (fd : ℕ) (p : order.Part) → ArePartsOf bytes items ps → slice_get ps fd ≡ Some p
+item_of : (bytes : List ℕ) (items : List (List ℕ)) (ps : List order.PrivateDict) (fd : ℕ) (p : order.PrivateDict) → ArePartsOf bytes items ps → slice_get ps fd ≡ Some p
     → (item : List ℕ) × (map : Dictionary) × (slice_get items fd ≡ Some item) × IsDictionary item 0 map × IsPart bytes map (Some map) p
 item_of bytes [] [] fd p h e = absurd (cc)
-item_of bytes (item ∷ items) (q ∷ ps) zero p h e = (item, h.0, refl, h.1, subst (λ (p : order.Part). IsPart bytes h.0 (Some h.0) p) (cc) h.2)
+item_of bytes (item ∷ items) (q ∷ ps) zero p h e = (item, h.0, refl, h.1, subst (λ (p : order.PrivateDict). IsPart bytes h.0 (Some h.0) p) (cc) h.2)
 item_of bytes (item ∷ items) (q ∷ ps) (suc fd) p h e = item_of bytes items ps fd p h.3 e
 item_of bytes [] (q ∷ ps) fd p h e = absurd h
 item_of bytes (item ∷ items) [] fd p h e = absurd h
@@ -284,15 +284,15 @@ there_is [] i h = absurd (omega arith)
 there_is (x ∷ xs) zero h = (x, refl)
 there_is (x ∷ xs) (suc i) h = there_is xs i (omega arith)
 
-pub length_shown : (ps : List Part) → length (parts_shown ps) ≡ length ps
+pub length_shown : (ps : List PrivateDict) → length (parts_shown ps) ≡ length ps
 length_shown [] = refl
 length_shown (p ∷ ps) = ap (λ (n : ℕ). suc n) (length_shown ps)
 
 -- ---- a part of a dictionary is the same
-abbrev Same : List ℕ → (start : Type 0) → Part → PsfPart → Type 0
+abbrev Same : List ℕ → (start : Type 0) → PrivateDict → PsfPart → Type 0
 Same bytes start part found = HasSameWidths part found × ((start → ⊥) → HasSameSubroutines bytes part found)
 
-same_of : (bytes : List ℕ) (map : Dictionary) (part : Part) (found : PsfPart) (at next : ℕ) (start : Type 0) → HasLocals bytes map part.dictionary (items_of part.subroutines)
+same_of : (bytes : List ℕ) (map : Dictionary) (part : PrivateDict) (found : PsfPart) (at next : ℕ) (start : Type 0) → HasLocals bytes map part.dictionary (items_of part.subroutines)
     → ((start → ⊥) → NamesSubroutines bytes map part.dictionary 0 → ⊥) → told.part map bytes at ≡ Got found.local_subroutines next → AreWidths bytes map found.default_width found.nominal_width → Same bytes start part found
 same_of bytes map part found at next start locals names reads widths = (record { default = w.0; nominal = w.1 }, subs)
   where
@@ -305,11 +305,11 @@ same_of bytes map part found at next start locals names reads widths = (record {
         let there = (got _ _ _ _ (sym (t.1 at) ∙ reads)).0 in
         subst (λ (p : ℕ). index_at p bytes 0 ≡ Got (items_of part.subroutines) 0) there t.2
 
-pub shown_at : (ps : List Part) (fd : ℕ) (p : Part) → slice_get ps fd ≡ Some p → slice_get (parts_shown ps) fd ≡ Some (part_shown p)
+pub shown_at : (ps : List PrivateDict) (fd : ℕ) (p : PrivateDict) → slice_get ps fd ≡ Some p → slice_get (parts_shown ps) fd ≡ Some (part_shown p)
 shown_at ps fd p e = slice_get-map part_shown ps fd ∙ ap (option_map part_shown) e
 
 -- its subroutines are not to stand at 0
-not_start : (bytes : List ℕ) (v : FontView) (map : Dictionary) (p : Part) → v.bytes.now ≡ bytes → naming v.dictionary p.font_dictionary ≡ map → (NamesSubroutinesOf v p 0 → ⊥) → NamesSubroutines bytes map p.dictionary 0 → ⊥
+not_start : (bytes : List ℕ) (v : FontView) (map : Dictionary) (p : PrivateDict) → v.bytes.now ≡ bytes → naming v.dictionary p.font_dictionary ≡ map → (NamesSubroutinesOf v p 0 → ⊥) → NamesSubroutines bytes map p.dictionary 0 → ⊥
 not_start bytes v map p there is none names =
     none (subst (λ (b : List ℕ). NamesSubroutines b (naming v.dictionary p.font_dictionary) p.dictionary 0) (sym there) (subst (λ (m : Dictionary). NamesSubroutines bytes m p.dictionary 0) (sym is) names))
 
@@ -359,7 +359,7 @@ globals_told bytes font v c =
 codes_there : (bytes : List ℕ) (font : PsfFont) (v : FontView) → Common bytes font v → NamesNoStart v → index_at font.char_strings bytes 0 ≡ Got (items_of v.char_strings) 0
 codes_there bytes font v c start = codes_told bytes font v c (λ zero. start.char_strings (subst (λ (n : ℕ). HasFirst v.dictionary operators.CharStrings (pos n)) zero c.named))
 
-same_program : (bytes : List ℕ) (font : PsfFont) (v : FontView) (glyph : ℕ) (code : List ℕ) (part : Part) (found : PsfPart) → Common bytes font v → NamesNoStart v → slice_get (items_of v.char_strings) glyph ≡ Some code
+same_program : (bytes : List ℕ) (font : PsfFont) (v : FontView) (glyph : ℕ) (code : List ℕ) (part : PrivateDict) (found : PsfPart) → Common bytes font v → NamesNoStart v → slice_get (items_of v.char_strings) glyph ≡ Some code
     → HasSameSubroutines bytes part found → program_at font found glyph bytes 0 ≡ Got (Some (program_in v code part)) 0
 same_program bytes font v glyph code part found c start there local =
     program_is bytes font found glyph (items_of v.char_strings) (items_of v.global_subroutines) (items_of part.subroutines) code (codes_there bytes font v c start) there (globals_told bytes font v c) local
@@ -409,19 +409,19 @@ plain_number bytes font v glyph fd c is single = (there, back)
         let glyphs = c.glyphs in
         record { there = omega arith; number = inl (is, zero_of h) }
 
-plain_same : (bytes : List ℕ) (font : PsfFont) (v : FontView) (glyph : ℕ) (q : order.Part) → Common bytes font v → font.is_cid ≡ 0 → look v.dictionary operators.ROS ≡ None
-    → IsPart bytes v.dictionary None q → parts_shown v.parts.items ≡ q ∷ [] → (fd : ℕ) (p : Part) (found : PsfPart) → fd ≡ 0 → slice_get v.parts.items fd ≡ Some p
+plain_same : (bytes : List ℕ) (font : PsfFont) (v : FontView) (glyph : ℕ) (q : order.PrivateDict) → Common bytes font v → font.is_cid ≡ 0 → look v.dictionary operators.ROS ≡ None
+    → IsPart bytes v.dictionary None q → parts_shown v.parts.items ≡ q ∷ [] → (fd : ℕ) (p : PrivateDict) (found : PsfPart) → fd ≡ 0 → slice_get v.parts.items fd ≡ Some p
     → IsPartIn bytes font glyph found → Same bytes (NamesSubroutinesOf v p 0) p found
 plain_same bytes font v glyph q c is plain part alone fd p found first-one e in_c =
     let at_zero = subst (λ (n : ℕ). slice_get (parts_shown v.parts.items) n ≡ Some (part_shown p)) first-one (shown_at v.parts.items fd p e) in
-    let first : Some q ≡ Some (part_shown p) = subst (λ (ps : List order.Part). slice_get ps 0 ≡ Some (part_shown p)) alone at_zero in
+    let first : Some q ≡ Some (part_shown p) = subst (λ (ps : List order.PrivateDict). slice_get ps 0 ≡ Some (part_shown p)) alone at_zero in
     let same : q ≡ part_shown p = cc in
-    let are = subst (λ (q : order.Part). IsPart bytes v.dictionary None q) same part in
+    let are = subst (λ (q : order.PrivateDict). IsPart bytes v.dictionary None q) same part in
     let named : naming v.dictionary p.font_dictionary ≡ v.dictionary = ap (naming v.dictionary) are.1 in
     let of = same_of bytes v.dictionary p font.part c.at c.next (NamesSubroutinesOf v p 0) are.0 (not_start bytes v v.dictionary p c.there named) (plain_local bytes v.dictionary c.at font.part.local_subroutines c.next plain c.local) (c.widths plain) in
     subst (λ (found : PsfPart). Same bytes (NamesSubroutinesOf v p 0) p found) (sym (in_c.0 is)) of
 
-plain_tells : (bytes : List ℕ) (font : PsfFont) (v : FontView) (glyph : ℕ) (q : order.Part) → Common bytes font v → font.is_cid ≡ 0 → look v.dictionary operators.ROS ≡ None
+plain_tells : (bytes : List ℕ) (font : PsfFont) (v : FontView) (glyph : ℕ) (q : order.PrivateDict) → Common bytes font v → font.is_cid ≡ 0 → look v.dictionary operators.ROS ≡ None
     → IsPart bytes v.dictionary None q → parts_shown v.parts.items ≡ q ∷ [] → length v.parts.items ≡ 1 → TellsPart bytes font v glyph
 plain_tells bytes font v glyph q c is plain part alone single =
     let number = λ (fd : ℕ). plain_number bytes font v glyph fd c is single in
@@ -488,7 +488,7 @@ numbered_in bytes font glyph item cid h =
     record { there = has.there; number = inr (cid, (h.0, h.1, slice_get_within h.0 has.fd item has.listed, has.numbered)) }
 
 -- the font dictionary of a part
-record OfItem (bytes : List ℕ) (items : List (List ℕ)) (fd : ℕ) (p : Part) (none : Type 0) : Type 0 where
+record OfItem (bytes : List ℕ) (items : List (List ℕ)) (fd : ℕ) (p : PrivateDict) (none : Type 0) : Type 0 where
   item : List ℕ
   map : Dictionary
   listed : slice_get items fd ≡ Some item
@@ -496,7 +496,7 @@ record OfItem (bytes : List ℕ) (items : List (List ℕ)) (fd : ℕ) (p : Part)
   locals : HasLocals bytes map p.dictionary (items_of p.subroutines)
   start : none → NamesSubroutines bytes map p.dictionary 0 → ⊥
 
-keyed_item : (bytes : List ℕ) (font : PsfFont) (v : FontView) (fd : ℕ) (p : Part) → v.bytes.now ≡ bytes → (k : Keyed bytes font v) → slice_get v.parts.items fd ≡ Some p → OfItem bytes k.items fd p (NamesSubroutinesOf v p 0 → ⊥)
+keyed_item : (bytes : List ℕ) (font : PsfFont) (v : FontView) (fd : ℕ) (p : PrivateDict) → v.bytes.now ≡ bytes → (k : Keyed bytes font v) → slice_get v.parts.items fd ≡ Some p → OfItem bytes k.items fd p (NamesSubroutinesOf v p 0 → ⊥)
 keyed_item bytes font v fd p there k e =
     let i = item_of bytes k.items (parts_shown v.parts.items) fd (part_shown p) k.parts (shown_at v.parts.items fd p e) in
     let named : naming v.dictionary p.font_dictionary ≡ i.1 = ap (naming v.dictionary) i.4.1 in
@@ -520,7 +520,7 @@ same_item bytes font v glyph fd item other c k h there d =
     let both : Some other ≡ Some item = sym listed ∙ there in
     cc
 
-keyed_same : (bytes : List ℕ) (font : PsfFont) (v : FontView) (glyph fd : ℕ) (p : Part) (found : PsfPart) → Common bytes font v → (k : Keyed bytes font v) → HasPartNumber v glyph fd → slice_get v.parts.items fd ≡ Some p
+keyed_same : (bytes : List ℕ) (font : PsfFont) (v : FontView) (glyph fd : ℕ) (p : PrivateDict) (found : PsfPart) → Common bytes font v → (k : Keyed bytes font v) → HasPartNumber v glyph fd → slice_get v.parts.items fd ≡ Some p
     → IsPartIn bytes font glyph found → Same bytes (NamesSubroutinesOf v p 0) p found
 keyed_same bytes font v glyph fd p found c k h e in_c =
     let i = keyed_item bytes font v fd p c.there k e in
@@ -643,8 +643,8 @@ keyed_all bytes font v glyph c start k tells = record {
 }
 
 -- ---- the laws
-alone_is : (ps : List Part) (q : order.Part) → parts_shown ps ≡ q ∷ [] → length ps ≡ 1
-alone_is ps q alone = sym (length_shown ps) ∙ ap (λ (ps : List order.Part). length ps) alone
+alone_is : (ps : List PrivateDict) (q : order.PrivateDict) → parts_shown ps ≡ q ∷ [] → length ps ≡ 1
+alone_is ps q alone = sym (length_shown ps) ∙ ap (λ (ps : List order.PrivateDict). length ps) alone
 
 tells_by : (bytes : List ℕ) (font : PsfFont) (v : FontView) (glyph : ℕ) → Common bytes font v → Cases bytes font v → TellsPart bytes font v glyph
 tells_by bytes font v glyph c (OfPlain q is plain part alone) = plain_tells bytes font v glyph q c is plain part alone (alone_is v.parts.items q alone)

@@ -23,7 +23,7 @@ one-number : (bytes : List ℕ) (font : PsfFont) (dictionaries glyph a b : ℕ) 
 one-number bytes font dictionaries glyph a b (inl x) (inl y) = x.1 ∙ sym y.1
 one-number bytes font dictionaries glyph a b (inl x) (inr y) = absurd (y.0 x.0)
 one-number bytes font dictionaries glyph a b (inr x) (inl y) = absurd (x.0 y.0)
-one-number bytes font dictionaries glyph a b (inr x) (inr y) = one_selected bytes font.selection font.glyphs glyph a b x.2 y.2
+one-number bytes font dictionaries glyph a b (inr x) (inr y) = one_selected bytes font.fd_select font.glyphs glyph a b x.2 y.2
 
 -- the item of the number that is found is the glyph's, and where there is none, the glyph has none
 pub item-found : (bytes : List ℕ) (font : PsfFont) (items : List (List ℕ)) (glyph fd : ℕ) (found : Option (Bor (List ℕ))) → glyph < font.glyphs → HasNumber bytes font (length items) glyph fd
@@ -40,7 +40,7 @@ no-item bytes font items glyph fd None numbered is = λ item has.
     absurd (cc)
 
 -- of several font dictionaries a glyph has none where FDSelect gives it none
-pub no-number : (bytes : List ℕ) (font : PsfFont) (dictionaries glyph : ℕ) (found : Option ℕ) → (dictionaries ≡ 1 → ⊥) → IfNone found ((fd : ℕ) → Selects bytes font.selection font.glyphs glyph fd → ⊥)
+pub no-number : (bytes : List ℕ) (font : PsfFont) (dictionaries glyph : ℕ) (found : Option ℕ) → (dictionaries ≡ 1 → ⊥) → IfNone found ((fd : ℕ) → Selects bytes font.fd_select font.glyphs glyph fd → ⊥)
     → IfNone found ((fd : ℕ) → HasNumber bytes font dictionaries glyph fd → ⊥)
 no-number bytes font dictionaries glyph (Some fd) several none = tt
 no-number bytes font dictionaries glyph None several none = λ fd has. elim has [

@@ -12,12 +12,12 @@ use Rattle.postscript_type2.specs.declared.program.within.Within.{Within}
 use Rattle.postscript_type2.specs.declared.program.within.Within.TheVariants.{Operation, End, Paused}
 use Rattle.postscript_type2.specs.Program.Limit.{Spends, nothing, one_more}
 use Rattle.postscript_type2.specs.Program.Programs.{Pending, IsLastWidth}
-use Rattle.postscript_type2.specs.Program.Runs.{Said, End as TheEnd, UsedUp, Returned, Finished, Fault, fault_of}
+use Rattle.postscript_type2.specs.Program.Runs.{Phrase, End as TheEnd, UsedUp, Returned, Finished, Fault, fault_of}
 use Rattle.postscript_type2.specs.Program.Told.{within_of, TellsHintsOf}
 use Rattle.postscript_type2.specs.Program.Within.{StepsWithin, Fits}
 
 -- what is left is spent on
-goes-on : (limit : ℕ) (phrases : List Said) (left : ℕ) (rest : List Said) (last : ℕ) (end : List Said) → Spends limit phrases left rest → Spends left rest last end → Spends limit phrases last end
+goes-on : (limit : ℕ) (phrases : List Phrase) (left : ℕ) (rest : List Phrase) (last : ℕ) (end : List Phrase) → Spends limit phrases left rest → Spends left rest last end → Spends limit phrases last end
 goes-on limit phrases left rest last end first nothing = first
 goes-on limit phrases left rest last end first (one_more before said behind spends is_left costs) =
     one_more before said end (goes-on limit phrases left rest before (said ∷ end) first spends) is_left costs
@@ -41,24 +41,24 @@ head-is old new limit left {answer} {op} {operands} {hints} is steps hinted =
     step.0.0.1 ∙ ap (λ h. record { operator = op; operands = operands.now; hints = h; width = new.width } ∷ new.answers) (hint ∙ has.3)
 
 -- what a program has come to, by how its last step was answered
-pub on-operation : {first : ℕ} {phrases : List Said} (old new : Pending) {limit left : ℕ} {answer : Result Within Error} {op : Operator} {operands : Bor (List ℤ)} →
+pub on-operation : {first : ℕ} {phrases : List Phrase} (old new : Pending) {limit left : ℕ} {answer : Result Within Error} {op : Operator} {operands : Bor (List ℤ)} →
     answer ≡ Ok (Operation op operands) → StepsWithin old limit answer new left → Spends first phrases limit old.trace → Spends first phrases left new.trace
 on-operation {first} {phrases} old new {limit} {left} {answer} {op} {operands} is steps paid =
     let step = subst (λ (r : Result Within Error). StepsWithin old limit r new left) is steps in goes-on first phrases limit old.trace left new.trace paid step.1
 
-pub on-end : {first : ℕ} {phrases : List Said} (old new : Pending) {limit left : ℕ} {answer : Result Within Error} →
+pub on-end : {first : ℕ} {phrases : List Phrase} (old new : Pending) {limit left : ℕ} {answer : Result Within Error} →
     answer ≡ Ok End → StepsWithin old limit answer new left → Spends first phrases limit old.trace → (old.answers ≡ []) × (fault_of old.end ≡ None) × Fits phrases first true left
 on-end {first} {phrases} old new {limit} {left} {answer} is steps paid =
     let step = subst (λ (r : Result Within Error). StepsWithin old limit r new left) is steps in
     (step.0.0, faultless old.end old.width new.width step.0.1, ([], goes-on first phrases limit old.trace left [] paid step.1, omega arith))
 
-pub on-pause : {first : ℕ} {phrases : List Said} (old new : Pending) {limit left : ℕ} {answer : Result Within Error} →
+pub on-pause : {first : ℕ} {phrases : List Phrase} (old new : Pending) {limit left : ℕ} {answer : Result Within Error} →
     answer ≡ Ok Paused → StepsWithin old limit answer new left → Spends first phrases limit old.trace → Fits phrases first false left
 on-pause {first} {phrases} old new {limit} {left} {answer} is steps paid =
     let step = subst (λ (r : Result Within Error). StepsWithin old limit r new left) is steps in
     (step.4, (new.trace, goes-on first phrases limit old.trace left new.trace paid step.5))
 
-pub on-refusal : {first : ℕ} {phrases : List Said} (old new : Pending) {limit left : ℕ} {answer : Result Within Error} {e : Error} →
+pub on-refusal : {first : ℕ} {phrases : List Phrase} (old new : Pending) {limit left : ℕ} {answer : Result Within Error} {e : Error} →
     answer ≡ Err e → StepsWithin old limit answer new left → Spends first phrases limit old.trace →
     ((e ≡ Memory) ⊎ (fault_of old.end ≡ Some (refusal_of e))) × ((e ≡ Memory) ⊎ Fits phrases first true left)
 on-refusal {first} {phrases} old new {limit} {left} {answer} {e} is steps paid =

@@ -15,7 +15,7 @@ use Rattle.postscript_view.specs.Select.{Selects}
 -- The number of a glyph's font dictionary: of several that which FDSelect gives the glyph, where there is an FDSelect; a single one is
 -- that of all glyphs.
 abbrev pub HasNumber : List ℕ → PsfFont → (dictionaries glyph fd : ℕ) → Type 0
-HasNumber bytes font dictionaries glyph fd = ((dictionaries ≡ 1) × (fd ≡ 0)) ⊎ ((dictionaries ≢ 1) × (font.selection ≢ 0) × Selects bytes font.selection font.glyphs glyph fd)
+HasNumber bytes font dictionaries glyph fd = ((dictionaries ≡ 1) × (fd ≡ 0)) ⊎ ((dictionaries ≢ 1) × (font.fd_select ≢ 0) × Selects bytes font.fd_select font.glyphs glyph fd)
 
 -- there is such a glyph, and its font dictionary is this item of FDArray
 pub record HasItem (bytes : List ℕ) (font : PsfFont) (items : List (List ℕ)) (glyph : ℕ) (item : List ℕ) : Type 0 where

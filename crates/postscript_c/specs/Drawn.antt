@@ -18,7 +18,7 @@ use Rattle.postscript_outline.specs.declared.segment.Segment.{Segment}
 use Rattle.postscript_drawing.specs.Spending.{PaysComponents, SpendsOnRuns}
 use Rattle.postscript_type2.specs.Program.Limit.{Spends}
 use Rattle.postscript_type2.specs.Program.Programs.{Pending}
-use Rattle.postscript_type2.specs.Program.Runs.{Said, taken_by, width_by}
+use Rattle.postscript_type2.specs.Program.Runs.{Phrase, taken_by, width_by}
 use Rattle.postscript_view.specs.Order.{view}
 use Rattle.postscript_view.specs.Value.{view_shown}
 use Rattle.postscript_view.specs.declared.font.FontView.{FontView}
@@ -73,7 +73,7 @@ pub record DrawsWhole (limit : ℕ) (bytes : List ℕ) (program : Pending) (segm
 
 -- The limit is used up: on phrases at the front of the program, or on all of them and on the runs of two glyphs of the font at most.
 pub data IsUsedUp (limit : ℕ) (bytes : List ℕ) (program : Pending) : Type 0 where
-  by_itself : (rest : List Said) → Spends limit program.trace 0 rest → IsUsedUp limit bytes program
+  by_itself : (rest : List Phrase) → Spends limit program.trace 0 rest → IsUsedUp limit bytes program
   by_components : (font : FontView) (left : ℕ) → IsFirst bytes font → Spends limit program.trace left [] → SpendsOnRuns font 2 left 0 → IsUsedUp limit bytes program
 
 -- memory runs out, also where it is for the segments, or the limit is used up

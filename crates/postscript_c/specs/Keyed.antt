@@ -16,5 +16,5 @@ IsPlaceOrNone map operator place =
 -- A font is CID-keyed where its dictionary has ROS. Then both places are told, and else none.
 abbrev pub IsKeyedBy : Dictionary → PsfFont → Type 0
 IsKeyedBy map font =
-    ((look map operators.ROS ≡ None) × (font.is_cid ≡ 0) × (font.font_dictionaries ≡ 0) × (font.selection ≡ 0))
-    ⊎ ((look map operators.ROS ≢ None) × (font.is_cid ≡ 1) × IsPlaceOrNone map operators.FDArray font.font_dictionaries × IsPlaceOrNone map operators.FDSelect font.selection)
+    ((look map operators.ROS ≡ None) × (font.is_cid ≡ 0) × (font.font_dictionaries ≡ 0) × (font.fd_select ≡ 0))
+    ⊎ ((look map operators.ROS ≢ None) × (font.is_cid ≡ 1) × IsPlaceOrNone map operators.FDArray font.font_dictionaries × IsPlaceOrNone map operators.FDSelect font.fd_select)

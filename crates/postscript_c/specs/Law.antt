@@ -6,7 +6,7 @@ use Rattle.postscript_base.specs.declared.error.Error.{Error}
 use Rattle.postscript_c.specs.FontWidths.{TellsWidths}
 use Rattle.postscript_c.specs.declared.font.PsfFont.{PsfFont}
 use Rattle.postscript_c.specs.Places.{Places, placed, places}
-use Rattle.postscript_items.specs.Items.{opened}
+use Rattle.postscript_base.specs.Index.{opened}
 use Rattle.postscript_view.specs.Order.{View, view}
 use Rattle.postscript_view.specs.Select.{offset_of}
 
@@ -17,7 +17,7 @@ pub record AreOf (bytes : List ℕ) (v : View) (p : Places) : Type 0 where
 
 -- FDSelect of a CID-keyed font stands where the font's dictionary names it, and FontView asks it, unless it is told at the place 0.
 abbrev pub NamesSelection : PsfFont → View → Type 0
-NamesSelection font v = font.is_cid ≢ 0 → font.selection ≢ 0 → offset_of v.tables.dictionary operators.FDSelect ≡ Some font.selection
+NamesSelection font v = font.is_cid ≢ 0 → font.fd_select ≢ 0 → offset_of v.tables.dictionary operators.FDSelect ≡ Some font.fd_select
 
 -- The places and the widths that are read, with the limit of 20,000,000 units, or the refusal; and where the font is opened in place, they are of it.
 pub record IsFontOf (bytes : List ℕ) (answer : Result PsfFont Error) : Type 0 where

@@ -8,7 +8,7 @@ use Rattle.postscript_base.specs.Tape.Outcome.{Reading, pure, position, â—Œ>>=â—
 use Rattle.postscript_c.specs.declared.font.PsfFont.{PsfFont}
 use Rattle.postscript_compact1.specs.FontSet.Operands.{place_at, type_two, bounds}
 use Rattle.postscript_compact1.specs.Kinds.{map_of}
-use Rattle.postscript_items.specs.Items.{opened}
+use Rattle.postscript_base.specs.Index.{opened}
 use Rattle.postscript_view.specs.Order.{aside, map_from, header_size, slice_at}
 
 -- the dictionary of the first font, and the place of the global subroutines

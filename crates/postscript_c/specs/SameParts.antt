@@ -13,13 +13,13 @@ use Rattle.postscript_c.specs.Widths.{IsWidth}
 use Rattle.postscript_c.specs.declared.font.PsfFont.{PsfFont}
 use Rattle.postscript_c.specs.declared.part.PsfPart.{PsfPart}
 use Rattle.postscript_compact1.specs.FontSet.Layout.{HasFirst, HasPrivate}
-use Rattle.postscript_items.specs.Lent.{items_of}
+use Rattle.postscript_base.specs.Index.Lent.{items_of}
 use Rattle.postscript_type2.specs.Program.Evaluation.{run_of}
 use Rattle.postscript_type2.specs.Program.Programs.{Pending, begun}
 use Rattle.postscript_type2.specs.Program.Routines.{lent}
 use Rattle.postscript_view.specs.Glyphs.{HasGlyph, HasPartNumber}
 use Rattle.postscript_view.specs.declared.font.FontView.{FontView}
-use Rattle.postscript_view.specs.declared.part.Part.{Part}
+use Rattle.postscript_view.specs.declared.private_dict.PrivateDict.{PrivateDict}
 
 -- The number of a glyph's part for C: 0 in a font that is not CID-keyed, else the number of its font dictionary, which stands in FDArray.
 abbrev pub IsNumberIn : List ℕ → PsfFont → (glyph fd : ℕ) → Type 0
@@ -37,16 +37,16 @@ abbrev pub HasNoPart : List ℕ → PsfFont → (glyph : ℕ) → Type 0
 HasNoPart bytes font glyph = (font.glyphs ≤ glyph) ⊎ ((font.is_cid ≢ 0) × LacksDictionary bytes font glyph)
 
 -- the INDEX at the place that C is told has the local subroutines of a part; at 0 there are none
-abbrev pub HasSameSubroutines : List ℕ → Part → PsfPart → Type 0
+abbrev pub HasSameSubroutines : List ℕ → PrivateDict → PsfPart → Type 0
 HasSameSubroutines bytes part told = index_at told.local_subroutines bytes 0 ≡ Got (items_of part.subroutines) 0
 
 -- the widths that C is told are those of the private dictionary of a part, in 65536ths of a unit, cut towards zero
-pub record HasSameWidths (part : Part) (told : PsfPart) : Type 0 where
+pub record HasSameWidths (part : PrivateDict) (told : PsfPart) : Type 0 where
   pub default : IsWidth (first_of (look part.dictionary operators.DefaultWidthX)) told.default_width
   pub nominal : IsWidth (first_of (look part.dictionary operators.NominalWidthX)) told.nominal_width
 
 -- In place a glyph has this part, and C has that one of it.
-abbrev pub AreBoth : (bytes : List ℕ) (font : PsfFont) (view : FontView) (glyph : ℕ) → Part → PsfPart → Type 0
+abbrev pub AreBoth : (bytes : List ℕ) (font : PsfFont) (view : FontView) (glyph : ℕ) → PrivateDict → PsfPart → Type 0
 AreBoth bytes font view glyph part told =
     (fd : ℕ) × HasPartNumber view glyph fd × (slice_get view.parts.items fd ≡ Some part) × IsPartIn bytes font glyph told
 
@@ -61,7 +61,7 @@ NamesSubroutines bytes map local place =
     (offset : ℕ) × (z : ℤ) × HasPrivate bytes 0 map offset local × HasFirst local operators.Subrs z × (pos offset +ℤ z ≡ pos place)
 
 -- those of a part of a font in place
-abbrev pub NamesSubroutinesOf : FontView → Part → (place : ℕ) → Type 0
+abbrev pub NamesSubroutinesOf : FontView → PrivateDict → (place : ℕ) → Type 0
 NamesSubroutinesOf view part place = NamesSubroutines view.bytes.now (naming view.dictionary part.font_dictionary) part.dictionary place
 
 -- The dictionaries of a font name nothing that is to stand at the place 0, where its header does. For C a place of 0 is nothing.
@@ -69,7 +69,7 @@ pub record NamesNoStart (view : FontView) : Type 0 where
   pub char_strings : HasFirst view.dictionary operators.CharStrings (pos 0) → ⊥
   pub array : HasFirst view.dictionary operators.FDArray (pos 0) → ⊥
   pub selection : HasFirst view.dictionary operators.FDSelect (pos 0) → ⊥
-  pub subroutines : (fd : ℕ) (part : Part) → slice_get view.parts.items fd ≡ Some part → NamesSubroutinesOf view part 0 → ⊥
+  pub subroutines : (fd : ℕ) (part : PrivateDict) → slice_get view.parts.items fd ≡ Some part → NamesSubroutinesOf view part 0 → ⊥
 
 -- the font in place has no part for a glyph
 abbrev pub IsNoneIn : FontView → (glyph : ℕ) → Type 0
@@ -83,7 +83,7 @@ IsToldNone font view glyph status =
     ⊎ (status ≡ pos 3))
 
 -- the program of a code over the subroutines of a font in place and of a part of it
-abbrev pub program_in : FontView → List ℕ → Part → Pending
+abbrev pub program_in : FontView → List ℕ → PrivateDict → Pending
 program_in view code part = begun (run_of (lent (items_of view.global_subroutines) (items_of part.subroutines)) code)
 
 -- What C has of a glyph is so in place: its number, and the widths and the subroutines of the part of that number, unless these are to
@@ -91,8 +91,8 @@ program_in view code part = begun (run_of (lent (items_of view.global_subroutine
 pub record TellsPart (bytes : List ℕ) (font : PsfFont) (view : FontView) (glyph : ℕ) : Type 0 where
   pub number : (fd : ℕ) → HasNumberIn bytes font glyph fd → HasPartNumber view glyph fd
   pub only : (told : PsfPart) → IsPartIn bytes font glyph told → glyph < font.glyphs → (fd : ℕ) × HasPartNumber view glyph fd
-  pub widths : (part : Part) (told : PsfPart) → AreBoth bytes font view glyph part told → HasSameWidths part told
-  pub subroutines : (part : Part) (told : PsfPart) → AreBoth bytes font view glyph part told → (NamesSubroutinesOf view part 0 → ⊥)
+  pub widths : (part : PrivateDict) (told : PsfPart) → AreBoth bytes font view glyph part told → HasSameWidths part told
+  pub subroutines : (part : PrivateDict) (told : PsfPart) → AreBoth bytes font view glyph part told → (NamesSubroutinesOf view part 0 → ⊥)
       → HasSameSubroutines bytes part told
   pub none : IsNoneIn view glyph → HasNoPart bytes font glyph
 
@@ -102,9 +102,9 @@ pub record SamePart (bytes : List ℕ) (font : PsfFont) (view : FontView) (glyph
   pub number : (fd : ℕ) → HasNumberIn bytes font glyph fd ↔ HasPartNumber view glyph fd
   pub has : (fd : ℕ) → HasPartNumber view glyph fd → (told : PsfPart) × IsPartIn bytes font glyph told
   pub only : (told : PsfPart) → IsPartIn bytes font glyph told → glyph < font.glyphs → (fd : ℕ) × HasPartNumber view glyph fd
-  pub widths : (part : Part) (told : PsfPart) → AreBoth bytes font view glyph part told → HasSameWidths part told
-  pub subroutines : (part : Part) (told : PsfPart) → AreBoth bytes font view glyph part told → HasSameSubroutines bytes part told
-  pub program : (code : List ℕ) (part : Part) (told : PsfPart) → HasGlyph view glyph code part → IsPartIn bytes font glyph told
+  pub widths : (part : PrivateDict) (told : PsfPart) → AreBoth bytes font view glyph part told → HasSameWidths part told
+  pub subroutines : (part : PrivateDict) (told : PsfPart) → AreBoth bytes font view glyph part told → HasSameSubroutines bytes part told
+  pub program : (code : List ℕ) (part : PrivateDict) (told : PsfPart) → HasGlyph view glyph code part → IsPartIn bytes font glyph told
       → program_at font told glyph bytes 0 ≡ Got (Some (program_in view code part)) 0
   pub none : HasNoPart bytes font glyph ↔ IsNoneIn view glyph
   pub status : (status : ℤ) → IsPartless bytes font glyph status → IsToldNone font view glyph status

@@ -10,7 +10,7 @@ use crate::files::file_status;
 use crate::fill::PsfSegment;
 use crate::font::{PsfFont, opened};
 use crate::glyph::part_at;
-use crate::picture::{Found, found_glyph};
+use crate::picture::{DrawnGlyph, found_glyph};
 use crate::place::{coordinates_at, unplaced_status};
 use crate::status::NO_GLYPH;
 use crate::tight::PsfBounds;
@@ -33,7 +33,7 @@ fn plain_table<'l>(file: &FontFile<'l>) -> Option<&'l [u8]>
 
 /// Tells what a glyph draws.
 fn tell_drawn(
-    answer: &Drawing<Option<Found>>,
+    answer: &Drawing<Option<DrawnGlyph>>,
     segments: &mut [PsfSegment],
     count: &mut usize,
     bounds: &mut PsfBounds,

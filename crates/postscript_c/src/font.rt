@@ -4,15 +4,15 @@ ghost use Rattle.postscript_base.specs.Tape.Outcome.{Answers, same};
 ghost use Rattle.postscript_c.specs.Places.{codes as the_codes, local as the_local, placed, places, places_of, tables as the_tables};
 ghost use Rattle.postscript_c.specs.Keyed.{IsKeyedBy, IsPlaceOrNone};
 ghost use Rattle.postscript_c.specs.FontWidths.{HaveWidths, TellsWidths};
-ghost use Rattle.postscript_items.specs.Lent.{items_of};
+ghost use Rattle.postscript_base.specs.Index.Lent.{items_of};
 ghost use Rattle.postscript_view.specs.Order.{aside, map_from};
 
 use crate::part::{PsfPart, part_of};
 use postscript_base::compact1::{Operations, Operator};
+use postscript_base::index::IndexView;
 use postscript_base::{Error, Result};
+use postscript_compact1::font_set::operands::{place_at, type_two};
 use postscript_drawing::LIMIT;
-use postscript_items::Items;
-use postscript_view::operands::{place_at, type_two};
 use postscript_view::tables::{header_size, operations_of};
 use std::alloc::Global;
 
@@ -28,7 +28,7 @@ pub struct PsfFont {
     /// FDArray, the INDEX of font dictionaries, of a CID-keyed font; else 0.
     pub font_dictionaries: u64,
     /// FDSelect, of a CID-keyed font: which font dictionary a glyph has; else 0.
-    pub selection: u64,
+    pub fd_select: u64,
     /// The part of a font that is not CID-keyed.
     pub part: PsfPart,
     /// How many glyphs there are.
@@ -40,7 +40,7 @@ pub struct PsfFont {
 }
 
 /// The dictionary of the first item.
-fn first_dictionary(alloc: Global, bytes: &[u8], dictionaries: &Items<'_>) -> Result<Operations>
+fn first_dictionary(alloc: Global, bytes: &[u8], dictionaries: &IndexView<'_>) -> Result<Operations>
     ensures exact { (place : ℕ) → Answers same result place (map_from (slice_get (items_of dictionaries.now) 0) bytes.now place) }
 {
     match dictionaries.get(0) {
@@ -54,10 +54,10 @@ fn first_dictionary(alloc: Global, bytes: &[u8], dictionaries: &Items<'_>) -> Re
 fn tables(alloc: Global, bytes: &[u8], start: usize) -> Result<(Operations, u64)>
     ensures exact { (place : ℕ) → Answers (λ r. (r.0, r.1)) result place (aside start the_tables bytes.now place) }
 {
-    let (_names, next) = Items::open(bytes, start)?;
-    let (dictionaries, next) = Items::open(bytes, next)?;
-    let (_strings, there) = Items::open(bytes, next)?;
-    let (_subroutines, _next) = Items::open(bytes, there)?;
+    let (_names, next) = IndexView::open(bytes, start)?;
+    let (dictionaries, next) = IndexView::open(bytes, next)?;
+    let (_strings, there) = IndexView::open(bytes, next)?;
+    let (_subroutines, _next) = IndexView::open(bytes, there)?;
     let dictionary = first_dictionary(alloc, bytes, &dictionaries)?;
     Ok((dictionary, there as u64))
 }
@@ -79,7 +79,7 @@ fn codes(bytes: &[u8], dictionary: &Operations) -> Result<(u64, u64)>
 {
     let there = place_at(0, 0, dictionary, Operator::CharStrings)?;
     type_two(dictionary)?;
-    let (items, _next) = Items::open(bytes, there as usize)?;
+    let (items, _next) = IndexView::open(bytes, there as usize)?;
     Ok((there, items.len() as u64))
 }
 
@@ -127,7 +127,7 @@ fn font_of(
         char_strings,
         global_subroutines,
         font_dictionaries: cid_place(dictionary, is_cid, Operator::FDArray),
-        selection: cid_place(dictionary, is_cid, Operator::FDSelect),
+        fd_select: cid_place(dictionary, is_cid, Operator::FDSelect),
         part,
         glyphs,
         is_cid: u32::from(is_cid),

@@ -4,7 +4,7 @@ ghost use Rattle.postscript_base.specs.Tape.Outcome.{Answers, same};
 ghost use Rattle.postscript_c.specs.Glyphs.{index_at as the_index, program_at, program_of as the_program};
 ghost use Rattle.postscript_c.specs.CidParts.{HasItem, HasNumber, IsCidPart, IsPartOf, item_part as the_item_part};
 ghost use Rattle.postscript_c.specs.Parts.{IsPartIn, IsPartless};
-ghost use Rattle.postscript_items.specs.Lent.{items_of};
+ghost use Rattle.postscript_base.specs.Index.Lent.{items_of};
 ghost use Rattle.postscript_type2.specs.Program.Evaluation.{run_of};
 ghost use Rattle.postscript_type2.specs.Program.Programs.{begun};
 ghost use Rattle.postscript_type2.specs.Program.Routines.{lent};
@@ -14,7 +14,7 @@ use crate::part::{PsfPart, part_of};
 use crate::status::{NO_GLYPH, NO_PART};
 use crate::told::status;
 use postscript_base::Result;
-use postscript_items::Items;
+use postscript_base::index::IndexView;
 use postscript_type2::{Charstring, Program, Subroutines};
 use postscript_view::FdSelect;
 use postscript_view::tables::operations_of;
@@ -22,13 +22,13 @@ use std::alloc::Global;
 
 /// The items of the INDEX at a place; none at 0.
 #[tactic(auto, unfolding(crate::specs::Glyphs::index_at))]
-pub(crate) fn index_at(bytes: &[u8], there: u64) -> Result<Items<'_>>
+pub(crate) fn index_at(bytes: &[u8], there: u64) -> Result<IndexView<'_>>
     ensures exact { (place : ℕ) → Answers items_of result place (the_index there bytes.now place) }
 {
     if there == 0 {
-        return Ok(Items::empty());
+        return Ok(IndexView::empty());
     }
-    let (items, _next) = Items::open(bytes, there as usize)?;
+    let (items, _next) = IndexView::open(bytes, there as usize)?;
     Ok(items)
 }
 
@@ -41,17 +41,17 @@ fn number_of(bytes: &[u8], font: &PsfFont, dictionaries: usize, glyph: usize) ->
     if dictionaries == 1 {
         return Some(0);
     }
-    if font.selection == 0 {
+    if font.fd_select == 0 {
         return None;
     }
-    FdSelect::at(bytes, font.selection as usize, font.glyphs as usize).part_of(glyph)
+    FdSelect::at(bytes, font.fd_select as usize, font.glyphs as usize).part_of(glyph)
 }
 
 /// The font dictionary of a glyph. None where there is no such glyph, or none of its number.
 fn item_of<'l>(
     bytes: &[u8],
     font: &PsfFont,
-    dictionaries: &Items<'l>,
+    dictionaries: &IndexView<'l>,
     glyph: usize,
 ) -> Option<&'l [u8]>
     ensures found { IfSome result (λ item. HasItem bytes.now font.now (items_of dictionaries.now) glyph item.now) }
@@ -125,8 +125,8 @@ pub(crate) fn part_at(
 pub(crate) fn program_over<'l>(
     alloc: Global,
     code: &'l [u8],
-    globals: Items<'l>,
-    locals: Items<'l>,
+    globals: IndexView<'l>,
+    locals: IndexView<'l>,
 ) -> Program<'l>
     ensures { result ≡ begun (run_of (lent (items_of globals.entry) (items_of locals.entry)) code.now) }
 {

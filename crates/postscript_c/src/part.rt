@@ -8,7 +8,7 @@ ghost use Rattle.postscript_c.specs.Places.{own_part as the_own_part, part as th
 
 use postscript_base::Result;
 use postscript_base::compact1::{Operand, Operations, Operator};
-use postscript_view::operands::{bounds, place_at};
+use postscript_compact1::font_set::operands::{bounds, place_at};
 use postscript_view::tables::{operations_of, slice_at};
 use std::alloc::Global;
 

@@ -5,15 +5,15 @@ ghost use Rattle.postscript_c.specs.Shown.{found_shown};
 use crate::drawn::draw_over;
 use crate::font::PsfFont;
 use crate::part::PsfPart;
-use crate::sketch::Sketch;
+use crate::segments::Segments;
 use postscript_drawing::Result;
 use postscript_type2::Operand;
 use std::alloc::Global;
 
 /// The segments of a glyph as C holds them, the width that its program tells, and its part.
 #[derive(Drop)]
-pub(crate) struct Found {
-    pub(crate) sketch: Sketch,
+pub(crate) struct DrawnGlyph {
+    pub(crate) sketch: Segments,
     pub(crate) width: Option<Operand>,
     pub(crate) part: PsfPart,
 }
@@ -25,12 +25,12 @@ pub(crate) fn found_glyph(
     font: &PsfFont,
     part: PsfPart,
     glyph: usize,
-) -> Result<Option<Found>>
+) -> Result<Option<DrawnGlyph>>
     ensures { IsOf bytes.now font.now part glyph (found_shown result) }
 {
-    let mut sketch = Sketch::new(alloc)?;
+    let mut sketch = Segments::new(alloc)?;
     match draw_over(alloc, bytes, font, &part, glyph, &mut sketch)? {
-        Some(width) => Ok(Some(Found {
+        Some(width) => Ok(Some(DrawnGlyph {
             sketch,
             width,
             part,

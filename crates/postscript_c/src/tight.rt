@@ -14,7 +14,7 @@ use std::alloc::Global;
 
 /// The outline of a glyph, and its part.
 #[derive(Drop)]
-pub(crate) struct Traced {
+pub(crate) struct OutlinedGlyph {
     pub(crate) outline: Outline,
     pub(crate) part: PsfPart,
 }
@@ -26,13 +26,16 @@ pub(crate) fn traced_glyph(
     font: &PsfFont,
     part: PsfPart,
     glyph: usize,
-) -> Result<Option<Traced>>
+) -> Result<Option<OutlinedGlyph>>
     ensures { IsOf bytes.now font.now part glyph (traced_shown result) }
 {
     let mut segments = Vec::new(alloc);
     match draw_over(alloc, bytes, font, &part, glyph, &mut segments)? {
-        Some(width) => Ok(Some(Traced {
-            outline: Outline { segments, width },
+        Some(width) => Ok(Some(OutlinedGlyph {
+            outline: Outline {
+                segments,
+                width_difference: width,
+            },
             part,
         })),
         None => Ok(None),
@@ -78,7 +81,7 @@ impl PsfBounds {
 }
 
 /// Tells the bounds of an answer.
-pub(crate) fn bound(answer: &Result<Option<Traced>>, bounds: &mut PsfBounds) -> i32
+pub(crate) fn bound(answer: &Result<Option<OutlinedGlyph>>, bounds: &mut PsfBounds) -> i32
     ensures { TellsBounds (traced_shown answer.now) result bounds.old bounds.new }
 {
     match answer {

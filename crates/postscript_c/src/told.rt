@@ -5,7 +5,7 @@ ghost use Rattle.postscript_c.specs.Answers.{advance as the_advance, HasZeros, I
 ghost use Rattle.postscript_c.specs.Shown.{drawn_shown};
 
 use crate::part::PsfPart;
-use crate::picture::Found;
+use crate::picture::DrawnGlyph;
 use crate::status::{NESTED_ACCENT, NO_ACCENTS, NO_CODE, NO_COMPONENT, NO_GLYPH, TOO_LONG};
 use postscript_base::Error;
 use postscript_drawing::Error as Undrawn;
@@ -62,7 +62,7 @@ fn advance(width: Option<Operand>, part: &PsfPart) -> i64
 }
 
 /// What is told of a glyph.
-pub(crate) fn told(found: &Found) -> PsfGlyph
+pub(crate) fn told(found: &DrawnGlyph) -> PsfGlyph
     ensures told { IsToldOf (drawn_shown found.now) found.now.part result }
     ensures zeros { HasZeros result }
     ensures width { TellsWidth (drawn_shown found.now) result }

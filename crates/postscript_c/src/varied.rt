@@ -1,12 +1,12 @@
 //! Glyphs of variable fonts, drawn at a place of the design space.
 ghost use Rattle.std.specs.Prelude.{◌≡◌, [], pos, Some, IfErr, IfOk};
-ghost use Rattle.postscript_c.specs.VariedShown.{segments_of, sketch_shown};
+ghost use Rattle.postscript_c.specs.VariedShown.{segments_of, segments_shown};
 ghost use Rattle.postscript_c.specs.Varied.{HandsOutline, HasFont, HasNoFont, HasNoPlaceIn, IsDrawnWithin, IsPlaceAt, IsPlaceIn, IsVaried, NamesNoPlace, TellsAnswer, TellsVariedOf, outline_room, table_code, unvaried_code};
 
 use crate::costs::is_within;
 use crate::fill::{PsfSegment, fill};
 use crate::place::{Unplaced, coordinates_at, unplaced_status};
-use crate::sketch::Sketch;
+use crate::segments::Segments;
 use crate::status::{NO_DATA, NO_ROOM, NO_TABLE, TOO_LONG};
 use crate::tight::PsfBounds;
 use crate::told::undrawn_status;
@@ -130,10 +130,10 @@ fn draw_within(
     glyph: usize,
     place: &Place,
     limit: u64,
-    sketch: Sketch,
-) -> Result<Sketch, DrawingError>
+    sketch: Segments,
+) -> Result<Segments, DrawingError>
     requires { sketch.segments.items ≡ [] }
-    ensures { IsDrawnWithin limit font.now glyph place.now (sketch_shown result) }
+    ensures { IsDrawnWithin limit font.now glyph place.now (segments_shown result) }
 {
     let mut drawn = sketch;
     let mut left = limit;
@@ -151,12 +151,12 @@ fn varied(
     values: &[i32],
     glyph: usize,
     limit: u64,
-) -> Result<Sketch, Unvaried>
-    ensures { IsVaried file.now values.now glyph limit (sketch_shown result) }
+) -> Result<Segments, Unvaried>
+    ensures { IsVaried file.now values.now glyph limit (segments_shown result) }
 {
     let font = font_of(file)?;
     let place = place_at(alloc, file, &font, values, limit)?;
-    let Ok(sketch) = Sketch::new(alloc) else {
+    let Ok(sketch) = Segments::new(alloc) else {
         return Err(Unvaried::NoPlace(Unplaced::Memory));
     };
     match draw_within(alloc, &font, glyph, &place, limit, sketch) {
@@ -167,7 +167,7 @@ fn varied(
 
 /// Hands an outline over: 0, or `NO_ROOM`.
 pub(crate) fn hand(
-    sketch: &Sketch,
+    sketch: &Segments,
     segments: &mut [PsfSegment],
     count: &mut usize,
     bounds: &mut PsfBounds,
@@ -187,12 +187,12 @@ pub(crate) fn hand(
 
 /// Tells an answer.
 fn tell_answer(
-    answer: &Result<Sketch, Unvaried>,
+    answer: &Result<Segments, Unvaried>,
     segments: &mut [PsfSegment],
     count: &mut usize,
     bounds: &mut PsfBounds,
 ) -> i32
-    ensures { TellsAnswer (sketch_shown answer.now) result (outline_room segments.old count.old bounds.old)
+    ensures { TellsAnswer (segments_shown answer.now) result (outline_room segments.old count.old bounds.old)
         (outline_room segments.new count.new bounds.new) }
 {
     match answer {

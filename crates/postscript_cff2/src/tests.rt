@@ -1,5 +1,5 @@
 //! A small table, and the same where it is cut or changed.
-use crate::select::Select;
+use crate::select::FdSelect;
 use crate::{Error, Font};
 
 /// A table of two glyphs, written by hand by the specification: the Top DICT at 5, a global subroutine at 24, the charstrings at
@@ -76,7 +76,7 @@ fn tables_that_are_refused(rt: HostRuntime) {
 fn ranges_of_glyphs(rt: HostRuntime) {
     // glyphs 0 and 1, and those from 2 to 3
     let ranges = [3, 0, 2, 0, 0, 0, 0, 2, 1, 0, 4];
-    let select = Select::read(&ranges, 0, 4).expect(&rt, "FDSelect");
+    let select = FdSelect::read(&ranges, 0, 4).expect(&rt, "FDSelect");
     let found = [0, 1, 2, 3, 4].map(|glyph| select.fd(glyph));
     assert!(rt;
         found == [Some(0), Some(0), Some(1), Some(1), None],
@@ -84,5 +84,8 @@ fn ranges_of_glyphs(rt: HostRuntime) {
     );
     // the same ranges in the other order
     let falling = [3, 0, 2, 0, 2, 1, 0, 0, 0, 0, 4];
-    assert!(rt; Select::read(&falling, 0, 4).is_none(), "ranges that fall");
+    assert!(rt;
+        FdSelect::read(&falling, 0, 4).is_none(),
+        "ranges that fall"
+    );
 }

@@ -13,7 +13,7 @@ ghost use Rattle.postscript_compact1.specs.FontSet.Value.{font_shown, tables_sho
 
 pub mod laws;
 mod manner;
-mod operands;
+pub mod operands;
 mod parts;
 mod tables;
 

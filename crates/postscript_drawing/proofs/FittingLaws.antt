@@ -9,7 +9,7 @@ use Rattle.postscript_type2.specs.Program.Effects.{State, Move, Clears, Refuses,
 use Rattle.postscript_type2.specs.Program.Meaning.{Means}
 use Rattle.postscript_type2.specs.Program.Meaning as rules
 use Rattle.postscript_type2.specs.Program.Routines.{Lists}
-use Rattle.postscript_type2.specs.Program.Runs.{Answer, Said, End}
+use Rattle.postscript_type2.specs.Program.Runs.{Answer, Phrase, End}
 
 -- the greatest number that passes is itself the greatest up to it
 greatest-fits : (test : ℕ → Bool) (n m : ℕ) → greatest test n ≡ Some m → (m ≤ n) × (greatest test m ≡ Some m)
@@ -80,7 +80,7 @@ fit-append : (xs ys : List Answer) → AllFit xs → AllFit ys → AllFit (xs ++
 fit-append [] ys h k = k
 fit-append (x ∷ xs) ys h k = (h.0, fit-append xs ys h.1 k)
 
-fit : (lists : Lists) {d : ℕ} {rest : List ℕ} {st : State} {xs : List Answer} {ts : List Said} {end : End} → Means lists d rest st xs ts end → AllFit xs
+fit : (lists : Lists) {d : ℕ} {rest : List ℕ} {st : State} {xs : List Answer} {ts : List Phrase} {end : End} → Means lists d rest st xs ts end → AllFit xs
 fit lists (rules.used_up d st) = tt
 fit lists (rules.unread d rest st e some none) = tt
 fit lists (rules.refused d p behind ns op st e moves) = tt

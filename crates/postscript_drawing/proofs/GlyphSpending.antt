@@ -3,10 +3,10 @@ use Rattle.std.proofs.Common.{◌≡◌, ◌∙◌, ℕ, zero, suc, ℤ, Option,
 use Rattle.postscript_drawing.specs.DrawnProgram.{IsSpent}
 use Rattle.postscript_drawing.specs.declared.error.Error.{Error}
 use Rattle.postscript_type2.specs.Program.Limit.{Spends, nothing, one_more}
-use Rattle.postscript_type2.specs.Program.Runs.{Said, Run}
+use Rattle.postscript_type2.specs.Program.Runs.{Phrase, Run}
 use Rattle.postscript_view.specs.Advances.{HasRun}
 use Rattle.postscript_view.specs.declared.font.FontView.{FontView}
-use Rattle.postscript_view.specs.declared.part.Part.{Part}
+use Rattle.postscript_view.specs.declared.private_dict.PrivateDict.{PrivateDict}
 use Rattle.std.specs.Prelude.{IfOk, OnOk}
 use Rattle.postscript_drawing.specs.Accents.{IsTold}
 use Rattle.postscript_drawing.specs.declared.accent.Accent.{Accent}
@@ -14,18 +14,18 @@ use Rattle.postscript_drawing.specs.declared.glyph.Own.{Own}
 use Rattle.postscript_drawing.specs.Spending.{AreOfRuns, PaysCode, PaysComponents, PaysOwn, SpendsOnRuns}
 
 -- a drawing has spent the limit on its phrases, whatever it comes to
-pub spent : (limit left : ℕ) (phrases : List Said) (r : Result (Option ℤ) Error) → IsSpent limit phrases left r → (rest : List Said) × Spends limit phrases left rest
+pub spent : (limit left : ℕ) (phrases : List Phrase) (r : Result (Option ℤ) Error) → IsSpent limit phrases left r → (rest : List Phrase) × Spends limit phrases left rest
 spent limit left phrases (Ok width) h = ([], h)
 spent limit left phrases (Err e) h = h
 
 -- phrases behind those to be run
-before-more : (limit : ℕ) (phrases : List Said) (left : ℕ) (rest more : List Said) → Spends limit phrases left rest → Spends limit (phrases ++ more) left (rest ++ more)
+before-more : (limit : ℕ) (phrases : List Phrase) (left : ℕ) (rest more : List Phrase) → Spends limit phrases left rest → Spends limit (phrases ++ more) left (rest ++ more)
 before-more limit phrases left rest more nothing = nothing
 before-more limit phrases left rest more (one_more before said behind spends is_left costs) =
     one_more before said (behind ++ more) (before-more limit phrases before (said ∷ behind) more spends) is_left costs
 
 -- those that were run are at the front, and are paid
-at-front : (limit : ℕ) (phrases : List Said) (left : ℕ) (rest : List Said) → Spends limit phrases left rest → (first : List Said) × (phrases ≡ first ++ rest) × Spends limit first left []
+at-front : (limit : ℕ) (phrases : List Phrase) (left : ℕ) (rest : List Phrase) → Spends limit phrases left rest → (first : List Phrase) × (phrases ≡ first ++ rest) × Spends limit first left []
 at-front limit phrases left rest nothing = ([], refl, nothing)
 at-front limit phrases left rest (one_more before said behind spends is_left costs) =
     let all = at-front limit phrases before (said ∷ rest) spends in (
@@ -35,20 +35,20 @@ at-front limit phrases left rest (one_more before said behind spends is_left cos
     )
 
 -- what is left is spent on
-goes-on : (limit : ℕ) (phrases : List Said) (left : ℕ) (rest : List Said) (last : ℕ) (end : List Said) → Spends limit phrases left rest → Spends left rest last end → Spends limit phrases last end
+goes-on : (limit : ℕ) (phrases : List Phrase) (left : ℕ) (rest : List Phrase) (last : ℕ) (end : List Phrase) → Spends limit phrases left rest → Spends left rest last end → Spends limit phrases last end
 goes-on limit phrases left rest last end first nothing = first
 goes-on limit phrases left rest last end first (one_more before said behind spends is_left costs) =
     one_more before said end (goes-on limit phrases left rest before (said ∷ end) first spends) is_left costs
 
 -- more runs at most
-wider : (font : FontView) (count : ℕ) (phrases : List Said) → AreOfRuns font count phrases → AreOfRuns font (suc count) phrases
+wider : (font : FontView) (count : ℕ) (phrases : List Phrase) → AreOfRuns font count phrases → AreOfRuns font (suc count) phrases
 wider font zero phrases none = inl none
 wider font (suc more) phrases (inl none) = inl none
 wider font (suc more) phrases (inr (glyph, part, run, first, rest, others, has, trace, is, behind)) =
     inr (glyph, part, run, first, rest, others, has, trace, is, wider font more others behind)
 
 -- phrases of a run, and then of others
-joined : (font : FontView) (more : ℕ) (first second : List Said) → AreOfRuns font 1 first → AreOfRuns font more second → AreOfRuns font (suc more) (first ++ second)
+joined : (font : FontView) (more : ℕ) (first second : List Phrase) → AreOfRuns font 1 first → AreOfRuns font more second → AreOfRuns font (suc more) (first ++ second)
 joined font more first second (inl none) behind = subst (λ xs. AreOfRuns font (suc more) (xs ++ second)) (sym none) (wider font more second behind)
 joined font more first second (inr (glyph, part, run, front, rest, others, has, trace, is, none)) behind =
     inr (glyph, part, run, front, rest, second, has, trace, ap (λ xs. xs ++ second) (is ∙ ap (λ xs. front ++ xs) none ∙ append-nil front), behind)
@@ -68,14 +68,14 @@ pub spends-more : (font : FontView) (count limit left : ℕ) → SpendsOnRuns fo
 spends-more font count limit left first = (first.0, wider font count first.0 first.1, first.2)
 
 -- one run
-pub spends-one : (font : FontView) (glyph : ℕ) (part : Part) (run : Run) (limit left : ℕ) → HasRun font glyph part run → (rest : List Said) × Spends limit run.trace left rest →
+pub spends-one : (font : FontView) (glyph : ℕ) (part : PrivateDict) (run : Run) (limit left : ℕ) → HasRun font glyph part run → (rest : List Phrase) × Spends limit run.trace left rest →
     SpendsOnRuns font 1 limit left
 spends-one font glyph part run limit left has (rest, spends) =
     let front = at-front limit run.trace left rest spends in
     (front.0, inr (glyph, part, run, front.0, rest, [], has, front.1, sym (append-nil front.0), refl), front.2)
 
 -- a run that is drawn is paid
-pub pays-own : (font : FontView) (glyph : ℕ) (part : Part) (run : Run) (limit left : ℕ) (r : Result Own Error) → HasRun font glyph part run →
+pub pays-own : (font : FontView) (glyph : ℕ) (part : PrivateDict) (run : Run) (limit left : ℕ) (r : Result Own Error) → HasRun font glyph part run →
     IfOk r (λ own. IsTold own.accent run) → OnOk r (Spends limit run.trace left []) → IfOk r (λ own. PaysOwn font glyph own.accent limit left)
 pays-own font glyph part run limit left (Ok own) has told paid = record { part = part; run = run; has = has; told = told; paid = paid }
 pays-own font glyph part run limit left (Err e) has told paid = tt

@@ -3,7 +3,7 @@
 use Rattle.std.specs.Prelude.{◌≡◌, ℕ, ◌<◌, length}
 use Rattle.postscript_compact1.specs.Computed.Encodings.{in_runs, runs_of}
 use Rattle.postscript_compact1.specs.declared.encoding.Encoding.TheVariants.{Standard}
-use Rattle.postscript_items.specs.Lent.{items_of}
+use Rattle.postscript_base.specs.Index.Lent.{items_of}
 use Rattle.postscript_view.specs.CharSets.{IsCharSetOf}
 use Rattle.postscript_view.specs.Cids.{IsCidKeyed}
 use Rattle.postscript_view.specs.Naming.{Names, IsFirstNamed}

@@ -8,7 +8,7 @@ use Rattle.postscript_outline.specs.declared.segment.Segment.{Segment}
 use Rattle.postscript_type2.specs.Program.Runs.{Run, width_of}
 use Rattle.postscript_view.specs.Advances.{HasRun}
 use Rattle.postscript_view.specs.declared.font.FontView.{FontView}
-use Rattle.postscript_view.specs.declared.part.Part.{Part}
+use Rattle.postscript_view.specs.declared.private_dict.PrivateDict.{PrivateDict}
 use Rattle.postscript_drawing.specs.Accents.{IsAccentOf, IsPlain, IsTold}
 use Rattle.postscript_drawing.specs.Components.{IsComponent}
 use Rattle.postscript_drawing.specs.declared.accent.Accent.{Accent}
@@ -26,7 +26,7 @@ DrawsAt origin run segments = outlined_at origin run.answers run.end ≡ Ok segm
 
 -- A glyph of the font by itself: the segments of its run, its width, and what its endchar names.
 pub record HasOwn (font : FontView) (glyph : ℕ) (origin : Point) (segments : List Segment) (width : Option ℤ) (accent : Option Accent) : Type 0 where
-  pub part : Part
+  pub part : PrivateDict
   pub run : Run
   pub has : HasRun font glyph part run
   pub draws : DrawsAt origin run segments
@@ -36,7 +36,7 @@ pub record HasOwn (font : FontView) (glyph : ℕ) (origin : Point) (segments : L
 -- A component is a plain glyph, and these are the segments of its run.
 pub record DrawsComponent (font : FontView) (code : ℕ) (origin : Point) (segments : List Segment) : Type 0 where
   pub glyph : ℕ
-  pub part : Part
+  pub part : PrivateDict
   pub run : Run
   pub component : IsComponent font code glyph
   pub has : HasRun font glyph part run
@@ -68,7 +68,7 @@ pub record DrawsAccented (font : FontView) (run : Run) (segments : List Segment)
 
 -- A glyph draws these segments, and has the width of its run.
 pub record IsDrawnAs (font : FontView) (glyph : ℕ) (segments : List Segment) (width : Option ℤ) : Type 0 where
-  pub part : Part
+  pub part : PrivateDict
   pub run : Run
   pub has : HasRun font glyph part run
   pub drawn : DrawsPlain run segments ⊎ DrawsAccented font run segments

@@ -11,7 +11,7 @@ use Rattle.postscript_outline.specs.declared.point.Point.{Point}
 use Rattle.postscript_outline.specs.declared.segment.Segment.{Segment}
 use Rattle.postscript_type2.specs.Program.Limit.{Spends}
 use Rattle.postscript_type2.specs.Program.Programs.{Pending}
-use Rattle.postscript_type2.specs.Program.Runs.{Answer, End, Said, UsedUp, width_by}
+use Rattle.postscript_type2.specs.Program.Runs.{Answer, End, Phrase, UsedUp, width_by}
 
 -- All that a program still answers is drawn from a point: the sink has taken the segments, one after another, and this is the
 -- width.
@@ -45,6 +45,6 @@ abbrev pub IsProgramRefused : (origin : Point) → Pending → (left : ℕ) → 
 IsProgramRefused origin pending left e = IsWanting left e ⊎ IsUndrawn origin e pending.answers pending.end
 
 -- The phrases that were run are paid: all of them, where all is drawn.
-abbrev pub IsSpent : (limit : ℕ) → (phrases : List Said) → (left : ℕ) → Result (Option ℤ) Error → Type 0
+abbrev pub IsSpent : (limit : ℕ) → (phrases : List Phrase) → (left : ℕ) → Result (Option ℤ) Error → Type 0
 IsSpent limit phrases left (Ok width) = Spends limit phrases left []
-IsSpent limit phrases left (Err e) = (rest : List Said) × Spends limit phrases left rest
+IsSpent limit phrases left (Err e) = (rest : List Phrase) × Spends limit phrases left rest

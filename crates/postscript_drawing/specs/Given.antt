@@ -6,7 +6,7 @@ use Rattle.postscript_outline.specs.declared.segment.Segment.{Segment}
 use Rattle.postscript_type2.specs.Program.Runs.{Run}
 use Rattle.postscript_view.specs.Advances.{HasRun}
 use Rattle.postscript_view.specs.declared.font.FontView.{FontView}
-use Rattle.postscript_view.specs.declared.part.Part.{Part}
+use Rattle.postscript_view.specs.declared.private_dict.PrivateDict.{PrivateDict}
 use Rattle.postscript_drawing.specs.Accents.{IsAccentOf}
 use Rattle.postscript_drawing.specs.Components.{IsComponent}
 use Rattle.postscript_drawing.specs.Drawn.{DrawsAt, DrawsComponent, Takes, zero_point}
@@ -15,7 +15,7 @@ use Rattle.postscript_drawing.specs.declared.accent.Accent.{Accent}
 
 -- A front of what the operations of a glyph's own run draw.
 pub record GivesOwnFront {T : Type 0} (after : T → Segment → T) (origin : Point) (old new : T) (font : FontView) (glyph : ℕ) : Type 0 where
-  pub part : Part
+  pub part : PrivateDict
   pub run : Run
   pub has : HasRun font glyph part run
   pub front : DrawsFront after origin old new run.answers
@@ -38,7 +38,7 @@ GivesComponents {T} after old new font accent =
 pub record GivesAccented {T : Type 0} (after : T → Segment → T) (old new : T) (font : FontView) (glyph : ℕ) : Type 0 where
   pub accent : Accent
   pub between : T
-  pub part : Part
+  pub part : PrivateDict
   pub run : Run
   pub has : HasRun font glyph part run
   pub accented : IsAccentOf accent run

@@ -34,4 +34,4 @@ outline_applied run = applied_all run.answers blank >>= finished run.end
 -- that outline of a run, and its width
 pub record OutlinesApplied (outline : Outline) (run : Run) : Type 0 where
   pub segments : outline_applied run ≡ Ok outline.segments.items
-  pub width : outline.width ≡ width_of run
+  pub width : outline.width_difference ≡ width_of run

@@ -32,4 +32,4 @@ outline_of run = outlined run.answers run.end
 -- the outline of a run, and its width
 pub record Outlines (outline : Outline) (run : Run) : Type 0 where
   pub segments : outline_of run ≡ Ok outline.segments.items
-  pub width : outline.width ≡ width_of run
+  pub width : outline.width_difference ≡ width_of run

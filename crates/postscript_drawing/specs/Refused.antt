@@ -6,7 +6,7 @@ use Rattle.postscript_type2.specs.Program.Runs.{Run, taken_by}
 use Rattle.postscript_view.specs.Advances.{HasRun}
 use Rattle.postscript_view.specs.Glyphs.{HasGlyph}
 use Rattle.postscript_view.specs.declared.font.FontView.{FontView}
-use Rattle.postscript_view.specs.declared.part.Part.{Part}
+use Rattle.postscript_view.specs.declared.private_dict.PrivateDict.{PrivateDict}
 use Rattle.postscript_drawing.specs.Accents.{HasNoCodes, IsAccentOf}
 use Rattle.postscript_drawing.specs.DrawnProgram.{IsUndrawn, IsWanting}
 use Rattle.postscript_drawing.specs.Components.{HasNoComponent, IsComponent}
@@ -17,7 +17,7 @@ use Rattle.postscript_drawing.specs.declared.error.Error.TheVariants.{NoCode, No
 
 -- there is no glyph of this number
 abbrev pub IsAbsent : FontView → (glyph : ℕ) → Type 0
-IsAbsent font glyph = (code : List ℕ) (part : Part) → HasGlyph font glyph code part → ⊥
+IsAbsent font glyph = (code : List ℕ) (part : PrivateDict) → HasGlyph font glyph code part → ⊥
 
 -- its endchar takes four operands that name no codes
 abbrev pub IsUnread : Error → Run → Type 0
@@ -25,7 +25,7 @@ IsUnread e run = (e ≡ NoCode) × HasNoCodes (taken_by run.end)
 
 -- The run of a glyph has no outline, or its endchar names no codes.
 pub record IsRunRefused (font : FontView) (glyph : ℕ) (origin : Point) (e : Error) : Type 0 where
-  pub part : Part
+  pub part : PrivateDict
   pub run : Run
   pub has : HasRun font glyph part run
   pub why : IsUndrawn origin e run.answers run.end ⊎ IsUnread e run
@@ -36,7 +36,7 @@ IsGlyphRefused font glyph origin e = ((e ≡ NoSuchGlyph glyph) × IsAbsent font
 
 -- A glyph of the font is accented so.
 pub record IsAccented (font : FontView) (glyph : ℕ) (accent : Accent) : Type 0 where
-  pub part : Part
+  pub part : PrivateDict
   pub run : Run
   pub has : HasRun font glyph part run
   pub accented : IsAccentOf accent run

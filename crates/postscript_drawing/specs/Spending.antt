@@ -4,24 +4,24 @@ use Rattle.postscript_drawing.specs.Accents.{IsTold}
 use Rattle.postscript_drawing.specs.Components.{IsComponent}
 use Rattle.postscript_drawing.specs.declared.accent.Accent.{Accent}
 use Rattle.postscript_type2.specs.Program.Limit.{Spends}
-use Rattle.postscript_type2.specs.Program.Runs.{Said, Run}
+use Rattle.postscript_type2.specs.Program.Runs.{Phrase, Run}
 use Rattle.postscript_view.specs.Advances.{HasRun}
 use Rattle.postscript_view.specs.declared.font.FontView.{FontView}
-use Rattle.postscript_view.specs.declared.part.Part.{Part}
+use Rattle.postscript_view.specs.declared.private_dict.PrivateDict.{PrivateDict}
 
 -- Phrases of the runs of so many of the font's glyphs at most, of each run those at its front.
-abbrev pub AreOfRuns : (font : FontView) (count : ℕ) → List Said → Type 0
+abbrev pub AreOfRuns : (font : FontView) (count : ℕ) → List Phrase → Type 0
 AreOfRuns font zero phrases = phrases ≡ []
-AreOfRuns font (suc more) phrases = (phrases ≡ []) ⊎ ((glyph : ℕ) × (part : Part) × (run : Run) × (first rest others : List Said) ×
+AreOfRuns font (suc more) phrases = (phrases ≡ []) ⊎ ((glyph : ℕ) × (part : PrivateDict) × (run : Run) × (first rest others : List Phrase) ×
     HasRun font glyph part run × (run.trace ≡ first ++ rest) × (phrases ≡ first ++ others) × AreOfRuns font more others)
 
 -- Such phrases were run, and are paid.
 abbrev pub SpendsOnRuns : (font : FontView) (count limit left : ℕ) → Type 0
-SpendsOnRuns font count limit left = (phrases : List Said) × AreOfRuns font count phrases × Spends limit phrases left []
+SpendsOnRuns font count limit left = (phrases : List Phrase) × AreOfRuns font count phrases × Spends limit phrases left []
 
 -- All phrases of the run of a glyph, which names this, were run within a limit, and are paid.
 pub record PaysOwn (font : FontView) (glyph : ℕ) (accent : Option Accent) (limit left : ℕ) : Type 0 where
-  pub part : Part
+  pub part : PrivateDict
   pub run : Run
   pub has : HasRun font glyph part run
   pub told : IsTold accent run

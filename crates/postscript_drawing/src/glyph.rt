@@ -10,7 +10,7 @@ ghost use Rattle.postscript_drawing.specs.Spending.{PaysCode, PaysComponents, Pa
 ghost use Rattle.postscript_drawing.specs.declared.error.Error.TheVariants as errors;
 ghost use Rattle.postscript_outline.specs.Points.{point};
 ghost use Rattle.postscript_type2.specs.Program.Limit.{Spends};
-ghost use Rattle.postscript_type2.specs.Program.Runs.{Said as ASaid, width_of};
+ghost use Rattle.postscript_type2.specs.Program.Runs.{Phrase as ASaid, width_of};
 
 use crate::accent::Accent;
 use crate::component::component_of;
@@ -36,7 +36,7 @@ pub fn outline_of(
     glyph: usize,
     limit: &mut u64,
 ) -> Result<Outline>
-    ensures found { IfOk result (λ outline. IsDrawnAs font.now glyph outline.segments.items outline.width) }
+    ensures found { IfOk result (λ outline. IsDrawnAs font.now glyph outline.segments.items outline.width_difference) }
     ensures why { IfErr result (λ e. IsRefused font.now glyph limit.new e) }
     ensures memory { result ≢ Err errors.Full }
     ensures paid { OnOk result (PaysDrawing font.now glyph limit.old limit.new) }
@@ -50,14 +50,17 @@ pub fn outline_of(
 
 /// The same, but that a list that takes no more is told as such.
 fn outlined(alloc: Global, font: &FontView<'_>, glyph: usize, limit: &mut u64) -> Result<Outline>
-    ensures found { IfOk result (λ outline. IsDrawnAs font.now glyph outline.segments.items outline.width) }
+    ensures found { IfOk result (λ outline. IsDrawnAs font.now glyph outline.segments.items outline.width_difference) }
     ensures why { IfErr result (λ e. IsRefused font.now glyph limit.new e) }
     ensures paid { OnOk result (PaysDrawing font.now glyph limit.old limit.new) }
     ensures spends { SpendsOnRuns font.now 3 limit.old limit.new }
 {
     let mut segments = Vec::with_capacity(alloc, ROOM)?;
     let width = draw_glyph(alloc, font, glyph, limit, &mut segments)?;
-    Ok(Outline { segments, width })
+    Ok(Outline {
+        segments,
+        width_difference: width,
+    })
 }
 
 /// Gives the outline of a glyph to a sink, one segment after another, as the run comes to them, and answers the width. Where the

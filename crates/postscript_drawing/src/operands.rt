@@ -60,7 +60,7 @@ pub(crate) fn vector(operands: &[Operand]) -> Option<(Vector, &[Operand])>
 
 /// How far a curve begins along an axis, its middle vector, and how far it ends along an axis.
 #[derive(Clone, Copy)]
-pub(crate) struct Bow<'o> {
+pub(crate) struct CurveOperands<'o> {
     pub begin: i64,
     pub middle: Vector,
     pub end: i64,
@@ -69,11 +69,11 @@ pub(crate) struct Bow<'o> {
 
 /// A bow, and the operands behind it.
 #[inline(always)]
-pub(crate) fn spanned(operands: &[Operand]) -> Option<Bow<'_>>
+pub(crate) fn curve_operands(operands: &[Operand]) -> Option<CurveOperands<'_>>
     ensures { MatchOption result (length operands.now < 4) (λ v. operands.now ≡ v.begin ∷ v.middle.dx ∷ v.middle.dy ∷ v.end ∷ v.rest.now) }
 {
     match operands {
-        [begin, dx, dy, end, rest @ ..] => Some(Bow {
+        [begin, dx, dy, end, rest @ ..] => Some(CurveOperands {
             begin: wide(*begin),
             middle: by(*dx, *dy),
             end: wide(*end),

@@ -46,5 +46,8 @@ fn applied(alloc: Global, operations: &[Operation], width: Option<Operand>) -> R
         pen.apply(operation.0, operation.1.as_slice(), &mut segments)?;
     }
     pen.close(&mut segments)?;
-    Ok(Outline { segments, width })
+    Ok(Outline {
+        segments,
+        width_difference: width,
+    })
 }

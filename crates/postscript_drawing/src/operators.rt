@@ -5,7 +5,7 @@ ghost use Rattle.postscript_drawing.specs.Operators.{strokes};
 ghost use Rattle.postscript_drawing.specs.Strokes.{other as the_other, move as the_move, move_along as the_move_along, lines as the_lines, lines_in_turn as the_lines_in_turn, curves as the_curves, curves_along as the_curves_along, curves_level as the_curves_level, curves_in_turn as the_curves_in_turn, curves_then_line as the_curves_then_line, lines_then_curve as the_lines_then_curve};
 
 use crate::flex::{flex, flex1, hflex, hflex1};
-use crate::operands::{alone, by, one, spanned, vector, wide};
+use crate::operands::{alone, by, curve_operands, one, vector, wide};
 use crate::stroke::{Axis, Stroke, Strokes, Vector};
 use postscript_type2::{Operand, Operator};
 
@@ -126,7 +126,7 @@ fn lines(operands: &[Operand]) -> Option<(Stroke, &[Operand])>
 
 /// The three vectors of a curve, and the operands behind it.
 #[derive(Clone, Copy)]
-pub(crate) struct Bend<'o> {
+pub(crate) struct CurveVectors<'o> {
     pub a: Vector,
     pub b: Vector,
     pub c: Vector,
@@ -135,7 +135,7 @@ pub(crate) struct Bend<'o> {
 
 /// dxa dya dxb dyb dxc dyc
 #[inline(always)]
-pub(crate) fn curve(operands: &[Operand]) -> Option<Bend<'_>>
+pub(crate) fn curve(operands: &[Operand]) -> Option<CurveVectors<'_>>
     ensures { MatchOption result (the_curves operands.now ≡ []) (λ v. the_curves operands.now ≡ Stroke.Curve v.a v.b v.c ∷ the_curves v.rest.now) }
 {
     // one test of the length in place of three
@@ -145,7 +145,7 @@ pub(crate) fn curve(operands: &[Operand]) -> Option<Bend<'_>>
     let (a, rest) = vector(operands)?;
     let (b, rest) = vector(rest)?;
     let (c, rest) = vector(rest)?;
-    Some(Bend { a, b, c, rest })
+    Some(CurveVectors { a, b, c, rest })
 }
 
 /// {dxa dya dxb dyb dxc dyc}+
@@ -175,11 +175,11 @@ fn lines_in_turn(axis: Axis, operands: &[Operand]) -> Option<(Stroke, Strokes<'_
 
 /// da dxb dyb dc
 #[inline(always)]
-pub(crate) fn curve_along(axis: Axis, first: i64, operands: &[Operand]) -> Option<Bend<'_>>
+pub(crate) fn curve_along(axis: Axis, first: i64, operands: &[Operand]) -> Option<CurveVectors<'_>>
     ensures { MatchOption result (the_curves_along axis first operands.now ≡ []) (λ v. the_curves_along axis first operands.now ≡ Stroke.Curve v.a v.b v.c ∷ the_curves_along axis (pos 0) v.rest.now) }
 {
-    let bow = spanned(operands)?;
-    Some(Bend {
+    let bow = curve_operands(operands)?;
+    Some(CurveVectors {
         a: axis.aside(bow.begin, first),
         b: bow.middle,
         c: axis.along(bow.end),
@@ -200,13 +200,13 @@ fn curves_along(axis: Axis, first: i64, operands: &[Operand]) -> Option<(Stroke,
 
 /// da dxb dyb dc de?
 #[inline(always)]
-pub(crate) fn curve_in_turn(axis: Axis, operands: &[Operand]) -> Option<Bend<'_>>
+pub(crate) fn curve_in_turn(axis: Axis, operands: &[Operand]) -> Option<CurveVectors<'_>>
     ensures { MatchOption result (the_curves_in_turn axis operands.now ≡ []) (λ v. the_curves_in_turn axis operands.now ≡ Stroke.Curve v.a v.b v.c ∷ the_curves_in_turn (the_other axis) v.rest.now) }
 {
-    let bow = spanned(operands)?;
+    let bow = curve_operands(operands)?;
     let a = axis.along(bow.begin);
     let c = axis.other().aside(bow.end, alone(bow.rest));
-    Some(Bend {
+    Some(CurveVectors {
         a,
         b: bow.middle,
         c,

@@ -1,6 +1,6 @@
 //! Whole OpenType files, and fonts in place.
 ghost use Rattle.std.specs.Prelude.{◌≡◌, ◌⊎◌, ℕ, ◌<◌, IfOk, IfErr, length};
-ghost use Rattle.postscript_items.specs.Lent.{items_of};
+ghost use Rattle.postscript_base.specs.Index.Lent.{items_of};
 
 use anyhow::{Context, Result};
 use postscript_drawing::LIMIT;

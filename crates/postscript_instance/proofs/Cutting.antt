@@ -11,7 +11,7 @@ use Rattle.postscript_type2.specs.declared.operation.Operator.{Operator}
 use Rattle.postscript_type2.specs.declared.operation.Operator.TheVariants.{HStem, VStem, VMoveTo, RLineTo, HLineTo, VLineTo, RRCurveTo, HStemHM, HintMask, CntrMask, RMoveTo, HMoveTo, VStemHM, RCurveLine, RLineCurve, VVCurveTo, HHCurveTo, VHCurveTo, HVCurveTo, HFlex, Flex, HFlex1, Flex1}
 use Rattle.postscript_type2.specs.Operation.Kinds.{Kind, Draws, kind}
 use Rattle.postscript_type2.specs.Operation.Lengths.{exactly, curves_of_four}
-use Rattle.postscript_variable.specs.Sayings.{Said}
+use Rattle.postscript_variable.specs.Sayings.{Phrase}
 use Rattle.postscript_instance.specs.Pieces.{IsPath, AreInPieces, nothing, as_it_is, in_pieces}
 use Rattle.postscript_instance.specs.Private as cuts
 use Rattle.postscript_instance.specs.Private.{is_cut, first_operator, first_count, front_of, rest_of, IsTooLong, IsWhole, AreCut, IsHeldOrCut, AreHeldOrCut, HasMoreUncut}
@@ -107,23 +107,23 @@ both-take HVCurveTo n is long h = (refl, grind (arith, nat_tests))
 both-take op n is long h = absurd (cc)
 
 -- what it is to be sayable, of an operator that draws
-sayable-drawn : (k : Kind) (stems after : ℕ) (x : Said) → IsDrawn k → SayableAs k stems x after → (x.stems ≡ []) × (x.mask ≡ []) × Takes k (length x.operands) × (after ≡ stems)
+sayable-drawn : (k : Kind) (stems after : ℕ) (x : Phrase) → IsDrawn k → SayableAs k stems x after → (x.stems ≡ []) × (x.mask ≡ []) × Takes k (length x.operands) × (after ≡ stems)
 sayable-drawn (Draws takes) stems after x drawn h = h
 sayable-drawn k stems after x drawn h = absurd drawn
 
-drawn-sayable : (k : Kind) (stems : ℕ) (x : Said) → IsDrawn k → x.stems ≡ [] → x.mask ≡ [] → Takes k (length x.operands) → SayableAs k stems x stems
+drawn-sayable : (k : Kind) (stems : ℕ) (x : Phrase) → IsDrawn k → x.stems ≡ [] → x.mask ≡ [] → Takes k (length x.operands) → SayableAs k stems x stems
 drawn-sayable (Draws takes) stems x drawn no_stems empty h = (no_stems, empty, h, refl)
 drawn-sayable k stems x drawn no_stems empty h = absurd drawn
 
 -- the pieces of what is sayable, of which the second goes on to the same stems
-record Pieces (stems next : ℕ) (x : Said) : Type 0 where
+record Pieces (stems next : ℕ) (x : Phrase) : Type 0 where
   whole : IsPath x
   front : IsPath (front_of x)
   rest : IsPath (rest_of x)
   front_said : IsSayable stems (front_of x) stems
   rest_said : IsSayable stems (rest_of x) next
 
-pieces : (stems next : ℕ) (x : Said) → IsTooLong x → IsSayable stems x next → Pieces stems next x
+pieces : (stems next : ℕ) (x : Phrase) → IsTooLong x → IsSayable stems x next → Pieces stems next x
 pieces stems next x long is =
     let op = x.operator in
     let n = first_count op (length x.operands) in
@@ -139,7 +139,7 @@ pieces stems next x long is =
       rest_said = subst (IsSayable stems (rest_of x)) (sym h.3) (drawn-sayable (kind op) stems (rest_of x) drawn.0 refl h.1 last);
     }
 
-pub cut-sayable : {says written : List Said} → AreCut says written → (stems after : ℕ) → AreSayable stems says after → AreSayable stems written after
+pub cut-sayable : {says written : List Phrase} → AreCut says written → (stems after : ℕ) → AreSayable stems says after → AreSayable stems written after
 cut-sayable cuts.none stems after h = h
 cut-sayable (cuts.whole x xs written is cut) stems after (more _ next _ _ _ here later) = more stems next after x written here (cut-sayable cut next after later)
 cut-sayable (cuts.piece x xs written long cut) stems after (more _ next _ _ _ here later) =
@@ -147,7 +147,7 @@ cut-sayable (cuts.piece x xs written long cut) stems after (more _ next _ _ _ he
     more stems stems after (front_of x) written are.front_said (cut-sayable cut stems after (more stems next after (rest_of x) xs are.rest_said later))
 
 -- one piece more before those of the rest
-one-more-piece : (x front rest : Said) (xs written : List Said) → 48 < length x.operands → IsPath x → IsPath front → IsPath rest →
+one-more-piece : (x front rest : Phrase) (xs written : List Phrase) → 48 < length x.operands → IsPath x → IsPath front → IsPath rest →
     strokes front.operator front.operands ++ strokes rest.operator rest.operands ≡ strokes x.operator x.operands → AreInPieces (rest ∷ xs) written → AreInPieces (x ∷ xs) (front ∷ written)
 one-more-piece x front rest xs _ long whole first last same (as_it_is _ _ written later) =
     let here = strokes front.operator front.operands in
@@ -157,7 +157,7 @@ one-more-piece x front rest xs _ long whole first last same (in_pieces _ parts _
     let here = strokes front.operator front.operands in
     in_pieces x (front ∷ parts) xs written long (record { whole = whole; parts = (first, is.parts); same = ap (λ ss. here ++ ss) is.same ∙ same }) later
 
-pub cut-in-pieces : {says written : List Said} → AreCut says written → (stems after : ℕ) → AreSayable stems says after → AreInPieces says written
+pub cut-in-pieces : {says written : List Phrase} → AreCut says written → (stems after : ℕ) → AreSayable stems says after → AreInPieces says written
 cut-in-pieces cuts.none stems after h = nothing
 cut-in-pieces (cuts.whole x xs written is cut) stems after (more _ next _ _ _ here later) = as_it_is x xs written (cut-in-pieces cut next after later)
 cut-in-pieces (cuts.piece x xs written long cut) stems after (more _ next _ _ _ here later) =
@@ -166,28 +166,28 @@ cut-in-pieces (cuts.piece x xs written long cut) stems after (more _ next _ _ _ 
     (cut-in-pieces cut stems after (more stems next after (rest_of x) xs are.rest_said later))
 
 -- the width is before no piece
-no-width : (width : Option ℤ) (x : Said) (xs : List Said) → is_cut x.operator ≡ true → BearsWidth width (x ∷ xs) → width ≡ None
+no-width : (width : Option ℤ) (x : Phrase) (xs : List Phrase) → is_cut x.operator ≡ true → BearsWidth width (x ∷ xs) → width ≡ None
 no-width None x xs is bears = refl
 no-width (Some w) x xs is bears = let never = (is-drawn x.operator is).2 in absurd (cc)
 
-pub cut-bears : {says written : List Said} (width : Option ℤ) → AreCut says written → BearsWidth width says → BearsWidth width written
+pub cut-bears : {says written : List Phrase} (width : Option ℤ) → AreCut says written → BearsWidth width says → BearsWidth width written
 cut-bears None cut bears = tt
 cut-bears (Some w) cuts.none bears = tt
 cut-bears (Some w) (cuts.whole x xs written is cut) bears = bears
 cut-bears (Some w) (cuts.piece x xs written long cut) bears = let never = no-width (Some w) x xs long.0 bears in absurd (cc)
 
 -- the numbers before a path operator are its operands
-alone-before : (width : Option ℤ) (x : Said) → width ≡ None → x.stems ≡ [] → numbers_of width x ≡ x.operands
+alone-before : (width : Option ℤ) (x : Phrase) → width ≡ None → x.stems ≡ [] → numbers_of width x ≡ x.operands
 alone-before width x no_width no_stems = ap (λ w. width_numbers w ++ (x.stems ++ x.operands)) no_width ∙ ap (λ ss. ss ++ x.operands) no_stems
 
-held-in : (stems next : ℕ) (width : Option ℤ) (x : Said) (xs : List Said) → IsWhole x → IsSayable stems x next → IsHeldOrCut width x → BearsWidth width (x ∷ xs) → length (numbers_of width x) ≤ 48
+held-in : (stems next : ℕ) (width : Option ℤ) (x : Phrase) (xs : List Phrase) → IsWhole x → IsSayable stems x next → IsHeldOrCut width x → BearsWidth width (x ∷ xs) → length (numbers_of width x) ≤ 48
 held-in stems next width x xs whole here (inr few) bears = few
 held-in stems next width x xs (inl never) here (inl is) bears = absurd (cc)
 held-in stems next width x xs (inr few) here (inl is) bears =
     let h = sayable-drawn (kind x.operator) stems next x (is-drawn x.operator is).0 here in
     subst (λ nums. length nums ≤ 48) (sym (alone-before width x (no-width width x xs is bears) h.0)) few
 
-pub cut-fits : {says written : List Said} → AreCut says written → (stems after : ℕ) (width : Option ℤ) → AreSayable stems says after → AreHeldOrCut width says → BearsWidth width says → Fits width written
+pub cut-fits : {says written : List Phrase} → AreCut says written → (stems after : ℕ) (width : Option ℤ) → AreSayable stems says after → AreHeldOrCut width says → BearsWidth width says → Fits width written
 cut-fits cuts.none stems after width h held bears = tt
 cut-fits (cuts.whole x xs written is cut) stems after width (more _ next _ _ _ here later) held bears =
     (held-in stems next width x xs is here held.0 bears, cut-fits cut next after None later held.1 tt)
@@ -201,7 +201,7 @@ cut-fits (cuts.piece x xs written long cut) stems after width (more _ next _ _ _
     )
 
 -- what is not cut and has more than a stack holds is a hint: a move or a flex has thirteen operands at most
-few-drawn : (m : ℕ) (width : Option ℤ) (x : Said) → m ≤ 13 → x.stems ≡ [] → IsTrue (exactly m (length x.operands)) → 48 < length (numbers_of width x) → ⊥
+few-drawn : (m : ℕ) (width : Option ℤ) (x : Phrase) → m ≤ 13 → x.stems ≡ [] → IsTrue (exactly m (length x.operands)) → 48 < length (numbers_of width x) → ⊥
 few-drawn m width x low no_stems is many =
     let same : length x.operands ≡ m = exact m (length x.operands) is in
     let one = width-few width in
@@ -216,7 +216,7 @@ few-drawn m width x low no_stems is many =
     width-few None = omega arith
     width-few (Some w) = omega arith
 
-is-hint : (op : Operator) (stems next : ℕ) (width : Option ℤ) (x : Said) → is_cut op ≡ false → SayableAs (kind op) stems x next → 48 < length (numbers_of width x) → IsHint (kind op)
+is-hint : (op : Operator) (stems next : ℕ) (width : Option ℤ) (x : Phrase) → is_cut op ≡ false → SayableAs (kind op) stems x next → 48 < length (numbers_of width x) → IsHint (kind op)
 is-hint HStem stems next width x uncut h many = tt
 is-hint VStem stems next width x uncut h many = tt
 is-hint HStemHM stems next width x uncut h many = tt
@@ -242,6 +242,6 @@ is-hint VHCurveTo stems next width x uncut h many = absurd (cc)
 is-hint HVCurveTo stems next width x uncut h many = absurd (cc)
 is-hint op stems next width x uncut h many = absurd h
 
-pub hints-more : {width : Option ℤ} {says : List Said} → HasMoreUncut width says → (stems after : ℕ) → AreSayable stems says after → HasMore width says
+pub hints-more : {width : Option ℤ} {says : List Phrase} → HasMoreUncut width says → (stems after : ℕ) → AreSayable stems says after → HasMore width says
 hints-more (cuts.here width x xs uncut many) stems after (more _ next _ _ _ here later) = refusals.here width x xs (is-hint x.operator stems next width x uncut here many) many
 hints-more (cuts.later width x xs rest) stems after (more _ next _ _ _ here later) = refusals.later width x xs (hints-more rest next after later)

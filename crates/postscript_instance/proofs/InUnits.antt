@@ -11,7 +11,7 @@ use Rattle.postscript_type2.specs.Operation.Kinds.{kind}
 use Rattle.postscript_type2.specs.Operation.Lengths.{groups}
 use Rattle.postscript_type2.specs.Program.OperatorRules.{IsHeld}
 use Rattle.postscript_variable.specs.declared.charstring.Charstring.{Charstring}
-use Rattle.postscript_variable.specs.Sayings.{Said}
+use Rattle.postscript_variable.specs.Sayings.{Phrase}
 use Rattle.postscript_variable.specs.Told.{Says}
 use Rattle.postscript_instance.specs.declared.error.Error.{Error}
 use Rattle.postscript_instance.specs.declared.error.Error.TheVariants as errors
@@ -36,7 +36,7 @@ edges-length from [] = refl
 edges-length from (x ∷ xs) = let rest = edges-length (from +ℤ x) xs in omega (arith, rest)
 
 -- one operator, with its operands
-abbrev one : Operator → (stems operands : List ℤ) → (mask : List ℕ) → Said
+abbrev one : Operator → (stems operands : List ℤ) → (mask : List ℕ) → Phrase
 one op stems operands mask = record { operator = op; stems = stems; operands = operands; mask = mask }
 
 -- as many edges as there were
@@ -74,7 +74,7 @@ one-sayable HFlex1 ss xs mask p stems next h = (ap (rounded_edges (pos 0)) h.0, 
 one-sayable Flex1 ss xs mask p stems next h = (ap (rounded_edges (pos 0)) h.0, h.1, (in-units Flex1 p xs h.2).takes, h.3)
 one-sayable op ss xs mask p stems next h = absurd h
 
-pub all-sayable : {says : List Said} (p : Point) (stems after : ℕ) → AreSayable stems says after → AreSayable stems (all_in_units p says) after
+pub all-sayable : {says : List Phrase} (p : Point) (stems after : ℕ) → AreSayable stems says after → AreSayable stems (all_in_units p says) after
 all-sayable p stems after (none _) = none stems
 all-sayable p stems after (more _ next _ x xs is rest) =
     more stems next after (in_units p x) (all_in_units (behind_steps p (steps_of x.operator x.operands)) xs) (one-sayable x.operator x.stems x.operands x.mask p stems next is)
@@ -94,7 +94,7 @@ edges-near : (ds : List ℤ) → edges_of (rounded_edges (pos 0) ds) ≡ map nea
 edges-near ds = ap (λ z. edges_from z (rounded_edges (pos 0) ds)) (sym at-origin) ∙ edges-from (pos 0) ds
 
 -- each is what was said, rounded, and the pen stands where it stood
-record Goes (p : Point) (x : Said) : Type 0 where
+record Goes (p : Point) (x : Phrase) : Type 0 where
   rounded : IsRounded p x (in_units p x)
   place : behind_steps p (steps_of x.operator x.operands) ≡ behind p (strokes x.operator x.operands)
 
@@ -182,7 +182,7 @@ one-goes Flex1 ss xs mask p stems next h at_p near =
     record { rounded = record { operator = refl; drawn = is.same; in_range = is.range at_p near; depth = units.depth; edges = λ hint. absurd hint; stems = edges-near ss; mask = refl }; place = is.behind }
 one-goes op ss xs mask p stems next h at_p near = absurd h
 
-pub all-rounded : {says : List Said} (p : Point) (stems after : ℕ) → AreSayable stems says after → IsInRange p → AreNear p says → AreRounded p says (all_in_units p says)
+pub all-rounded : {says : List Phrase} (p : Point) (stems after : ℕ) → AreSayable stems says after → IsInRange p → AreNear p says → AreRounded p says (all_in_units p says)
 all-rounded p stems after (none _) at_p near = tt
 all-rounded p stems after (more _ next _ x xs is rest) at_p near =
     let goes = one-goes x.operator x.stems x.operands x.mask p stems next is at_p near.0.steps in
@@ -230,7 +230,7 @@ one-whole HFlex1 ss xs mask p stems next h = subst AreWhole (sym (in-units HFlex
 one-whole Flex1 ss xs mask p stems next h = subst AreWhole (sym (in-units Flex1 p xs h.2).uses) (steps-whole p (steps_of Flex1 xs))
 one-whole op ss xs mask p stems next h = absurd h
 
-all-whole : {says : List Said} (p : Point) (stems after : ℕ) → AreSayable stems says after → AreInUnits (all_in_units p says)
+all-whole : {says : List Phrase} (p : Point) (stems after : ℕ) → AreSayable stems says after → AreInUnits (all_in_units p says)
 all-whole p stems after (none _) = tt
 all-whole p stems after (more _ next _ x xs is rest) =
     (edges-whole (pos 0) x.stems, one-whole x.operator x.stems x.operands x.mask p stems next is, all-whole (behind_steps p (steps_of x.operator x.operands)) next after rest)
@@ -259,7 +259,7 @@ uses-all VHCurveTo xs is = (refl, refl)
 uses-all HVCurveTo xs is = (refl, refl)
 uses-all op xs is = absurd (cc)
 
-cut-whole : {says written : List Said} → AreCut says written → AreInUnits says → AreInUnits written
+cut-whole : {says written : List Phrase} → AreCut says written → AreInUnits says → AreInUnits written
 cut-whole cuts.none are = tt
 cut-whole (cuts.whole x xs written is cut) are = (are.0, are.1, cut-whole cut are.2)
 cut-whole (cuts.piece x xs written long cut) are =
@@ -270,7 +270,7 @@ cut-whole (cuts.piece x xs written long cut) are =
     (are.0, front, cut-whole cut (tt, rest, are.2))
 
 -- a charstring in whole units
-pub rounded-of : (charstring : Charstring) (width : Option ℤ) (code : List ℕ) (says whole : List Said) → Says charstring says → whole ≡ all_in_units origin says → AreNear origin says →
+pub rounded-of : (charstring : Charstring) (width : Option ℤ) (code : List ℕ) (says whole : List Phrase) → Says charstring says → whole ≡ all_in_units origin says → AreNear origin says →
     IsWritten width whole [] code → AreHeldOrCut width whole → BearsWidth width whole → IsRoundedOf charstring width code
 rounded-of charstring width code says whole said same near is held bears =
     let after = said.last.stems in
@@ -321,7 +321,7 @@ hint-count op ss xs mask p width h = absurd h
 no-more : (width : Option ℤ) → HasMore width [] → ⊥
 no-more width h = elim h [ ]
 
-more-before : (width : Option ℤ) (p : Point) (says : List Said) → HasMore width (all_in_units p says) → HasMore width says
+more-before : (width : Option ℤ) (p : Point) (says : List Phrase) → HasMore width (all_in_units p says) → HasMore width says
 more-before width p [] h = absurd (no-more width h)
 more-before width p (x ∷ xs) (here _ _ _ is many) =
     let hint = hint-before x.operator is in
@@ -335,12 +335,12 @@ bears-before HFlex1 h = refl
 bears-before Flex1 h = refl
 bears-before op h = h
 
-lacks-before : (width : Option ℤ) (p : Point) (says : List Said) → LacksMove width (all_in_units p says) → LacksMove width says
+lacks-before : (width : Option ℤ) (p : Point) (says : List Phrase) → LacksMove width (all_in_units p says) → LacksMove width says
 lacks-before None p says h = absurd h
 lacks-before (Some w) p [] h = absurd h
 lacks-before (Some w) p (x ∷ xs) h = bears-before x.operator h
 
-unwritten : (charstring : Charstring) (width : Option ℤ) (says : List Said) (e : Error) → Says charstring says → IsUnwritten width (all_in_units origin says) e → NotRounded charstring width e
+unwritten : (charstring : Charstring) (width : Option ℤ) (says : List Phrase) (e : Error) → Says charstring says → IsUnwritten width (all_in_units origin says) e → NotRounded charstring width e
 unwritten charstring width says (errors.Font e) said is = subst (λ cause. NotRounded charstring width (errors.Font cause)) (sym is) tt
 unwritten charstring width says errors.TooManyOperands said is =
     let after = said.last.stems in
@@ -404,7 +404,7 @@ place-of HFlex1 ss xs mask p stems next h = (in-units HFlex1 p xs h.2).agrees.be
 place-of Flex1 ss xs mask p stems next h = (in-units Flex1 p xs h.2).agrees.behind
 place-of op ss xs mask p stems next h = absurd h
 
-leads-out : {says : List Said} (p : Point) (stems after : ℕ) → AreSayable stems says after → LeadsTooFar p says → LeadsOut p says
+leads-out : {says : List Phrase} (p : Point) (stems after : ℕ) → AreSayable stems says after → LeadsTooFar p says → LeadsOut p says
 leads-out p stems after (none _) leads = absurd (nothing-leads p leads)
   where
     nothing-leads : (p : Point) → LeadsTooFar p [] → ⊥
@@ -414,19 +414,19 @@ leads-out p stems after (more _ next _ x xs is rest) (axes.here _ _ _ far) =
 leads-out p stems after (more _ next _ x xs is rest) (axes.later _ _ _ leads) =
     outs.later p x xs (subst (λ z. LeadsOut z xs) (place-of x.operator x.stems x.operands x.mask p stems next is) (leads-out (behind_steps p (steps_of x.operator x.operands)) next after rest leads))
 
-too-far : (charstring : Charstring) (width : Option ℤ) (says : List Said) (e : Error) → Says charstring says → IsFar (LeadsTooFar origin says) e → NotRounded charstring width e
+too-far : (charstring : Charstring) (width : Option ℤ) (says : List Phrase) (e : Error) → Says charstring says → IsFar (LeadsTooFar origin says) e → NotRounded charstring width e
 too-far charstring width says (errors.Font e) said is = subst (λ cause. NotRounded charstring width (errors.Font cause)) (sym is) tt
 too-far charstring width says errors.TooFar said is =
     let after = said.last.stems in
     (says, said, leads-out origin 0 after (subst (λ ys. AreSayable 0 ys after) (sym said.all) (sayable said.run)) is)
 too-far charstring width says e said is = absurd is
 
-pub unwritten-on : {A : Type 0} (charstring : Charstring) (width : Option ℤ) (says : List Said) (r : Result A Error) (e : Error) → IsErrAnd r (λ x. x ≡ e) → Says charstring says →
+pub unwritten-on : {A : Type 0} (charstring : Charstring) (width : Option ℤ) (says : List Phrase) (r : Result A Error) (e : Error) → IsErrAnd r (λ x. x ≡ e) → Says charstring says →
     IsUnwritten width (all_in_units origin says) e → IfErr r (λ x. NotRounded charstring width x)
 unwritten-on charstring width says (Ok x) e same said is = absurd same
 unwritten-on charstring width says (Err x) e same said is = subst (NotRounded charstring width) (sym same) (unwritten charstring width says e said is)
 
-pub too-far-on : {A : Type 0} (charstring : Charstring) (width : Option ℤ) (says : List Said) (r : Result A Error) (e : Error) → IsErrAnd r (λ x. x ≡ e) → Says charstring says →
+pub too-far-on : {A : Type 0} (charstring : Charstring) (width : Option ℤ) (says : List Phrase) (r : Result A Error) (e : Error) → IsErrAnd r (λ x. x ≡ e) → Says charstring says →
     IsFar (LeadsTooFar origin says) e → IfErr r (λ x. NotRounded charstring width x)
 too-far-on charstring width says (Ok x) e same said is = absurd same
 too-far-on charstring width says (Err x) e same said is = subst (NotRounded charstring width) (sym same) (too-far charstring width says e said is)

@@ -15,7 +15,7 @@ use Rattle.postscript_type2.proofs.MeaningLaws as means
 use Rattle.postscript_variable.specs.declared.charstring.Charstring.{Charstring}
 use Rattle.postscript_variable.specs.Meaning.{End, UsedUp}
 use Rattle.postscript_variable.specs.Programs.{end_of}
-use Rattle.postscript_variable.specs.Sayings.{Said}
+use Rattle.postscript_variable.specs.Sayings.{Phrase}
 use Rattle.postscript_variable.specs.Told.{answer_of}
 use Rattle.postscript_variable.proofs.MeaningLaws as varied
 use Rattle.postscript_variable.proofs.SaysLaws as says
@@ -25,15 +25,15 @@ use Rattle.postscript_instance.specs.Pieces.{strokes_of, AreInPieces, nothing, a
 use Rattle.postscript_instance.specs.Statics.{answer_with, IsStaticOf}
 
 -- what is answered of what is said, whatever the width
-operations-with : (width : Option ℤ) (xs : List Said) → map operation (map (answer_with width) xs) ≡ map operation_of xs
+operations-with : (width : Option ℤ) (xs : List Phrase) → map operation (map (answer_with width) xs) ≡ map operation_of xs
 operations-with width [] = refl
 operations-with width (x ∷ xs) = ap (λ ys. operation_of x ∷ ys) (operations-with width xs)
 
-operations-of : (xs : List Said) → map operation (map answer_of xs) ≡ map operation_of xs
+operations-of : (xs : List Phrase) → map operation (map answer_of xs) ≡ map operation_of xs
 operations-of [] = refl
 operations-of (x ∷ xs) = ap (λ ys. operation_of x ∷ ys) (operations-of xs)
 
-all-widths : (width : Option ℤ) (xs : List Said) → All (λ answer. answer.width ≡ width) (map (answer_with width) xs)
+all-widths : (width : Option ℤ) (xs : List Phrase) → All (λ answer. answer.width ≡ width) (map (answer_with width) xs)
 all-widths width [] = All-nil (λ answer. answer.width ≡ width)
 all-widths width (x ∷ xs) = All-cons (λ answer. answer.width ≡ width) (answer_with width x) (map (answer_with width) xs) refl (all-widths width xs)
 
@@ -41,7 +41,7 @@ all-widths width (x ∷ xs) = All-cons (λ answer. answer.width ≡ width) (answ
 abbrev IsFew : Answer → Type 0
 IsFew answer = length answer.operands ≤ 48
 
-not-in-pieces : {xs ys : List Said} → AreInPieces xs ys → All IsFew (map answer_of xs) → ys ≡ xs
+not-in-pieces : {xs ys : List Phrase} → AreInPieces xs ys → All IsFew (map answer_of xs) → ys ≡ xs
 not-in-pieces nothing few = refl
 not-in-pieces (as_it_is x xs ys rest) few = ap (λ zs. x ∷ zs) (not-in-pieces rest (All-tail IsFew (answer_of x) (map answer_of xs) few))
 not-in-pieces (in_pieces x pieces xs ys many is rest) few = let here = All-head IsFew (answer_of x) (map answer_of xs) few in absurd (omega (arith, many, here))
@@ -84,13 +84,13 @@ law charstring width code static answers end varies lists run is =
     )
 
 -- the strokes of all that is said are those of the pieces
-strokes-append : (xs ys : List Said) → strokes_of (xs ++ ys) ≡ strokes_of xs ++ strokes_of ys
+strokes-append : (xs ys : List Phrase) → strokes_of (xs ++ ys) ≡ strokes_of xs ++ strokes_of ys
 strokes-append [] ys = refl
 strokes-append (x ∷ xs) ys =
     let here = strokes x.operator x.operands in
     ap (λ ss. here ++ ss) (strokes-append xs ys) ∙ sym (append_assoc here (strokes_of xs) (strokes_of ys))
 
-pub same-strokes : {xs ys : List Said} → AreInPieces xs ys → strokes_of ys ≡ strokes_of xs
+pub same-strokes : {xs ys : List Phrase} → AreInPieces xs ys → strokes_of ys ≡ strokes_of xs
 same-strokes nothing = refl
 same-strokes (as_it_is x xs ys rest) = ap (λ ss. strokes x.operator x.operands ++ ss) (same-strokes rest)
 same-strokes (in_pieces x pieces xs ys many is rest) =
@@ -101,7 +101,7 @@ same-next : (r : Result Drawing Refusal) (f g : Drawing → Result Drawing Refus
 same-next (Ok d) f g same = same d
 same-next (Err e) f g same = refl
 
-pub drawn-with : (f : Said → Answer) → ((x : Said) → operation (f x) ≡ operation_of x) → (xs : List Said) (d : Drawing) → drawing_of (map f xs) d ≡ drawing (strokes_of xs) d
+pub drawn-with : (f : Phrase → Answer) → ((x : Phrase) → operation (f x) ≡ operation_of x) → (xs : List Phrase) (d : Drawing) → drawing_of (map f xs) d ≡ drawing (strokes_of xs) d
 drawn-with f same [] d = refl
 drawn-with f same (x ∷ xs) d =
     let here : strokes (f x).operator (f x).operands ≡ strokes x.operator x.operands = ap (λ (o : Operator × List ℤ). strokes o.0 o.1) (same x) in

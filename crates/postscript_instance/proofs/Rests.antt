@@ -5,7 +5,7 @@ use Rattle.std.proofs.Math.ListN.{drop_of_length-le}
 use Rattle.std.proofs.lemmas.Bool.Decides.{nat_tests}
 use Rattle.postscript_variable.specs.declared.sayings.Saying.{Saying}
 use Rattle.postscript_variable.specs.Defaults.{AreHeld}
-use Rattle.postscript_variable.specs.Sayings.{Said}
+use Rattle.postscript_variable.specs.Sayings.{Phrase}
 use Rattle.postscript_variable.specs.Told.{said_of}
 use Rattle.postscript_type2.specs.Program.OperatorRules.{IsHeld}
 use Rattle.postscript_instance.specs.Numbers.{number_text, numbers_text}
@@ -37,10 +37,10 @@ neither true held b is h = absurd (cc)
 neither false held b is h = (refl, sym is ∙ h)
 
 -- whether there is room for the numbers before an operator, as a test
-abbrev pub room : Option ℤ → Said → Bool
+abbrev pub room : Option ℤ → Phrase → Bool
 room width x = is_cut x.operator || nat_le (length (numbers_of width x)) 48
 
-pub room-held : (width : Option ℤ) (x : Said) (b : Bool) → b ≡ room width x → b ≡ true → IsHeldOrCut width x
+pub room-held : (width : Option ℤ) (x : Phrase) (b : Bool) → b ≡ room width x → b ≡ true → IsHeldOrCut width x
 room-held width x b is h = elim (either (is_cut x.operator) (nat_le (length (numbers_of width x)) 48) b is h) [
   | inl cut ↦ inl cut
   | inr few ↦ inr (held-few (length (numbers_of width x)) _ refl few)
@@ -62,7 +62,7 @@ many-here xs i x width b e h is never =
     subst (HasMoreUncut width) (sym (rest-more xs i x e h)) (here width (said_of x) (map said_of (drop (i + 1) xs)) both.0 (held-many n _ refl both.1))
 
 -- what is written of one, and of the rest
-joined-text : (width : Option ℤ) (x : Said) (xs : List Said) (old mid new : List ℕ) → mid ≡ old ++ (phrase_text width x ++ x.mask) → new ≡ mid ++ code_text None xs →
+joined-text : (width : Option ℤ) (x : Phrase) (xs : List Phrase) (old mid new : List ℕ) → mid ≡ old ++ (phrase_text width x ++ x.mask) → new ≡ mid ++ code_text None xs →
     new ≡ old ++ code_text width (x ∷ xs)
 joined-text width x xs old mid new put rest =
     let behind = code_text None xs in
@@ -77,12 +77,12 @@ written-none width old mid new first last held = record {
   held = held;
 }
 
-pub written-whole : (width : Option ℤ) (x : Said) (xs : List Said) (old mid new : List ℕ) → IsWhole x → mid ≡ old ++ (phrase_text width x ++ x.mask) → AreHeld (numbers_of width x) →
+pub written-whole : (width : Option ℤ) (x : Phrase) (xs : List Phrase) (old mid new : List ℕ) → IsWhole x → mid ≡ old ++ (phrase_text width x ++ x.mask) → AreHeld (numbers_of width x) →
     IsWritten None xs mid new → IsWritten width (x ∷ xs) old new
 written-whole width x xs old mid new is put held rest =
     record { written = x ∷ rest.written; cut = whole x xs rest.written is rest.cut; text = joined-text width x rest.written old mid new put rest.text; held = (held, rest.held) }
 
-pub written-piece : (width : Option ℤ) (x front behind : Said) (xs : List Said) (old mid new : List ℕ) → IsTooLong x → front ≡ front_of x → behind ≡ rest_of x →
+pub written-piece : (width : Option ℤ) (x front behind : Phrase) (xs : List Phrase) (old mid new : List ℕ) → IsTooLong x → front ≡ front_of x → behind ≡ rest_of x →
     mid ≡ old ++ (phrase_text width front ++ front.mask) → AreHeld (numbers_of width front) → IsWritten None (behind ∷ xs) mid new → IsWritten width (x ∷ xs) old new
 written-piece width x front behind xs old mid new is first last put held rest = record {
   written = front ∷ rest.written;

@@ -23,7 +23,7 @@ use Rattle.postscript_variable.specs.declared.charstring.Charstring.{Charstring}
 use Rattle.postscript_variable.specs.Charstrings.{font_from, IsRunFrom}
 use Rattle.postscript_variable.specs.Meaning.{End, UsedUp}
 use Rattle.postscript_variable.specs.Programs.{end_of}
-use Rattle.postscript_variable.specs.Sayings.{Said}
+use Rattle.postscript_variable.specs.Sayings.{Phrase}
 use Rattle.postscript_variable.specs.Told.{answer_of}
 use Rattle.postscript_variable.proofs.BlendLaws.{fit-held}
 use Rattle.postscript_variable.proofs.MeaningLaws as varied
@@ -182,7 +182,7 @@ drawing-near (Curve a b c ∷ ss) d range =
     ap (λ z. z >>= drawing (rounded_strokes r ss)) (drawn-curve a b c d range.1 range.2 (range-first r ss range.3)) ∙ drawing-near ss (go (Curve a b c) d) range.3
 
 -- all that is said
-rounded-all : (p : Point) (xs ys : List Said) → IsInRange p → AreRounded p xs ys → (strokes_of ys ≡ rounded_strokes p (strokes_of xs)) × AreInRange p (strokes_of xs)
+rounded-all : (p : Point) (xs ys : List Phrase) → IsInRange p → AreRounded p xs ys → (strokes_of ys ≡ rounded_strokes p (strokes_of xs)) × AreInRange p (strokes_of xs)
 rounded-all p [] [] here are = (refl, here)
 rounded-all p [] (y ∷ ys) here are = absurd are
 rounded-all p (x ∷ xs) [] here are = absurd are

@@ -20,7 +20,7 @@ use Rattle.postscript_type2.proofs.OperatorLaws as operators
 use Rattle.postscript_variable.specs.declared.charstring.Charstring.{Charstring}
 use Rattle.postscript_variable.specs.Told.{Says}
 use Rattle.postscript_variable.specs.Defaults.{AreHeld}
-use Rattle.postscript_variable.specs.Sayings.{Said}
+use Rattle.postscript_variable.specs.Sayings.{Phrase}
 use Rattle.postscript_instance.specs.Numbers.{numbers_text}
 use Rattle.postscript_instance.specs.Private.{AreHeldIn, AreHeldOrCut, HasMoreUncut, IsUnwritten, IsWritten}
 use Rattle.postscript_instance.specs.declared.error.Error.{Error}
@@ -41,7 +41,7 @@ abbrev Bears : Option ℤ → Operator → Type 0
 Bears (Some width) op = bears_width op ≡ true
 Bears None op = Unit {0}
 
-answered-kind : (k : Kind) (stems after : ℕ) (x : Said) → SayableAs k stems x after → IsAnswered k
+answered-kind : (k : Kind) (stems after : ℕ) (x : Phrase) → SayableAs k stems x after → IsAnswered k
 answered-kind k stems after x h = grind arith
 
 -- no more than its operands is taken of a stack with the width beneath them
@@ -89,7 +89,7 @@ stems-counted stems before write pairs n after twice is =
     rw is (in_pairs n (length (width_numbers write)) few (omega (arith, all, twice)))
 
 -- an operator over what is written before it
-step-as : (k : Kind) (lists : Lists) (x : Said) (behind : List ℕ) (stems after : ℕ) (before : Option (Option ℤ)) (write width : Option ℤ) → kind x.operator ≡ k → SayableAs k stems x after →
+step-as : (k : Kind) (lists : Lists) (x : Phrase) (behind : List ℕ) (stems after : ℕ) (before : Option (Option ℤ)) (write width : Option ℤ) → kind x.operator ≡ k → SayableAs k stems x after →
     IsSettled before (width_numbers write) width → Bears write x.operator →
     Does lists x.operator (x.mask ++ behind) (pushed (numbers_of write x) (at_stems stems before)) (Clears x.operands x.stems after width (length x.mask))
 step-as (Draws takes) lists x behind stems after before write width k h settled bears =
@@ -117,7 +117,7 @@ step-as GoesBack lists x behind stems after before write width k h settled bears
 step-as EndsGlyph lists x behind stems after before write width k h settled bears = absurd h
 step-as (IsRefused part) lists x behind stems after before write width k h settled bears = absurd h
 
-moves : (lists : Lists) (x : Said) (behind : List ℕ) (stems after : ℕ) (before : Option (Option ℤ)) (write width : Option ℤ) → IsSayable stems x after → AreHeld (numbers_of write x) →
+moves : (lists : Lists) (x : Phrase) (behind : List ℕ) (stems after : ℕ) (before : Option (Option ℤ)) (write width : Option ℤ) → IsSayable stems x after → AreHeld (numbers_of write x) →
     IsSettled before (width_numbers write) width → Bears write x.operator →
     Moves lists (at_stems stems before) (phrase_text write x) (numbers_of write x) x.operator (x.mask ++ behind) (Clears x.operands x.stems after width (length x.mask))
 moves lists x behind stems after before write width is held settled bears = record {
@@ -127,16 +127,16 @@ moves lists x behind stems after before write width is held settled bears = reco
 }
 
 -- what a code means, with the phrases of its run
-record MeansSo (lists : Lists) (code : List ℕ) (st : State) (write width : Option ℤ) (xs : List Said) : Type 0 where
-  trace : List runs.Said
+record MeansSo (lists : Lists) (code : List ℕ) (st : State) (write width : Option ℤ) (xs : List Phrase) : Type 0 where
+  trace : List runs.Phrase
   means : Means lists 0 code st (map (answer_with width) xs) trace (Finished [] width)
   spelled : AreSpelled write xs trace
 
-first-bears : (write : Option ℤ) (x : Said) (xs : List Said) → BearsWidth write (x ∷ xs) → Bears write x.operator
+first-bears : (write : Option ℤ) (x : Phrase) (xs : List Phrase) → BearsWidth write (x ∷ xs) → Bears write x.operator
 first-bears None x xs h = tt
 first-bears (Some w) x xs h = h
 
-means-so : (lists : Lists) (xs : List Said) (stems after : ℕ) (before : Option (Option ℤ)) (write width : Option ℤ) → AreSayable stems xs after → AreHeldIn write xs →
+means-so : (lists : Lists) (xs : List Phrase) (stems after : ℕ) (before : Option (Option ℤ)) (write width : Option ℤ) → AreSayable stems xs after → AreHeldIn write xs →
     IsSettled before (width_numbers write) width → BearsWidth write xs → MeansSo lists (code_text write xs) (at_stems stems before) write width xs
 means-so lists [] stems after before write width sayable held settled bears =
     let nums = width_numbers write in
@@ -164,7 +164,7 @@ settles None = does.nothing_beneath
 settles (Some w) = does.operand_beneath [] w
 
 -- the run of what is written, over any subroutines
-pub says-so : (lists : Lists) (xs : List Said) (after : ℕ) (width : Option ℤ) (code : List ℕ) → code ≡ code_text width xs → AreSayable 0 xs after → AreHeldIn width xs → BearsWidth width xs →
+pub says-so : (lists : Lists) (xs : List Phrase) (after : ℕ) (width : Option ℤ) (code : List ℕ) → code ≡ code_text width xs → AreSayable 0 xs after → AreHeldIn width xs → BearsWidth width xs →
     SaysSo lists code width xs
 says-so lists xs after width code is sayable held bears =
     let h = means-so lists xs 0 after None width width sayable held (settles width) bears in record {
@@ -176,7 +176,7 @@ says-so lists xs after width code is sayable held bears =
     }
 
 -- and so what is written does what the charstring does
-pub static-of : (charstring : Charstring) (width : Option ℤ) (code : List ℕ) (says : List Said) → Says charstring says → IsWritten width says [] code → AreHeldOrCut width says →
+pub static-of : (charstring : Charstring) (width : Option ℤ) (code : List ℕ) (says : List Phrase) → Says charstring says → IsWritten width says [] code → AreHeldOrCut width says →
     BearsWidth width says → IsStaticOf charstring width code
 static-of charstring width code says said is held bears =
     let after = said.last.stems in
@@ -193,18 +193,18 @@ static-of charstring width code says said is held bears =
     }
 
 -- what is not written for its numbers has hints with too many
-too-many : (charstring : Charstring) (width : Option ℤ) (says : List Said) → Says charstring says → HasMoreUncut width says → HasMore width says
+too-many : (charstring : Charstring) (width : Option ℤ) (says : List Phrase) → Says charstring says → HasMoreUncut width says → HasMore width says
 too-many charstring width says said many =
     let after = said.last.stems in
     hints-more many 0 after (subst (λ ys. AreSayable 0 ys after) (sym said.all) (sayable said.run))
 
-unwritten : (charstring : Charstring) (width : Option ℤ) (says : List Said) (e : Error) → Says charstring says → IsUnwritten width says e → NotWritten charstring width e
+unwritten : (charstring : Charstring) (width : Option ℤ) (says : List Phrase) (e : Error) → Says charstring says → IsUnwritten width says e → NotWritten charstring width e
 unwritten charstring width says (errors.Font e) said is = subst (λ cause. NotWritten charstring width (errors.Font cause)) (sym is) tt
 unwritten charstring width says errors.TooManyOperands said is = (says, said, too-many charstring width says said is)
 unwritten charstring width says errors.NoMove said is = (says, said, is)
 unwritten charstring width says e said is = absurd is
 
-pub refused-on : {A : Type 0} (charstring : Charstring) (width : Option ℤ) (says : List Said) (r : Result A Error) (e : Error) → IsErrAnd r (λ x. x ≡ e) → Says charstring says →
+pub refused-on : {A : Type 0} (charstring : Charstring) (width : Option ℤ) (says : List Phrase) (r : Result A Error) (e : Error) → IsErrAnd r (λ x. x ≡ e) → Says charstring says →
     IsUnwritten width says e → IfErr r (λ x. NotWritten charstring width x)
 refused-on charstring width says (Ok x) e same said is = absurd same
 refused-on charstring width says (Err x) e same said is = subst (NotWritten charstring width) (sym same) (unwritten charstring width says e said is)

@@ -15,12 +15,12 @@ use Rattle.postscript_variable.specs.Meaning as rules
 use Rattle.postscript_variable.specs.Meaning.{End, UsedUp, Stopped, Means}
 use Rattle.postscript_variable.specs.OperatorRules as does
 use Rattle.postscript_variable.specs.OperatorRules.{Does, StemsAfter, in_pairs}
-use Rattle.postscript_variable.specs.Sayings.{Said, said, implied_by}
+use Rattle.postscript_variable.specs.Sayings.{Phrase, said, implied_by}
 use Rattle.postscript_variable.specs.Told.{told}
 use Rattle.postscript_variable.proofs.OperatorLaws as operators
 
 -- so many stems before and after what an operator of a kind says
-abbrev pub SayableAs : Kind → (stems : ℕ) → Said → (after : ℕ) → Type 0
+abbrev pub SayableAs : Kind → (stems : ℕ) → Phrase → (after : ℕ) → Type 0
 SayableAs (Draws takes) stems x after = (x.stems ≡ []) × (x.mask ≡ []) × IsTrue (takes (length x.operands)) × (after ≡ stems)
 SayableAs (DeclaresStems takes) stems x after =
     (x.stems ≡ []) × (x.mask ≡ []) × IsTrue (takes (length x.operands)) × (after < 2 ^ 32) × ((n : ℕ) × (length x.operands ≡ n * 2) × (after ≡ stems + n))
@@ -28,14 +28,14 @@ SayableAs (Masks takes) stems x after =
     (x.operands ≡ []) × (length x.mask ≡ mask_len after) × (after < 2 ^ 32) × ((n : ℕ) × (length x.stems ≡ n * 2) × (after ≡ stems + n))
 SayableAs kind stems x after = ⊥
 
-abbrev pub IsSayable : (stems : ℕ) → Said → (after : ℕ) → Type 0
+abbrev pub IsSayable : (stems : ℕ) → Phrase → (after : ℕ) → Type 0
 IsSayable stems x after = SayableAs (kind x.operator) stems x after
 
-pub data AreSayable : (stems : ℕ) → List Said → (after : ℕ) → Type 0 where
+pub data AreSayable : (stems : ℕ) → List Phrase → (after : ℕ) → Type 0 where
   none : (stems : ℕ) → AreSayable stems [] stems
-  more : (stems next after : ℕ) (x : Said) (xs : List Said) → IsSayable stems x next → AreSayable next xs after → AreSayable stems (x ∷ xs) after
+  more : (stems next after : ℕ) (x : Phrase) (xs : List Phrase) → IsSayable stems x next → AreSayable next xs after → AreSayable stems (x ∷ xs) after
 
-joined : {stems next after : ℕ} {xs ys : List Said} → AreSayable stems xs next → AreSayable next ys after → AreSayable stems (xs ++ ys) after
+joined : {stems next after : ℕ} {xs ys : List Phrase} → AreSayable stems xs next → AreSayable next ys after → AreSayable stems (xs ++ ys) after
 joined (none stems) h = h
 joined (more stems next after x xs is later) h = more stems next _ x _ is (joined later h)
 
@@ -131,11 +131,11 @@ made-good : (font : Font) (command : Command) (behind : List ℕ) (st : State) (
 made-good font command behind st move is = good ((operators.law font command behind st move).1 is)
 
 -- the stems at an end, and some where a refusal ends the run
-abbrev SaysTo : (stems : ℕ) → List Said → End → Type 0
+abbrev SaysTo : (stems : ℕ) → List Phrase → End → Type 0
 SaysTo stems xs (UsedUp last) = AreSayable stems xs last.stems
 SaysTo stems xs (Stopped e) = (after : ℕ) × AreSayable stems xs after
 
-before : {stems next : ℕ} (xs ys : List Said) (end : End) → AreSayable stems xs next → SaysTo next ys end → SaysTo stems (xs ++ ys) end
+before : {stems next : ℕ} (xs ys : List Phrase) (end : End) → AreSayable stems xs next → SaysTo next ys end → SaysTo stems (xs ++ ys) end
 before xs ys (UsedUp last) h later = joined h later
 before xs ys (Stopped e) h later = (later.0, joined h later.1)
 

@@ -12,7 +12,7 @@ use Rattle.postscript_outline.specs.Points.{point}
 use Rattle.postscript_outline.specs.declared.point.Point.{Point}
 use Rattle.postscript_type2.specs.declared.operation.Operator.{Operator}
 use Rattle.postscript_type2.specs.declared.operation.Operator.TheVariants.{HStem, VStem, HStemHM, VStemHM, HintMask, CntrMask, VMoveTo, VLineTo, HHCurveTo, VVCurveTo, HVCurveTo, VHCurveTo, HFlex, Flex, HFlex1, Flex1}
-use Rattle.postscript_variable.specs.Sayings.{Said}
+use Rattle.postscript_variable.specs.Sayings.{Phrase}
 use Rattle.postscript_instance.specs.declared.axes.Step.{Step}
 use Rattle.postscript_instance.specs.Far.{IsStep, AreEdges}
 use Rattle.postscript_instance.specs.Rounded.{rounded}
@@ -104,12 +104,12 @@ is_hint CntrMask = true
 is_hint op = false
 
 -- all that is said at an operator is held in whole units
-pub record IsNear (p : Point) (x : Said) : Type 0 where
+pub record IsNear (p : Point) (x : Phrase) : Type 0 where
   pub steps : AreSteps p (steps_of x.operator x.operands)
   pub edges : is_hint x.operator ≡ true → AreEdges (pos 0) x.operands
   pub stems : AreEdges (pos 0) x.stems
 
 -- something that is said is not
-pub data LeadsTooFar : Point → List Said → Type 0 where
-  here : (p : Point) (x : Said) (xs : List Said) → ¬ IsNear p x → LeadsTooFar p (x ∷ xs)
-  later : (p : Point) (x : Said) (xs : List Said) → LeadsTooFar (behind_steps p (steps_of x.operator x.operands)) xs → LeadsTooFar p (x ∷ xs)
+pub data LeadsTooFar : Point → List Phrase → Type 0 where
+  here : (p : Point) (x : Phrase) (xs : List Phrase) → ¬ IsNear p x → LeadsTooFar p (x ∷ xs)
+  later : (p : Point) (x : Phrase) (xs : List Phrase) → LeadsTooFar (behind_steps p (steps_of x.operator x.operands)) xs → LeadsTooFar p (x ∷ xs)

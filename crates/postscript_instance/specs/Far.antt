@@ -8,7 +8,7 @@ use Rattle.postscript_outline.specs.declared.point.Point.{Point}
 use Rattle.postscript_type2.specs.Operation.Kinds.{kind}
 use Rattle.postscript_type2.specs.Program.OperatorRules.{IsHeld}
 use Rattle.postscript_variable.specs.declared.charstring.Charstring.{Charstring}
-use Rattle.postscript_variable.specs.Sayings.{Said}
+use Rattle.postscript_variable.specs.Sayings.{Phrase}
 use Rattle.postscript_variable.specs.Told.{Says}
 use Rattle.postscript_instance.specs.declared.error.Error.{Error}
 use Rattle.postscript_instance.specs.declared.error.Error.TheVariants as errors
@@ -41,18 +41,18 @@ AreEdges from [] = Unit {0}
 AreEdges from (d ∷ ds) = IsStep from d × AreEdges (from +ℤ d) ds
 
 -- all that is said where the pen stands is held
-pub record IsWithin (p : Point) (x : Said) : Type 0 where
+pub record IsWithin (p : Point) (x : Phrase) : Type 0 where
   pub ways : AreWays p (strokes x.operator x.operands)
   pub edges : IsHint (kind x.operator) → AreEdges (pos 0) x.operands
   pub stems : AreEdges (pos 0) x.stems
 
 -- something that is said is not
-pub data LeadsOut : Point → List Said → Type 0 where
-  here : (p : Point) (x : Said) (xs : List Said) → ¬ IsWithin p x → LeadsOut p (x ∷ xs)
-  later : (p : Point) (x : Said) (xs : List Said) → LeadsOut (behind p (strokes x.operator x.operands)) xs → LeadsOut p (x ∷ xs)
+pub data LeadsOut : Point → List Phrase → Type 0 where
+  here : (p : Point) (x : Phrase) (xs : List Phrase) → ¬ IsWithin p x → LeadsOut p (x ∷ xs)
+  later : (p : Point) (x : Phrase) (xs : List Phrase) → LeadsOut (behind p (strokes x.operator x.operands)) xs → LeadsOut p (x ∷ xs)
 
 -- The run is refused, a hint operator has too many numbers before it, the first may not have a width before its own, or something leads out
 -- of the range; or memory runs out.
 abbrev pub NotRounded : Charstring → (width : Option ℤ) → Error → Type 0
-NotRounded charstring width errors.TooFar = (says : List Said) × Says charstring says × LeadsOut origin says
+NotRounded charstring width errors.TooFar = (says : List Phrase) × Says charstring says × LeadsOut origin says
 NotRounded charstring width e = NotWritten charstring width e

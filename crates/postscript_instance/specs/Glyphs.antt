@@ -28,7 +28,7 @@ pub record IsStaticGlyph (font : Font) (glyph : ℕ) (place : Place) (width : Op
 -- there is none: no such glyph, or no Font DICT for it that stands; or none is written of its charstring
 abbrev pub NoStaticGlyph : Font → (glyph : ℕ) → Place → (width : Option ℤ) → Error → Type 0
 NoStaticGlyph font glyph place width (errors.NoGlyph number) =
-    (number ≡ glyph) × ((part : parts.Part) → HasPart font.bytes.now (view_shown font) glyph part → ⊥)
+    (number ≡ glyph) × ((part : parts.PrivateDict) → HasPart font.bytes.now (view_shown font) glyph part → ⊥)
 NoStaticGlyph font glyph place width e =
     (charstring : Charstring) × IsCharstringOf font glyph place charstring × NotWritten charstring width e
 
@@ -65,7 +65,7 @@ pub record IsRoundedGlyph (font : Font) (glyph : ℕ) (place : Place) (width : O
 -- there is none: no such glyph, or no Font DICT for it that stands; or none is written of its charstring
 abbrev pub NoRoundedGlyph : Font → (glyph : ℕ) → Place → (width : Option ℤ) → Error → Type 0
 NoRoundedGlyph font glyph place width (errors.NoGlyph number) =
-    (number ≡ glyph) × ((part : parts.Part) → HasPart font.bytes.now (view_shown font) glyph part → ⊥)
+    (number ≡ glyph) × ((part : parts.PrivateDict) → HasPart font.bytes.now (view_shown font) glyph part → ⊥)
 NoRoundedGlyph font glyph place width e =
     (charstring : Charstring) × IsCharstringOf font glyph place charstring × NotRounded charstring width e
 

@@ -13,7 +13,7 @@ use Rattle.postscript_variable.specs.declared.charstring.Charstring.{Charstring}
 use Rattle.postscript_variable.specs.Charstrings.{IsRunFrom}
 use Rattle.postscript_variable.specs.Meaning.{End}
 use Rattle.postscript_variable.specs.Programs.{end_of}
-use Rattle.postscript_variable.specs.Sayings.{Said}
+use Rattle.postscript_variable.specs.Sayings.{Phrase}
 use Rattle.postscript_instance.specs.Numbers.{IsShortest, number_text}
 use Rattle.postscript_instance.specs.Pieces.{stack_limit, AreInPieces}
 use Rattle.postscript_instance.specs.Rounded.{nearest, nearest_segment, IsRoundedOf}
@@ -24,13 +24,13 @@ abbrev pub NumbersAreShortest : Type 0
 NumbersAreShortest = (bits : ℤ) → IsHeld bits → IsShortest (number_text bits) bits
 
 -- what is said, as an operation
-abbrev pub operation_of : Said → Operator × List ℤ
+abbrev pub operation_of : Phrase → Operator × List ℤ
 operation_of x = (x.operator, x.operands)
 
 -- The operations of some answers are those of others in pieces; they are the same where none has more operands than a stack holds.
 pub record HavePieces (answers pieces : List Answer) : Type 0 where
-  pub says : List Said
-  pub written : List Said
+  pub says : List Phrase
+  pub written : List Phrase
   pub in_pieces : AreInPieces says written
   pub whole : map operation answers ≡ map operation_of says
   pub parts : map operation pieces ≡ map operation_of written

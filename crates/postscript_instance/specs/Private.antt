@@ -5,7 +5,7 @@ use Rattle.postscript_outline.specs.declared.point.Point.{Point}
 use Rattle.postscript_type2.specs.declared.operation.Operator.{Operator}
 use Rattle.postscript_type2.specs.declared.operation.Operator.TheVariants.{RLineTo, HLineTo, VLineTo, RRCurveTo, RCurveLine, RLineCurve, VVCurveTo, HHCurveTo, VHCurveTo, HVCurveTo}
 use Rattle.postscript_variable.specs.Defaults.{AreHeld}
-use Rattle.postscript_variable.specs.Sayings.{Said}
+use Rattle.postscript_variable.specs.Sayings.{Phrase}
 use Rattle.postscript_instance.specs.declared.error.Error.{Error}
 use Rattle.postscript_instance.specs.declared.error.Error.TheVariants as errors
 use Rattle.postscript_instance.specs.declared.pieces.Piece.{Piece}
@@ -16,12 +16,12 @@ use Rattle.postscript_instance.specs.Rounded.{depth_of, rounded, rounded_operato
 use Rattle.postscript_instance.specs.Texts.{width_numbers, numbers_of, code_text}
 
 -- 32 bits hold each number that is written
-abbrev pub AreHeldIn : Option ℤ → List Said → Type 0
+abbrev pub AreHeldIn : Option ℤ → List Phrase → Type 0
 AreHeldIn width [] = AreHeld (width_numbers width)
 AreHeldIn width (x ∷ xs) = AreHeld (numbers_of width x) × AreHeldIn None xs
 
 -- a piece, as what is said
-abbrev pub said_by : Piece → Said
+abbrev pub said_by : Piece → Phrase
 said_by piece = record {
   operator = piece.operator;
   stems = piece.stems.now;
@@ -60,7 +60,7 @@ first_count RLineCurve n = 42
 first_count op n = 48
 
 -- the first piece, and what is behind it
-abbrev pub front_of : Said → Said
+abbrev pub front_of : Phrase → Phrase
 front_of x = record {
   operator = first_operator x.operator;
   stems = x.stems;
@@ -68,7 +68,7 @@ front_of x = record {
   mask = [];
 }
 
-abbrev pub rest_of : Said → Said
+abbrev pub rest_of : Phrase → Phrase
 rest_of x = record {
   operator = x.operator;
   stems = [];
@@ -77,40 +77,40 @@ rest_of x = record {
 }
 
 -- it is cut, and it is not
-abbrev pub IsTooLong : Said → Type 0
+abbrev pub IsTooLong : Phrase → Type 0
 IsTooLong x = (is_cut x.operator ≡ true) × (stack_limit < length x.operands)
 
-abbrev pub IsWhole : Said → Type 0
+abbrev pub IsWhole : Phrase → Type 0
 IsWhole x = (is_cut x.operator ≡ false) ⊎ (length x.operands ≤ stack_limit)
 
 -- all that is said, piece by piece
-pub data AreCut : List Said → List Said → Type 0 where
+pub data AreCut : List Phrase → List Phrase → Type 0 where
   none : AreCut [] []
-  whole : (x : Said) (xs written : List Said) → IsWhole x → AreCut xs written → AreCut (x ∷ xs) (x ∷ written)
-  piece : (x : Said) (xs written : List Said) → IsTooLong x → AreCut (rest_of x ∷ xs) written → AreCut (x ∷ xs) (front_of x ∷ written)
+  whole : (x : Phrase) (xs written : List Phrase) → IsWhole x → AreCut xs written → AreCut (x ∷ xs) (x ∷ written)
+  piece : (x : Phrase) (xs written : List Phrase) → IsTooLong x → AreCut (rest_of x ∷ xs) written → AreCut (x ∷ xs) (front_of x ∷ written)
 
 -- what is said, written behind what stood there
-pub record IsWritten (width : Option ℤ) (says : List Said) (old new : List ℕ) : Type 0 where
-  pub written : List Said
+pub record IsWritten (width : Option ℤ) (says : List Phrase) (old new : List ℕ) : Type 0 where
+  pub written : List Phrase
   pub cut : AreCut says written
   pub text : new ≡ old ++ code_text width written
   pub held : AreHeldIn width written
 
 -- an operator that is not cut has at most as many numbers before it as a stack holds, and one has more
-abbrev pub IsHeldOrCut : Option ℤ → Said → Type 0
+abbrev pub IsHeldOrCut : Option ℤ → Phrase → Type 0
 IsHeldOrCut width x = (is_cut x.operator ≡ true) ⊎ (length (numbers_of width x) ≤ stack_limit)
 
-abbrev pub AreHeldOrCut : Option ℤ → List Said → Type 0
+abbrev pub AreHeldOrCut : Option ℤ → List Phrase → Type 0
 AreHeldOrCut width [] = Unit {0}
 AreHeldOrCut width (x ∷ xs) = IsHeldOrCut width x × AreHeldOrCut None xs
 
-pub data HasMoreUncut : Option ℤ → List Said → Type 0 where
-  here : (width : Option ℤ) (x : Said) (xs : List Said) → is_cut x.operator ≡ false → stack_limit < length (numbers_of width x) →
+pub data HasMoreUncut : Option ℤ → List Phrase → Type 0 where
+  here : (width : Option ℤ) (x : Phrase) (xs : List Phrase) → is_cut x.operator ≡ false → stack_limit < length (numbers_of width x) →
       HasMoreUncut width (x ∷ xs)
-  later : (width : Option ℤ) (x : Said) (xs : List Said) → HasMoreUncut None xs → HasMoreUncut width (x ∷ xs)
+  later : (width : Option ℤ) (x : Phrase) (xs : List Phrase) → HasMoreUncut None xs → HasMoreUncut width (x ∷ xs)
 
 -- why what is said is not written
-abbrev pub IsUnwritten : (width : Option ℤ) → List Said → Error → Type 0
+abbrev pub IsUnwritten : (width : Option ℤ) → List Phrase → Error → Type 0
 IsUnwritten width says (errors.Font e) = e ≡ causes.Memory
 IsUnwritten width says errors.TooManyOperands = HasMoreUncut width says
 IsUnwritten width says errors.NoMove = LacksMove width says
@@ -122,12 +122,12 @@ rounded_edges from [] = []
 rounded_edges from (d ∷ ds) = rounded from d ∷ rounded_edges (from +ℤ d) ds
 
 -- what is said in whole units
-abbrev pub operands_in_units : Point → Said → List ℤ
+abbrev pub operands_in_units : Point → Phrase → List ℤ
 operands_in_units p x =
     if is_hint x.operator then rounded_edges (pos 0) x.operands
     else rounded_steps p (steps_of x.operator x.operands) ++ depth_of x.operator x.operands
 
-abbrev pub in_units : Point → Said → Said
+abbrev pub in_units : Point → Phrase → Phrase
 in_units p x = record {
   operator = rounded_operator x.operator;
   stems = rounded_edges (pos 0) x.stems;
@@ -135,11 +135,11 @@ in_units p x = record {
   mask = x.mask;
 }
 
-abbrev pub all_in_units : Point → List Said → List Said
+abbrev pub all_in_units : Point → List Phrase → List Phrase
 all_in_units p [] = []
 all_in_units p (x ∷ xs) = in_units p x ∷ all_in_units (behind_steps p (steps_of x.operator x.operands)) xs
 
-abbrev pub AreNear : Point → List Said → Type 0
+abbrev pub AreNear : Point → List Phrase → Type 0
 AreNear p [] = Unit {0}
 AreNear p (x ∷ xs) = IsNear p x × AreNear (behind_steps p (steps_of x.operator x.operands)) xs
 

@@ -4,7 +4,7 @@ use Rattle.postscript_base.specs.declared.error.Error.TheVariants as causes
 use Rattle.postscript_base.specs.Refusal.{refusal_of}
 use Rattle.postscript_type2.specs.Operation.Kinds.{Kind, DeclaresStems, Masks, kind}
 use Rattle.postscript_variable.specs.declared.charstring.Charstring.{Charstring}
-use Rattle.postscript_variable.specs.Sayings.{Said}
+use Rattle.postscript_variable.specs.Sayings.{Phrase}
 use Rattle.postscript_variable.specs.Told.{Says, StopsWith}
 use Rattle.postscript_instance.specs.declared.error.Error.{Error}
 use Rattle.postscript_instance.specs.declared.error.Error.TheVariants as errors
@@ -19,13 +19,13 @@ IsHint (Masks takes) = Unit {0}
 IsHint kind = ⊥
 
 -- a hint operator has more numbers before it than a stack holds
-pub data HasMore : Option ℤ → List Said → Type 0 where
-  here : (width : Option ℤ) (x : Said) (xs : List Said) → IsHint (kind x.operator) → stack_limit < length (numbers_of width x) →
+pub data HasMore : Option ℤ → List Phrase → Type 0 where
+  here : (width : Option ℤ) (x : Phrase) (xs : List Phrase) → IsHint (kind x.operator) → stack_limit < length (numbers_of width x) →
       HasMore width (x ∷ xs)
-  later : (width : Option ℤ) (x : Said) (xs : List Said) → HasMore None xs → HasMore width (x ∷ xs)
+  later : (width : Option ℤ) (x : Phrase) (xs : List Phrase) → HasMore None xs → HasMore width (x ∷ xs)
 
 -- there is a width, and the first operator may not have it before its operands
-abbrev pub LacksMove : Option ℤ → List Said → Type 0
+abbrev pub LacksMove : Option ℤ → List Phrase → Type 0
 LacksMove (Some width) (x ∷ xs) = bears_width x.operator ≡ false
 LacksMove width xs = ⊥
 
@@ -34,8 +34,8 @@ LacksMove width xs = ⊥
 abbrev pub NotWritten : Charstring → (width : Option ℤ) → Error → Type 0
 NotWritten charstring width (errors.Font causes.Memory) = Unit {0}
 NotWritten charstring width (errors.Font e) = StopsWith charstring (refusal_of e)
-NotWritten charstring width errors.TooManyOperands = (says : List Said) × Says charstring says × HasMore width says
-NotWritten charstring width errors.NoMove = (says : List Said) × Says charstring says × LacksMove width says
+NotWritten charstring width errors.TooManyOperands = (says : List Phrase) × Says charstring says × HasMore width says
+NotWritten charstring width errors.NoMove = (says : List Phrase) × Says charstring says × LacksMove width says
 NotWritten charstring width e = ⊥
 
 -- of laying out what is written, and of reading it back

@@ -19,7 +19,7 @@ use Rattle.postscript_type2.specs.Operation.Kinds.{kind}
 use Rattle.postscript_type2.specs.Program.OperatorRules.{IsHeld}
 use Rattle.postscript_type2.specs.Program.Routines.{Lists}
 use Rattle.postscript_variable.specs.declared.charstring.Charstring.{Charstring}
-use Rattle.postscript_variable.specs.Sayings.{Said}
+use Rattle.postscript_variable.specs.Sayings.{Phrase}
 use Rattle.postscript_variable.specs.Told.{Says}
 use Rattle.postscript_instance.specs.Pieces.{AreInPieces}
 use Rattle.postscript_instance.specs.Refusals.{IsHint}
@@ -84,7 +84,7 @@ AreWhole [] = Unit {0}
 AreWhole (num ∷ nums) = ((n : ℤ) × (num ≡ whole n)) × AreWhole nums
 
 -- each number that is said is whole, but the depth of a flex
-abbrev pub AreInUnits : List Said → Type 0
+abbrev pub AreInUnits : List Phrase → Type 0
 AreInUnits [] = Unit {0}
 AreInUnits (x ∷ xs) = AreWhole x.stems × AreWhole (used x.operator x.operands) × AreInUnits xs
 
@@ -104,7 +104,7 @@ depth_of Flex1 xs = whole (pos 50) ∷ []
 depth_of op xs = []
 
 -- what is said where the pen stands, and the same in whole units
-pub record IsRounded (p : Point) (x y : Said) : Type 0 where
+pub record IsRounded (p : Point) (x y : Phrase) : Type 0 where
   pub operator : y.operator ≡ rounded_operator x.operator
   pub drawn : strokes y.operator y.operands ≡ rounded_strokes p (strokes x.operator x.operands)
   pub in_range : AreInRange p (strokes x.operator x.operands)
@@ -113,7 +113,7 @@ pub record IsRounded (p : Point) (x y : Said) : Type 0 where
   pub stems : edges_of y.stems ≡ map nearest (edges_of x.stems)
   pub mask : y.mask ≡ x.mask
 
-abbrev pub AreRounded : Point → List Said → List Said → Type 0
+abbrev pub AreRounded : Point → List Phrase → List Phrase → Type 0
 AreRounded p [] [] = Unit {0}
 AreRounded p (x ∷ xs) (y ∷ ys) = IsRounded p x y × AreRounded (behind p (strokes x.operator x.operands)) xs ys
 AreRounded p xs ys = ⊥
@@ -124,11 +124,11 @@ origin = point (pos 0) (pos 0)
 -- A charstring of CFF2, a width, and a code of Type 2 that does the same in whole units, whatever its subroutines are: it calls none. What
 -- a stack does not hold of a path is written in pieces.
 pub record IsRoundedOf (charstring : Charstring) (width : Option ℤ) (code : List ℕ) : Type 0 where
-  pub says : List Said
+  pub says : List Phrase
   pub said : Says charstring says
-  pub near : List Said
+  pub near : List Phrase
   pub rounded : AreRounded origin says near
-  pub written : List Said
+  pub written : List Phrase
   pub in_pieces : AreInPieces near written
   pub units : AreInUnits written
   pub does : (lists : Lists) → SaysSo lists code width written

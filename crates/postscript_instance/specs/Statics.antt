@@ -9,27 +9,27 @@ use Rattle.postscript_type2.specs.Program.Routines.{Lists}
 use Rattle.postscript_type2.specs.Program.Runs as runs
 use Rattle.postscript_type2.specs.Program.Runs.{Answer, Finished, by}
 use Rattle.postscript_variable.specs.declared.charstring.Charstring.{Charstring}
-use Rattle.postscript_variable.specs.Sayings.{Said}
+use Rattle.postscript_variable.specs.Sayings.{Phrase}
 use Rattle.postscript_variable.specs.Told.{Says}
 use Rattle.postscript_instance.specs.Pieces.{stack_limit, AreInPieces}
 use Rattle.postscript_instance.specs.Texts.{width_numbers, numbers_of}
 
 -- The phrases of a run: each has the numbers and the operator of what is said, and the bytes of its mask behind them; the width is before
 -- the first of them; and endchar is the last.
-pub data AreSpelled : (width : Option ℤ) → List Said → List runs.Said → Type 0 where
+pub data AreSpelled : (width : Option ℤ) → List Phrase → List runs.Phrase → Type 0 where
   finish : (width : Option ℤ) (phrase : List ℕ) → IsPhrase phrase (width_numbers width) EndChar →
       AreSpelled width [] (by EndChar phrase ∷ [])
-  one_more : (width : Option ℤ) (x : Said) (xs : List Said) (phrase : List ℕ) (trace : List runs.Said) →
+  one_more : (width : Option ℤ) (x : Phrase) (xs : List Phrase) (phrase : List ℕ) (trace : List runs.Phrase) →
       IsPhrase phrase (numbers_of width x) x.operator → AreSpelled None xs trace →
       AreSpelled width (x ∷ xs) (by x.operator (phrase ++ x.mask) ∷ trace)
 
 -- what is said, as an answer with its hints beside this width
-abbrev pub answer_with : Option ℤ → Said → Answer
+abbrev pub answer_with : Option ℤ → Phrase → Answer
 answer_with width x = answer x.operator x.operands (hinting x.stems x.mask) width
 
 -- Over these subroutines a code answers all that is said, operand by operand and hint by hint, with this width; its phrases are those of what is said; and
 -- endchar, which takes nothing, finishes it.
-pub record SaysSo (lists : Lists) (code : List ℕ) (width : Option ℤ) (says : List Said) : Type 0 where
+pub record SaysSo (lists : Lists) (code : List ℕ) (width : Option ℤ) (says : List Phrase) : Type 0 where
   pub run : runs.Run
   pub is : IsRunOf lists code run
   pub answers : run.answers ≡ map (answer_with width) says
@@ -37,7 +37,7 @@ pub record SaysSo (lists : Lists) (code : List ℕ) (width : Option ℤ) (says :
   pub end : run.end ≡ Finished [] width
 
 -- each operator has at most so many numbers before it, the width with them
-abbrev pub Fits : Option ℤ → List Said → Type 0
+abbrev pub Fits : Option ℤ → List Phrase → Type 0
 Fits width [] = Unit {0}
 Fits width (x ∷ xs) = (length (numbers_of width x) ≤ stack_limit) × Fits None xs
 
@@ -55,16 +55,16 @@ bears_width RMoveTo = true
 bears_width op = false
 
 -- the first operator may have the width before its operands, where there is one
-abbrev pub BearsWidth : Option ℤ → List Said → Type 0
+abbrev pub BearsWidth : Option ℤ → List Phrase → Type 0
 BearsWidth (Some width) (x ∷ xs) = bears_width x.operator ≡ true
 BearsWidth width xs = Unit {0}
 
 -- A charstring of CFF2, a width, and a code of Type 2 that does the same with this width, whatever its subroutines are: it calls none. What
 -- a stack does not hold of a path is written in pieces.
 pub record IsStaticOf (charstring : Charstring) (width : Option ℤ) (code : List ℕ) : Type 0 where
-  pub says : List Said
+  pub says : List Phrase
   pub said : Says charstring says
-  pub written : List Said
+  pub written : List Phrase
   pub in_pieces : AreInPieces says written
   pub does : (lists : Lists) → SaysSo lists code width written
   pub fits : Fits width written

@@ -7,7 +7,7 @@ use Rattle.postscript_base.specs.declared.compact1.operator.Operator.TheVariants
 use Rattle.postscript_cff2.specs.declared.font.Font.{Font}
 use Rattle.postscript_variable_font.specs.declared.place.Place.{Place}
 use Rattle.postscript_view.specs.Layout.{IsLaidOut}
-use Rattle.postscript_view.specs.Order.{Part, View}
+use Rattle.postscript_view.specs.Order.{PrivateDict, View}
 use Rattle.postscript_instance.specs.Glyphs.{AreWidthsOf, DoesAt, DoesRoundedAt}
 use Rattle.postscript_instance.specs.Naming.{IsCalled}
 use Rattle.postscript_instance.specs.Placed.{IsPlaceIn}
@@ -21,10 +21,10 @@ pub record AreItems (items : List (List ℕ)) (codes : List (Vec ℕ Global)) (c
       (slice_get items number ≡ Some code.items)
 
 -- a Private DICT whose nominal width is 0, so that a charstring tells the width itself
-abbrev pub HasNoWidths : Part → Type 0
+abbrev pub HasNoWidths : PrivateDict → Type 0
 HasNoWidths part = (width : Decimal) × (first_of (look part.dictionary NominalWidthX) ≡ Some width) × (to_i32 width ≡ Some (pos 0))
 
-abbrev pub HaveNoWidths : List Part → Type 0
+abbrev pub HaveNoWidths : List PrivateDict → Type 0
 HaveNoWidths [] = Unit {0}
 HaveNoWidths (part ∷ parts) = HasNoWidths part × HaveNoWidths parts
 

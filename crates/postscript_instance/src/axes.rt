@@ -42,7 +42,7 @@ fn put_in_turn(out: &mut Vec<Step>, axis: Axis, operands: &[Operand]) -> Result<
 
 /// The four operands of a curve, and those behind them.
 #[derive(Clone, Copy)]
-struct Bow<'o> {
+struct CurveOperands<'o> {
     begin: Operand,
     dx: Operand,
     dy: Operand,
@@ -51,11 +51,11 @@ struct Bow<'o> {
 }
 
 /// The four operands of a curve, where there are as many.
-fn four(operands: &[Operand]) -> Option<Bow<'_>>
+fn four(operands: &[Operand]) -> Option<CurveOperands<'_>>
     ensures { MatchOption result (length operands.now < 4) (λ v. operands.now ≡ v.begin ∷ v.dx ∷ v.dy ∷ v.end ∷ v.rest.now) }
 {
     match operands {
-        [begin, dx, dy, end, rest @ ..] => Some(Bow {
+        [begin, dx, dy, end, rest @ ..] => Some(CurveOperands {
             begin: *begin,
             dx: *dx,
             dy: *dy,

@@ -1,6 +1,6 @@
 //! What a font and its glyphs are called.
 ghost use Rattle.std.specs.Prelude.{◌≡◌, Some, IfErr, IsTrue, OnOk, length, slice_get};
-ghost use Rattle.postscript_items.specs.Lent.{items_of};
+ghost use Rattle.postscript_base.specs.Index.Lent.{items_of};
 ghost use Rattle.postscript_instance.specs.Naming.{AreCalled, AreCids, AreNames, IsCalled};
 ghost use Rattle.postscript_instance.specs.Refusals.{IsLate};
 ghost use Rattle.postscript_view.specs.Naming.{Names};

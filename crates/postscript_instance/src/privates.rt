@@ -6,7 +6,7 @@ ghost use Rattle.postscript_instance.specs.Refusals.{IsLate};
 use crate::error::Result;
 use crate::numbers::put_number;
 use crate::pieces::OPERANDS;
-use postscript_cff2::{Dictionary, Font, Part, integer_at, operand_size, operator_size};
+use postscript_cff2::{Dictionary, Font, PrivateDict, integer_at, operand_size, operator_size};
 use postscript_type2::Operand;
 use postscript_variable_font::Place;
 use std::alloc::Global;
@@ -242,7 +242,7 @@ fn private_bytes<'l>(font: &Font<'l>, number: usize) -> &'l [u8] {
     let Some(bytes) = font.font_dictionaries.get(number) else {
         return &[];
     };
-    match Part::read(font.bytes, &Dictionary { bytes }) {
+    match PrivateDict::read(font.bytes, &Dictionary { bytes }) {
         Some(part) => part.private_dictionary.bytes,
         None => &[],
     }

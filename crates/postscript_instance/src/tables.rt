@@ -7,7 +7,7 @@ ghost use Rattle.postscript_instance.specs.Naming.{IsCalled};
 ghost use Rattle.postscript_instance.specs.Placed.{IsPlaceIn, LacksPlace};
 ghost use Rattle.postscript_instance.specs.Refusals.{IsLate};
 ghost use Rattle.postscript_instance.specs.Tables.{AreItems, HasNoWidths, HaveNoWidths, IsPlainFont, IsRoundedTableOf, IsTable, IsTableOf};
-ghost use Rattle.postscript_items.specs.Lent.{items_of};
+ghost use Rattle.postscript_base.specs.Index.Lent.{items_of};
 ghost use Rattle.postscript_view.specs.Layout.{IsLaidOut};
 ghost use Rattle.postscript_view.specs.Order.{View};
 ghost use Rattle.postscript_view.specs.Value.{part_shown, parts_shown};
@@ -19,11 +19,11 @@ use crate::naming::{Naming, called_back};
 use crate::statics::charstring;
 use crate::whole::rounded_glyph;
 use postscript_base::Error as Cause;
+use postscript_base::index::IndexView;
 use postscript_cff2::Font;
-use postscript_items::Items;
 use postscript_type2::Operand;
 use postscript_variable_font::{Error as PlaceError, Place, charstring as varying};
-use postscript_view::{FontView, Part};
+use postscript_view::{FontView, PrivateDict};
 use std::alloc::Global;
 
 /// The charstring of Type 2 of a glyph of a variable font at a place, with a width, as `charstring` writes it.
@@ -80,7 +80,7 @@ fn rounded_codes_of(
 }
 
 /// Whether an item is this code.
-fn is_code(items: &Items<'_>, number: usize, code: &[u8]) -> bool
+fn is_code(items: &IndexView<'_>, number: usize, code: &[u8]) -> bool
     ensures { IsTrue result → slice_get (items_of items.now) number ≡ Some code.now }
 {
     match items.get(number) {
@@ -90,7 +90,7 @@ fn is_code(items: &Items<'_>, number: usize, code: &[u8]) -> bool
 }
 
 /// Whether the items are these codes.
-fn are_codes(items: &Items<'_>, codes: &[Vec<u8>]) -> bool
+fn are_codes(items: &IndexView<'_>, codes: &[Vec<u8>]) -> bool
     ensures { IsTrue result → AreItems (items_of items.now) codes.now (length codes.now) }
 {
     if items.len() != codes.len() {
@@ -105,7 +105,7 @@ fn are_codes(items: &Items<'_>, codes: &[Vec<u8>]) -> bool
 }
 
 /// Whether a Private DICT tells no nominal width.
-fn has_no_width(part: &Part<'_>) -> bool
+fn has_no_width(part: &PrivateDict<'_>) -> bool
     ensures { IsTrue result → HasNoWidths (part_shown part.now) }
 {
     match part.nominal_width() {
@@ -115,7 +115,7 @@ fn has_no_width(part: &Part<'_>) -> bool
 }
 
 /// Whether no Private DICT tells a nominal width.
-fn have_no_widths(parts: &[Part<'_>]) -> bool
+fn have_no_widths(parts: &[PrivateDict<'_>]) -> bool
     ensures { IsTrue result → HaveNoWidths (parts_shown parts.now) }
 {
     for part in parts {

@@ -2,7 +2,7 @@
 ghost use Rattle.std.specs.Prelude.{◌≡◌, [], ◌∷◌, ◌++◌, ◌||◌, ℕ, List, None, nat_le, length, map, IfOk, OnOk, IfErr};
 ghost use Rattle.postscript_base.specs.declared.error.Error.TheVariants as causes;
 ghost use Rattle.postscript_variable.specs.Defaults.{AreHeld};
-ghost use Rattle.postscript_variable.specs.Sayings.{Said};
+ghost use Rattle.postscript_variable.specs.Sayings.{Phrase};
 ghost use Rattle.postscript_variable.specs.Told.{said_of};
 ghost use Rattle.postscript_instance.specs.declared.error.Error.TheVariants as errors;
 ghost use Rattle.postscript_instance.specs.Refusals.{LacksMove};
@@ -155,7 +155,7 @@ fn put_piece(out: &mut Vec<u8>, width: Option<Operand>, piece: Piece<'_>) -> Res
 
 /// Appends what is said at an operator, in pieces where a stack does not hold it.
 fn put_saying(out: &mut Vec<u8>, width: Option<Operand>, saying: &Saying<'_>) -> Result<()>
-    ensures ok { OnOk result ((xs : List Said) (end : List ℕ) → IsWritten None xs out.new.items end →
+    ensures ok { OnOk result ((xs : List Phrase) (end : List ℕ) → IsWritten None xs out.new.items end →
         IsWritten width (said_of saying.now ∷ xs) out.old.items end) }
     ensures err { IfErr result (λ e. e ≡ errors.Font causes.Memory) }
 {

@@ -1,7 +1,7 @@
 -- The table `name` (ISO/IEC 14496-22, 5.2.6): how many records it has, where its texts begin, and from place 6 on the records.
 use Rattle.std.specs.Prelude.{◌≡◌, ◌⊎◌, ℕ, ◌+◌, ◌*◌, ◌<◌, ◌≤◌, ◌==◌, ◌&&◌, ◌||◌, if◌then◌else◌, nat_lt, List, length}
 use Rattle.std.specs.List.{slice_range}
-use Rattle.postscript_items.specs.Items.{number_at}
+use Rattle.postscript_base.specs.Index.{number_at}
 use Rattle.postscript_sfnt.specs.Choice.{IsBest}
 use Rattle.postscript_sfnt.specs.declared.names.Name.{Name}
 use Rattle.postscript_sfnt.specs.declared.names.Name.TheVariants.{Utf16, MacRoman}

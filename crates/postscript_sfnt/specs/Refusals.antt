@@ -1,6 +1,6 @@
 -- Why a file, or a face of it, is refused: one cause each.
 use Rattle.std.specs.Prelude.{◌≡◌, ◌⊎◌, ℕ, ◌+◌, ◌*◌, ◌<◌, ◌≤◌, List, length}
-use Rattle.postscript_items.specs.Items.{number_at}
+use Rattle.postscript_base.specs.Index.{number_at}
 use Rattle.postscript_sfnt.specs.Directory.{IsVersion, IsCollectionVersion, IsCollection, HasFaces, IsFace, collection}
 use Rattle.postscript_sfnt.specs.declared.error.Error.{Error}
 use Rattle.postscript_sfnt.specs.declared.error.Error.TheVariants.{Cut, UnknownVersion, NoSuchFace}

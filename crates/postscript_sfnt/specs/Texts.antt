@@ -1,6 +1,6 @@
 -- What UTF-16 says: each unit is of two bytes, the high one first, and two surrogates are one character.
 use Rattle.std.specs.Prelude.{◌≡◌, ◌⊎◌, ℕ, ◌+◌, ◌-◌, ◌*◌, ◌<◌, ◌≤◌, List, length}
-use Rattle.postscript_items.specs.Items.{number_at}
+use Rattle.postscript_base.specs.Index.{number_at}
 
 abbrev pub IsHigh : (unit : ℕ) → Type 0
 IsHigh unit = (0xd800 ≤ unit) × (unit < 0xdc00)

@@ -1,12 +1,12 @@
 //! Names of glyphs.
 ghost use Rattle.std.specs.Prelude.{◌≡◌, ℕ, List, ◌+◌, ◌*◌, ◌<◌, ◌≤◌, length, slice_get, IfOk, MatchOption};
-ghost use Rattle.postscript_items.specs.Items.{number_at as the_number};
+ghost use Rattle.postscript_base.specs.Index.{number_at as the_number};
 ghost use Rattle.postscript_sfnt.specs.GlyphNames.{AreStrings, HasGlyphName, HasNames, HasNumberedName, IsString, count_of, start_of};
 
 mod macintosh;
 
 use macintosh::macintosh_name;
-use postscript_items::number::number_at;
+use postscript_base::index::number::number_at;
 use std::alloc::{AllocError, Global};
 
 /// The names of glyphs that a table `post` of version 2.0 tells, lent. What is held besides are the places of its strings.

@@ -1,13 +1,13 @@
 //! Names of a font.
 ghost use Rattle.std.specs.Prelude.{◌≡◌, ℕ, ◌+◌, ◌*◌, ◌<◌, ◌≤◌, length, MatchOption};
-ghost use Rattle.postscript_items.specs.Items.{number_at as the_number};
+ghost use Rattle.postscript_base.specs.Index.{number_at as the_number};
 
 mod chars;
 mod roman;
 mod utf16;
 
 pub use chars::NameChars;
-use postscript_items::number::number_at;
+use postscript_base::index::number::number_at;
 
 /// A text of the table `name`, lent.
 #[derive(Clone, Copy)]

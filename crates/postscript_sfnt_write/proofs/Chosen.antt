@@ -1,7 +1,7 @@
 -- Which map the reader takes of what was written.
 use Rattle.std.proofs.Common.{◌≡◌, refl, sym, ap, subst, ◌∙◌, inl, inr, ℕ, zero, suc, ◌+◌, ◌*◌, ◌/◌, ◌^◌, ◌≤◌, ◌<◌, List, [], ◌∷◌, ◌++◌, length, drop, length-append, length-drop, arith}
 use Rattle.std.proofs.lemmas.List.{append-nil}
-use Rattle.postscript_items.specs.Items.{number_at}
+use Rattle.postscript_base.specs.Index.{number_at}
 use Rattle.postscript_sfnt.specs.CharacterMap.{IsGlyphOf, first12, last12, gives12, first4, last4, gives4}
 use Rattle.postscript_sfnt.specs.Choice.{IsChosen, place_at, rank, rank_at, records_of}
 use Rattle.postscript_sfnt.specs.Maps.{IsMapAt, IsWhole}

@@ -2,7 +2,7 @@
 use Rattle.std.proofs.Common.{◌≡◌, refl, sym, ap, subst, ◌∙◌, inl, inr, ℕ, zero, suc, ◌+◌, ◌-◌, ◌*◌, ◌/◌, ◌%◌, ◌^◌, ◌≤◌, ◌<◌, Bool, true, false, List, [], ◌∷◌, ◌++◌, length, length-append, arith}
 use Rattle.std.specs.Prelude.{◌⊎◌, ◌==◌, Some, if◌then◌else◌}
 use Rattle.std.proofs.lemmas.Bool.{eq-eqb, eqb-false, eqb-true}
-use Rattle.postscript_items.specs.Items.{number_at}
+use Rattle.postscript_base.specs.Index.{number_at}
 use Rattle.postscript_sfnt.specs.CharacterMap.{first4, last4, delta4, offset4, gives4, listed4, place4}
 use Rattle.postscript_sfnt_write.specs.Grouping.{AreBelow, IsGroup, end, head4_text, row_number, row_text, rows_text}
 use Rattle.postscript_sfnt_write.specs.Mappings.{CharsRise, IsGlyphIn, IsMapping}

@@ -5,7 +5,7 @@ use Rattle.std.specs.Int.{cast_unsigned, w16}
 use Rattle.std.proofs.lemmas.Bool.{lt-ltb}
 use Rattle.std.proofs.lemmas.List.{append-nil, append_assoc, at_drop_more, at_drop_all, drop-take, drop_at, length-take-le, take_at}
 use Rattle.postscript_base.specs.Numbers.{two_sided}
-use Rattle.postscript_items.specs.Items.{number_at}
+use Rattle.postscript_base.specs.Index.{number_at}
 use Rattle.postscript_sfnt.specs.Metrics.{IsWord, advance_of}
 use Rattle.postscript_sfnt_write.specs.Layout.{AllFit, metric_text, metrics_text}
 use Rattle.postscript_sfnt_write.specs.Metrics.{CanBeRead, IsMetric, KeepsBut, TellsAdvances, TellsBearings}

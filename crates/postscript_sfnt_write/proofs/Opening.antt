@@ -4,7 +4,7 @@ use Rattle.std.specs.List.{slice_range}
 use Rattle.std.specs.Prelude.{All}
 use Rattle.std.proofs.lemmas.List.{append-nil, length-replicate}
 use Rattle.std.proofs.lemmas.List.Elements.{All-replicate}
-use Rattle.postscript_items.specs.Items.{number_at}
+use Rattle.postscript_base.specs.Index.{number_at}
 use Rattle.postscript_sfnt.specs.Directory.{IsFace, IsTable, tag_at, offset_at, length_at}
 use Rattle.postscript_sfnt_write.specs.Checksum.{checksum}
 use Rattle.postscript_sfnt_write.specs.Files.{AreLent, AreListed, ArePacked, CanStand, IsRecordOf, IsSearched, Opens, end_of}

@@ -1,7 +1,7 @@
 -- A file of tables (ISO/IEC 14496-22, 4.5, "Organization of an OpenType font").
 use Rattle.std.specs.Prelude.{◌≡◌, ℕ, ◌+◌, ◌*◌, ◌^◌, ◌%◌, ◌<◌, ◌≤◌, true, List, length, All}
 use Rattle.std.specs.List.{slice_range}
-use Rattle.postscript_items.specs.Items.{number_at}
+use Rattle.postscript_base.specs.Index.{number_at}
 use Rattle.postscript_sfnt.specs.Directory.{IsFace, IsDirectory, tag_at, checksum_at, offset_at, length_at}
 use Rattle.postscript_sfnt.specs.Lent.{IsFaceOf, IsTableOf, tables_of, tag_of}
 use Rattle.postscript_sfnt.specs.declared.file.FontFile.{FontFile}

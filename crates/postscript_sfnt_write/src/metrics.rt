@@ -1,6 +1,6 @@
 //! Metrics, written (ISO/IEC 14496-22, 5.2.3, 5.2.4, 5.2.6 and 5.2.8).
 ghost use Rattle.std.specs.Prelude.{◌≡◌, ℕ, ◌+◌, ◌*◌, ◌<◌, ◌≤◌, ◌++◌, length, take, drop, replicate, OnOk, IfOk, IfErr};
-ghost use Rattle.postscript_items.specs.Items.{number_at as the_number};
+ghost use Rattle.postscript_base.specs.Index.{number_at as the_number};
 ghost use Rattle.postscript_sfnt.specs.Metrics.{IsGlyphs, IsWord};
 ghost use Rattle.postscript_sfnt_write.specs.Layout.{AllFit, Fits, metric_text, metrics_text};
 ghost use Rattle.postscript_sfnt_write.specs.Metrics.{CanBeRead, IsCutBelow, KeepsBut, TellsAdvances, TellsBearings};

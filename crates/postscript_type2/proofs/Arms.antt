@@ -8,14 +8,14 @@ use Rattle.postscript_type2.specs.declared.refused.Refused.TheVariants.{Memory}
 use Rattle.postscript_base.specs.Refusal.{Refusal, return_without_caller, trailing_data, too_deep}
 use Rattle.postscript_type2.specs.Refused.{reason}
 use Rattle.postscript_type2.specs.declared.operation.Operator.{Operator}
-use Rattle.postscript_type2.specs.Program.Effects.{State, Move, Keeps, Clears, Calls, Returns, Ends, Refuses, effect, stacked, holding, cleared, last_of}
+use Rattle.postscript_type2.specs.Program.Effects.{State, Effect, Keeps, Clears, Calls, Returns, Ends, Refuses, effect, stacked, holding, cleared, last_of}
 use Rattle.postscript_type2.specs.Program.Evaluation as answers
 use Rattle.postscript_type2.specs.Program.Evaluation.{with_phrase, with_answer, at_end, said, moved, stride}
 use Rattle.postscript_type2.specs.Program.Limit.{IsLast}
 use Rattle.postscript_type2.specs.Program.Meaning.{answer, hinting}
 use Rattle.postscript_type2.specs.Program.Parsing.{Complete, NoPhrase, phrase, fronted}
 use Rattle.postscript_type2.specs.Program.Routines.{Lists}
-use Rattle.postscript_type2.specs.Program.Runs.{Answer, Said, UsedUp, Finished, Fault, Run}
+use Rattle.postscript_type2.specs.Program.Runs.{Answer, Phrase, UsedUp, Finished, Fault, Run}
 use Rattle.postscript_type2.specs.Private.Remaining.{still, next_still, are_used_up}
 use Rattle.postscript_type2.specs.Private.Working.{after_move}
 use Rattle.postscript_type2.proofs.Remains.{still_end}
@@ -40,7 +40,7 @@ pub front-of : (bytes rest front : List ℕ) (k : ℕ) → rest ≡ drop k bytes
 front-of bytes rest front k behind is = grind (arith, common_steps, length-drop)
 
 -- what is still answered, by the operator's move
-stepped : (lists : Lists) (left : ℕ) (cs : List (List ℕ)) (bytes rest : List ℕ) (st : State) (ys : List ℤ) (op : Operator) (more : ℕ) (move : Move) →
+stepped : (lists : Lists) (left : ℕ) (cs : List (List ℕ)) (bytes rest : List ℕ) (st : State) (ys : List ℤ) (op : Operator) (more : ℕ) (move : Effect) →
     IsRead bytes rest st ys op more → effect lists op rest (stacked ys st) ≡ move →
     still lists left bytes cs st ≡ next_still lists left (λ k. drop (k + 1) bytes) cs (moved op more bytes (stacked ys st) move)
 stepped lists left cs bytes rest st ys op more move read does =
@@ -52,7 +52,7 @@ stepped lists left cs bytes rest st ys op more move read does =
     still_step-at lists left bytes cs st read.some ∙ ap (next_still lists left (λ k. drop (k + 1) bytes) cs) (strides ∙ ap (moved op more bytes (stacked ys st)) acts)
 
 -- a phrase with this front
-abbrev with : Operator → List ℕ → Said
+abbrev with : Operator → List ℕ → Phrase
 with op front = record { operator = op; bytes = front }
 
 -- a stack and stored numbers are left
@@ -188,7 +188,7 @@ used-up lists left cs (b ∷ r) st is = absurd (omega arith)
 none-left : IsLast []
 none-left = omega arith
 
-one-left : (said : Said) → IsLast (said ∷ [])
+one-left : (said : Phrase) → IsLast (said ∷ [])
 one-left said = omega arith
 
 last-by : {run run' : Run} → run ≡ run' → IsLast run'.trace → IsLast run.trace

@@ -3,13 +3,13 @@ use Rattle.std.proofs.Math.Seq.{take-append-add, drop-append-add}
 use Rattle.std.proofs.Common.{◌≡◌, refl, ap, sym, ◌∙◌, ℕ, zero, suc, ◌+◌, ◌<◌, false, List, [], ◌∷◌, ◌++◌, take, drop, length, length-append, append_assoc, ℤ, arith}
 use Rattle.postscript_base.specs.Refusal.{too_deep, return_without_caller}
 use Rattle.postscript_type2.specs.declared.operation.Operator.{Operator}
-use Rattle.postscript_type2.specs.Program.Effects.{State, Move, Keeps, Clears, Calls, Returns, Ends, Refuses, pushed, stacked, holding, cleared, effect}
+use Rattle.postscript_type2.specs.Program.Effects.{State, Effect, Keeps, Clears, Calls, Returns, Ends, Refuses, pushed, stacked, holding, cleared, effect}
 use Rattle.postscript_type2.specs.Program.Evaluation.{with_phrase, with_answer, at_end, answered, moved, stride_by, mean}
 use Rattle.postscript_type2.specs.Program.Inlined.{put_before, text}
 use Rattle.postscript_type2.specs.Program.Meaning.{answer, hinting}
-use Rattle.postscript_type2.specs.Program.Parsing.{Phrase, phrase, fronted, Complete, NoPhrase}
+use Rattle.postscript_type2.specs.Program.Parsing.{Parsed, phrase, fronted, Complete, NoPhrase}
 use Rattle.postscript_type2.specs.Program.Routines.{Lists}
-use Rattle.postscript_type2.specs.Program.Runs.{Answer, Said, by, End, Finished, Fault, Run}
+use Rattle.postscript_type2.specs.Program.Runs.{Answer, Phrase, by, End, Finished, Fault, Run}
 use Rattle.postscript_type2.specs.Private.Remaining.{still, next_still}
 use Rattle.postscript_type2.proofs.Strides.{still_step-at}
 
@@ -25,7 +25,7 @@ fronting front run = record { answers = run.answers; trace = put_before front ru
 past : (P : List ℕ → List ℕ → Run) (front x : List ℕ) (i k : ℕ) → i ≡ length front + k → P (take i (front ++ x)) (drop i (front ++ x)) ≡ P (front ++ take k x) (drop k x)
 past P front x i k is = grind (arith, take-append-add, drop-append-add)
 
-moved-past : (other : Lists) (left : ℕ) (front x : List ℕ) (op : Operator) (more : ℕ) (st : State) (move : Move) →
+moved-past : (other : Lists) (left : ℕ) (front x : List ℕ) (op : Operator) (more : ℕ) (st : State) (move : Effect) →
     next_still other left (λ k. drop (k + 1) (front ++ x)) [] (moved op (length front + more) (front ++ x) st move)
     ≡ fronting front (next_still other left (λ k. drop (k + 1) x) [] (moved op more x st move))
 moved-past other left front x op more st (Keeps stack stored) =
@@ -50,7 +50,7 @@ moved-past other left front x op more st (Refuses e) = refl
 pushed-two : (numbers more : List ℤ) (st : State) → pushed (numbers ++ more) st ≡ pushed more (pushed numbers st)
 pushed-two numbers more st = ap (λ stack. stacked stack st) (sym (append_assoc st.stack numbers more))
 
-phrase-past : (other : Lists) (left : ℕ) (front x : List ℕ) (numbers : List ℤ) (st : State) (p : Phrase) →
+phrase-past : (other : Lists) (left : ℕ) (front x : List ℕ) (numbers : List ℤ) (st : State) (p : Parsed) →
     next_still other left (λ k. drop (k + 1) (front ++ x)) [] (stride_by other (front ++ x) st (fronted numbers (length front) p))
     ≡ fronting front (next_still other left (λ k. drop (k + 1) x) [] (stride_by other x (pushed numbers st) p))
 phrase-past other left front x numbers st (NoPhrase e) = refl
@@ -69,7 +69,7 @@ carried other left front numbers fronts x h st = still_step-at other left (front
     ∙ sym (ap (fronting front) (still_step-at other left x [] (pushed numbers st) h))
 
 -- so before phrases whose text has a run of them
-pub carried-text : (other : Lists) (left : ℕ) (front : List ℕ) (numbers : List ℤ) → Fronts front numbers → (st : State) (a : List Answer) (phrases : List Said) (end : End) →
+pub carried-text : (other : Lists) (left : ℕ) (front : List ℕ) (numbers : List ℤ) → Fronts front numbers → (st : State) (a : List Answer) (phrases : List Phrase) (end : End) →
     mean other left false (text phrases) (pushed numbers st) ≡ record { answers = a; trace = phrases; end = end } →
     mean other left false (text (put_before front phrases)) st ≡ record { answers = a; trace = put_before front phrases; end = end }
 carried-text other left front numbers fronts st a [] end is = is

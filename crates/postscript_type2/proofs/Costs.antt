@@ -1,12 +1,12 @@
 -- Each phrase of a run has a byte, and the one at which it is refused is the last.
 use Rattle.std.proofs.Common.{◌≡◌, subst, sym, ℕ, zero, suc, ◌+◌, ◌<◌, List, [], ◌∷◌, take, drop, length, Some, None, add-one, arith}
 use Rattle.postscript_type2.specs.declared.operation.Operator.{Operator}
-use Rattle.postscript_type2.specs.Program.Effects.{State, Move, Keeps, Clears, Calls, Returns, Ends, Refuses, pushed}
+use Rattle.postscript_type2.specs.Program.Effects.{State, Effect, Keeps, Clears, Calls, Returns, Ends, Refuses, pushed}
 use Rattle.postscript_type2.specs.Program.Evaluation.{with_phrase, Stride, On, Into, Back, Over, Faults, moved, stride_by, stride}
 use Rattle.postscript_type2.specs.Program.Limit.{cost_of}
-use Rattle.postscript_type2.specs.Program.Parsing.{Phrase, Complete, NoPhrase, phrase}
+use Rattle.postscript_type2.specs.Program.Parsing.{Parsed, Complete, NoPhrase, phrase}
 use Rattle.postscript_type2.specs.Program.Routines.{Lists}
-use Rattle.postscript_type2.specs.Program.Runs.{Said, Run}
+use Rattle.postscript_type2.specs.Program.Runs.{Phrase, Run}
 use Rattle.postscript_type2.specs.declared.program.machine.Machine.{Machine}
 use Rattle.postscript_type2.specs.Private.Machines.{still_of}
 use Rattle.postscript_type2.specs.Private.Remaining.{still, next_still}
@@ -15,7 +15,7 @@ use Rattle.postscript_type2.specs.Program.Charstrings.{lists_of}
 use Rattle.postscript_type2.proofs.Remains.{still_step, still_end}
 
 -- the first phrase, if there is one, has a byte
-abbrev pub HasByte : List Said → Type 0
+abbrev pub HasByte : List Phrase → Type 0
 HasByte [] = Unit {0}
 HasByte (said ∷ more) = 0 < length said.bytes
 
@@ -29,7 +29,7 @@ StrideHasByte (Faults e) = Unit {0}
 some-taken : (k b : ℕ) (r : List ℕ) → 0 < length (take (k + 1) (b ∷ r))
 some-taken k b r = rw add-one (omega arith)
 
-moved-has : (op : Operator) (more b : ℕ) (r : List ℕ) (st : State) (move : Move) → StrideHasByte (moved op more (b ∷ r) st move)
+moved-has : (op : Operator) (more b : ℕ) (r : List ℕ) (st : State) (move : Effect) → StrideHasByte (moved op more (b ∷ r) st move)
 moved-has op more b r st (Keeps stack stored) = some-taken more b r
 moved-has op more b r st (Clears taken pairs stems width mask) = some-taken (more + mask) b r
 moved-has op more b r st (Calls routine stack) = some-taken more b r
@@ -37,7 +37,7 @@ moved-has op more b r st Returns = some-taken more b r
 moved-has op more b r st (Ends taken width) = some-taken more b r
 moved-has op more b r st (Refuses e) = tt
 
-stride-by-has : (lists : Lists) (b : ℕ) (r : List ℕ) (st : State) (p : Phrase) → StrideHasByte (stride_by lists (b ∷ r) st p)
+stride-by-has : (lists : Lists) (b : ℕ) (r : List ℕ) (st : State) (p : Parsed) → StrideHasByte (stride_by lists (b ∷ r) st p)
 stride-by-has lists b r st (NoPhrase e) = tt
 stride-by-has lists b r st (Complete numbers op more) = moved-has op more b r (pushed numbers st) _
 
@@ -61,6 +61,6 @@ pub has : (machine : Machine) → HasByte (still_of machine).trace
 has machine = has-byte (lists_of machine.lists) machine.left machine.routine machine.callers (state_of machine.state)
 
 -- so it costs something
-pub costs-some : {before rest : Run} {said : Said} → HasByte before.trace → before ≡ with_phrase said rest → 0 < cost_of said
+pub costs-some : {before rest : Run} {said : Phrase} → HasByte before.trace → before ≡ with_phrase said rest → 0 < cost_of said
 costs-some {before} {rest} {said} has is =
     let some : 0 < length said.bytes = subst (λ (run : Run). HasByte run.trace) is has in omega (arith, some)

@@ -7,20 +7,20 @@ use Rattle.std.proofs.Common.{◌≡◌, refl, ap, sym, subst, ◌∙◌, ℕ, s
 use Rattle.postscript_base.specs.Refusal.{Refusal, unexpected_eof, too_many_stems}
 use Rattle.postscript_type2.specs.declared.operation.Operator.{Operator}
 use Rattle.postscript_type2.specs.declared.operation.Operator.TheVariants.{Drop}
-use Rattle.postscript_type2.specs.Program.Effects.{State, Move, Keeps, Clears, Calls, Returns, Ends, Refuses, clearing, stems_after, with_stems, mask_len, mask_clearing, work_move, store_move, subroutine, call_move, end_move, effect_of, effect, pushed, stacked, holding, cleared}
+use Rattle.postscript_type2.specs.Program.Effects.{State, Effect, Keeps, Clears, Calls, Returns, Ends, Refuses, clearing, stems_after, with_stems, mask_len, mask_clearing, work_move, store_move, subroutine, call_move, end_move, effect_of, effect, pushed, stacked, holding, cleared}
 use Rattle.postscript_type2.specs.Program.Evaluation.{with_phrase, with_answer, with_any_answer, at_end, Stride, On, Into, Back, Over, Faults, said, answered, moved, stride_by, stride, mean}
 use Rattle.postscript_type2.specs.Program.Flat.{without_operator, dropping, flat_of, flat_by, flat_said}
 use Rattle.postscript_type2.specs.Operation.Kinds.{Kind, Draws, DeclaresStems, Masks, Works, Stores, CallsFrom, GoesBack, EndsGlyph, IsRefused, kind, taken}
-use Rattle.postscript_type2.specs.Program.Parsing.{Phrase, Complete, NoPhrase, phrase, fronted}
+use Rattle.postscript_type2.specs.Program.Parsing.{Parsed, Complete, NoPhrase, phrase, fronted}
 use Rattle.postscript_type2.specs.Program.Routines.{Lists}
-use Rattle.postscript_type2.specs.Program.Runs.{Said, Finished, Run}
+use Rattle.postscript_type2.specs.Program.Runs.{Phrase, Finished, Run}
 use Rattle.postscript_type2.specs.Program.Stacks.{removal}
 use Rattle.postscript_type2.specs.Private.Remaining.{next_still}
 use Rattle.postscript_type2.proofs.Locals.{stands_flat, IsLocal, Local, local}
 use Rattle.postscript_type2.proofs.Strides.{still_step-at}
 
 -- a phrase in the outermost code, whatever follows it, is told, and then a run
-abbrev pub Tells : (other : Lists) (left : ℕ) → State → Said → (List ℕ → Run) → Type 0
+abbrev pub Tells : (other : Lists) (left : ℕ) → State → Phrase → (List ℕ → Run) → Type 0
 Tells other left st said run = (x : List ℕ) → mean other left false (said.bytes ++ x) st ≡ with_phrase said (run x)
 
 -- What a stride's phrase means in flat code, whatever follows it: what it means in the run. A call and a return only take
@@ -33,7 +33,7 @@ InFlat other left st (Over said taken width more) = Tells other left st (flat_sa
 InFlat other left st (Faults e) = Unit {0}
 
 -- the same by an operator's move, where it neither calls nor returns, and these are its bytes
-abbrev MeansInFlat : (other : Lists) (left : ℕ) → State → Said → Operator → (more : ℕ) → List ℕ → State → Move → Type 0
+abbrev MeansInFlat : (other : Lists) (left : ℕ) → State → Phrase → Operator → (more : ℕ) → List ℕ → State → Effect → Type 0
 MeansInFlat other left st said op more bytes st' (Keeps stack stored) = Tells other left st said (λ x. mean other left false x (holding stack stored st'))
 MeansInFlat other left st said op more bytes st' (Clears taken pairs stems width mask) =
     Tells other left st said (λ x. with_answer (answered op taken pairs more bytes width) (mean other left false x (cleared stems width st')))
@@ -42,21 +42,21 @@ MeansInFlat other left st said op more bytes st' Returns = ⊥
 MeansInFlat other left st said op more bytes st' (Ends taken width) = Tells other left st said (λ x. at_end (Finished taken width))
 MeansInFlat other left st said op more bytes st' (Refuses e) = Unit {0}
 
-abbrev pub IsOwn : Move → Type 0
+abbrev pub IsOwn : Effect → Type 0
 IsOwn (Calls routine stack) = ⊥
 IsOwn Returns = ⊥
 IsOwn move = Unit {0}
 
 -- the bytes of a mask, and those of a phrase with them
-abbrev pub mask_of : Move → ℕ
+abbrev pub mask_of : Effect → ℕ
 mask_of (Clears taken pairs stems width mask) = mask
 mask_of move = 0
 
-abbrev extent : (more : ℕ) → Move → ℕ
+abbrev extent : (more : ℕ) → Effect → ℕ
 extent more (Clears taken pairs stems width mask) = more + mask
 extent more move = more
 
-extent-is : (more : ℕ) (move : Move) → extent more move ≡ more + mask_of move
+extent-is : (more : ℕ) (move : Effect) → extent more move ≡ more + mask_of move
 extent-is more move = grind arith
 
 -- a front of so many bytes, and what follows it
@@ -64,7 +64,7 @@ cut : (P : List ℕ → List ℕ → Run) (front x : List ℕ) (n : ℕ) → len
 cut P front x n h = grind (arith, take-append_seam, drop-append_seam)
 
 -- bytes that are a phrase with this move, whatever follows them
-phrase-in : (other : Lists) (left : ℕ) (bytes : List ℕ) (st : State) (ns : List ℤ) (op : Operator) (more : ℕ) (move : Move) → IsOwn move →
+phrase-in : (other : Lists) (left : ℕ) (bytes : List ℕ) (st : State) (ns : List ℤ) (op : Operator) (more : ℕ) (move : Effect) → IsOwn move →
     ((x : List ℕ) → phrase (bytes ++ x) ≡ Complete ns op more) → ((x : List ℕ) → effect other op (drop (more + 1) (bytes ++ x)) (pushed ns st) ≡ move) →
     length bytes ≡ extent more move + 1 → MeansInFlat other left st (record { operator = op; bytes = bytes }) op more bytes (pushed ns st) move
 phrase-in other left bytes st ns op more move own reads does long = by_move move own long step
@@ -74,7 +74,7 @@ phrase-in other left bytes st ns op more move own reads does long = by_move move
         ∙ ap (λ p. next_still other left (λ k. drop (k + 1) (bytes ++ x)) [] (stride_by other (bytes ++ x) st p)) (reads x)
         ∙ ap (λ m. next_still other left (λ k. drop (k + 1) (bytes ++ x)) [] (moved op more (bytes ++ x) (pushed ns st) m)) (does x)
 
-    by_move : (move : Move) → IsOwn move → length bytes ≡ extent more move + 1 →
+    by_move : (move : Effect) → IsOwn move → length bytes ≡ extent more move + 1 →
         ((x : List ℕ) → mean other left false (bytes ++ x) st ≡ next_still other left (λ k. drop (k + 1) (bytes ++ x)) [] (moved op more (bytes ++ x) (pushed ns st) move)) →
         MeansInFlat other left st (record { operator = op; bytes = bytes }) op more bytes (pushed ns st) move
     by_move (Keeps stack stored) own l is = λ x.
@@ -93,7 +93,7 @@ flat-own op bytes k is own = grind arith
 -- An operator that stands in flat code as it is, with a move that is the same over other lists before any bytes, as many at
 -- least as its mask has.
 own-in : (other : Lists) (left : ℕ) (b : ℕ) (r : List ℕ) (st : State) (ns : List ℤ) (op : Operator) (more : ℕ) → IsLocal 0 (b ∷ r) ns op more →
-    (move : Move) → IsOwn move → stands_flat (kind op) ≡ true → more + mask_of move < length (b ∷ r) →
+    (move : Effect) → IsOwn move → stands_flat (kind op) ≡ true → more + mask_of move < length (b ∷ r) →
     ((after : List ℕ) → mask_of move ≤ length after → effect other op after (pushed ns st) ≡ move) → InFlat other left st (moved op more (b ∷ r) (pushed ns st) move)
 own-in other left b r st ns op more l move own flat room does =
     by_move move own (subst (λ s. MeansInFlat other left st s op more bytes (pushed ns st) move) (sym (flat-own op bytes (kind op) refl flat)) means)
@@ -117,7 +117,7 @@ own-in other left b r st ns op more l move own flat room does =
     means : MeansInFlat other left st (record { operator = op; bytes = bytes }) op more bytes (pushed ns st) move
     means = phrase-in other left bytes st ns op more move own (λ x. ap phrase (parts x) ∙ l.stands (mask ++ x)) (λ x. does (drop (more + 1) (bytes ++ x)) (enough x)) long
 
-    by_move : (move : Move) → IsOwn move → MeansInFlat other left st (flat_by op (take (extent more move + 1) (b ∷ r))) op more (take (extent more move + 1) (b ∷ r)) (pushed ns st) move → InFlat other left st (moved op more (b ∷ r) (pushed ns st) move)
+    by_move : (move : Effect) → IsOwn move → MeansInFlat other left st (flat_by op (take (extent more move + 1) (b ∷ r))) op more (take (extent more move + 1) (b ∷ r)) (pushed ns st) move → InFlat other left st (moved op more (b ∷ r) (pushed ns st) move)
     by_move (Keeps stack stored) own m = m
     by_move (Clears taken pairs stems width mask) own m = m
     by_move (Calls routine stack) own m = absurd own
@@ -183,13 +183,13 @@ return-in other left b r st ns op more l is =
     (drop-in other left b r st ns op more l (ap stands_flat is) (0x8b ∷ []) (pos 0 ∷ []) (λ x. refl) (st.stack ++ ns) removes)
 
 -- a move without a mask's bytes
-abbrev pub IsBare : Move → Type 0
+abbrev pub IsBare : Effect → Type 0
 IsBare move = IsOwn move × (mask_of move ≡ 0)
 
 pub clearing-bare : (st : State) (stems : ℕ) (taken : Option ℕ) → IsBare (clearing st stems taken)
 clearing-bare st stems taken = grind arith
 
-pub stems-bare : (stems : ℕ) (move : Move) → IsBare move → IsBare (with_stems stems move)
+pub stems-bare : (stems : ℕ) (move : Effect) → IsBare move → IsBare (with_stems stems move)
 stems-bare stems move bare = grind arith
 
 pub work-bare : (stored : List ℤ) (result : Result (Unit {0} × List ℤ) Refusal) → IsBare (work_move stored result)
@@ -202,7 +202,7 @@ store-bare result = grind arith
 pub in-flat : (lists other : Lists) (left : ℕ) (b : ℕ) (r : List ℕ) (st : State) → InFlat other left st (stride lists (b ∷ r) st)
 in-flat lists other left b r st = by_phrase (phrase (b ∷ r)) (local 0 (b ∷ r))
   where
-    bare-in : (ns : List ℤ) (op : Operator) (more : ℕ) → IsLocal 0 (b ∷ r) ns op more → (k : Kind) → kind op ≡ k → stands_flat k ≡ true → (move : Move) → IsBare move →
+    bare-in : (ns : List ℤ) (op : Operator) (more : ℕ) → IsLocal 0 (b ∷ r) ns op more → (k : Kind) → kind op ≡ k → stands_flat k ≡ true → (move : Effect) → IsBare move →
         ((after : List ℕ) → effect_of k other op after (pushed ns st) ≡ move) → InFlat other left st (moved op more (b ∷ r) (pushed ns st) move)
     bare-in ns op more l k is flat move bare does =
         own-in other left b r st ns op more l move bare.0 (ap stands_flat is ∙ flat) (let h : more < length (b ∷ r) = l.room in omega (arith, bare.1))
@@ -240,6 +240,6 @@ in-flat lists other left b r st = by_phrase (phrase (b ∷ r)) (local 0 (b ∷ r
     by_kind ns op more l EndsGlyph is = bare-in ns op more l EndsGlyph is refl (end_move (pushed ns st)) (tt, refl) (λ after. refl)
     by_kind ns op more l (IsRefused part) is = tt
 
-    by_phrase : (p : Phrase) → Local 0 (b ∷ r) p → InFlat other left st (stride_by lists (b ∷ r) st p)
+    by_phrase : (p : Parsed) → Local 0 (b ∷ r) p → InFlat other left st (stride_by lists (b ∷ r) st p)
     by_phrase (Complete ns op more) l = by_kind ns op more l (kind op) refl
     by_phrase (NoPhrase e) l = tt

@@ -5,11 +5,11 @@ use Rattle.std.proofs.lemmas.List.{length-take-le}
 use Rattle.postscript_base.specs.Refusal.{Refusal, unexpected_eof}
 use Rattle.postscript_type2.specs.declared.operation.Operator.{Operator}
 use Rattle.postscript_type2.specs.Operation.Kinds.{Kind, Draws, DeclaresStems, Masks, Works, Stores, CallsFrom, GoesBack, EndsGlyph, IsRefused, kind, taken}
-use Rattle.postscript_type2.specs.Program.Effects.{State, Move, Keeps, Clears, Calls, Returns, Ends, Refuses, clearing, work_move, store_move, end_move, stems_after, with_stems, mask_len, mask_clearing, subroutine, call_move, effect_of, pushed, stacked, holding}
+use Rattle.postscript_type2.specs.Program.Effects.{State, Effect, Keeps, Clears, Calls, Returns, Ends, Refuses, clearing, work_move, store_move, end_move, stems_after, with_stems, mask_len, mask_clearing, subroutine, call_move, effect_of, pushed, stacked, holding}
 use Rattle.postscript_type2.specs.Program.Evaluation.{with_any_answer, at_end, Stride, On, Into, Back, Over, Faults, said, moved, stride_by, stride, mean}
 use Rattle.postscript_type2.specs.Program.Flat.{without_operator, dropping, flat_of, flat_said}
 use Rattle.postscript_type2.specs.Program.Inlined.{before_last, Piece, Stands, Leaves, call_piece, piece_of, piece}
-use Rattle.postscript_type2.specs.Program.Parsing.{Phrase, Complete, NoPhrase, phrase}
+use Rattle.postscript_type2.specs.Program.Parsing.{Parsed, Complete, NoPhrase, phrase}
 use Rattle.postscript_type2.specs.Program.Routines.{Lists}
 use Rattle.postscript_type2.specs.Program.Runs.{by, Finished, Run}
 use Rattle.postscript_type2.proofs.Carried.{Fronts}
@@ -34,7 +34,7 @@ own-tells : (other : Lists) (left : ℕ) (st : State) (op : Operator) (bytes : L
     Tells other left st (flat_said (by op bytes)) go → (piece (by op bytes) ≡ Stands (by op bytes)) × Tells other left st (by op bytes) go
 own-tells other left st op bytes k is own go flat = grind (arith, flat-own)
 
-own-in : (other : Lists) (left : ℕ) (bytes : List ℕ) (st st' : State) (op : Operator) (more : ℕ) (k : Kind) → kind op ≡ k → stands_flat k ≡ true → (move : Move) → IsOwn move →
+own-in : (other : Lists) (left : ℕ) (bytes : List ℕ) (st st' : State) (op : Operator) (more : ℕ) (k : Kind) → kind op ≡ k → stands_flat k ≡ true → (move : Effect) → IsOwn move →
     InFlat other left st (moved op more bytes st' move) → InInlined other left st (moved op more bytes st' move)
 own-in other left bytes st st' op more k is own (Keeps stack stored) o flat = own-tells other left st op (take (more + 1) bytes) k is own (λ x. mean other left false x (holding stack stored st')) flat
 own-in other left bytes st st' op more k is own (Clears taken pairs stems width mask) o flat = grind (arith, own-tells)
@@ -95,7 +95,7 @@ in-inlined lists other left b r st = by_phrase (phrase (b ∷ r)) refl (local 0 
         (clearing (pushed ns st) st.stems (taken op (length (st.stack ++ ns)))) (clearing-bare (pushed ns st) st.stems (taken op (length (st.stack ++ ns)))).0
     by_kind ns op more l reads (DeclaresStems takes) is =
         let stems : ℕ = stems_after (pushed ns st) in
-        let move : Move = clearing (pushed ns st) stems (taken op (length (st.stack ++ ns))) in
+        let move : Effect = clearing (pushed ns st) stems (taken op (length (st.stack ++ ns))) in
         own-in other left (b ∷ r) st (pushed ns st) op more (DeclaresStems takes) is refl (with_stems stems move)
         (stems-bare stems move (clearing-bare (pushed ns st) stems (taken op (length (st.stack ++ ns))))).0
     by_kind ns op more l reads (Masks takes) is =
@@ -113,6 +113,6 @@ in-inlined lists other left b r st = by_phrase (phrase (b ∷ r)) refl (local 0 
     by_kind ns op more l reads EndsGlyph is = own-in other left (b ∷ r) st (pushed ns st) op more EndsGlyph is refl (end_move (pushed ns st)) tt
     by_kind ns op more l reads (IsRefused part) is = λ flat. tt
 
-    by_phrase : (p : Phrase) → phrase (b ∷ r) ≡ p → Local 0 (b ∷ r) p → InFlat other left st (stride_by lists (b ∷ r) st p) → InInlined other left st (stride_by lists (b ∷ r) st p)
+    by_phrase : (p : Parsed) → phrase (b ∷ r) ≡ p → Local 0 (b ∷ r) p → InFlat other left st (stride_by lists (b ∷ r) st p) → InInlined other left st (stride_by lists (b ∷ r) st p)
     by_phrase (Complete ns op more) reads l = by_kind ns op more l reads (kind op) refl
     by_phrase (NoPhrase e) reads l = λ flat. tt

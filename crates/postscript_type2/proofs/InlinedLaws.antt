@@ -11,7 +11,7 @@ use Rattle.postscript_type2.specs.Program.Inlining.{is_flat_kind, is_flat}
 use Rattle.postscript_type2.specs.Program.Phrases as spellings
 use Rattle.postscript_type2.specs.Program.Phrases.{IsNumber, IsPhrase}
 use Rattle.postscript_type2.specs.Program.Routines.{Lists}
-use Rattle.postscript_type2.specs.Program.Runs.{Said, by, fault_of}
+use Rattle.postscript_type2.specs.Program.Runs.{Phrase, by, fault_of}
 use Rattle.postscript_type2.proofs.InlinedMeaning.{run-is}
 
 -- the numbers before the last are no more bytes
@@ -24,7 +24,7 @@ within-past k [] = tt
 within-past (suc k) (b ∷ r) = grind (arith, within-past k r)
 within-past zero (b ∷ r) = grind (arith, within-past (behind_first b) r)
 
-pieced-length : (op : Operator) (bytes : List ℕ) (k : Kind) (phrases : List Said) →
+pieced-length : (op : Operator) (bytes : List ℕ) (k : Kind) (phrases : List Phrase) →
     length (text (pieced (piece_of k op bytes) phrases)) ≤ length (flat_of k op bytes).bytes + length (text phrases)
 pieced-length op bytes k phrases = grind (arith, within-past, length-append)
 
@@ -50,11 +50,11 @@ some-last (b ∷ c ∷ r) h =
     let n : length (b ∷ c ∷ r) - 1 ≡ suc (length r) = omega arith in
     (unless_last b (before_last_past (behind_first b) (take (length r) (c ∷ r))), ap (λ k. before_last (take k (b ∷ c ∷ r))) n)
 
-pieced-operators : (op : Operator) (bytes : List ℕ) (k : Kind) → kind op ≡ k → SpellsItsNumber (by op bytes) → (phrases : List Said) →
+pieced-operators : (op : Operator) (bytes : List ℕ) (k : Kind) → kind op ≡ k → SpellsItsNumber (by op bytes) → (phrases : List Phrase) →
     operators (pieced (piece_of k op bytes) phrases) ≡ cond (is_flat_kind k) (op ∷ operators phrases) (operators phrases)
 pieced-operators op bytes k is spells phrases = grind (arith, phrase-long, length-append, some-last)
 
-inlined-operators : (trace : List Said) → All SpellsItsNumber trace → operators (inlined trace) ≡ filter is_flat (operators trace)
+inlined-operators : (trace : List Phrase) → All SpellsItsNumber trace → operators (inlined trace) ≡ filter is_flat (operators trace)
 inlined-operators [] spells = refl
 inlined-operators (said ∷ trace) spells = pieced-operators said.operator said.bytes (kind said.operator) refl (All-head SpellsItsNumber said trace spells) (inlined trace)
     ∙ ap (λ ops. cond (is_flat said.operator) (said.operator ∷ ops) ops) (inlined-operators trace (All-tail SpellsItsNumber said trace spells))

@@ -12,7 +12,7 @@ use Rattle.postscript_type2.specs.Program.Evaluation.{at_end, followed, Stride, 
 use Rattle.postscript_type2.specs.Program.Flat.{flat_by, flat_said, flat_bytes, flat_text}
 use Rattle.postscript_type2.specs.Program.Inlining.{is_flat, KeepsMeaning, FlatTextKeepsMeaning}
 use Rattle.postscript_type2.specs.Program.Routines.{Lists}
-use Rattle.postscript_type2.specs.Program.Runs.{Answer, Said, End, UsedUp, Returned, Finished, Fault, Run, fault_of, taken_by, width_by, width_of}
+use Rattle.postscript_type2.specs.Program.Runs.{Answer, Phrase, End, UsedUp, Returned, Finished, Fault, Run, fault_of, taken_by, width_by, width_of}
 use Rattle.postscript_type2.proofs.InFlat.{InFlat, in-flat}
 
 -- no fault, and where the run was used up nothing follows
@@ -46,18 +46,18 @@ flattened-two : (run go next : Run) → flattened run (flattened go next) ≡ fl
 flattened-two run go next = grind (arith, nat_tests, common_steps, map-append)
 
 -- nothing follows
-pub followed-ends : (a : List Answer) (t : List Said) (before end : End) →
+pub followed-ends : (a : List Answer) (t : List Phrase) (before end : End) →
     followed (record { answers = a; trace = t; end = before }) (λ e. at_end end) ≡ record { answers = a; trace = t; end = end }
 followed-ends a t before end = grind (arith, append-nil)
 
 -- a call's run, and what comes of its end
 inline-followed : (other : Lists) (left : ℕ) (inner : Bool) (after : List ℕ) (st : State) (go : State → Run) → ((st' : State) → Inlines other left st' (go st')) →
-    (a : List Answer) (t : List Said) (e : End) → Inlines other left st (record { answers = a; trace = t; end = e }) →
+    (a : List Answer) (t : List Phrase) (e : End) → Inlines other left st (record { answers = a; trace = t; end = e }) →
     Inlines other left st (followed (record { answers = a; trace = t; end = e }) (after_call inner after go))
 inline-followed other left inner after st go next a t e ih = grind (arith, nat_tests, common_steps, followed-ends, flat_map-append, flattened-two)
 
 -- a phrase, and a run behind it
-inline-told : (other : Lists) (left : ℕ) (st : State) (said : Said) (run : Run) (go : List ℕ → Run) →
+inline-told : (other : Lists) (left : ℕ) (st : State) (said : Phrase) (run : Run) (go : List ℕ → Run) →
     ((x : List ℕ) → mean other left false (flat_bytes said ++ x) st ≡ with_phrase (flat_said said) (go x)) →
     ((x : List ℕ) → MayFollow run.end x → go (flat_text run.trace ++ x) ≡ flattened run (onward other left run.end x)) → Inlines other left st (with_phrase said run)
 inline-told other left st said run go tells ih = grind (arith, nat_tests, common_steps)
@@ -84,14 +84,14 @@ inline-callee lists other left (suc nested) = λ sub st. inline-routine lists ot
 flat-flat : (op : Operator) (bytes : List ℕ) → flat_said (flat_by op bytes) ≡ flat_by op bytes
 flat-flat op bytes = grind arith
 
-flat-text : (trace : List Said) → flat_text (map flat_said trace) ≡ flat_text trace
+flat-text : (trace : List Phrase) → flat_text (map flat_said trace) ≡ flat_text trace
 flat-text [] = refl
 flat-text (said ∷ trace) = ap (λ s. s.bytes ++ flat_text (map flat_said trace)) (flat-flat said.operator said.bytes) ∙ ap (λ bytes. flat_bytes said ++ bytes) (flat-text trace)
 
 is-flat : (op : Operator) (bytes : List ℕ) → is_flat (flat_by op bytes).operator ≡ true
 is-flat op bytes = grind arith
 
-all-flat : (trace : List Said) → AllPass (λ said. is_flat said.operator) (map flat_said trace)
+all-flat : (trace : List Phrase) → AllPass (λ said. is_flat said.operator) (map flat_said trace)
 all-flat [] = All-nil _
 all-flat (said ∷ trace) = All-cons (λ x. is_flat x.operator ≡ true) (flat_said said) (map flat_said trace) (is-flat said.operator said.bytes) (all-flat trace)
 
@@ -110,7 +110,7 @@ pub flat-taken : (end : End) → taken_by (flat_end end) ≡ taken_by end
 flat-taken end = grind arith
 
 -- with nothing behind it
-flat-alone : (other : Lists) (left : ℕ) (st : State) (a : List Answer) (t : List Said) (end : End) → Inlines other left st (record { answers = a; trace = t; end = end }) →
+flat-alone : (other : Lists) (left : ℕ) (st : State) (a : List Answer) (t : List Phrase) (end : End) → Inlines other left st (record { answers = a; trace = t; end = end }) →
     fault_of end ≡ None → mean other left false (flat_text t) st ≡ record { answers = a; trace = map flat_said t; end = flat_end end }
 flat-alone other left st a t end flat none = ap (λ bytes. mean other left false bytes st) (sym (append-nil (flat_text t))) ∙ by_end end flat none
   where

@@ -8,7 +8,7 @@ use Rattle.postscript_type2.specs.Operation.Kinds.{kind}
 use Rattle.postscript_type2.specs.Number.{spelled}
 use Rattle.postscript_type2.specs.Operation.Operators.{operator_of}
 use Rattle.postscript_type2.specs.Program.Inlined.{behind_first, unless_last, before_last_past, before_last}
-use Rattle.postscript_type2.specs.Program.Parsing.{is_number, Phrase, Complete, NoPhrase, passed, with_number, with_operator, numbered, escaped, ending, phrase_after, phrase, fronted}
+use Rattle.postscript_type2.specs.Program.Parsing.{is_number, Parsed, Complete, NoPhrase, passed, with_number, with_operator, numbered, escaped, ending, phrase_after, phrase, fronted}
 use Rattle.postscript_type2.proofs.Fronts.{fronted-zero, number-first}
 use Rattle.postscript_type2.proofs.Locals.{stands_flat, spelled-prompt, long-flat, with-fronted}
 
@@ -72,11 +72,11 @@ Last k r numbers more (Some front) = HasLast k r numbers front
 Last k r numbers more None = (numbers ≡ []) × (more ≡ k)
 
 -- of a phrase past the first k bytes whose operator has one byte
-abbrev LastOf : (k : ℕ) → List ℕ → Phrase → Type 0
+abbrev LastOf : (k : ℕ) → List ℕ → Parsed → Type 0
 LastOf k r (Complete numbers op more) = stands_flat (kind op) ≡ false → Last k r numbers more (before_last_past k (take more r))
 LastOf k r (NoPhrase e) = Unit {0}
 
-skip : (k b : ℕ) (r : List ℕ) (p : Phrase) → LastOf k r p → LastOf (suc k) (b ∷ r) (passed p)
+skip : (k b : ℕ) (r : List ℕ) (p : Parsed) → LastOf k r p → LastOf (suc k) (b ∷ r) (passed p)
 skip k b r p l = grind arith
 
 number-last : (b : ℕ) (r : List ℕ) (x : ℤ) (j : ℕ) → is_number b ≡ true → spelled b r 0 ≡ Got x j → (numbers : List ℤ) (more : ℕ) (o : Option (List ℕ)) → Last j r numbers more o →
@@ -100,7 +100,7 @@ number-last b r x j t e numbers more (Some front) l = record {
       ∙ ap (λ xs. with_number x (phrase_after j (xs ++ y))) (sym l.stands) ∙ ap (with_number x) (l.fronts y) ∙ with-fronted x l.before (length front) (phrase y);
 }
 
-more-last : (b : ℕ) (r : List ℕ) (x : ℤ) (j : ℕ) → is_number b ≡ true → spelled b r 0 ≡ Got x j → (p : Phrase) → LastOf j r p → LastOf 0 (b ∷ r) (with_number x p)
+more-last : (b : ℕ) (r : List ℕ) (x : ℤ) (j : ℕ) → is_number b ≡ true → spelled b r 0 ≡ Got x j → (p : Parsed) → LastOf j r p → LastOf 0 (b ∷ r) (with_number x p)
 more-last b r x j t e (NoPhrase f) l = tt
 more-last b r x j t e (Complete numbers op more) l = λ short.
     number-last b r x j t e numbers more (before_last_past (behind_first b) (take more r)) (subst-behind (behind-is b r x j e) short)

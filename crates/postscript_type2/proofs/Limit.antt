@@ -15,7 +15,7 @@ use Rattle.postscript_type2.specs.Operation.Kinds.{Kind, kind}
 use Rattle.postscript_type2.specs.Program.Flat.{flat_of, flat_bytes, flat_text}
 use Rattle.postscript_type2.specs.Program.Limit.{cost_of, cost, IsLast, Spends, nothing, one_more, LimitLasts, LimitIsCost, LimitBoundsPhrases, FlatIsBounded}
 use Rattle.postscript_type2.specs.Program.Programs.{Pending, ended_over, failed}
-use Rattle.postscript_type2.specs.Program.Runs.{Said, Run}
+use Rattle.postscript_type2.specs.Program.Runs.{Phrase, Run}
 use Rattle.postscript_type2.specs.Program.Told.{ComesTo}
 use Rattle.postscript_type2.specs.Program.Within.{StepsWithin, Fits, FitsBoundsPhrases, FitsBoundsCost}
 use Rattle.postscript_type2.specs.Private.Machines.{taken_of}
@@ -26,7 +26,7 @@ some : (n : ℕ) → n ≢ 0 → 0 < n
 some n h = omega (arith, h)
 
 -- a phrase at the front of what is still run is paid
-pub paid : {limit left after : ℕ} {phrases : List Said} {before rest : Run} {said : Said} → Spends limit phrases left before.trace → left ≢ 0 →
+pub paid : {limit left after : ℕ} {phrases : List Phrase} {before rest : Run} {said : Phrase} → Spends limit phrases left before.trace → left ≢ 0 →
     before ≡ with_phrase said rest → 0 < cost_of said → after ≡ left - cost_of said → Spends limit phrases after rest.trace
 paid {limit} {left} {after} {phrases} {before} {rest} {said} spends h is costs pays =
     let there : Spends limit phrases left (said ∷ rest.trace) = subst (λ (run : Run). Spends limit phrases left run.trace) is spends in
@@ -46,7 +46,7 @@ lasts limit phrases left rest (one_more before said behind spends is_left costs)
     let all = lasts limit phrases before (said ∷ rest) spends h in (omega (arith, all.0, all.1), omega (arith, all.0, all.1))
 
 -- so it does not run out
-pub runs-out : (limit : ℕ) (phrases : List Said) (left : ℕ) (rest : List Said) → Spends limit phrases left rest → left ≡ 0 → cost phrases < limit → ⊥
+pub runs-out : (limit : ℕ) (phrases : List Phrase) (left : ℕ) (rest : List Phrase) → Spends limit phrases left rest → left ≡ 0 → cost phrases < limit → ⊥
 runs-out limit phrases left rest spends none h = let more = (lasts limit phrases left rest spends h).0 in omega (arith, more, none)
 
 -- a program that told its end, and one that was refused
@@ -68,7 +68,7 @@ stays-refused {phase} machine {pending} limit is same =
     subst (λ p. StepsWithin p limit (Err AlreadyFailed) (pending_of phase machine) limit) same
     (subst (λ (ph : Phase). StepsWithin (pending_of ph machine) limit (Err AlreadyFailed) (pending_of ph machine) limit) (sym is) (refused (settled_width machine.state.width) limit))
 
-cost-append : (front more : List Said) → cost (front ++ more) ≡ cost front + cost more
+cost-append : (front more : List Phrase) → cost (front ++ more) ≡ cost front + cost more
 cost-append [] more = omega arith
 cost-append (said ∷ front) more = let rest = cost-append front more in omega (arith, rest)
 
@@ -82,13 +82,13 @@ spent limit phrases left rest (one_more before said behind spends is_left costs)
     (ran ++ said ∷ [], all.1 ∙ sym (append_assoc ran (said ∷ []) rest), omega (arith, costs, all.2), inr (ran, said, refl, omega (arith, all.2, is_left)))
 
 -- the phrase at the front of what is still run is come to
-pub comes : {limit left : ℕ} {phrases : List Said} {before rest : Run} {said : Said} → Spends limit phrases left before.trace → before ≡ with_phrase said rest →
+pub comes : {limit left : ℕ} {phrases : List Phrase} {before rest : Run} {said : Phrase} → Spends limit phrases left before.trace → before ≡ with_phrase said rest →
     ComesTo phrases said rest.trace
 comes {limit} {left} {phrases} {before} {rest} {said} spends is =
     let all = spent limit phrases left before.trace spends in (all.0, all.1 ∙ ap (λ (run : Run). all.0 ++ run.trace) is)
 
 -- what is left is spent on
-pub goes-on : (limit : ℕ) (phrases : List Said) (left : ℕ) (rest : List Said) (last : ℕ) (end : List Said) → Spends limit phrases left rest → Spends left rest last end → Spends limit phrases last end
+pub goes-on : (limit : ℕ) (phrases : List Phrase) (left : ℕ) (rest : List Phrase) (last : ℕ) (end : List Phrase) → Spends limit phrases left rest → Spends left rest last end → Spends limit phrases last end
 goes-on limit phrases left rest last end first nothing = first
 goes-on limit phrases left rest last end first (one_more before said behind spends is_left costs) =
     one_more before said end (goes-on limit phrases left rest before (said ∷ end) first spends) is_left costs
@@ -100,7 +100,7 @@ bounds limit phrases left rest (one_more before said behind spends is_left costs
     let all = bounds limit phrases before (said ∷ rest) spends in omega (arith, all)
 
 -- what a run has come to, by how its last step was answered
-pub on-operation : {first : ℕ} {phrases : List Said} (old new : Pending) {limit left : ℕ} {answer : Result Within Error} {op : Operator} {operands : Bor (List ℤ)} →
+pub on-operation : {first : ℕ} {phrases : List Phrase} (old new : Pending) {limit left : ℕ} {answer : Result Within Error} {op : Operator} {operands : Bor (List ℤ)} →
     answer ≡ Ok (Operation op operands) → StepsWithin old limit answer new left → Spends first phrases limit old.trace → Spends first phrases left new.trace
 on-operation {first} {phrases} old new {limit} {left} {answer} {op} {operands} is steps paid-so-far =
     let step = subst (λ (r : Result Within Error). StepsWithin old limit r new left) is steps in goes-on first phrases limit old.trace left new.trace paid-so-far step.1
@@ -109,18 +109,18 @@ pub on-operation-less : (old new : Pending) {limit left : ℕ} {answer : Result 
     answer ≡ Ok (Operation op operands) → StepsWithin old limit answer new left → left < limit
 on-operation-less old new {limit} {left} {answer} {op} {operands} is steps = (subst (λ (r : Result Within Error). StepsWithin old limit r new left) is steps).2
 
-pub on-end : {first : ℕ} {phrases : List Said} (old new : Pending) {limit left : ℕ} {answer : Result Within Error} →
+pub on-end : {first : ℕ} {phrases : List Phrase} (old new : Pending) {limit left : ℕ} {answer : Result Within Error} →
     answer ≡ Ok End → StepsWithin old limit answer new left → Spends first phrases limit old.trace → Fits phrases first true left
 on-end {first} {phrases} old new {limit} {left} {answer} is steps paid-so-far =
     let step = subst (λ (r : Result Within Error). StepsWithin old limit r new left) is steps in ([], goes-on first phrases limit old.trace left [] paid-so-far step.1, omega arith)
 
-pub on-pause : {first : ℕ} {phrases : List Said} (old new : Pending) {limit left : ℕ} {answer : Result Within Error} →
+pub on-pause : {first : ℕ} {phrases : List Phrase} (old new : Pending) {limit left : ℕ} {answer : Result Within Error} →
     answer ≡ Ok Paused → StepsWithin old limit answer new left → Spends first phrases limit old.trace → Fits phrases first false left
 on-pause {first} {phrases} old new {limit} {left} {answer} is steps paid-so-far =
     let step = subst (λ (r : Result Within Error). StepsWithin old limit r new left) is steps in
     (step.4, (new.trace, goes-on first phrases limit old.trace left new.trace paid-so-far step.5))
 
-pub on-refusal : {first : ℕ} {phrases : List Said} (old new : Pending) (left : ℕ) {limit : ℕ} {answer : Result Within Error} {e : Error} (told : Result Bool Error) →
+pub on-refusal : {first : ℕ} {phrases : List Phrase} (old new : Pending) (left : ℕ) {limit : ℕ} {answer : Result Within Error} {e : Error} (told : Result Bool Error) →
     answer ≡ Err e → StepsWithin old limit answer new left → Spends first phrases limit old.trace →
     MatchResult told (λ fits. (fits ≡ true) × (e ≢ Memory)) (λ want. want ≡ Memory) → IfOk told (λ fits. Fits phrases first fits left)
 on-refusal {first} {phrases} old new left {limit} {answer} {e} (Err want) is steps paid-so-far ends = tt
@@ -129,7 +129,7 @@ on-refusal {first} {phrases} old new left {limit} {answer} {e} (Ok fits) is step
     let is_last : IsLast step.1.0 = elim step.1.2 [ inl memory ↦ absurd (ends.1 memory) | inr last ↦ last ] in
     subst (λ (b : Bool). Fits phrases first b left) (sym ends.0) (step.1.0, goes-on first phrases limit old.trace left step.1.0 paid-so-far step.1.1, is_last)
 
-pub no-pause : {first : ℕ} {phrases : List Said} {left : ℕ} → Fits phrases first false left → cost phrases < first → ⊥
+pub no-pause : {first : ℕ} {phrases : List Phrase} {left : ℕ} → Fits phrases first false left → cost phrases < first → ⊥
 no-pause {first} {phrases} {left} fits less = runs-out first phrases left fits.1.0 fits.1.1 fits.0 less
 
 -- a run that fits
@@ -139,9 +139,9 @@ fits-phrases phrases limit left fits = let all = bounds limit phrases left fits.
 pub fits-cost : FitsBoundsCost
 fits-cost phrases limit left fits = by-last (spent limit phrases left fits.0 fits.1)
   where
-    by-last : (ran : List Said) × (phrases ≡ ran ++ fits.0) × (left ≡ limit - cost ran) ×
-        ((ran ≡ []) ⊎ ((before : List Said) × (last : Said) × (ran ≡ before ++ last ∷ []) × (cost before < limit))) →
-        (front last : List Said) × (phrases ≡ front ++ last) × (cost front ≤ limit) × (length last ≤ 2)
+    by-last : (ran : List Phrase) × (phrases ≡ ran ++ fits.0) × (left ≡ limit - cost ran) ×
+        ((ran ≡ []) ⊎ ((before : List Phrase) × (last : Phrase) × (ran ≡ before ++ last ∷ []) × (cost before < limit))) →
+        (front last : List Phrase) × (phrases ≡ front ++ last) × (cost front ≤ limit) × (length last ≤ 2)
     by-last (ran, whole, pays, inl none) = ([], fits.0, whole ∙ ap (λ front. front ++ fits.0) none, omega arith, omega (arith, fits.2))
     by-last (ran, whole, pays, inr (before, last, is, less)) =
         (before, last ∷ fits.0, whole ∙ ap (λ front. front ++ fits.0) is ∙ append_assoc before (last ∷ []) fits.0, omega (arith, less), omega (arith, fits.2))

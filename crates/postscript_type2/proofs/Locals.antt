@@ -9,7 +9,7 @@ use Rattle.postscript_type2.specs.declared.operation.Operator.{Operator}
 use Rattle.postscript_type2.specs.Operation.Kinds.{Kind, CallsFrom, GoesBack, kind}
 use Rattle.postscript_type2.specs.Number.{spelled, whole}
 use Rattle.postscript_type2.specs.Operation.Operators.{operator_of, operators, lookup}
-use Rattle.postscript_type2.specs.Program.Parsing.{is_number, Phrase, Complete, NoPhrase, passed, with_number, with_operator, numbered, escaped, ending, phrase_after, phrase, fronted}
+use Rattle.postscript_type2.specs.Program.Parsing.{is_number, Parsed, Complete, NoPhrase, passed, with_number, with_operator, numbered, escaped, ending, phrase_after, phrase, fronted}
 use Rattle.postscript_type2.proofs.Fronts.{number-first}
 
 -- a reading that looks at no byte past its next place
@@ -67,7 +67,7 @@ pub long-flat : (second : ℕ) (op : Operator) → operator_of (0x0c00 + second)
 unfolding all_short
 long-flat second op e = long-in operators (0x0c00 + second) op refl (omega arith) e
 
-pub with-fronted : (x : ℤ) (numbers : List ℤ) (m : ℕ) (p : Phrase) → with_number x (fronted numbers m p) ≡ fronted (x ∷ numbers) (suc m) p
+pub with-fronted : (x : ℤ) (numbers : List ℤ) (m : ℕ) (p : Parsed) → with_number x (fronted numbers m p) ≡ fronted (x ∷ numbers) (suc m) p
 with-fronted x numbers m p = grind arith
 
 -- A phrase past the first k of these bytes: it has passed them; its last byte is one of the bytes; and, whatever follows,
@@ -78,14 +78,14 @@ pub record IsLocal (k : ℕ) (r : List ℕ) (numbers : List ℤ) (op : Operator)
   pub stands : (y : List ℕ) → phrase_after k (take (suc more) r ++ y) ≡ Complete numbers op more
   pub fronts : stands_flat (kind op) ≡ false → (y : List ℕ) → phrase_after k (take more r ++ y) ≡ fronted numbers more (phrase y)
 
-abbrev pub Local : (k : ℕ) → List ℕ → Phrase → Type 0
+abbrev pub Local : (k : ℕ) → List ℕ → Parsed → Type 0
 Local k r (Complete numbers op more) = IsLocal k r numbers op more
 Local k r (NoPhrase e) = Unit {0}
 
-skip : (k b : ℕ) (r : List ℕ) (p : Phrase) → Local k r p → Local (suc k) (b ∷ r) (passed p)
+skip : (k b : ℕ) (r : List ℕ) (p : Parsed) → Local k r p → Local (suc k) (b ∷ r) (passed p)
 skip k b r p l = grind arith
 
-more-number : (b : ℕ) (r : List ℕ) (x : ℤ) (j : ℕ) → is_number b ≡ true → spelled b r 0 ≡ Got x j → (p : Phrase) → Local j r p → Local 0 (b ∷ r) (with_number x p)
+more-number : (b : ℕ) (r : List ℕ) (x : ℤ) (j : ℕ) → is_number b ≡ true → spelled b r 0 ≡ Got x j → (p : Parsed) → Local j r p → Local 0 (b ∷ r) (with_number x p)
 more-number b r x j t e (NoPhrase f) l = tt
 more-number b r x j t e (Complete numbers op more) l = record {
   passes = omega arith;

@@ -15,7 +15,7 @@ use Rattle.postscript_type2.specs.declared.operation.Operator.TheVariants.{HintM
 use Rattle.postscript_type2.specs.Number.{whole}
 use Rattle.postscript_type2.specs.Operation.Kinds.{Kind, Draws, DeclaresStems, Masks, Works, Stores, CallsFrom, GoesBack, EndsGlyph, IsRefused, kind, lengths, taken as taken_of}
 use Rattle.postscript_type2.specs.Operation.Lengths.{exactly, greatest}
-use Rattle.postscript_type2.specs.Program.Effects.{State, Move, Keeps, Clears, Calls, Returns, Ends, Refuses, stacked, settled, last_of, clearing, stems_after, with_stems, mask_len, implied, mask_clearing, taken_at_end, end_move, work_move, store_move, named, effect_of, effect}
+use Rattle.postscript_type2.specs.Program.Effects.{State, Effect, Keeps, Clears, Calls, Returns, Ends, Refuses, stacked, settled, last_of, clearing, stems_after, with_stems, mask_len, implied, mask_clearing, taken_at_end, end_move, work_move, store_move, named, effect_of, effect}
 use Rattle.postscript_type2.specs.Program.FixedPoint.{cut, fit, absolute_value, opposite, root, sum, difference, product, quotient, truth, is_true, both, either, denial, same_bits}
 use Rattle.postscript_type2.specs.Program.OperatorRules.{IsHeld, HasResult, abs, neg, add, sub, mul, div, Leaves, result, sqrt, and, or, negated, eq, if_not_above, if_above, drop, exch, dup, index, roll as rolls, Makes, stored_stay, put, get, pops, NamesByTop, index_names, roll_names, put_names, get_names, HasNoWholeTop, NamesNone, below_zero, past_last, IsRefusedOn, too_few, zero_divisor_on_top, root_of_negative, past_range, nothing_to_double, no_whole_top, index_too_deep, no_whole_span, span_below_zero, span_too_long, nothing_to_put, put_nowhere, get_nowhere, IsSettled, settled_before, operand_beneath, nothing_beneath, StemsAfter, in_pairs, TakesAtEnd, last_four, fewer, Does, makes, refused, without_meaning, draws, draws_none, declares, declares_none, declares_too_many, masks, masks_cut, masks_too_many, calls, calls_no_number, calls_nothing, returns, ends, OperatorsDoSo}
 use Rattle.postscript_type2.specs.Program.Routines.{Lists}
@@ -75,7 +75,7 @@ not-zero : (b : ℤ) → b ≢ pos 0 → int_eq b (pos 0) ≡ false
 not-zero b some = grind arith
 
 -- an operator on a stack
-abbrev on : Lists → Operator → (behind : List ℕ) → State → (stack : List ℤ) → Move
+abbrev on : Lists → Operator → (behind : List ℕ) → State → (stack : List ℤ) → Effect
 on lists op behind st stack = effect lists op behind (stacked stack st)
 
 -- the number of an arithmetic operator
@@ -170,10 +170,10 @@ clearing-is st stems beneath taken width e h = grind (arith, last-is, settled-is
 stems-are : (st : State) (stems : ℕ) → StemsAfter st stems → stems_after st ≡ stems
 stems-are st _ (in_pairs n odd few all) = omega arith
 
-within : (stems : ℕ) (move : Move) → stems < 2 ^ 32 → with_stems stems move ≡ move
+within : (stems : ℕ) (move : Effect) → stems < 2 ^ 32 → with_stems stems move ≡ move
 within stems move h = grind arith
 
-too_many : (stems : ℕ) (move : Move) → 2 ^ 32 ≤ stems → with_stems stems move ≡ Refuses too_many_stems
+too_many : (stems : ℕ) (move : Effect) → 2 ^ 32 ≤ stems → with_stems stems move ≡ Refuses too_many_stems
 too_many stems move h = grind arith
 
 -- how many of the operands an operator of a kind takes
@@ -205,7 +205,7 @@ end-is st beneath taken width h settles =
     ∙ ap (λ xs. Ends xs (settled st.width st.stack (length taken))) (last-is st.stack beneath taken parts)
     ∙ ap (Ends taken) (settled-is st.width st.stack beneath taken width parts settles)
 
-does-on : (lists : Lists) (op : Operator) (behind : List ℕ) (st : State) (move : Move) → Does lists op behind st move → effect lists op behind st ≡ move
+does-on : (lists : Lists) (op : Operator) (behind : List ℕ) (st : State) (move : Effect) → Does lists op behind st move → effect lists op behind st ≡ move
 does-on lists op behind st _ (makes beneath taken left new is e) = ap (on lists op behind st) e ∙ makes-on lists op behind st beneath taken left new is
 does-on lists op behind st _ (refused e is) = refused-on lists op behind st st.stack e is
 does-on lists op behind st _ (without_meaning part k) = ap (λ k. effect_of k lists op behind st) k
@@ -237,7 +237,7 @@ does-on lists op behind st _ (ends beneath taken width k h settles) = ap (λ k. 
 
 -- Each operator does something from each state.
 abbrev Found : Lists → Operator → (behind : List ℕ) → State → Type 0
-Found lists op behind st = (move : Move) × Does lists op behind st move
+Found lists op behind st = (move : Effect) × Does lists op behind st move
 
 found-refused : (lists : Lists) (op : Operator) (behind : List ℕ) (st : State) (stack : List ℤ) (e : Refusal) → st.stack ≡ stack → IsRefusedOn st.stored op stack e → Found lists op behind st
 found-refused lists op behind st stack e is h = (Refuses e, refused e (subst (λ s. IsRefusedOn st.stored op s e) (sym is) h))

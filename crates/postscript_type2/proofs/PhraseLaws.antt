@@ -11,7 +11,7 @@ use Rattle.postscript_type2.specs.declared.operation.Operator.{Operator}
 use Rattle.postscript_type2.specs.Program.Computed.{PhraseIsRead, NoPhraseIsRefused}
 use Rattle.postscript_type2.specs.Number.{spelled, whole}
 use Rattle.postscript_type2.specs.Operation.Operators.{operator_of}
-use Rattle.postscript_type2.specs.Program.Parsing.{Phrase, Complete, NoPhrase, is_number, with_number, numbered, with_operator, escaped, ending, phrase_after, phrase, fronted}
+use Rattle.postscript_type2.specs.Program.Parsing.{Parsed, Complete, NoPhrase, is_number, with_number, numbered, with_operator, escaped, ending, phrase_after, phrase, fronted}
 use Rattle.postscript_type2.specs.Program.Phrases as spellings
 use Rattle.postscript_type2.specs.Program.Phrases.{IsNumber, IsPhrase, HasNoPhrase}
 use Rattle.postscript_type2.proofs.Fronts.{number-first, phrase-from}
@@ -216,11 +216,11 @@ reads-no_phrase bytes e (spellings.behind_number number rest x e' is none) =
     before.2 ∙ ap (λ q. with_number x (fronted [] before.0 q)) (reads-no_phrase rest e' none)
 
 -- what a phrase that was read says of the bytes
-abbrev Spells : List ℕ → Phrase → Type 0
+abbrev Spells : List ℕ → Parsed → Type 0
 Spells bytes (Complete xs op more) = IsPhrase (take (more + 1) bytes) xs op × (length (take (more + 1) bytes) ≡ more + 1)
 Spells bytes (NoPhrase e) = HasNoPhrase bytes e
 
-number-spells : (b : ℕ) (r : List ℕ) (more : ℕ) (x : ℤ) → IsNumber (b ∷ take more r) x → more ≤ length r → (q : Phrase) → Spells (drop more r) q →
+number-spells : (b : ℕ) (r : List ℕ) (more : ℕ) (x : ℤ) → IsNumber (b ∷ take more r) x → more ≤ length r → (q : Parsed) → Spells (drop more r) q →
     Spells (b ∷ r) (with_number x (fronted [] more q))
 number-spells b r more x is room (NoPhrase e) none = subst (λ bytes. HasNoPhrase (b ∷ bytes) e) (take-append-drop more r) (spellings.behind_number (b ∷ take more r) (drop more r) x e is none)
 number-spells b r more x is room (Complete xs op n) spelled =

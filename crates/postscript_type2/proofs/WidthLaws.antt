@@ -2,16 +2,16 @@
 use Rattle.std.proofs.lemmas.List.Elements.{All-append, All-nil, All-cons, All-head, All-tail}
 use Rattle.std.proofs.Common.{◌≡◌, refl, ap, sym, subst, ◌∙◌, ◌⊎◌, inl, inr, ℕ, suc, ◌<◌, ℤ, List, [], ◌∷◌, ◌++◌, length, Option, Some, None, All, arith}
 use Rattle.postscript_type2.specs.declared.operation.Operator.{Operator}
-use Rattle.postscript_type2.specs.Program.Effects.{State, start, Move, Keeps, Clears, Calls, Ends, pushed, stacked, holding, cleared}
+use Rattle.postscript_type2.specs.Program.Effects.{State, start, Effect, Keeps, Clears, Calls, Ends, pushed, stacked, holding, cleared}
 use Rattle.postscript_type2.specs.Program.Meaning.{answer as answer_of, hinting, Moves, Means, keeps, clears as clears_phrase, calls as calls_phrase, calls_to_stop, calls_to_finish, returns as returns_phrase, finishes, Closes}
 use Rattle.postscript_type2.specs.Program.OperatorRules.{Does, draws, declares, masks, ends, IsSettled}
 use Rattle.postscript_type2.specs.Program.Routines.{Lists}
-use Rattle.postscript_type2.specs.Program.Runs.{Answer, Said, End, UsedUp, Returned, Finished, Fault, Run, last_width, width_by, width_of}
+use Rattle.postscript_type2.specs.Program.Runs.{Answer, Phrase, End, UsedUp, Returned, Finished, Fault, Run, last_width, width_by, width_of}
 use Rattle.postscript_type2.specs.Program.Widths.{FirstSettles, clears as first_clears, ends as first_ends, behind_others, in_subroutine, behind_subroutine, WidthIsSettledOnce, HasWidth, HasNoWidth, EndsWith, NeverFinished}
 use Rattle.postscript_type2.proofs.OperatorLaws.{law as operators-law}
 
 -- a move where the width is settled already
-abbrev MovesWith : Option ℤ → Move → Type 0
+abbrev MovesWith : Option ℤ → Effect → Type 0
 MovesWith width (Clears taken pairs stems last mask) = last ≡ width
 MovesWith width (Ends taken last) = last ≡ width
 MovesWith width move = Unit {0}
@@ -19,14 +19,14 @@ MovesWith width move = Unit {0}
 stays : (before : Option (Option ℤ)) (beneath : List ℤ) (last width : Option ℤ) → before ≡ Some width → IsSettled before beneath last → last ≡ width
 stays before beneath last width e h1 = grind arith
 
-does-with : (lists : Lists) (op : Operator) (behind : List ℕ) (st : State) (width : Option ℤ) → st.width ≡ Some width → (move : Move) → Does lists op behind st move → MovesWith width move
+does-with : (lists : Lists) (op : Operator) (behind : List ℕ) (st : State) (width : Option ℤ) → st.width ≡ Some width → (move : Effect) → Does lists op behind st move → MovesWith width move
 does-with lists op behind st width e _ (draws takes beneath taken last k h settles) = stays st.width beneath last width e settles
 does-with lists op behind st width e _ (declares takes beneath taken last stems k counts few h settles) = stays st.width beneath last width e settles
 does-with lists op behind st width e _ (masks beneath rest last stems k counts few bytes at small even settles) = stays st.width beneath last width e settles
 does-with lists op behind st width e _ (ends beneath taken last k h settles) = stays st.width beneath last width e settles
 does-with lists op behind st width e _ _ = tt
 
-moves-with : (lists : Lists) (st : State) (phrase : List ℕ) (numbers : List ℤ) (op : Operator) (behind : List ℕ) (move : Move) (width : Option ℤ) → st.width ≡ Some width →
+moves-with : (lists : Lists) (st : State) (phrase : List ℕ) (numbers : List ℤ) (op : Operator) (behind : List ℕ) (move : Effect) (width : Option ℤ) → st.width ≡ Some width →
     Moves lists st phrase numbers op behind move → MovesWith width move
 moves-with lists st phrase numbers op behind move width e m =
     does-with lists op behind (pushed numbers st) width e move ((operators-law lists op behind (pushed numbers st) move).1 m.does)
@@ -45,7 +45,7 @@ record Keeping (width : Option ℤ) (answers : List Answer) (end : End) : Type 0
 closes-with : (width : Option ℤ) (taken : List ℤ) (last : Option ℤ) (depth : ℕ) (behind : List ℕ) (end : End) → last ≡ width → Closes taken last depth behind end → EndsSettled width end
 closes-with width taken last depth behind end e h1 = grind arith
 
-keeping : (lists : Lists) (width : Option ℤ) (depth : ℕ) (rest : List ℕ) (st : State) (answers : List Answer) (trace : List Said) (end : End) →
+keeping : (lists : Lists) (width : Option ℤ) (depth : ℕ) (rest : List ℕ) (st : State) (answers : List Answer) (trace : List Phrase) (end : End) →
     st.width ≡ Some width → Means lists depth rest st answers trace end → Keeping width answers end
 keeping lists width _ _ _ _ _ _ e (keeps depth phrase behind numbers op st stack stored answers trace end m more) =
     keeping lists width depth behind (holding stack stored st) answers trace end e more
@@ -99,7 +99,7 @@ past-inner lists depth phrase behind numbers op st subroutine stack inner end en
     settles width (in_subroutine depth phrase behind numbers op st subroutine stack m few first) (record { each = rest.each; last = if_one width rest.last })
 
 past-call : (lists : Lists) (depth : ℕ) (phrase behind : List ℕ) (numbers : List ℤ) (op : Operator) (st : State) (subroutine : List ℕ) (stack : List ℤ)
-    (inner answers : List Answer) (inner_trace trace : List Said) (back : State) (end : End) → Moves lists st phrase numbers op behind (Calls subroutine stack) → depth < 10 →
+    (inner answers : List Answer) (inner_trace trace : List Phrase) (back : State) (end : End) → Moves lists st phrase numbers op behind (Calls subroutine stack) → depth < 10 →
     Means lists (suc depth) subroutine (stacked stack st) inner inner_trace (Returned back) → Means lists depth behind back answers trace end →
     Left lists (suc depth) subroutine (stacked stack st) inner (Returned back) → (back.width ≡ None → Left lists depth behind back answers end) →
     Left lists depth (phrase ++ behind) st (inner ++ answers) end
@@ -119,7 +119,7 @@ past-call lists depth phrase behind numbers op st subroutine stack inner answers
 closes-none : (taken : List ℤ) (last : Option ℤ) (end : End) → NoneSettled (Finished taken last) → NoneSettled end
 closes-none taken last end h = absurd h
 
-left : (lists : Lists) (depth : ℕ) (rest : List ℕ) (st : State) (answers : List Answer) (trace : List Said) (end : End) →
+left : (lists : Lists) (depth : ℕ) (rest : List ℕ) (st : State) (answers : List Answer) (trace : List Phrase) (end : End) →
     st.width ≡ None → Means lists depth rest st answers trace end → Left lists depth rest st answers end
 left lists _ _ _ _ _ _ e (keeps depth phrase behind numbers op st stack stored answers trace end m more) =
     past-kept lists depth phrase behind numbers op st stack stored answers end m (left lists depth behind (holding stack stored st) answers trace end e more)

@@ -7,7 +7,7 @@ use Rattle.postscript_type2.specs.declared.operation.Operator.{Operator}
 use Rattle.postscript_type2.specs.declared.operation.Operator.TheVariants.{CallSubr, CallGSubr, Return}
 use Rattle.postscript_type2.specs.declared.program.inlined.Inlined.{Inlined}
 use Rattle.postscript_type2.specs.Program.Inlined.{behind_first, unless_last, before_last, Stands, call_piece, piece, put_before, pieced, inlined, text}
-use Rattle.postscript_type2.specs.Program.Runs.{Said, by}
+use Rattle.postscript_type2.specs.Program.Runs.{Phrase, by}
 use Rattle.postscript_type2.specs.Private.Written.{written}
 use Rattle.postscript_type2.proofs.LastNumbers.{past-is}
 
@@ -56,18 +56,18 @@ call-stays op bytes n o h0 is last = grind arith
 pub others-stay : (op : Operator) (bytes : List ℕ) → (op ≡ CallSubr → ⊥) → (op ≡ Return → ⊥) → (op ≡ CallGSubr → ⊥) → piece (by op bytes) ≡ Stands (by op bytes)
 others-stay op bytes h0 back gsub = grind arith
 
-put-none : (phrases : List Said) → put_before [] phrases ≡ phrases
+put-none : (phrases : List Phrase) → put_before [] phrases ≡ phrases
 put-none phrases = grind arith
 
-stands-behind : (code bytes : List ℕ) (whole : ℕ) (op : Operator) (phrases : List Said) →
+stands-behind : (code bytes : List ℕ) (whole : ℕ) (op : Operator) (phrases : List Phrase) →
     take whole code ++ text (put_before (drop whole code) (by op bytes ∷ phrases)) ≡ (code ++ bytes) ++ text phrases
 stands-behind code bytes whole op phrases = ap (λ xs. take whole code ++ xs) (append_assoc (drop whole code) bytes (text phrases))
     ∙ sym (append_assoc (take whole code) (drop whole code) (bytes ++ text phrases))
     ∙ ap (λ xs. xs ++ (bytes ++ text phrases)) (take-append-drop whole code) ∙ sym (append_assoc code bytes (text phrases))
 
 -- a phrase that stands is written
-pub stands-written : (old new : Inlined) (bytes : List ℕ) (op : Operator) (said : Said) → new.code.items ≡ old.code.items ++ bytes → new.whole ≡ length new.code.items →
-    piece said ≡ Stands (by op bytes) → (more : List Said) → written new more ≡ written old (said ∷ more)
+pub stands-written : (old new : Inlined) (bytes : List ℕ) (op : Operator) (said : Phrase) → new.code.items ≡ old.code.items ++ bytes → new.whole ≡ length new.code.items →
+    piece said ≡ Stands (by op bytes) → (more : List Phrase) → written new more ≡ written old (said ∷ more)
 stands-written old new bytes op said appended all is more =
     let code : List ℕ = new.code.items in
     ap (λ n. take n code ++ text (put_before (drop n code) (inlined more))) all ∙ ap (λ xs. xs ++ text (put_before (drop (length code) code) (inlined more))) (take-length code)

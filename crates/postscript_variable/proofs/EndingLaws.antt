@@ -13,7 +13,7 @@ use Rattle.postscript_type2.proofs.EndingLaws.{spelled-cut}
 use Rattle.postscript_variable.specs.declared.command.Command.{Command}
 use Rattle.postscript_variable.specs.declared.machine.Machine.{Machine}
 use Rattle.postscript_variable.specs.Blending.{sum_of, value, before_all, values}
-use Rattle.postscript_variable.specs.Effects.{Font, State, start, Move, Refuses, answer_move, index_move, blended, blend_top, blend_many, blend_by, blend_over, call_move, effect}
+use Rattle.postscript_variable.specs.Effects.{Font, State, start, Effect, Refuses, answer_move, index_move, blended, blend_top, blend_many, blend_by, blend_over, call_move, effect}
 use Rattle.postscript_variable.specs.Endings.{run_refusals, IsRunsEnd, RunsEndSo}
 use Rattle.postscript_variable.specs.Evaluation.{Run, after_call, Stride, Halts, moved, stride_by, stride, Callee, paced, routine, callee, mean}
 use Rattle.postscript_variable.specs.Meaning.{End}
@@ -53,7 +53,7 @@ abbrev ResultListed : {A : Type 0} → Result A Refusal → Type 0
 ResultListed (Ok x) = Unit {0}
 ResultListed (Err e) = Listed e
 
-abbrev MoveListed : Move → Type 0
+abbrev MoveListed : Effect → Type 0
 MoveListed (Refuses e) = Listed e
 MoveListed move = Unit {0}
 
@@ -72,7 +72,7 @@ values-listed (default ∷ defaults) deltas scalars =
 blended-listed : (st : State) (beneath : List ℤ) (vals : Result (List ℤ) Refusal) → ResultListed vals → MoveListed (blended st beneath vals)
 blended-listed st beneath vals h = grind arith
 
-chosen-listed : (b : Bool) (e : Refusal) (m : Move) → Listed e → MoveListed m → MoveListed (if b then Refuses e else m)
+chosen-listed : (b : Bool) (e : Refusal) (m : Effect) → Listed e → MoveListed m → MoveListed (if b then Refuses e else m)
 chosen-listed b e m h i = grind arith
 
 more-listed : Listed expected_more_operands
@@ -115,7 +115,7 @@ abbrev StrideListed : Stride → Type 0
 StrideListed (Halts e) = Listed e
 StrideListed s = Unit {0}
 
-moved-listed : (stack : List ℤ) (behind : List ℕ) (more cost : ℕ) (m : Move) → MoveListed m → StrideListed (moved stack behind more cost m)
+moved-listed : (stack : List ℤ) (behind : List ℕ) (more cost : ℕ) (m : Effect) → MoveListed m → StrideListed (moved stack behind more cost m)
 moved-listed stack behind more cost m h = grind arith
 
 stride-listed : (font : Font) (r : List ℕ) (st : State) (t : Token) → TokenListed t → StrideListed (stride_by font r st t)

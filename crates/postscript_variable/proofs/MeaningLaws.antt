@@ -9,7 +9,7 @@ use Rattle.postscript_type2.specs.Program.Runs.{Answer}
 use Rattle.postscript_variable.specs.declared.command.Command.{Command}
 use Rattle.postscript_variable.specs.Computed.{Tells, MeaningIsComputed, RunIsMeant, EachHasARun, NoOtherRun}
 use Rattle.postscript_variable.specs.Costs.{cost_beside}
-use Rattle.postscript_variable.specs.Effects.{Font, State, start, stack_limit, pushed, Move, Keeps, Clears, Calls, Refuses, effect}
+use Rattle.postscript_variable.specs.Effects.{Font, State, start, stack_limit, pushed, Effect, Keeps, Clears, Calls, Refuses, effect}
 use Rattle.postscript_variable.specs.Evaluation.{Run, at_end, with_step, with_answer, followed, after_call, mean, run_of}
 use Rattle.postscript_variable.specs.Meaning as rules
 use Rattle.postscript_variable.specs.Meaning.{answer, End, UsedUp, Stopped, Means, IsRunOf}
@@ -28,7 +28,7 @@ mean-number font left spelling behind st x is =
     ap (λ bytes. mean font left (bytes ++ behind) st) read.2 ∙ still-number font left read.0 (read.1 ++ behind) [] st x (length read.1) (read.3 behind)
     ∙ ap (λ rest. still_number font left rest [] st (suc (length read.1)) x) (drop-append_seam read.1 behind) ∙ ap (λ bytes. still_number font left behind [] st (length bytes) x) (sym read.2)
 
-pub mean-operator : (font : Font) (left : ℕ) (spelling behind : List ℕ) (st : State) (command : Command) (move : Move) → IsOperator spelling command → effect font command behind st ≡ move →
+pub mean-operator : (font : Font) (left : ℕ) (spelling behind : List ℕ) (st : State) (command : Command) (move : Effect) → IsOperator spelling command → effect font command behind st ≡ move →
     mean font left (spelling ++ behind) st ≡ still_moved font left behind [] st.stack (length spelling + cost_beside command st.stack) move
 mean-operator font left spelling behind st command move is does =
     let read = operator-read spelling command is in
@@ -106,7 +106,7 @@ abbrev pub MeansRun : Font → (depth : ℕ) → (rest : List ℕ) → State →
 MeansRun font depth rest st run = Means font depth rest st run.answers run.end
 
 -- the bytes of a mask follow its operator
-abbrev MaskFits : (behind : List ℕ) → Move → Type 0
+abbrev MaskFits : (behind : List ℕ) → Effect → Type 0
 MaskFits behind (Clears op taken after mask) = mask ≤ length behind
 MaskFits behind move = Unit {0}
 
@@ -139,7 +139,7 @@ called-means font left d spelling behind command st after routine is does room i
 -- an operator, by its move
 moved-means : (font : Font) (left d : ℕ) → left + d ≡ 10 → CalledMean font left d → (spelling behind : List ℕ) (command : Command) (st : State) (cost : ℕ) → IsOperator spelling command →
     ((rest : List ℕ) (st' : State) → length rest ≤ length behind → MeansRun font d rest st' (mean font left rest st')) →
-    (m : Move) → effect font command behind st ≡ m → MeansRun font d (spelling ++ behind) st (still_moved font left behind [] st.stack cost m)
+    (m : Effect) → effect font command behind st ≡ m → MeansRun font d (spelling ++ behind) st (still_moved font left behind [] st.stack cost m)
 moved-means font left d h subs spelling behind command st cost is ih (Keeps after) does =
     rules.keeps d spelling behind command st after _ _ (record { spelled = is; does = does }) (ih behind after (omega arith))
 moved-means font left d h subs spelling behind command st cost is ih (Clears op taken after mask) does =

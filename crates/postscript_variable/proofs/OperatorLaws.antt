@@ -17,7 +17,7 @@ use Rattle.postscript_type2.proofs.Taken.{exactly-taken}
 use Rattle.postscript_variable.specs.declared.command.Command.{Command}
 use Rattle.postscript_variable.specs.declared.command.Command.TheVariants.{Answered, VsIndex, Blend, CallSubr, CallGSubr}
 use Rattle.postscript_variable.specs.Blending.{values}
-use Rattle.postscript_variable.specs.Effects.{Font, State, cleared, Move, Clears, Refuses, clearing, stems_after, with_stems, path_move, answer_move, index_move, chosen, chosen_by, blended, blend_top, blend_many, blend_by, blend_over, called_as, call_by, call_move, effect}
+use Rattle.postscript_variable.specs.Effects.{Font, State, cleared, Effect, Clears, Refuses, clearing, stems_after, with_stems, path_move, answer_move, index_move, chosen, chosen_by, blended, blend_top, blend_many, blend_by, blend_over, called_as, call_by, call_move, effect}
 use Rattle.postscript_variable.specs.OperatorRules as rules
 use Rattle.postscript_variable.specs.OperatorRules.{AreBlended, LeavesRange, StemsAfter, CallsFrom, IsOther, Does, OperatorsDoSo}
 use Rattle.postscript_variable.proofs.BlendLaws.{values-are, values-past, Blend as BlendOf, blend-of}
@@ -35,10 +35,10 @@ clearing-none op st stems takes h = ap (clearing op st stems 0) (none-taken take
 stems-are : (st : State) (stems : ℕ) → StemsAfter st stems → stems_after st ≡ stems
 stems-are st _ (rules.in_pairs n odd few all) = omega arith
 
-within : (stems : ℕ) (move : Move) → stems < 2 ^ 32 → with_stems stems move ≡ move
+within : (stems : ℕ) (move : Effect) → stems < 2 ^ 32 → with_stems stems move ≡ move
 within stems move h = grind arith
 
-too_many : (stems : ℕ) (move : Move) → 2 ^ 32 ≤ stems → with_stems stems move ≡ Refuses too_many_stems
+too_many : (stems : ℕ) (move : Effect) → 2 ^ 32 ≤ stems → with_stems stems move ≡ Refuses too_many_stems
 too_many stems move h = grind arith
 
 -- by kinds, each with the lengths that it takes
@@ -58,7 +58,7 @@ declares-on op behind st takes stems k counts = by-kind op behind st (DeclaresSt
     ∙ ap (λ o. with_stems (stems_after st) (clearing op st (stems_after st) 0 o)) (taken-by op (DeclaresStems takes) (length st.stack) k)
     ∙ ap (λ n. with_stems n (clearing op st n 0 (greatest takes (length st.stack)))) (stems-are st stems counts)
 
-abbrev masked : Operator → (behind : List ℕ) → State → (stems : ℕ) → (taken : Option ℕ) → Move
+abbrev masked : Operator → (behind : List ℕ) → State → (stems : ℕ) → (taken : Option ℕ) → Effect
 masked op behind st stems taken = with_stems stems (if nat_lt (length behind) (mask_len stems) then Refuses unexpected_eof else clearing op st stems (mask_len stems) taken)
 
 masks-on : (op : Operator) (behind : List ℕ) (st : State) (takes : ℕ → Bool) (stems : ℕ) → kind op ≡ Masks takes → StemsAfter st stems →
@@ -138,7 +138,7 @@ blend-number st scalars operands n is e =
     blend-with st scalars is ∙ ap (λ stack. blend_by st scalars (whole_operand stack)) e ∙ ap (blend_by st scalars) (whole-on operands n)
 
 -- n values of the top, where there are as many operands and where there are fewer
-abbrev above : State → (scalars : List ℕ) → (n : ℕ) → (operands : List ℤ) → Move
+abbrev above : State → (scalars : List ℕ) → (n : ℕ) → (operands : List ℤ) → Effect
 above st scalars n operands =
     let top = last_of operands (n * suc (length scalars)) in
     blended st (take (length operands - n * suc (length scalars)) operands) (values (take n top) (drop n top) scalars)
@@ -180,7 +180,7 @@ blend-on st scalars beneath nums deltas r is e many vals =
     blend-number st scalars (beneath ++ (nums ++ deltas)) (pos (length nums)) is (e ∙ joined beneath nums deltas (whole (pos (length nums))))
     ∙ parts-of st scalars beneath nums deltas many ∙ ap (blended st beneath) vals
 
-does-on : (font : Font) (command : Command) (behind : List ℕ) (st : State) (move : Move) → Does font behind st command move → effect font command behind st ≡ move
+does-on : (font : Font) (command : Command) (behind : List ℕ) (st : State) (move : Effect) → Does font behind st command move → effect font command behind st ≡ move
 does-on font _ behind st _ (rules.draws op takes beneath taken k h) = draws-on op behind st takes k ∙ clearing-is op st st.stems takes beneath taken h
 does-on font _ behind st _ (rules.draws_none op takes k h) = draws-on op behind st takes k ∙ clearing-none op st st.stems takes h
 does-on font _ behind st _ (rules.declares op takes beneath taken stems k counts few h) =
@@ -211,7 +211,7 @@ does-on font _ behind st _ (rules.calls_nothing command routines beneath n from 
 
 -- Each operator does something from each state.
 abbrev Found : Font → Command → (behind : List ℕ) → State → Type 0
-Found font command behind st = (move : Move) × Does font behind st command move
+Found font command behind st = (move : Effect) × Does font behind st command move
 
 count-stems : (st : State) → StemsAfter st (stems_after st)
 count-stems st = rules.in_pairs (length st.stack / 2) (length st.stack % 2) (omega arith) (omega arith)

@@ -5,11 +5,11 @@ use Rattle.std.proofs.lemmas.List.{drop-drop}
 use Rattle.postscript_base.specs.Refusal.{Refusal, too_deep}
 use Rattle.postscript_variable.specs.declared.command.Command.{Command}
 use Rattle.postscript_variable.specs.Costs.{cost_beside}
-use Rattle.postscript_variable.specs.Effects.{Font, State, Move, effect}
+use Rattle.postscript_variable.specs.Effects.{Font, State, Effect, effect}
 use Rattle.postscript_variable.specs.Evaluation.{Run, at_end, with_step, with_answer, with_any_answer, followed, after_call, Stride, On, Into, Halts, moved, stride_by, stride, Callee, paced, routine, callee, mean}
 use Rattle.postscript_variable.specs.Meaning.{End, UsedUp, Stopped}
 use Rattle.postscript_variable.specs.Private.Remaining.{through, still, still_number, still_moved}
-use Rattle.postscript_variable.specs.Sayings.{Said}
+use Rattle.postscript_variable.specs.Sayings.{Phrase}
 use Rattle.postscript_variable.specs.Tokens.{Token, Number, Operator, NoToken, token}
 
 -- a routine past k bytes is the routine from there
@@ -30,7 +30,7 @@ through-steps font left [] cost run = refl
 through-steps font left (c ∷ cs) cost run =
     ap (through font (suc left) cs) (followed-step cost run (after_call (λ st. mean font (suc left) c st))) ∙ through-steps font (suc left) cs cost _
 
-through-answers : (font : Font) (left : ℕ) (cs : List (List ℕ)) (answer : Said) (run : Run) →
+through-answers : (font : Font) (left : ℕ) (cs : List (List ℕ)) (answer : Phrase) (run : Run) →
     through font left cs (with_answer answer run) ≡ with_answer answer (through font left cs run)
 through-answers font left [] answer run = refl
 through-answers font left (c ∷ cs) answer run = through-answers font (suc left) cs answer _
@@ -65,7 +65,7 @@ number-by : (font : Font) (left : ℕ) (r : List ℕ) (cs : List (List ℕ)) (st
     next_still font left r cs (stride_by font r st (Number x more)) ≡ still_number font left (drop more r) cs st (suc more) x
 number-by font left r cs st x more = grind arith
 
-moved-by : (font : Font) (left : ℕ) (r : List ℕ) (cs : List (List ℕ)) (stack : List ℤ) (more cost : ℕ) (m : Move) →
+moved-by : (font : Font) (left : ℕ) (r : List ℕ) (cs : List (List ℕ)) (stack : List ℤ) (more cost : ℕ) (m : Effect) →
     next_still font left r cs (moved stack (drop more r) more cost m) ≡ still_moved font left (drop more r) cs stack cost m
 moved-by font left r cs stack more cost m = grind (arith, drop-drop)
 

@@ -16,19 +16,19 @@ use Rattle.postscript_variable.specs.Meaning as rules
 use Rattle.postscript_variable.specs.Meaning.{End, UsedUp, Stopped, Means}
 use Rattle.postscript_variable.specs.Private.Machines.{still_of}
 use Rattle.postscript_type2.specs.Refused.{error_of, reason}
-use Rattle.postscript_variable.specs.Sayings.{Said, said}
+use Rattle.postscript_variable.specs.Sayings.{Phrase, said}
 use Rattle.postscript_variable.specs.Told.{told, answer_of, ToldIsComputed, ToldIsAnswered, Says, StopsWith}
 use Rattle.postscript_variable.proofs.MeaningLaws.{mean-number, mean-operator, mean-unread, with-room, without-room, sound, run-means}
 
-abbrev says : Run → List Said
+abbrev says : Run → List Phrase
 says run = run.says
 
-says-call : (run : Run) (go : State → Run) (back : State) (xs ys : List Said) → run.says ≡ xs → run.end ≡ UsedUp back → (go back).says ≡ ys →
+says-call : (run : Run) (go : State → Run) (back : State) (xs ys : List Phrase) → run.says ≡ xs → run.end ≡ UsedUp back → (go back).says ≡ ys →
     (followed run (after_call go)).says ≡ xs ++ ys
 says-call run go back xs ys h ends i =
     ap (λ zs. zs ++ (after_call go run.end).says) h ∙ ap (λ e. xs ++ (after_call go e).says) ends ∙ ap (λ zs. xs ++ zs) i
 
-says-stop : (run : Run) (go : State → Run) (e : _) (xs : List Said) → run.says ≡ xs → run.end ≡ Stopped e → (followed run (after_call go)).says ≡ xs
+says-stop : (run : Run) (go : State → Run) (e : _) (xs : List Phrase) → run.says ≡ xs → run.end ≡ Stopped e → (followed run (after_call go)).says ≡ xs
 says-stop run go e xs h ends = ap (λ zs. zs ++ (after_call go run.end).says) h ∙ ap (λ end. xs ++ (after_call go end).says) ends ∙ append-nil xs
 
 -- what is computed is what is told
@@ -85,7 +85,7 @@ pub answered : ToldIsAnswered
 answered font index code answers end run = told-answered run
 
 -- the run of a charstring, by its end
-pub says-so : (charstring : Charstring) (xs : List Said) (last : State) → xs ≡ (run_from charstring).says → (run_from charstring).end ≡ UsedUp last → Says charstring xs
+pub says-so : (charstring : Charstring) (xs : List Phrase) (last : State) → xs ≡ (run_from charstring).says → (run_from charstring).end ≡ UsedUp last → Says charstring xs
 says-so charstring xs last told-so ends =
     let font = font_from charstring in
     let index = charstring.blends.index in
@@ -98,7 +98,7 @@ stops-so charstring e ends =
     ((run_from charstring).answers, subst (λ end. IsRunFrom charstring (run_from charstring).answers end) ends (run-means (font_from charstring) charstring.blends.index charstring.code.now))
 
 -- the same of a machine before the first byte
-pub machine-says : (charstring : Charstring) (machine : Machine) (xs : List Said) (last : State) → still_of machine ≡ run_from charstring → xs ≡ (still_of machine).says →
+pub machine-says : (charstring : Charstring) (machine : Machine) (xs : List Phrase) (last : State) → still_of machine ≡ run_from charstring → xs ≡ (still_of machine).says →
     (still_of machine).end ≡ UsedUp last → Says charstring xs
 machine-says charstring machine xs last same told-so ends = says-so charstring xs last (told-so ∙ ap (λ (run : Run). run.says) same) (sym (ap (λ (run : Run). run.end) same) ∙ ends)
 

@@ -3,15 +3,15 @@ use Rattle.std.specs.Prelude.{ℕ, zero, suc, ◌+◌, ℤ, nat_lt, List, [], �
 use Rattle.postscript_base.specs.Refusal.{Refusal, too_deep, overflow}
 use Rattle.postscript_type2.specs.Program.Runs.{Answer}
 use Rattle.postscript_variable.specs.Costs.{cost_beside}
-use Rattle.postscript_variable.specs.Effects.{Font, State, start, stack_limit, pushed, Move, Keeps, Clears, Calls, Refuses, effect}
+use Rattle.postscript_variable.specs.Effects.{Font, State, start, stack_limit, pushed, Effect, Keeps, Clears, Calls, Refuses, effect}
 use Rattle.postscript_variable.specs.Meaning.{End, UsedUp, Stopped, answer}
-use Rattle.postscript_variable.specs.Sayings.{Said, said}
+use Rattle.postscript_variable.specs.Sayings.{Phrase, said}
 use Rattle.postscript_variable.specs.Tokens.{Token, Number, Operator, NoToken, token}
 
 -- a run: its answers, what is said with them, what each number and operator costs that it reads, and its end
 pub record Run : Type 0 where
   pub answers : List Answer
-  pub says : List Said
+  pub says : List Phrase
   pub costs : List ℕ
   pub end : End
 
@@ -22,7 +22,7 @@ at_end end = record { answers = []; says = []; costs = []; end = end }
 abbrev pub with_step : (cost : ℕ) → Run → Run
 with_step cost run = record { answers = run.answers; says = run.says; costs = cost ∷ run.costs; end = run.end }
 
-abbrev pub with_answer : Said → Run → Run
+abbrev pub with_answer : Phrase → Run → Run
 with_answer x run = record {
   answers = answer x.operator x.operands ∷ run.answers;
   says = x ∷ run.says;
@@ -30,7 +30,7 @@ with_answer x run = record {
   end = run.end;
 }
 
-abbrev pub with_any_answer : Option Said → Run → Run
+abbrev pub with_any_answer : Option Phrase → Run → Run
 with_any_answer None run = run
 with_any_answer (Some x) run = with_answer x run
 
@@ -49,12 +49,12 @@ after_call go (Stopped e) = at_end (Stopped e)
 
 -- what a number or an operator comes to. more: how many bytes are passed behind the first. cost: what it costs
 pub data Stride : Type 0 where
-  On : Option Said → State → (more : ℕ) → (cost : ℕ) → Stride
+  On : Option Phrase → State → (more : ℕ) → (cost : ℕ) → Stride
   Into : (routine : List ℕ) → State → (more : ℕ) → (cost : ℕ) → Stride
   Halts : Refusal → Stride
 
 -- stack, behind: the stack that an operator moves over, and the bytes behind it. cost: that of the operator without its mask
-abbrev pub moved : (stack : List ℤ) → (behind : List ℕ) → (more : ℕ) → (cost : ℕ) → Move → Stride
+abbrev pub moved : (stack : List ℤ) → (behind : List ℕ) → (more : ℕ) → (cost : ℕ) → Effect → Stride
 moved stack behind more cost (Keeps st) = On None st more cost
 moved stack behind more cost (Clears op taken st mask) =
     On (Some (said op stack taken (take mask behind))) st (more + mask) (cost + mask)

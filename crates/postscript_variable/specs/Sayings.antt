@@ -7,7 +7,7 @@ use Rattle.postscript_type2.specs.Program.Effects.{last_of, implied}
 
 -- An operator with the operands that it takes; before them, at a mask, the operands of the stems that no operator declared; and the bytes
 -- of its mask.
-pub record Said : Type 0 where
+pub record Phrase : Type 0 where
   pub operator : Operator
   pub stems : List ℤ
   pub operands : List ℤ
@@ -19,5 +19,5 @@ implied_by (Masks takes) stack = last_of stack (implied stack)
 implied_by kind stack = []
 
 -- what an operator says over a stack, where it takes these operands and has this mask
-abbrev pub said : Operator → (stack taken : List ℤ) → (mask : List ℕ) → Said
+abbrev pub said : Operator → (stack taken : List ℤ) → (mask : List ℕ) → Phrase
 said op stack taken mask = record { operator = op; stems = implied_by (kind op) stack; operands = taken; mask = mask }

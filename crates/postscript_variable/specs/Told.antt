@@ -9,11 +9,11 @@ use Rattle.postscript_variable.specs.Effects.{Font, State}
 use Rattle.postscript_variable.specs.Evaluation.{run_of}
 use Rattle.postscript_variable.specs.Meaning as rules
 use Rattle.postscript_variable.specs.Meaning.{answer, End, Means, IsRunOf}
-use Rattle.postscript_variable.specs.Sayings.{Said, said}
+use Rattle.postscript_variable.specs.Sayings.{Phrase, said}
 
 -- At each operator that clears the stack something is said; a call says what its routine does, and then what follows it does.
 abbrev pub told : {font : Font} {depth : ℕ} {rest : List ℕ} {st : State} {answers : List Answer} {end : End} →
-    Means font depth rest st answers end → List Said
+    Means font depth rest st answers end → List Phrase
 told (rules.used_up depth st) = []
 told (rules.number depth spelling behind x st answers end is room later) = told later
 told (rules.no_room depth spelling behind x st is full) = []
@@ -26,7 +26,7 @@ told (rules.calls depth spelling behind command st after back routine inner answ
 told (rules.calls_to_stop depth spelling behind command st after routine inner e moves room within) = told within
 
 -- what is said, without the hints that masks have, is what is answered
-abbrev pub answer_of : Said → Answer
+abbrev pub answer_of : Phrase → Answer
 answer_of x = answer x.operator x.operands
 
 -- Laws of the definitions: what is told along a run is what is computed, so it is one thing; and it is answered.
@@ -39,7 +39,7 @@ ToldIsAnswered = (font : Font) (index : ℕ) (code : List ℕ) (answers : List A
     answers ≡ map answer_of (told run)
 
 -- what is said, as a call answers it
-abbrev pub said_of : Saying → Said
+abbrev pub said_of : Saying → Phrase
 said_of saying = record {
   operator = saying.operator;
   stems = saying.stems.items;
@@ -48,7 +48,7 @@ said_of saying = record {
 }
 
 -- all that a charstring says, whose run ends without fault
-pub record Says (charstring : Charstring) (says : List Said) : Type 0 where
+pub record Says (charstring : Charstring) (says : List Phrase) : Type 0 where
   pub answers : List Answer
   pub last : State
   pub run : IsRunFrom charstring answers (rules.UsedUp last)

@@ -32,10 +32,10 @@ pub(crate) enum Event<'l> {
     /// A subroutine is used up: its caller goes on.
     Back,
     /// A number or an operator was read, and the run goes on.
-    Went(Cost),
+    Continued(Cost),
     /// An operator is answered with the last so many operands, which stand on the stack until that is cleared, and with the bytes of
     /// its mask.
-    Answered(Operator, usize, &'l [u8], Cost),
+    Operation(Operator, usize, &'l [u8], Cost),
 }
 
 /// How far a machine comes within its limit: to an operator that is answered, with so many operands, the last ones on the
@@ -111,7 +111,7 @@ impl<'l> Machine<'l> {
             return Err(Refused::Overflow);
         }
         self.state.stack.push(number)?;
-        Ok(Event::Went(Cost {
+        Ok(Event::Continued(Cost {
             bytes: size,
             beside: 0,
         }))
@@ -161,18 +161,18 @@ impl<'l> Machine<'l> {
             beside,
         };
         match self.state.act(&self.font, command, behind)? {
-            Effect::Keeps => Ok(Event::Went(cost)),
+            Effect::Keeps => Ok(Event::Continued(cost)),
             Effect::Clears(operator, count, mask) => {
                 let bytes = size + mask;
                 let mask = routine::take(&mut self.routine, mask);
-                Ok(Event::Answered(operator, count, mask, Cost { bytes, beside }))
+                Ok(Event::Operation(operator, count, mask, Cost { bytes, beside }))
             }
             Effect::Calls(code) => {
                 if self.left == 0 {
                     return Err(Refused::TooDeep);
                 }
                 self.enter(code)?;
-                Ok(Event::Went(cost))
+                Ok(Event::Continued(cost))
             }
         }
     }
@@ -245,8 +245,8 @@ impl<'l> Machine<'l> {
         loop {
             self.pass_numbers(&mut u64::MAX)?;
             match self.advance() {
-                Ok(Event::Back | Event::Went(_)) => {}
-                Ok(Event::Answered(operator, count, _, _)) => return Ok(Some((operator, count))),
+                Ok(Event::Back | Event::Continued(_)) => {}
+                Ok(Event::Operation(operator, count, _, _)) => return Ok(Some((operator, count))),
                 Ok(Event::UsedUp) => return Ok(None),
                 Err(e) => return Err(e),
             }
@@ -267,8 +267,8 @@ impl<'l> Machine<'l> {
             }
             match self.advance() {
                 Ok(Event::Back) => {}
-                Ok(Event::Went(cost)) => spend(limit, cost),
-                Ok(Event::Answered(operator, count, _, cost)) => {
+                Ok(Event::Continued(cost)) => spend(limit, cost),
+                Ok(Event::Operation(operator, count, _, cost)) => {
                     spend(limit, cost);
                     return Ok(Reach::At(operator, count));
                 }

@@ -87,8 +87,8 @@ fn all_sayings<'l>(alloc: Global, machine: &mut Machine<'l>) -> shared::Result<V
     loop {
         match machine.advance()? {
             Event::UsedUp => return Ok(sayings),
-            Event::Back | Event::Went(_) => {}
-            Event::Answered(operator, count, mask, _) => {
+            Event::Back | Event::Continued(_) => {}
+            Event::Operation(operator, count, mask, _) => {
                 sayings.push(machine.saying(alloc, operator, count, mask)?)?;
                 machine.empty();
             }

@@ -24,19 +24,19 @@ DrawsGlyph font glyph place segments =
 -- a sink has taken a front of what the charstring of a glyph draws, or nothing where it has none
 abbrev pub DrawsGlyphFront : {T : Type 0} → (after : T → Segment → T) → (old new : T) → fonts.Font → (glyph : ℕ) → Place → Type 0
 DrawsGlyphFront after old new font glyph place =
-    (((part : parts.Part) → HasPart font.bytes.now (view_shown font) glyph part → ⊥) × (new ≡ old)) ⊎
+    (((part : parts.PrivateDict) → HasPart font.bytes.now (view_shown font) glyph part → ⊥) × (new ≡ old)) ⊎
     ((charstring : Charstring) × IsCharstringOf font glyph place charstring × DrawsFront after origin old new (run_from charstring).answers)
 
 -- Why a glyph is not drawn: it has no part that stands, or its charstring is not drawn.
 abbrev pub IsGlyphUndrawn : fonts.Font → (glyph : ℕ) → Place → (left : ℕ) → Error → Type 0
 IsGlyphUndrawn font glyph place left e =
-    ((e ≡ NoSuchGlyph glyph) × ((part : parts.Part) → HasPart font.bytes.now (view_shown font) glyph part → ⊥)) ⊎
+    ((e ≡ NoSuchGlyph glyph) × ((part : parts.PrivateDict) → HasPart font.bytes.now (view_shown font) glyph part → ⊥)) ⊎
     ((charstring : Charstring) × IsCharstringOf font glyph place charstring × IsRefused origin (begun (run_from charstring)) left e)
 
 -- What was read of the glyph's charstring is paid, all of it where it is drawn; nothing is taken where it has none.
 abbrev pub SpendsOnGlyph : {A : Type 0} → fonts.Font → (glyph : ℕ) → Place → (limit left : ℕ) → Result A Error → Type 0
 SpendsOnGlyph font glyph place limit left result =
-    (((part : parts.Part) → HasPart font.bytes.now (view_shown font) glyph part → ⊥) × (left ≡ limit)) ⊎
+    (((part : parts.PrivateDict) → HasPart font.bytes.now (view_shown font) glyph part → ⊥) × (left ≡ limit)) ⊎
     ((charstring : Charstring) × IsCharstringOf font glyph place charstring × IsSpent limit (run_from charstring).costs left result)
 
 -- the run of the glyph's charstring costs less than the limit

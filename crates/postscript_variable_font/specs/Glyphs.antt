@@ -13,7 +13,7 @@ use Rattle.postscript_variable_font.specs.declared.place.Place.{Place}
 -- a charstring of this glyph: its code, the global subroutines, and the local subroutines and vsindex of its part; it blends with the
 -- scalars of the place
 pub record IsCharstringOf (font : Font) (glyph : ℕ) (place : Place) (charstring : Charstring) : Type 0 where
-  pub part : parts.Part
+  pub part : parts.PrivateDict
   pub has : HasPart font.bytes.now (view_shown font) glyph part
   pub code : slice_get (view_shown font).char_strings glyph ≡ Some charstring.code.now
   pub subroutines : lists_of charstring.subroutines ≡ lent (view_shown font).global_subroutines part.subroutines

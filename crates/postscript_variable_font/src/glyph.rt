@@ -1,6 +1,6 @@
 //! The charstring of a glyph.
 ghost use Rattle.std.specs.Prelude.{IfSome, IfNone};
-ghost use Rattle.postscript_cff2.specs.Parts.{HasPart, Part as ShownPart};
+ghost use Rattle.postscript_cff2.specs.Parts.{HasPart, PrivateDict as ShownDict};
 ghost use Rattle.postscript_cff2.specs.Shown.{view_shown};
 ghost use Rattle.postscript_variable_font.specs.Glyphs.{IsCharstringOf};
 
@@ -14,7 +14,7 @@ use postscript_variable::{Blends, Charstring};
 /// has no Font DICT for it that stands (`Font::part`).
 pub fn charstring<'l>(font: &Font<'l>, glyph: usize, place: &'l Place) -> Option<Charstring<'l>>
     ensures found { IfSome result (λ charstring. IsCharstringOf font.now glyph place.now charstring) }
-    ensures none { IfNone result ((part : ShownPart) → HasPart font.now.bytes.now (view_shown font.now) glyph part → ⊥) }
+    ensures none { IfNone result ((part : ShownDict) → HasPart font.now.bytes.now (view_shown font.now) glyph part → ⊥) }
 {
     let Some(part) = font.part(glyph) else {
         return None;

@@ -1,6 +1,6 @@
 -- A table `HVAR` that is read has no cause to be refused.
 use Rattle.std.proofs.Common.{◌≡◌, inl, inr, ℕ, ◌<◌, ◌≤◌, List, length, arith}
-use Rattle.postscript_items.specs.Items.{number_at}
+use Rattle.postscript_base.specs.Index.{number_at}
 use Rattle.postscript_variation.specs.Refusals.{NoAdvances, NoIndexMap, NoStore}
 use Rattle.postscript_variation.specs.declared.error.Error.{Error}
 use Rattle.postscript_variation.specs.declared.error.Error.TheVariants.{Cut, UnknownFormat}

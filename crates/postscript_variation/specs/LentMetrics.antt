@@ -1,6 +1,6 @@
 -- Metrics whose variations are lent.
 use Rattle.std.specs.Prelude.{◌≡◌, ℕ, ℤ, List, Some}
-use Rattle.postscript_items.specs.Items.{number_at}
+use Rattle.postscript_base.specs.Index.{number_at}
 use Rattle.postscript_variation.specs.Lent.{IsNamedStore}
 use Rattle.postscript_variation.specs.LentAdvances.{HasNoItem, VariesBy}
 use Rattle.postscript_variation.specs.Metrics.{AreRecords, IsFirstRecord, inner_at, outer_at}

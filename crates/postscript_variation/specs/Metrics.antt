@@ -1,6 +1,6 @@
 -- Which delta set a metric of a font has (OpenType 1.9, "MVAR - Metrics Variations Table").
 use Rattle.std.specs.Prelude.{◌≡◌, ◌≢◌, ◌⊎◌, ℕ, ◌+◌, ◌*◌, ◌<◌, ◌≤◌, List, length}
-use Rattle.postscript_items.specs.Items.{number_at}
+use Rattle.postscript_base.specs.Index.{number_at}
 use Rattle.postscript_variation.specs.Store.{IsStore}
 
 -- The table `MVAR` tells its version (majorVersion, minorVersion), how many bytes a record has (valueRecordSize), how many records there

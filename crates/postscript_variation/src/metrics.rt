@@ -1,13 +1,13 @@
 //! Variations of a font's metrics (OpenType 1.9, "MVAR - Metrics Variations Table").
 ghost use Rattle.std.specs.Prelude.{◌≡◌, ◌≢◌, ℕ, ◌+◌, ◌*◌, ◌<◌, ◌≤◌, length, IfErr, IfNone, IfSome, MatchOption, MatchResult};
-ghost use Rattle.postscript_items.specs.Items.{number_at as the_number};
+ghost use Rattle.postscript_base.specs.Index.{number_at as the_number};
 ghost use Rattle.postscript_variation.specs.Lent.{IsNamedStore};
 ghost use Rattle.postscript_variation.specs.Metrics.{AreRecords, IsFirstRecord, NamesStore, tag_at};
 ghost use Rattle.postscript_variation.specs.Refusals.{NoMetrics, NoStore};
 
 use crate::error::{Error, Result};
 use crate::store::Store;
-use postscript_items::number::number_at;
+use postscript_base::index::number::number_at;
 
 /// The variations of a font's metrics.
 #[derive(Clone, Copy)]

@@ -49,7 +49,7 @@ fn told<R: Abort>(rt: &R, alloc: Global, font: &FontView<'_>, glyph: usize) -> S
     match outline_of(alloc, font, glyph, &mut limit) {
         Ok(outline) => {
             put_shown(rt, &mut text, "", &outline);
-            if let Some(width) = outline.width {
+            if let Some(width) = outline.width_difference {
                 put_shown(rt, &mut text, " width ", &width);
             }
         }

@@ -234,7 +234,10 @@ fn drawn<S: Sink>(
 fn outline_of(alloc: Global, code: &[u8]) -> postscript_drawing::Result<Outline> {
     let mut segments = Vec::new(alloc);
     let width = drawn(alloc, code, &mut segments)?;
-    Ok(Outline { segments, width })
+    Ok(Outline {
+        segments,
+        width_difference: width,
+    })
 }
 
 /// The number of a refusal of a run.
@@ -282,7 +285,7 @@ fn box_and_width_of_an_outline(rt: HostRuntime) {
     // A width of 5 stands before the first stem.
     let code = bytes_of(&rt, alloc, "90 8c8d01 8e8f15 8e8f908b8d8e08 0e");
     let outline = outline_of(alloc, code.as_slice()).expect(&rt, "an outline");
-    let width = outline.width.and_then(|width| width.to_int());
+    let width = outline.width_difference.and_then(|width| width.to_int());
     holds(&rt, width == Some(5), "the width");
     let corners = corners_of(&outline);
     holds(&rt, corners == Some([3, 4, 13, 11]), "the box");
@@ -356,7 +359,11 @@ fn path_by_pen(alloc: Global) -> Result<String> {
     pen.apply(Operator::RLineTo, &one, &mut segments)?;
     pen.close(&mut segments)?;
     let width = None;
-    Ok(Outline { segments, width }.to_string(alloc)?)
+    Ok(Outline {
+        segments,
+        width_difference: width,
+    }
+    .to_string(alloc)?)
 }
 
 #[test]
@@ -446,7 +453,7 @@ fn a_sink_of_ones_own(rt: HostRuntime) {
     let segments = few.segments;
     let told = Outline {
         segments,
-        width: None,
+        width_difference: None,
     }
     .to_string(alloc)
     .expect(&rt, "memory");
@@ -477,10 +484,13 @@ fn programs_drawn_into_one_list(rt: HostRuntime) {
     let second = bytes_of(&rt, alloc, "90 8f16 9007 0e");
     let both = path_of_two(alloc, first.as_slice(), second.as_slice());
     let (segments, width) = both.expect(&rt, "a path");
-    let outline = Outline { segments, width };
+    let outline = Outline {
+        segments,
+        width_difference: width,
+    };
     let path = outline.to_string(alloc).expect(&rt, "memory");
     is_text(&rt, path.as_str(), "M1 2L4 2ZM4 0L4 5Z", "both");
-    let width = outline.width.and_then(|width| width.to_int());
+    let width = outline.width_difference.and_then(|width| width.to_int());
     holds(&rt, width == Some(5), "the width");
 }
 
@@ -545,7 +555,10 @@ fn a_list_and_its_box(rt: HostRuntime) {
     let mut both: (Vec<Segment>, Option<Bounds>) = (Vec::new(alloc), None);
     let width = drawn(alloc, code.as_slice(), &mut both).expect(&rt, "a glyph");
     let (segments, bounds) = both;
-    let outline = Outline { segments, width };
+    let outline = Outline {
+        segments,
+        width_difference: width,
+    };
     let path = outline.to_string(alloc).expect(&rt, "memory");
     is_text(&rt, path.as_str(), "M1 2L4 2ZM8 2L8 7Z", "the list");
     holds(&rt, bounds == outline.bounds(), "its box");

@@ -20,11 +20,11 @@ use Rattle.postscript_compact1.specs.FontSet.Operands.{place_at, type_two, bound
 use Rattle.postscript_compact1.proofs.FontCauses.{no_offset, no_type, no_bounds, no_map}
 use Rattle.postscript_compact1.proofs.OperandLaws.{placed_has, type_has, bounds_has}
 use Rattle.postscript_compact1.proofs.Steps.{Steps, Done, Last, Step, Stops, stopped}
-use Rattle.postscript_items.specs.Items.{number_at, opened, IsOpened}
-use Rattle.postscript_items.proofs.Opening.{opened_only}
+use Rattle.postscript_base.specs.Index.{number_at, opened, IsOpened}
+use Rattle.postscript_base.proofs.Opening.{opened_only}
 use Rattle.postscript_view.specs.Causes.{NoIndex, NamesNone, OfOffset, OfIndex, NoTables, OfNames, OfDictionaries, OfStrings, OfSubroutines, OfNumber, OfDictionary, NoType, OfType, OtherType, NoCharStrings, OfTheirOffset, OfTheirType, OfTheirIndex, NoPart, OfBounds, OfSlice, OfPrivate, OfSubrs, NoItem, NoParts, OfFont, OfArray, OfItem, NoFont, OfHeader, OfTables, OfCharStrings, OfParts}
 use Rattle.postscript_view.specs.Layout.{AreTables}
-use Rattle.postscript_view.specs.Order.{Tables, Part, View, aside, header_size, map_from, tables, char_strings, slice_at, subroutines, own_part, part, item_part, font_parts, parts, view_of}
+use Rattle.postscript_view.specs.Order.{Tables, PrivateDict, View, aside, header_size, map_from, tables, char_strings, slice_at, subroutines, own_part, part, item_part, font_parts, parts, view_of}
 use Rattle.postscript_view.specs.Value.{view_shown}
 use Rattle.postscript_view.specs.declared.font.FontView.{FontView}
 use Rattle.postscript_view.proofs.LayoutLaws.{part_with, aside_has, names_index, whole_offset, map_has, tables_have, char_strings_have, slice_has, item_has, header_has}
@@ -116,12 +116,12 @@ no_subroutines e bytes m local offset place private h = by (first_of (look local
 
 no_own : (e : Error) (bytes : List ℕ) (m : Dictionary) (place : ℕ) → IsSome (first_two_of (look m operators.Private)) → RefusedAs e (own_part m bytes place) → NoPart e bytes m
 unfolding own_part
-no_own e bytes m place named h = by (stopped {X = Part} e steps bytes place h)
+no_own e bytes m place named h = by (stopped {X = PrivateDict} e steps bytes place h)
   where
-    steps : Steps Part
+    steps : Steps PrivateDict
     steps = Step (bounds 0 m) (λ b. Step (slice_at b.2 b.0) (λ text. Step (map_of text) (λ local. Step (subroutines b.1 local) (λ subs. Done (part_with local subs None)))))
 
-    by : Stops {X = Part} e steps bytes place → NoPart e bytes m
+    by : Stops {X = PrivateDict} e steps bytes place → NoPart e bytes m
     by (inl h) = OfBounds named (no_bounds e 0 m bytes place h)
     by (inr (b, from, is, inl h)) =
         let p = bounds_has 0 m b bytes place from is in
@@ -150,12 +150,12 @@ no_part e bytes m place h = by (first_two_of (look m operators.Private)) refl h
 -- ---- the parts
 no_item_part : (e : Error) (bytes item : List ℕ) (items : List (List ℕ)) (place : ℕ) → RefusedAs e (item_part item bytes place) → NoItem e bytes (item ∷ items)
 unfolding item_part
-no_item_part e bytes item items place h = by (stopped {X = Part} e steps bytes place h)
+no_item_part e bytes item items place h = by (stopped {X = PrivateDict} e steps bytes place h)
   where
-    steps : Steps Part
-    steps = Step (map_of item) (λ m. Step (part m) (λ (named : Part). Done (part_with named.dictionary named.subroutines (Some m))))
+    steps : Steps PrivateDict
+    steps = Step (map_of item) (λ m. Step (part m) (λ (named : PrivateDict). Done (part_with named.dictionary named.subroutines (Some m))))
 
-    by : Stops {X = Part} e steps bytes place → NoItem e bytes (item ∷ items)
+    by : Stops {X = PrivateDict} e steps bytes place → NoItem e bytes (item ∷ items)
     by (inl h) = inl (no_map reads_dictionaries e item bytes place h)
     by (inr (m, from, is, inl h)) = inr (inl (m, (map_has item m bytes place from is).0, no_part e bytes m from h))
     by (inr (m, from, is, inr h)) = absurd h.3
@@ -163,24 +163,24 @@ no_item_part e bytes item items place h = by (stopped {X = Part} e steps bytes p
 no_items : (e : Error) (bytes : List ℕ) (items : List (List ℕ)) (place : ℕ) → RefusedAs e (each item_part items bytes place) → NoItem e bytes items
 unfolding each
 no_items e bytes [] place h = absurd h
-no_items e bytes (item ∷ items) place h = by (λ from h. no_items e bytes items from h) (stopped {X = List Part} e steps bytes place h)
+no_items e bytes (item ∷ items) place h = by (λ from h. no_items e bytes items from h) (stopped {X = List PrivateDict} e steps bytes place h)
   where
-    steps : Steps (List Part)
+    steps : Steps (List PrivateDict)
     steps = Step (item_part item) (λ p. Step (each item_part items) (λ rest. Done (p ∷ rest)))
 
-    by : ((from : ℕ) → RefusedAs e (each item_part items bytes from) → NoItem e bytes items) → Stops {X = List Part} e steps bytes place → NoItem e bytes (item ∷ items)
+    by : ((from : ℕ) → RefusedAs e (each item_part items bytes from) → NoItem e bytes items) → Stops {X = List PrivateDict} e steps bytes place → NoItem e bytes (item ∷ items)
     by behind (inl h) = no_item_part e bytes item items place h
     by behind (inr (p, from, is, inl h)) = let one = item_has bytes item p place from is in inr (inr (one.0, p, one.1, one.2, behind from h))
     by behind (inr (p, from, is, inr h)) = absurd h.3
 
 no_font_parts : (e : Error) (bytes : List ℕ) (m : Dictionary) (place : ℕ) → IsSome (look m operators.ROS) → RefusedAs e (font_parts m bytes place) → NoParts e bytes m
 unfolding font_parts
-no_font_parts e bytes m place keyed h = by (stopped {X = List Part} e steps bytes place h)
+no_font_parts e bytes m place keyed h = by (stopped {X = List PrivateDict} e steps bytes place h)
   where
-    steps : Steps (List Part)
+    steps : Steps (List PrivateDict)
     steps = Step (place_at 0 0 m operators.FDArray) (λ there. Step (aside there opened) (λ items. Last (each item_part items)))
 
-    by : Stops {X = List Part} e steps bytes place → NoParts e bytes m
+    by : Stops {X = List PrivateDict} e steps bytes place → NoParts e bytes m
     by (inl h) = OfArray keyed (OfOffset (no_offset e 0 0 m operators.FDArray bytes place h))
     by (inr (q, from, is, inl h)) = OfArray keyed (index_none e bytes 0 m operators.FDArray q place from is h)
     by (inr (q, from, is, inr (items, to, stand, h))) = OfItem items keyed (names_index bytes m operators.FDArray q place from to items is stand).0 (no_items e bytes items to h)

@@ -1,6 +1,6 @@
 -- Known codes of glyphs (Technical Note 5176, section 12).
 use Rattle.std.proofs.Common.{◌≡◌, refl, ℕ, [], ◌∷◌, ◌<◌, arith}
-use Rattle.postscript_items.specs.Items.{number_at}
+use Rattle.postscript_base.specs.Index.{number_at}
 use Rattle.postscript_view.specs.Encoding.{IsInList, IsInRanges, IsFirstSupplement, coded, supplement_code}
 
 -- format 0: the codes of the glyphs 1 and 2

@@ -21,10 +21,10 @@ use Rattle.postscript_compact1.specs.FontSet.Operands.{place_at, type_two, bound
 use Rattle.postscript_compact1.proofs.OperandLaws.{faulty, placed_is, placed_has, type_is, type_has, bounds_is, bounds_has}
 use Rattle.postscript_compact1.proofs.Outcomes.{got}
 use Rattle.postscript_compact1.proofs.Steps.{Done, Last, Step, accepted}
-use Rattle.postscript_items.specs.Items.{number_at, opened, IsOpened}
-use Rattle.postscript_items.proofs.Opening.{opened_is, opened_only}
+use Rattle.postscript_base.specs.Index.{number_at, opened, IsOpened}
+use Rattle.postscript_base.proofs.Opening.{opened_is, opened_only}
 use Rattle.postscript_view.specs.Layout.{IsIndexAt, NamesIndex, AreTables, AreCharStrings, AreSubroutines, HasLocals, WithBoth, WithoutSubrs, WithoutPrivate, IsPart, ArePartsOf, AreParts, OfFont, OfFontDictionaries, IsLaidOut, ReadsLayout}
-use Rattle.postscript_view.specs.Order.{Tables, Part, View, aside, header_size, map_from, tables, char_strings, slice_at, subroutines, own_part, part, item_part, font_parts, parts, view_of}
+use Rattle.postscript_view.specs.Order.{Tables, PrivateDict, View, aside, header_size, map_from, tables, char_strings, slice_at, subroutines, own_part, part, item_part, font_parts, parts, view_of}
 use Rattle.postscript_view.specs.Value.{view_shown}
 use Rattle.postscript_view.specs.declared.font.FontView.{FontView}
 use Rattle.postscript_view.proofs.Wider.{map_is, slice_is, has_some}
@@ -171,7 +171,7 @@ locals_have bytes m local offset subs place next private e = by (first_of (look 
         let n = index_has bytes offset local operators.Subrs h.0 place h.1 next subs h.2 h.3 in
         (WithBoth offset private (n.0, n.1, n.2, n.3, n.4), n.5)
 
-abbrev pub part_with : Dictionary → List (List ℕ) → Option Dictionary → Part
+abbrev pub part_with : Dictionary → List (List ℕ) → Option Dictionary → PrivateDict
 part_with local subs font = record { dictionary = local; subroutines = subs; font = font }
 
 private_is : (bytes : List ℕ) (m local : Dictionary) (offset : ℕ) (subs : List (List ℕ)) (place : ℕ) → HasPrivate bytes 0 m offset local → subroutines offset local bytes place ≡ Got subs place → part m bytes place ≡ Got (part_with local subs None) place
@@ -192,7 +192,7 @@ part_is bytes m local subs place (WithBoth offset private stand) = private_is by
 part_is bytes m local subs place (WithoutSubrs offset private none is) = private_is bytes m local offset subs place private (rw is (lacking_is bytes local place offset none))
 part_is bytes m local subs place (WithoutPrivate none empty is) = rw (empty, is) (without_is bytes m place none)
 
-own_has : (bytes : List ℕ) (m : Dictionary) (p : Part) (place next : ℕ) → own_part m bytes place ≡ Got p next → IsPart bytes m None p × (place ≡ next)
+own_has : (bytes : List ℕ) (m : Dictionary) (p : PrivateDict) (place next : ℕ) → own_part m bytes place ≡ Got p next → IsPart bytes m None p × (place ≡ next)
 unfolding own_part
 own_has bytes m p place next e =
     let h = accepted (Step (bounds 0 m) (λ b. Step (slice_at b.2 b.0) (λ text. Step (map_of text) (λ local. Step (subroutines b.1 local) (λ subs. Done (part_with local subs None)))))) bytes place p next e in
@@ -205,41 +205,41 @@ own_has bytes m p place next e =
     let private : HasPrivate bytes 0 m h.0.1 l.0 = (h.0.0, t.0, b.0, b.2, subst (λ k. IsSlice bytes k h.0.0 t.0) b.1 slice.0, local.0) in
     let all = locals_have bytes m l.0 h.0.1 s.0 l.1 s.1 private s.2 in
     let is : part_with l.0 s.0 None ≡ p = s.3.0 in
-    (subst (λ (p : Part). IsPart bytes m None p) is (all.0, refl), b.3 ∙ (slice.1 ∙ (local.1 ∙ (all.1 ∙ s.3.1))))
+    (subst (λ (p : PrivateDict). IsPart bytes m None p) is (all.0, refl), b.3 ∙ (slice.1 ∙ (local.1 ∙ (all.1 ∙ s.3.1))))
 
-pub part_has : (bytes : List ℕ) (m : Dictionary) (p : Part) (place next : ℕ) → part m bytes place ≡ Got p next → IsPart bytes m None p × (place ≡ next)
+pub part_has : (bytes : List ℕ) (m : Dictionary) (p : PrivateDict) (place next : ℕ) → part m bytes place ≡ Got p next → IsPart bytes m None p × (place ≡ next)
 unfolding part
 part_has bytes m p place next e = by (first_two_of (look m operators.Private)) refl e
   where
     by : (o : Option _) → first_two_of (look m operators.Private) ≡ o → (if is_none o then pure (part_with (dictionary_of []) [] None) else own_part m) bytes place ≡ Got p next → IsPart bytes m None p × (place ≡ next)
-    by None is e = let same = got _ _ _ _ e in (subst (λ (p : Part). IsPart bytes m None p) same.0 (WithoutPrivate is refl refl, refl), same.1)
+    by None is e = let same = got _ _ _ _ e in (subst (λ (p : PrivateDict). IsPart bytes m None p) same.0 (WithoutPrivate is refl refl, refl), same.1)
     by (Some x) is e = own_has bytes m p place next e
 
 -- ---- the parts
-same_part : (p : Part) (font : Option Dictionary) → p.font ≡ font → part_with p.dictionary p.subroutines font ≡ p
+same_part : (p : PrivateDict) (font : Option Dictionary) → p.font ≡ font → part_with p.dictionary p.subroutines font ≡ p
 same_part p font is = ap (λ f. part_with p.dictionary p.subroutines f) (sym is)
 
-item_is : (bytes item : List ℕ) (m : Dictionary) (p : Part) (place : ℕ) → IsDictionary item 0 m → IsPart bytes m (Some m) p → item_part item bytes place ≡ Got p place
+item_is : (bytes item : List ℕ) (m : Dictionary) (p : PrivateDict) (place : ℕ) → IsDictionary item 0 m → IsPart bytes m (Some m) p → item_part item bytes place ≡ Got p place
 unfolding item_part
 item_is bytes item m p place is h = rw (map_is item m bytes place is, part_is bytes m p.dictionary p.subroutines place h.0) (ap (λ p. Got p place) (same_part p (Some m) h.1))
 
-pub item_has : (bytes item : List ℕ) (p : Part) (place next : ℕ) → item_part item bytes place ≡ Got p next → (m : Dictionary) × IsDictionary item 0 m × IsPart bytes m (Some m) p × (place ≡ next)
+pub item_has : (bytes item : List ℕ) (p : PrivateDict) (place next : ℕ) → item_part item bytes place ≡ Got p next → (m : Dictionary) × IsDictionary item 0 m × IsPart bytes m (Some m) p × (place ≡ next)
 unfolding item_part
 item_has bytes item p place next e =
-    let h = accepted (Step (map_of item) (λ m. Step (part m) (λ (named : Part). Done (part_with named.dictionary named.subroutines (Some m))))) bytes place p next e in
+    let h = accepted (Step (map_of item) (λ m. Step (part m) (λ (named : PrivateDict). Done (part_with named.dictionary named.subroutines (Some m))))) bytes place p next e in
     let m = map_has item h.0 bytes place h.1 h.2 in
     let q = h.3 in
     let has = part_has bytes h.0 q.0 h.1 q.1 q.2 in
-    (h.0, m.0, subst (λ (p : Part). IsPart bytes h.0 (Some h.0) p) q.3.0 (has.0.0, refl), m.1 ∙ (has.1 ∙ q.3.1))
+    (h.0, m.0, subst (λ (p : PrivateDict). IsPart bytes h.0 (Some h.0) p) q.3.0 (has.0.0, refl), m.1 ∙ (has.1 ∙ q.3.1))
 
-each_is : (bytes : List ℕ) (items : List (List ℕ)) (ps : List Part) (place : ℕ) → ArePartsOf bytes items ps → each item_part items bytes place ≡ Got ps place
+each_is : (bytes : List ℕ) (items : List (List ℕ)) (ps : List PrivateDict) (place : ℕ) → ArePartsOf bytes items ps → each item_part items bytes place ≡ Got ps place
 unfolding each
 each_is bytes [] [] place h = refl
 each_is bytes (item ∷ items) (p ∷ ps) place h = rw (item_is bytes item h.0 p place h.1 h.2, each_is bytes items ps place h.3) refl
 each_is bytes [] (p ∷ ps) place h = absurd h
 each_is bytes (item ∷ items) [] place h = absurd h
 
-each_has : (bytes : List ℕ) (items : List (List ℕ)) (ps : List Part) (place next : ℕ) → each item_part items bytes place ≡ Got ps next → ArePartsOf bytes items ps × (place ≡ next)
+each_has : (bytes : List ℕ) (items : List (List ℕ)) (ps : List PrivateDict) (place next : ℕ) → each item_part items bytes place ≡ Got ps next → ArePartsOf bytes items ps × (place ≡ next)
 unfolding each
 each_has bytes [] ps place next e = let same = got _ _ _ _ e in (subst (ArePartsOf bytes []) same.0 tt, same.1)
 each_has bytes (item ∷ items) ps place next e =
@@ -249,14 +249,14 @@ each_has bytes (item ∷ items) ps place next e =
     let rest = each_has bytes items r.0 h.1 r.1 r.2 in
     (subst (ArePartsOf bytes (item ∷ items)) r.3.0 (one.0, one.1, one.2, rest.0), one.3 ∙ (rest.1 ∙ r.3.1))
 
-parts_is : (bytes : List ℕ) (m : Dictionary) (ps : List Part) (place : ℕ) → AreParts bytes m ps → parts m bytes place ≡ Got ps place
+parts_is : (bytes : List ℕ) (m : Dictionary) (ps : List PrivateDict) (place : ℕ) → AreParts bytes m ps → parts m bytes place ≡ Got ps place
 unfolding parts font_parts
 parts_is bytes m ps place (OfFont p plain h is) = rw (plain, part_is bytes m p.dictionary p.subroutines place h.0) (ap (λ ps. Got ps place) (ap (λ p. p ∷ []) (same_part p None h.1) ∙ sym is))
 parts_is bytes m ps place (OfFontDictionaries items keyed named are) =
     let sum : pos 0 +ℤ pos named.0 ≡ pos named.0 = omega (arith, ints) in
     rw (has_some (look m operators.ROS) keyed, named_is bytes 0 m operators.FDArray (pos named.0) named.0 place named.1 sum named.2.1, index_is bytes named.0 place items named.2) (each_is bytes items ps place are)
 
-keyed_have : (bytes : List ℕ) (m : Dictionary) (ps : List Part) (place next : ℕ) → IsSome (look m operators.ROS) → font_parts m bytes place ≡ Got ps next → AreParts bytes m ps × (place ≡ next)
+keyed_have : (bytes : List ℕ) (m : Dictionary) (ps : List PrivateDict) (place next : ℕ) → IsSome (look m operators.ROS) → font_parts m bytes place ≡ Got ps next → AreParts bytes m ps × (place ≡ next)
 unfolding font_parts
 keyed_have bytes m ps place next keyed e =
     let h = accepted (Step (place_at 0 0 m operators.FDArray) (λ there. Step (aside there opened) (λ items. Last (each item_part items)))) bytes place ps next e in
@@ -265,7 +265,7 @@ keyed_have bytes m ps place next keyed e =
     let all = each_has bytes i.0 ps i.1 next i.3 in
     (OfFontDictionaries i.0 keyed n.0 all.0, n.1 ∙ all.1)
 
-parts_have : (bytes : List ℕ) (m : Dictionary) (ps : List Part) (place next : ℕ) → parts m bytes place ≡ Got ps next → AreParts bytes m ps × (place ≡ next)
+parts_have : (bytes : List ℕ) (m : Dictionary) (ps : List PrivateDict) (place next : ℕ) → parts m bytes place ≡ Got ps next → AreParts bytes m ps × (place ≡ next)
 unfolding parts
 parts_have bytes m ps place next e = by (look m operators.ROS) refl e
   where

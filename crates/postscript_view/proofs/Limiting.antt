@@ -7,7 +7,7 @@ use denote.Ref.{Bor}
 use Rattle.postscript_base.specs.Refusal.{Refusal, refusal_of}
 use Rattle.postscript_base.specs.declared.error.Error.{Error}
 use Rattle.postscript_base.specs.declared.error.Error.TheVariants.{Memory}
-use Rattle.postscript_items.specs.Lent.{items_of}
+use Rattle.postscript_base.specs.Index.Lent.{items_of}
 use Rattle.postscript_type2.specs.declared.operation.Operator.{Operator}
 use Rattle.postscript_type2.specs.declared.program.within.Within.{Within}
 use Rattle.postscript_type2.specs.declared.program.within.Within.TheVariants as within
@@ -16,7 +16,7 @@ use Rattle.postscript_type2.specs.Program.Evaluation.{run_of}
 use Rattle.postscript_type2.specs.Program.Limit.{cost_of, cost, IsLast, LimitIsCost, Spends, nothing, one_more}
 use Rattle.postscript_type2.specs.Program.Programs.{IsLastWidth, Pending, begun}
 use Rattle.postscript_type2.specs.Program.Routines.{lent}
-use Rattle.postscript_type2.specs.Program.Runs.{Said, End, UsedUp, Returned, Finished, Fault, Run, fault_of}
+use Rattle.postscript_type2.specs.Program.Runs.{Phrase, End, UsedUp, Returned, Finished, Fault, Run, fault_of}
 use Rattle.postscript_type2.specs.Program.Within.{StepsWithin}
 use Rattle.postscript_view.specs.Advances.{HasRun}
 use Rattle.postscript_view.specs.Fitting.{CostTheLimit, FitsIn, Goes, GlyphCosts, ends, is_refused, GlyphFits, longest, RunsCost, one_more as one_run, refusal_cost}
@@ -26,23 +26,23 @@ use Rattle.postscript_view.specs.declared.fitting.Outcome.TheVariants as outcome
 use Rattle.postscript_view.specs.declared.fitting.Outcome.TheVariants.{Refused}
 use Rattle.postscript_view.specs.declared.font.FontView.{FontView}
 use Rattle.postscript_view.specs.declared.font.Glyph.{Glyph}
-use Rattle.postscript_view.specs.declared.part.Part.{Part}
+use Rattle.postscript_view.specs.declared.private_dict.PrivateDict.{PrivateDict}
 
 -- no more is left than there was
-pub less : (limit : ℕ) (phrases : List Said) (left : ℕ) (rest : List Said) → Spends limit phrases left rest → left ≤ limit
+pub less : (limit : ℕ) (phrases : List Phrase) (left : ℕ) (rest : List Phrase) → Spends limit phrases left rest → left ≤ limit
 less limit phrases left rest nothing = omega arith
 less limit phrases left rest (one_more before said behind spends is_left costs) =
     let all = less limit phrases before (said ∷ rest) spends in omega (arith, all)
 
 -- within a greater limit as many phrases are run, and no less is left
-more : (limit extra : ℕ) (phrases : List Said) (left : ℕ) (rest : List Said) → Spends limit phrases left rest →
+more : (limit extra : ℕ) (phrases : List Phrase) (left : ℕ) (rest : List Phrase) → Spends limit phrases left rest →
     (left' : ℕ) × (left ≤ left') × Spends (limit + extra) phrases left' rest
 more limit extra phrases left rest nothing = (limit + extra, omega arith, nothing)
 more limit extra phrases left rest (one_more before said behind spends is_left costs) =
     let all = more limit extra phrases before (said ∷ rest) spends in
     (all.0 - cost_of said, omega (arith, all.1), one_more all.0 said rest all.2 (omega (arith, all.1, is_left)) costs)
 
-pub fits-more : (first limit : ℕ) (phrases : List Said) → first ≤ limit → FitsIn first phrases → FitsIn limit phrases
+pub fits-more : (first limit : ℕ) (phrases : List Phrase) → first ≤ limit → FitsIn first phrases → FitsIn limit phrases
 fits-more first limit phrases h fits =
     let all = more first (limit - first) phrases fits.0 fits.1.0 fits.1.1 in
     let whole : first + (limit - first) ≡ limit = omega (arith, h) in
@@ -61,14 +61,14 @@ on-false false h is = h
 on-false true h is = cc
 
 -- what is left is spent on
-pub goes-on : (limit : ℕ) (phrases : List Said) (left : ℕ) (rest : List Said) (last : ℕ) (end : List Said) → Spends limit phrases left rest → Spends left rest last end →
+pub goes-on : (limit : ℕ) (phrases : List Phrase) (left : ℕ) (rest : List Phrase) (last : ℕ) (end : List Phrase) → Spends limit phrases left rest → Spends left rest last end →
     Spends limit phrases last end
 goes-on limit phrases left rest last end first nothing = first
 goes-on limit phrases left rest last end first (one_more before said behind spends is_left costs) =
     one_more before said end (goes-on limit phrases left rest before (said ∷ end) first spends) is_left costs
 
 -- what is paid once a step is answered
-pub on-operation : {first : ℕ} {phrases : List Said} (old new : Pending) {limit left : ℕ} {answer : Result Within Error} {op : Operator} {operands : Bor (List ℤ)} →
+pub on-operation : {first : ℕ} {phrases : List Phrase} (old new : Pending) {limit left : ℕ} {answer : Result Within Error} {op : Operator} {operands : Bor (List ℤ)} →
     answer ≡ Ok (Operation op operands) → StepsWithin old limit answer new left → Spends first phrases limit old.trace → Spends first phrases left new.trace × (new.end ≡ old.end) × (left < limit)
 on-operation {first} {phrases} old new {limit} {left} {answer} {op} {operands} is steps paid =
     let step = subst (λ (r : Result Within Error). StepsWithin old limit r new left) is steps in (goes-on first phrases limit old.trace left new.trace paid step.1, step.0.1, step.2)
@@ -79,14 +79,14 @@ no-fault (Returned st) width new last = refl
 no-fault (Finished taken told) width new last = refl
 no-fault (Fault e) width new last = absurd last
 
-pub on-end : {first : ℕ} {phrases : List Said} (old new : Pending) {limit left : ℕ} {answer : Result Within Error} →
+pub on-end : {first : ℕ} {phrases : List Phrase} (old new : Pending) {limit left : ℕ} {answer : Result Within Error} →
     answer ≡ Ok within.End → StepsWithin old limit answer new left → Spends first phrases limit old.trace → (fault_of old.end ≡ None) × Spends first phrases left []
 on-end {first} {phrases} old new {limit} {left} {answer} is steps paid =
     let step = subst (λ (r : Result Within Error). StepsWithin old limit r new left) is steps in
     (no-fault old.end old.width new.width step.0.1, goes-on first phrases limit old.trace left [] paid step.1)
 
-pub on-pause : {first : ℕ} {phrases : List Said} (old new : Pending) {limit left : ℕ} {answer : Result Within Error} →
-    answer ≡ Ok within.Paused → StepsWithin old limit answer new left → Spends first phrases limit old.trace → (left ≡ 0) × ((rest : List Said) × Spends first phrases left rest)
+pub on-pause : {first : ℕ} {phrases : List Phrase} (old new : Pending) {limit left : ℕ} {answer : Result Within Error} →
+    answer ≡ Ok within.Paused → StepsWithin old limit answer new left → Spends first phrases limit old.trace → (left ≡ 0) × ((rest : List Phrase) × Spends first phrases left rest)
 on-pause {first} {phrases} old new {limit} {left} {answer} is steps paid =
     let step = subst (λ (r : Result Within Error). StepsWithin old limit r new left) is steps in (step.4, (new.trace, goes-on first phrases limit old.trace left new.trace paid step.5))
 
@@ -118,13 +118,13 @@ too-long font glyph limit before there (total, runs, is) (cost, costs, paid) =
     (glyph + 1, total + cost, omega (arith, there), one_run glyph total cost runs costs, omega (arith, is, paid))
 
 -- the phrases in front cost no more than all
-front-less : (front rest : List Said) → cost front ≤ cost (front ++ rest)
+front-less : (front rest : List Phrase) → cost front ≤ cost (front ++ rest)
 front-less [] rest = omega arith
 front-less (said ∷ front) rest = let less = front-less front rest in omega (arith, less)
 
 -- where the limit is used up the glyph costs as much, at least
-pub used-up : (font : FontView) (glyph : ℕ) (part : Part) (run : Run) (limit : ℕ) (has : HasRun font glyph part run) (end : Option Refusal) → fault_of run.end ≡ end →
-    (ran rest : List Said) → run.trace ≡ ran ++ rest → 0 ≡ limit - cost ran → (cost : ℕ) × GlyphCosts font glyph cost × (limit ≤ cost)
+pub used-up : (font : FontView) (glyph : ℕ) (part : PrivateDict) (run : Run) (limit : ℕ) (has : HasRun font glyph part run) (end : Option Refusal) → fault_of run.end ≡ end →
+    (ran rest : List Phrase) → run.trace ≡ ran ++ rest → 0 ≡ limit - cost ran → (cost : ℕ) × GlyphCosts font glyph cost × (limit ≤ cost)
 used-up font glyph part run limit has None is ran rest all none =
     let less = front-less ran rest in
     let whole : limit ≤ cost (ran ++ rest) = omega (arith, less, none) in
@@ -149,17 +149,17 @@ goes-so : {outcome way : Outcome} {program : Pending} {run : Run} (limit left : 
 goes-so {outcome} {way} {program} {run} limit left is begins goes =
     subst (λ (o : Outcome). Goes o (begun run) limit left) is (subst (λ (p : Pending). Goes outcome p limit left) begins goes)
 
-pub ended-so : (font : FontView) (i : ℕ) (part : Part) (run : Run) (limit left : ℕ) {outcome : Outcome} {program : Pending} → LimitIsCost → HasRun font i part run → outcome ≡ outcomes.Ended →
+pub ended-so : (font : FontView) (i : ℕ) (part : PrivateDict) (run : Run) (limit left : ℕ) {outcome : Outcome} {program : Pending} → LimitIsCost → HasRun font i part run → outcome ≡ outcomes.Ended →
     program ≡ begun run → Goes outcome program limit left → GlyphFits font limit i × ((cost : ℕ) × GlyphCosts font i cost × (left ≡ limit - cost))
 ended-so font i part run limit left {outcome} {program} law has is begins goes =
     let so = goes-so limit left is begins goes in
     let all = law limit run.trace left [] so.1 in
     let same : run.trace ≡ all.0 = all.1 ∙ append-nil all.0 in (
       inr (part, run, has, (left, ([], so.1, omega arith))),
-      (cost run.trace, ends part run has so.0, subst (λ (xs : List Said). left ≡ limit - cost xs) (sym same) all.2),
+      (cost run.trace, ends part run has so.0, subst (λ (xs : List Phrase). left ≡ limit - cost xs) (sym same) all.2),
     )
 
-pub refused-so : (font : FontView) (i : ℕ) (part : Part) (run : Run) (limit left last : ℕ) {outcome : Outcome} {program : Pending} → LimitIsCost → (has : HasRun font i part run) → outcome ≡ Refused →
+pub refused-so : (font : FontView) (i : ℕ) (part : PrivateDict) (run : Run) (limit left last : ℕ) {outcome : Outcome} {program : Pending} → LimitIsCost → (has : HasRun font i part run) → outcome ≡ Refused →
     program ≡ begun run → Goes outcome program limit left → last ≡ left - refusal_cost font part has.code →
     GlyphFits font limit i × ((cost : ℕ) × GlyphCosts font i cost × (last ≡ limit - cost))
 refused-so font i part run limit left last {outcome} {program} law has is begins goes paid =
@@ -170,7 +170,7 @@ refused-so font i part run limit left last {outcome} {program} law has is begins
       (cost all.0 + refusal_cost font part has.code, is_refused part run has so.0 all.0 so.1.0 all.1 so.1.2, omega (arith, ran, paid)),
     )
 
-pub used-so : (font : FontView) (i : ℕ) (part : Part) (run : Run) (limit left : ℕ) {outcome : Outcome} {program : Pending} → LimitIsCost → HasRun font i part run → outcome ≡ outcomes.UsedUp →
+pub used-so : (font : FontView) (i : ℕ) (part : PrivateDict) (run : Run) (limit left : ℕ) {outcome : Outcome} {program : Pending} → LimitIsCost → HasRun font i part run → outcome ≡ outcomes.UsedUp →
     program ≡ begun run → Goes outcome program limit left → (cost : ℕ) × GlyphCosts font i cost × (limit ≤ cost)
 used-so font i part run limit left {outcome} {program} law has is begins goes =
     let so = goes-so limit left is begins goes in

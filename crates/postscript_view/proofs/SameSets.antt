@@ -19,7 +19,7 @@ use Rattle.postscript_compact1.specs.declared.char_set.CharSet.{CharSet}
 use Rattle.postscript_compact1.specs.declared.char_set.CharSet.TheVariants as sets
 use Rattle.postscript_compact1.specs.declared.char_set.range.Range1.{Range1}
 use Rattle.postscript_compact1.specs.declared.char_set.range.Range2.{Range2}
-use Rattle.postscript_items.specs.Items.{number_at}
+use Rattle.postscript_base.specs.Index.{number_at}
 use Rattle.postscript_view.specs.CharSets.{StandsAt, IsNamedBy, AreNamedIn, IsCharSetOf}
 use Rattle.postscript_view.specs.SameSet.{AreIdentifiers, BeginWith, IsSame}
 use Rattle.postscript_view.specs.Select.{offset_of}

@@ -3,7 +3,7 @@ use Rattle.std.proofs.Common.{◌≡◌, ℕ, zero, suc, ◌+◌, ◌-◌, ◌*�
 use Rattle.std.specs.Prelude.{Option, Some, None, IfNone}
 use Rattle.postscript_base.specs.Compact1.Dictionary.{Dictionary}
 use Rattle.postscript_base.specs.declared.compact1.operator.Operator.TheVariants as operators
-use Rattle.postscript_items.specs.Items.{number_at}
+use Rattle.postscript_base.specs.Index.{number_at}
 use Rattle.postscript_view.specs.Selecting.{IsOf, StandsAt}
 use Rattle.postscript_view.specs.declared.select.Ranges.{Ranges}
 use Rattle.postscript_view.specs.declared.select.Select.{Select}

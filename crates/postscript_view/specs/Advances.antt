@@ -5,7 +5,7 @@ use Rattle.postscript_base.specs.Compact1.Decimal.{Decimal, to_i32}
 use Rattle.postscript_base.specs.Compact1.Defaults.{look, first_of}
 use Rattle.postscript_base.specs.Compact1.Dictionary.{Dictionary}
 use Rattle.postscript_base.specs.declared.compact1.operator.Operator.TheVariants.{DefaultWidthX, NominalWidthX}
-use Rattle.postscript_items.specs.Lent.{items_of}
+use Rattle.postscript_base.specs.Index.Lent.{items_of}
 use Rattle.postscript_type2.specs.Program.Evaluation.{run_of}
 use Rattle.postscript_type2.specs.Program.Routines.{lent}
 use Rattle.postscript_type2.specs.Program.Runs.{Run}
@@ -13,7 +13,7 @@ use Rattle.postscript_view.specs.Glyphs.{HasGlyph}
 use Rattle.postscript_view.specs.declared.advance.Advance.{Advance}
 use Rattle.postscript_view.specs.declared.advance.Advance.TheVariants.{Default, Nominal}
 use Rattle.postscript_view.specs.declared.font.FontView.{FontView}
-use Rattle.postscript_view.specs.declared.part.Part.{Part}
+use Rattle.postscript_view.specs.declared.private_dict.PrivateDict.{PrivateDict}
 
 -- The default width, where a char string tells none; else the nominal width and the difference that it tells.
 abbrev pub advance_of : Dictionary → Option ℤ → Option Advance
@@ -21,7 +21,7 @@ advance_of private None = option_map Default (first_of (look private DefaultWidt
 advance_of private (Some difference) = option_map (λ nominal. Nominal nominal difference) (first_of (look private NominalWidthX))
 
 -- A glyph has this run: that of its code, over the subroutines that all char strings share and those of its part.
-pub record HasRun (font : FontView) (glyph : ℕ) (part : Part) (run : Run) : Type 0 where
+pub record HasRun (font : FontView) (glyph : ℕ) (part : PrivateDict) (run : Run) : Type 0 where
   pub code : List ℕ
   pub has : HasGlyph font glyph code part
   pub runs : run ≡ run_of (lent (items_of font.global_subroutines) (items_of part.subroutines)) code

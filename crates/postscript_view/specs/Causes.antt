@@ -11,9 +11,9 @@ use Rattle.postscript_base.specs.declared.compact1.operator.Operator.TheVariants
 use Rattle.postscript_base.specs.declared.error.Error.{Error}
 use Rattle.postscript_compact1.specs.FontSet.Causes.{NoFirst, NoOffset, NoBounds}
 use Rattle.postscript_compact1.specs.FontSet.Layout.{HasFirst, HasTwo, HasPrivate, IsSlice}
-use Rattle.postscript_items.specs.Items.{number_at, opened, IsOpened}
+use Rattle.postscript_base.specs.Index.{number_at, opened, IsOpened}
 use Rattle.postscript_view.specs.Layout.{NamesIndex, AreTables, AreCharStrings, IsPart}
-use Rattle.postscript_view.specs.Order.{Tables, Part}
+use Rattle.postscript_view.specs.Order.{Tables, PrivateDict}
 
 -- no INDEX is opened at a place
 abbrev pub NoIndex : Error → List ℕ → (place : ℕ) → Type 0
@@ -56,7 +56,7 @@ NoItem e bytes [] = ⊥
 NoItem e bytes (item ∷ items) =
     IsRefused item 0 (refusal_of e)
     ⊎ (((map : Dictionary) × IsDictionary item 0 map × NoPart e bytes map)
-    ⊎ ((map : Dictionary) × (part : Part) × IsDictionary item 0 map × IsPart bytes map (Some map) part × NoItem e bytes items))
+    ⊎ ((map : Dictionary) × (part : PrivateDict) × IsDictionary item 0 map × IsPart bytes map (Some map) part × NoItem e bytes items))
 
 pub data NoParts (e : Error) (bytes : List ℕ) (map : Dictionary) : Type 0 where
   OfFont : look map operators.ROS ≡ None → NoPart e bytes map → NoParts e bytes map

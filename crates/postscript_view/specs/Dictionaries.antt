@@ -8,7 +8,7 @@ use Rattle.postscript_base.specs.Compact1.Dictionary.{Dictionary}
 use Rattle.postscript_base.specs.declared.compact1.operator.Operator.TheVariants as operators
 use Rattle.postscript_view.specs.Glyphs.{HasGlyph}
 use Rattle.postscript_view.specs.declared.font.FontView.{FontView}
-use Rattle.postscript_view.specs.declared.part.Part.{Part}
+use Rattle.postscript_view.specs.declared.private_dict.PrivateDict.{PrivateDict}
 
 -- the font dictionary of a part of a CID-keyed font, and the dictionary of the font of any other
 abbrev pub own_or : Option Dictionary → Dictionary → Dictionary
@@ -17,7 +17,7 @@ own_or (Some own) font = own
 
 -- a glyph has this font dictionary
 abbrev pub HasFontDictionary : FontView → (glyph : ℕ) → Dictionary → Type 0
-HasFontDictionary font glyph map = (code : List ℕ) × (part : Part) × HasGlyph font glyph code part × (map ≡ own_or part.font_dictionary font.dictionary)
+HasFontDictionary font glyph map = (code : List ℕ) × (part : PrivateDict) × HasGlyph font glyph code part × (map ≡ own_or part.font_dictionary font.dictionary)
 
 -- the FontMatrix of a font dictionary; where it has none, that of the font's dictionary, or the default
 abbrev pub matrix_of : (own font : Dictionary) → Option (List Decimal)
@@ -29,4 +29,4 @@ HasMatrix font glyph matrix = (own : Dictionary) × HasFontDictionary font glyph
 
 -- a glyph has this private dictionary
 abbrev pub HasPrivate : FontView → (glyph : ℕ) → Dictionary → Type 0
-HasPrivate font glyph map = (code : List ℕ) × (part : Part) × HasGlyph font glyph code part × (map ≡ part.dictionary)
+HasPrivate font glyph map = (code : List ℕ) × (part : PrivateDict) × HasGlyph font glyph code part × (map ≡ part.dictionary)

@@ -1,7 +1,7 @@
 -- Encodings in place (Technical Note 5176, section 12, "Encodings", and section 18, "CID-keyed Fonts").
 use Rattle.std.specs.Prelude.{◌≡◌, ◌⊎◌, ℕ, zero, suc, ◌+◌, ◌-◌, ◌*◌, ◌/◌, ◌<◌, ◌≤◌, List, length, Some}
 use Rattle.postscript_compact1.specs.Computed.Encodings.{identifier_of}
-use Rattle.postscript_items.specs.Items.{number_at}
+use Rattle.postscript_base.specs.Index.{number_at}
 use Rattle.postscript_view.specs.Cids.{IsCidKeyed}
 use Rattle.postscript_view.specs.Naming.{Names}
 use Rattle.postscript_view.specs.Order.{View}

@@ -1,9 +1,9 @@
 -- The glyphs of a font (Technical Note 5176, section 18, "CID-keyed Fonts").
 use Rattle.std.specs.Prelude.{◌≡◌, ◌≢◌, ◌⊎◌, ℕ, ◌<◌, List, Some, slice_get, length}
-use Rattle.postscript_items.specs.Lent.{items_of}
+use Rattle.postscript_base.specs.Index.Lent.{items_of}
 use Rattle.postscript_view.specs.Select.{IsSelected}
 use Rattle.postscript_view.specs.declared.font.FontView.{FontView}
-use Rattle.postscript_view.specs.declared.part.Part.{Part}
+use Rattle.postscript_view.specs.declared.private_dict.PrivateDict.{PrivateDict}
 
 -- Of several parts a glyph has that of the font dictionary that FDSelect gives it; a single part is that of all glyphs.
 abbrev pub IsPartNumber : FontView → (glyph part : ℕ) → Type 0
@@ -17,7 +17,7 @@ pub record HasPartNumber (font : FontView) (glyph part : ℕ) : Type 0 where
   pub selected : IsPartNumber font glyph part
 
 -- A glyph has this code and this part.
-pub record HasGlyph (font : FontView) (glyph : ℕ) (code : List ℕ) (part : Part) : Type 0 where
+pub record HasGlyph (font : FontView) (glyph : ℕ) (code : List ℕ) (part : PrivateDict) : Type 0 where
   pub number : ℕ
   pub has_number : HasPartNumber font glyph number
   pub has_part : slice_get font.parts.items number ≡ Some part

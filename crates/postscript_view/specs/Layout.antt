@@ -8,8 +8,8 @@ use Rattle.postscript_base.specs.Compact1.DictionaryLaw.{IsDictionary}
 use Rattle.postscript_base.specs.declared.compact1.operator.Operator.{Operator}
 use Rattle.postscript_base.specs.declared.compact1.operator.Operator.TheVariants as operators
 use Rattle.postscript_compact1.specs.FontSet.Layout.{HasFirst, HasPrivate, IsPlace}
-use Rattle.postscript_items.specs.Items.{number_at, IsOpened}
-use Rattle.postscript_view.specs.Order.{Tables, Part, View, view_of}
+use Rattle.postscript_base.specs.Index.{number_at, IsOpened}
+use Rattle.postscript_view.specs.Order.{Tables, PrivateDict, View, view_of}
 
 -- an INDEX of these items stands at an offset
 abbrev pub IsIndexAt : List ℕ → (offset : ℕ) → List (List ℕ) → Type 0
@@ -52,19 +52,19 @@ pub data HasLocals (bytes : List ℕ) (map local : Dictionary) (subroutines : Li
   WithoutPrivate : first_two_of (look map operators.Private) ≡ None → local ≡ dictionary_of [] → subroutines ≡ [] → HasLocals bytes map local subroutines
 
 -- the part of a dictionary, which may be a font dictionary
-abbrev pub IsPart : List ℕ → Dictionary → Option Dictionary → Part → Type 0
+abbrev pub IsPart : List ℕ → Dictionary → Option Dictionary → PrivateDict → Type 0
 IsPart bytes map font part = HasLocals bytes map part.dictionary part.subroutines × (part.font ≡ font)
 
 -- each item is a font dictionary, and has the part in its place
-abbrev pub ArePartsOf : List ℕ → List (List ℕ) → List Part → Type 0
+abbrev pub ArePartsOf : List ℕ → List (List ℕ) → List PrivateDict → Type 0
 ArePartsOf bytes [] [] = Unit {0}
 ArePartsOf bytes (item ∷ items) (part ∷ parts) = (map : Dictionary) × IsDictionary item 0 map × IsPart bytes map (Some map) part × ArePartsOf bytes items parts
 ArePartsOf bytes [] (part ∷ parts) = ⊥
 ArePartsOf bytes (item ∷ items) [] = ⊥
 
 -- A font has one part. One that is CID-keyed has a part for each of the font dictionaries that FDArray names.
-pub data AreParts (bytes : List ℕ) (map : Dictionary) (parts : List Part) : Type 0 where
-  OfFont : (part : Part) → look map operators.ROS ≡ None → IsPart bytes map None part → parts ≡ part ∷ [] → AreParts bytes map parts
+pub data AreParts (bytes : List ℕ) (map : Dictionary) (parts : List PrivateDict) : Type 0 where
+  OfFont : (part : PrivateDict) → look map operators.ROS ≡ None → IsPart bytes map None part → parts ≡ part ∷ [] → AreParts bytes map parts
   OfFontDictionaries : (items : List (List ℕ)) → IsSome (look map operators.ROS) → NamesIndex bytes map operators.FDArray items → ArePartsOf bytes items parts → AreParts bytes map parts
 
 -- the font of a number stands in the bytes; the third byte is the size of the header

@@ -6,7 +6,7 @@ use Rattle.postscript_base.specs.Compact1.Defaults.{look, first_two_of}
 use Rattle.postscript_base.specs.Compact1.Dictionary.{Dictionary}
 use Rattle.postscript_base.specs.declared.compact1.operator.Operator.TheVariants as operators
 use Rattle.postscript_view.specs.Layout.{NamesIndex}
-use Rattle.postscript_view.specs.declared.part.Part.{Part}
+use Rattle.postscript_view.specs.declared.private_dict.PrivateDict.{PrivateDict}
 
 -- a number that is none below 0 is none of bytes
 abbrev pub size_in : Option ℤ → ℕ
@@ -23,11 +23,11 @@ abbrev pub size_of : Option Dictionary → ℕ
 size_of (Some font_dictionary) = size_named (first_two_of (look font_dictionary operators.Private))
 size_of None = 0
 
-abbrev pub private_size : Part → ℕ
+abbrev pub private_size : PrivateDict → ℕ
 private_size part = size_of part.font_dictionary
 
 -- those of all parts together, also where they name the same bytes
-abbrev pub private_bytes : List Part → ℕ
+abbrev pub private_bytes : List PrivateDict → ℕ
 private_bytes parts = sum_by private_size parts
 
 -- the font is CID-keyed
@@ -36,6 +36,6 @@ IsKeyed dictionary = IsSome (look dictionary operators.ROS)
 
 -- The font dictionaries that FDArray names ("CID-keyed Fonts"), and the private dictionaries that they name, have at most 20,000,000
 -- bytes together, those that several share as often as each of them is named.
-abbrev pub HoldFew : (bytes : List ℕ) → Dictionary → List Part → Type 0
+abbrev pub HoldFew : (bytes : List ℕ) → Dictionary → List PrivateDict → Type 0
 HoldFew bytes dictionary parts =
     (items : List (List ℕ)) × NamesIndex bytes dictionary operators.FDArray items × (sum_by length items + private_bytes parts ≤ 20000000)

@@ -8,7 +8,7 @@ use Rattle.postscript_base.specs.declared.error.Error.{Error}
 use Rattle.postscript_base.specs.declared.error.Part.TheVariants as unsupported
 use Rattle.postscript_compact1.specs.FontSet.Causes.{NoFirst}
 use Rattle.postscript_compact1.specs.FontSet.Layout.{HasFirst}
-use Rattle.postscript_items.specs.Items.{number_at}
+use Rattle.postscript_base.specs.Index.{number_at}
 use Rattle.postscript_view.specs.Encodings.{AreCodesAt}
 use Rattle.postscript_view.specs.Select.{offset_of}
 use Rattle.postscript_view.specs.declared.encoding.Codes.{Codes}

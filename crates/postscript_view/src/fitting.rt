@@ -1,12 +1,12 @@
 //! How runs go within a limit, and what a refusal costs.
 ghost use Rattle.std.specs.Prelude.{◌≡◌, ◌≢◌, ◌-◌, ◌+◌, max, length, IfOk, IfErr, MatchResult};
 ghost use Rattle.postscript_base.specs.declared.error.Error.TheVariants as errors;
-ghost use Rattle.postscript_items.specs.Lent.{items_of};
+ghost use Rattle.postscript_base.specs.Index.Lent.{items_of};
 ghost use Rattle.postscript_view.specs.Fitting.{Goes, longest};
 
 use crate::font::Glyph;
+use postscript_base::index::IndexView;
 use postscript_base::{Error, Result};
-use postscript_items::Items;
 use postscript_type2::{Program, Within};
 
 /// How a run goes within a limit.
@@ -45,7 +45,7 @@ pub(crate) fn run_within(program: &mut Program<'_>, limit: &mut u64) -> Result<O
 }
 
 /// How many bytes the longest of some items has.
-fn longest_of(items: &Items<'_>) -> usize
+fn longest_of(items: &IndexView<'_>) -> usize
     ensures { result ≡ longest (items_of items.now) }
 {
     let mut most = 0usize;

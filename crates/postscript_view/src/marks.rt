@@ -1,7 +1,7 @@
 //! Marks before the ranges of a char set, so that a glyph is looked up from the last one on that stands before it.
 ghost use Rattle.std.specs.Prelude.{◌≡◌, ◌≤◌, ◌+◌, ◌<◌};
 
-use postscript_items::number::number_at;
+use postscript_base::index::number::number_at;
 
 /// How many marks there are at most.
 const MOST: usize = 64;

@@ -15,7 +15,7 @@ use Rattle.postscript_outline.specs.declared.segment.Segment.{Segment}
 use Rattle.postscript_type2.specs.Program.Runs.{End, UsedUp, Returned, Finished, Fault, Run, fault_of, taken_by, width_of}
 use Rattle.postscript_view.specs.Advances.{HasRun}
 use Rattle.postscript_view.specs.declared.font.FontView.{FontView}
-use Rattle.postscript_view.specs.declared.part.Part.{Part}
+use Rattle.postscript_view.specs.declared.private_dict.PrivateDict.{PrivateDict}
 
 -- Runs without fault that say the same.
 pub record SameRuns (run other : Run) : Type 0 where
@@ -30,14 +30,14 @@ turned run other s = record { answers = sym s.answers; width = sym s.width; take
 
 -- a glyph has a run that says the same
 pub record HasSame (font : FontView) (glyph : ℕ) (run : Run) : Type 0 where
-  pub part : Part
+  pub part : PrivateDict
   pub other : Run
   pub has : HasRun font glyph part other
   pub same : SameRuns run other
 
 -- each run of a glyph is carried over
 abbrev pub Carries : (old new : FontView) → (glyph i : ℕ) → Type 0
-Carries old new glyph i = (part : Part) (run : Run) → HasRun old glyph part run → HasSame new i run
+Carries old new glyph i = (part : PrivateDict) (run : Run) → HasRun old glyph part run → HasSame new i run
 
 -- the glyph of a code is carried over
 abbrev pub CarriesCode : (old new : FontView) → (code glyph : ℕ) → Type 0

@@ -14,18 +14,18 @@ use Rattle.postscript_drawing.specs.Components.{IsComponent, glyphs_of, standard
 use Rattle.postscript_drawing.specs.Refused.{IsAccented}
 use Rattle.postscript_drawing.specs.declared.accent.Accent.{Accent}
 use Rattle.postscript_base.specs.Tape.Outcome.{Got}
-use Rattle.postscript_items.specs.Lent.{items_of}
+use Rattle.postscript_base.specs.Index.Lent.{items_of}
 use Rattle.postscript_type2.specs.Program.Runs.{Run}
 use Rattle.postscript_type2.specs.Program.Routines.{lent}
 use Rattle.postscript_view.specs.Advances.{HasRun}
 use Rattle.postscript_view.specs.CharSets.{IsCharSetOf}
 use Rattle.postscript_view.specs.Cids.{IsCidKeyed}
-use Rattle.postscript_view.specs.Order.{View, Part as ShownPart, view as the_view}
+use Rattle.postscript_view.specs.Order.{View, PrivateDict as ShownDict, view as the_view}
 use Rattle.postscript_view.specs.Naming.{IsFirstNamed, Names}
 use Rattle.postscript_view.specs.Select.{IsSelected}
 use Rattle.postscript_view.specs.Value.{part_shown, parts_shown, view_shown}
 use Rattle.postscript_view.specs.declared.font.FontView.{FontView}
-use Rattle.postscript_view.specs.declared.part.Part.{Part}
+use Rattle.postscript_view.specs.declared.private_dict.PrivateDict.{PrivateDict}
 use Rattle.postscript_write.specs.Components.{AreClosed, IsComponentOf, IsOpened, IsSubset, is_drawn_with}
 use Rattle.postscript_write.specs.Drawings.{DrawsKept, DrawsTheSame, KeepsDrawings, StandsAt}
 use Rattle.postscript_write.specs.Fonts.{HasGlyph, IsMade, IsMadeOf, IsFontOf}
@@ -46,11 +46,11 @@ use Rattle.postscript_write.specs.Strings.{SameStrings, SameText, keeps_strings}
 pub record RunAt (bytes : List ℕ) (font : View) (glyph : ℕ) (run : Run) : Type 0 where
   pub code : List ℕ
   pub number : ℕ
-  pub part : ShownPart
+  pub part : ShownDict
   pub has : HasGlyph bytes font glyph code number part
   pub runs : run ≡ run_in font part code
 
-to-shown : (font : FontView) (glyph : ℕ) (part : Part) (run : Run) → HasRun font glyph part run → RunAt font.bytes.now (view_shown font) glyph run
+to-shown : (font : FontView) (glyph : ℕ) (part : PrivateDict) (run : Run) → HasRun font glyph part run → RunAt font.bytes.now (view_shown font) glyph run
 to-shown font glyph part run h =
     let many : length (parts_shown font.parts.items) ≡ length font.parts.items = length-map font.parts.items part_shown in
     let number = h.has.number in
@@ -69,13 +69,13 @@ to-shown font glyph part run h =
       runs = h.runs;
     }
 
-from-shown : (font : FontView) (glyph : ℕ) (run : Run) → RunAt font.bytes.now (view_shown font) glyph run → (part : Part) × HasRun font glyph part run
+from-shown : (font : FontView) (glyph : ℕ) (run : Run) → RunAt font.bytes.now (view_shown font) glyph run → (part : PrivateDict) × HasRun font glyph part run
 from-shown font glyph run h = by (slice_get font.parts.items h.number) refl
   where
     many : length (parts_shown font.parts.items) ≡ length font.parts.items
     many = length-map font.parts.items part_shown
 
-    by : (o : Option Part) → slice_get font.parts.items h.number ≡ o → (part : Part) × HasRun font glyph part run
+    by : (o : Option PrivateDict) → slice_get font.parts.items h.number ≡ o → (part : PrivateDict) × HasRun font glyph part run
     by None e = let never : None ≡ Some h.part = sym (slice_get-map part_shown font.parts.items h.number ∙ ap (option_map part_shown) e) ∙ h.has.has_part in absurd (cc)
     by (Some part) e =
         let both : Some (part_shown part) ≡ Some h.part = sym (slice_get-map part_shown font.parts.items h.number ∙ ap (option_map part_shown) e) ∙ h.has.has_part in
@@ -93,7 +93,7 @@ from-shown font glyph run h = by (slice_get font.parts.items h.number) refl
               has_part = e;
               has_code = h.has.has_code;
             };
-            runs = subst (λ (p : ShownPart). run ≡ run_in (view_shown font) p h.code) (sym same) h.runs;
+            runs = subst (λ (p : ShownDict). run ≡ run_in (view_shown font) p h.code) (sym same) h.runs;
           },
         )
 
@@ -101,11 +101,11 @@ from-shown font glyph run h = by (slice_get font.parts.items h.number) refl
 shows : (bytes : List ℕ) (font : FontView) (v : View) → IsOpened bytes font → the_view bytes 0 ≡ Got v 0 → view_shown font ≡ v
 shows bytes font v opened is = let both : Got (view_shown font) 0 ≡ Got v 0 = sym opened.shown ∙ is in cc
 
-run-at : (bytes : List ℕ) (font : FontView) (v : View) (glyph : ℕ) (part : Part) (run : Run) → IsOpened bytes font → the_view bytes 0 ≡ Got v 0 → HasRun font glyph part run → RunAt bytes v glyph run
+run-at : (bytes : List ℕ) (font : FontView) (v : View) (glyph : ℕ) (part : PrivateDict) (run : Run) → IsOpened bytes font → the_view bytes 0 ≡ Got v 0 → HasRun font glyph part run → RunAt bytes v glyph run
 run-at bytes font v glyph part run opened is has =
     subst (λ (v : View). RunAt bytes v glyph run) (shows bytes font v opened is) (subst (λ (bs : List ℕ). RunAt bs (view_shown font) glyph run) opened.there (to-shown font glyph part run has))
 
-run-from : (bytes : List ℕ) (font : FontView) (v : View) (glyph : ℕ) (run : Run) → IsOpened bytes font → the_view bytes 0 ≡ Got v 0 → RunAt bytes v glyph run → (part : Part) × HasRun font glyph part run
+run-from : (bytes : List ℕ) (font : FontView) (v : View) (glyph : ℕ) (run : Run) → IsOpened bytes font → the_view bytes 0 ≡ Got v 0 → RunAt bytes v glyph run → (part : PrivateDict) × HasRun font glyph part run
 run-from bytes font v glyph run opened is at =
     from-shown font glyph run (subst (λ (bs : List ℕ). RunAt bs (view_shown font) glyph run) (sym opened.there) (subst (λ (v : View). RunAt bytes v glyph run) (sym (shows bytes font v opened is)) at))
 
@@ -129,8 +129,8 @@ component-from bytes font v code glyph opened is at = by (subst (λ (bs : List �
 
 -- the runs of a glyph and of the one that it is made of
 record MadeRuns (old new : FontView) (glyph i : ℕ) : Type 0 where
-  pub old_part : Part
-  pub new_part : Part
+  pub old_part : PrivateDict
+  pub new_part : PrivateDict
   pub run : Run
   pub other : Run
   pub was : HasRun old glyph old_part run

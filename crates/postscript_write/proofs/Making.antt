@@ -8,11 +8,11 @@ use Rattle.postscript_base.specs.declared.error.Error as base
 use Rattle.postscript_base.specs.declared.error.Error.TheVariants as causes
 use Rattle.postscript_type2.specs.Program.Runs.{fault_of}
 use Rattle.std.proofs.lemmas.List.{length-map}
-use Rattle.postscript_items.specs.Lent.{items_of}
+use Rattle.postscript_base.specs.Index.Lent.{items_of}
 use Rattle.postscript_view.specs.CharSets.{IsCharSetOf}
 use Rattle.postscript_view.specs.Glyphs.{HasPartNumber}
 use Rattle.postscript_view.specs.Naming.{Names}
-use Rattle.postscript_view.specs.Order.{View, Part, view}
+use Rattle.postscript_view.specs.Order.{View, PrivateDict, view}
 use Rattle.postscript_view.specs.Select.{IsSelected}
 use Rattle.postscript_view.specs.Value.{view_shown, part_shown, parts_shown}
 use Rattle.postscript_view.specs.declared.char_set.CharSetView.{CharSetView}
@@ -30,7 +30,7 @@ pub made : (bytes flat : List ℕ) (old new : View) (source : Option ℕ) (i num
 made bytes flat old new None i number code parts there was is again = record { code = there ∙ ap Some is; part = subst (HasPart flat new i) was again }
 made bytes flat old new (Some glyph) i number code parts there was is again =
     let within : number < length new.parts = again.there in
-    let new_part : Part = slice_index_or new.parts number is.part in
+    let new_part : PrivateDict = slice_index_or new.parts number is.part in
     let has_new : slice_get new.parts number ≡ Some new_part = slice_get-get_or new.parts number is.part within in
     record {
       number = number;
@@ -151,7 +151,7 @@ not_opened sources bytes TooLarge h = absurd h
 not_opened sources bytes NotReadBack h = absurd h
 
 -- the refusal of a glyph, running out of memory aside
-pub run_refused : (font : View) (glyph number : ℕ) (code : List ℕ) (part : Part) (cause : base.Error) (e : Error) → slice_get font.char_strings glyph ≡ Some code → slice_get font.parts number ≡ Some part →
+pub run_refused : (font : View) (glyph number : ℕ) (code : List ℕ) (part : PrivateDict) (cause : base.Error) (e : Error) → slice_get font.char_strings glyph ≡ Some code → slice_get font.parts number ≡ Some part →
     (cause ≡ causes.Memory) ⊎ (fault_of (run_in font part code).end ≡ Some (refusal_of cause)) →
     (e ≡ Refused causes.Memory) ⊎ ((cause ≢ causes.Memory) × (e ≡ Glyph glyph cause)) → RefusedFor font (Some glyph) number e
 run_refused font glyph number code part cause e has_code has_part fault is = elim is [

@@ -5,7 +5,7 @@ use Rattle.postscript_drawing.specs.Accents.{IsAccent, IsCode}
 use Rattle.postscript_drawing.specs.Components.{IsComponent, glyphs_of, standard_identifier}
 use Rattle.postscript_drawing.specs.declared.accent.Accent.{Accent}
 use Rattle.postscript_base.specs.Compact1.Dictionary.{Dictionary}
-use Rattle.postscript_items.specs.Lent.{items_of}
+use Rattle.postscript_base.specs.Index.Lent.{items_of}
 use Rattle.postscript_type2.specs.Number.{to_int}
 use Rattle.postscript_type2.specs.Program.Evaluation.{run_of}
 use Rattle.postscript_type2.specs.Program.Routines.{lent}
@@ -19,7 +19,7 @@ use Rattle.postscript_view.specs.declared.char_set.CharSetView.{CharSetView}
 use Rattle.postscript_view.specs.declared.char_set.Identifiers.{Identifiers}
 use Rattle.postscript_view.specs.declared.char_set.Identifiers.TheVariants.{ISOAdobe, Expert, ExpertSubset, Listed, Ranges1, Ranges2}
 use Rattle.postscript_view.specs.declared.font.FontView.{FontView}
-use Rattle.postscript_view.specs.declared.part.Part.{Part}
+use Rattle.postscript_view.specs.declared.private_dict.PrivateDict.{PrivateDict}
 
 one-value : {A : Type 0} → (o : Option A) (a b : A) → o ≡ Some a → o ≡ Some b → a ≡ b
 one-value o a b is was = let both : Some a ≡ Some b = sym is ∙ was in cc
@@ -32,12 +32,12 @@ one-number bytes map parts glyphs glyph a b (inl x) (inr y) = absurd (y.0 x.0)
 one-number bytes map parts glyphs glyph a b (inr x) (inl y) = absurd (x.0 y.0)
 one-number bytes map parts glyphs glyph a b (inr x) (inr y) = one_named bytes map glyphs glyph a b x.1 y.1
 
-pub one-run : (font : FontView) (glyph : ℕ) (p q : Part) (run other : Run) → HasRun font glyph p run → HasRun font glyph q other → other ≡ run
+pub one-run : (font : FontView) (glyph : ℕ) (p q : PrivateDict) (run other : Run) → HasRun font glyph p run → HasRun font glyph q other → other ≡ run
 one-run font glyph p q run other a b =
     let number : b.has.number ≡ a.has.number = one-number font.bytes.now font.dictionary (length font.parts.items) (glyphs_of font) glyph b.has.number a.has.number b.has.has_number.selected a.has.has_number.selected in
     let code : b.code ≡ a.code = one-value _ b.code a.code b.has.has_code a.has.has_code in
     let part : q ≡ p = one-value _ q p (subst (λ n. slice_get font.parts.items n ≡ Some q) number b.has.has_part) a.has.has_part in
-    b.runs ∙ ap (λ (part : Part). run_of (lent (items_of font.global_subroutines) (items_of part.subroutines)) b.code) part
+    b.runs ∙ ap (λ (part : PrivateDict). run_of (lent (items_of font.global_subroutines) (items_of part.subroutines)) b.code) part
     ∙ ap (λ code. run_of (lent (items_of font.global_subroutines) (items_of p.subroutines)) code) code ∙ sym a.runs
 
 -- a run names one accent

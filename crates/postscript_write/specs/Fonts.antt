@@ -3,7 +3,7 @@ use Rattle.std.specs.Prelude.{◌≡◌, ℕ, ◌<◌, List, [], ◌∷◌, ◌+
 use Rattle.postscript_type2.specs.Program.Inlined.{inlined_text}
 use Rattle.postscript_type2.specs.Program.Routines.{Lists}
 use Rattle.postscript_type2.specs.Program.Runs.{fault_of}
-use Rattle.postscript_view.specs.Order.{View, Part}
+use Rattle.postscript_view.specs.Order.{View, PrivateDict}
 use Rattle.postscript_write.specs.Glyphs.{DrawsAs, HasPart, Sources, run_in}
 use Rattle.postscript_write.specs.Naming.{GivesWay, KeepsCodes}
 use Rattle.postscript_write.specs.Parts.{SameBut, SamePart, SameParts, naming, placing}
@@ -14,7 +14,7 @@ abbrev pub HasHeader : List ℕ → Type 0
 HasHeader flat = take 4 flat ≡ 1 ∷ 0 ∷ 4 ∷ 4 ∷ []
 
 -- a glyph of a font has this code and this part
-pub record HasGlyph (bytes : List ℕ) (font : View) (glyph : ℕ) (code : List ℕ) (number : ℕ) (part : Part) : Type 0 where
+pub record HasGlyph (bytes : List ℕ) (font : View) (glyph : ℕ) (code : List ℕ) (number : ℕ) (part : PrivateDict) : Type 0 where
   pub has_code : slice_get font.char_strings glyph ≡ Some code
   pub has_part : slice_get font.parts number ≡ Some part
   pub is_its : HasPart bytes font glyph number
@@ -24,10 +24,10 @@ pub record HasGlyph (bytes : List ℕ) (font : View) (glyph : ℕ) (code : List 
 pub record IsMadeOf (bytes : List ℕ) (old : View) (glyph : ℕ) (flat : List ℕ) (new : View) (i : ℕ) : Type 0 where
   pub number : ℕ
   pub old_code : List ℕ
-  pub old_part : Part
+  pub old_part : PrivateDict
   pub was : HasGlyph bytes old glyph old_code number old_part
   pub new_code : List ℕ
-  pub new_part : Part
+  pub new_part : PrivateDict
   pub is : HasGlyph flat new i new_code number new_part
   pub faultless : fault_of (run_in old old_part old_code).end ≡ None
   pub draws : (lists : Lists) → DrawsAs lists new_code (run_in old old_part old_code)
@@ -53,11 +53,11 @@ pub record Repeats (old new : View) : Type 0 where
 
 -- The new font is made of these glyphs of the old one, in this order. It says what the old one says: also by its encoding, where
 -- glyphs keep their numbers; else one of the old font's own gives way to the standard one.
-pub record IsFontOf (kept : Bool) (sources : Sources) (bytes : List ℕ) (old : View) (flat : List ℕ) (new : View) : Type 0 where
+pub record IsFontOf (retain_gids : Bool) (sources : Sources) (bytes : List ℕ) (old : View) (flat : List ℕ) (new : View) : Type 0 where
   pub header : HasHeader flat
   pub repeats : Repeats old new
   pub many : length new.char_strings ≡ length sources
   pub glyphs : (i : ℕ) → i < length sources → IsMade bytes old (slice_index_or sources i None) flat new i
-  pub naming : KeepsNames kept sources bytes old flat new
-  pub codes : IsTrue kept → KeepsCodes sources bytes old flat new naming.old_set naming.new_set
-  pub encoding : kept ≡ false → GivesWay bytes old flat new
+  pub naming : KeepsNames retain_gids sources bytes old flat new
+  pub codes : IsTrue retain_gids → KeepsCodes sources bytes old flat new naming.old_set naming.new_set
+  pub encoding : retain_gids ≡ false → GivesWay bytes old flat new

@@ -6,7 +6,7 @@ use Rattle.postscript_type2.specs.Program.Inlined.{inlined_text}
 use Rattle.postscript_type2.specs.Program.Inlining.{is_flat}
 use Rattle.postscript_type2.specs.Program.Routines.{Lists, lent}
 use Rattle.postscript_type2.specs.Program.Runs.{Run, fault_of, taken_by, width_of}
-use Rattle.postscript_view.specs.Order.{View, Part}
+use Rattle.postscript_view.specs.Order.{View, PrivateDict}
 use Rattle.postscript_view.specs.Select.{IsSelected}
 
 -- A glyph has the part of a number: of several parts that of the font dictionary that FDSelect gives it; a single part is that
@@ -16,7 +16,7 @@ pub record HasPart (bytes : List ℕ) (font : View) (glyph number : ℕ) : Type 
   pub selected : ((length font.parts ≡ 1) × (number ≡ 0)) ⊎ ((length font.parts ≢ 1) × IsSelected bytes font.tables.dictionary (length font.char_strings) glyph number)
 
 -- the run of a code over the subroutines that all char strings share and those of a part
-abbrev pub run_in : View → Part → List ℕ → Run
+abbrev pub run_in : View → PrivateDict → List ℕ → Run
 run_in font part code = run_of (lent font.tables.subroutines part.subroutines) code
 
 -- Over these lists a code draws what a run drew: it answers the same operations, with the same width; its endchar takes the same
@@ -32,7 +32,7 @@ pub record DrawsAs (lists : Lists) (code : List ℕ) (run : Run) : Type 0 where
 -- that run without calls and returns, so hints, the bytes of masks and all other operands stay.
 pub record IsCodeOf (font : View) (glyph number : ℕ) (flat : List ℕ) : Type 0 where
   pub code : List ℕ
-  pub part : Part
+  pub part : PrivateDict
   pub has_code : slice_get font.char_strings glyph ≡ Some code
   pub has_part : slice_get font.parts number ≡ Some part
   pub faultless : fault_of (run_in font part code).end ≡ None

@@ -5,7 +5,7 @@ use Rattle.postscript_base.specs.Compact1.Dictionary.{Dictionary}
 use Rattle.postscript_base.specs.declared.compact1.operator.Operator.{Operator}
 use Rattle.postscript_base.specs.declared.compact1.operator.Operator.TheVariants.{BaseFontName, CharSet, CharStrings, Copyright, Encoding, FDArray, FDSelect, FamilyName, FontName, FullName, Notice, PostScript, Private, Subrs, Version, Weight}
 use Rattle.postscript_view.specs.Advances.{advance_of}
-use Rattle.postscript_view.specs.Order.{Part}
+use Rattle.postscript_view.specs.Order.{PrivateDict}
 
 -- these operators have the same operands
 abbrev pub SameAt : List Operator → Dictionary → Dictionary → Type 0
@@ -36,13 +36,13 @@ SameFont None (Some new) = ⊥
 SameFont (Some old) None = ⊥
 
 -- A part without subroutines that says what another one says: glyphs that tell the same width, or none, have the same advance.
-pub record SamePart (old new : Part) : Type 0 where
+pub record SamePart (old new : PrivateDict) : Type 0 where
   pub private : SameBut (Subrs ∷ []) old.dictionary new.dictionary
   pub no_local : new.subroutines ≡ []
   pub font : SameFont old.font new.font
   pub advance : (width : Option ℤ) → advance_of new.dictionary width ≡ advance_of old.dictionary width
 
 -- as many parts, each of which says what the one in its place says
-pub record SameParts (old new : List Part) : Type 0 where
+pub record SameParts (old new : List PrivateDict) : Type 0 where
   pub many : length new ≡ length old
-  pub each : (number : ℕ) (part new_part : Part) → slice_get old number ≡ Some part → slice_get new number ≡ Some new_part → SamePart part new_part
+  pub each : (number : ℕ) (part new_part : PrivateDict) → slice_get old number ≡ Some part → slice_get new number ≡ Some new_part → SamePart part new_part

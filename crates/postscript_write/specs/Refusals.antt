@@ -8,7 +8,7 @@ use Rattle.postscript_type2.specs.Program.Runs.{fault_of}
 use Rattle.postscript_view.specs.CharSets.{IsCharSetOf}
 use Rattle.postscript_view.specs.Encodings.{IsEncodingOf}
 use Rattle.postscript_view.specs.Naming.{Names}
-use Rattle.postscript_view.specs.Order.{View, Part, fonts, view}
+use Rattle.postscript_view.specs.Order.{View, PrivateDict, fonts, view}
 use Rattle.postscript_view.specs.declared.char_set.CharSetView.{CharSetView}
 use Rattle.postscript_view.specs.declared.encoding.EncodingView.{EncodingView}
 use Rattle.postscript_write.specs.Components.{AreClosed}
@@ -19,7 +19,7 @@ use Rattle.postscript_write.specs.declared.error.Error.TheVariants.{Refused, Gly
 -- the run of a glyph with the part of a number is refused with this cause
 pub record IsRunRefused (font : View) (glyph number : ℕ) (cause : causes.Error) : Type 0 where
   pub code : List ℕ
-  pub part : Part
+  pub part : PrivateDict
   pub has_code : slice_get font.char_strings glyph ≡ Some code
   pub has_part : slice_get font.parts number ≡ Some part
   pub fault : fault_of (run_in font part code).end ≡ Some (refusal_of cause)
@@ -27,7 +27,7 @@ pub record IsRunRefused (font : View) (glyph number : ℕ) (cause : causes.Error
 -- no fault ends the run of a glyph with the part of a number
 pub record IsRunFaultless (font : View) (glyph number : ℕ) : Type 0 where
   pub code : List ℕ
-  pub part : Part
+  pub part : PrivateDict
   pub has_code : slice_get font.char_strings glyph ≡ Some code
   pub has_part : slice_get font.parts number ≡ Some part
   pub faultless : fault_of (run_in font part code).end ≡ None

@@ -7,10 +7,10 @@ use Rattle.postscript_base.specs.Tape.Outcome.{Got}
 use Rattle.postscript_base.specs.declared.compact1.operator.Operator.{Operator}
 use Rattle.postscript_base.specs.declared.compact1.operator.Operator.TheVariants as operators
 use Rattle.postscript_compact1.specs.FontSet.Layout.{HasTwo}
-use Rattle.postscript_items.specs.Items.{number_at, IsIndex}
+use Rattle.postscript_base.specs.Index.{number_at, IsIndex}
 use Rattle.postscript_view.specs.CharSet.{covered}
 use Rattle.postscript_view.specs.Cids.{IsCidKeyed}
-use Rattle.postscript_view.specs.Order.{Part, View, view}
+use Rattle.postscript_view.specs.Order.{PrivateDict, View, view}
 use Rattle.postscript_view.specs.Select.{offset_of}
 
 -- An INDEX begins at a place and ends at its last offset. Its offsets begin with 1 and do not fall, so that each byte is of an item.
@@ -84,7 +84,7 @@ PrivateEnds map place next =
 
 -- The private dictionaries stand one behind another, in the order of the parts. The dictionary of the font names that of the only part
 -- of a font that is not CID-keyed.
-abbrev pub PrivatesEnd : Dictionary → List Part → (place next : ℕ) → Type 0
+abbrev pub PrivatesEnd : Dictionary → List PrivateDict → (place next : ℕ) → Type 0
 PrivatesEnd map [] place next = next ≡ place
 PrivatesEnd map (part ∷ parts) place next = (behind : ℕ) × PrivateEnds (unwrap_or part.font map) place behind × PrivatesEnd map parts behind next
 

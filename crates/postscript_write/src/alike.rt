@@ -1,6 +1,6 @@
 //! Parts, names and codes of a font that is read back, compared with those that it was made of.
 ghost use Rattle.std.specs.Prelude.{◌≡◌, ◌<◌, ℕ, IsTrue, Some, length, slice_index_or};
-ghost use Rattle.postscript_items.specs.Lent.{items_of};
+ghost use Rattle.postscript_base.specs.Index.Lent.{items_of};
 ghost use Rattle.postscript_view.specs.Value.{part_shown, parts_shown, view_shown};
 ghost use Rattle.postscript_write.specs.Glyphs.{HasPart};
 ghost use Rattle.postscript_write.specs.Naming.{SameCodes, SameEncoding, SameName, SameNames, codes_for};
@@ -9,7 +9,7 @@ ghost use Rattle.postscript_write.specs.Parts.{SameFont, SamePart, SameParts};
 use crate::same::{are_none, same_but, same_look};
 use postscript_base::compact1::{Operations, Operator};
 use postscript_compact1::encoding::Encoding;
-use postscript_view::{CharSetView, Codes, EncodingView, FontView, Part};
+use postscript_view::{CharSetView, Codes, EncodingView, FontView, PrivateDict};
 
 /// Whether both have a font dictionary that says the same, or neither has one.
 fn same_font(old: &Option<Operations>, new: &Option<Operations>) -> bool
@@ -23,7 +23,7 @@ fn same_font(old: &Option<Operations>, new: &Option<Operations>) -> bool
 }
 
 /// Whether a part has no subroutines, and says what another one says.
-fn same_part(old: &Part<'_>, new: &Part<'_>) -> bool
+fn same_part(old: &PrivateDict<'_>, new: &PrivateDict<'_>) -> bool
     ensures { IsTrue result → SamePart (part_shown old.now) (part_shown new.now) }
 {
     let (a, b) = (&old.dictionary, &new.dictionary);
@@ -37,7 +37,7 @@ fn same_part(old: &Part<'_>, new: &Part<'_>) -> bool
 }
 
 /// Whether there are as many parts, each of which says what the one in its place says.
-pub(crate) fn same_parts(old: &[Part<'_>], new: &[Part<'_>]) -> bool
+pub(crate) fn same_parts(old: &[PrivateDict<'_>], new: &[PrivateDict<'_>]) -> bool
     ensures { IsTrue result → SameParts (parts_shown old.now) (parts_shown new.now) }
 {
     if old.len() != new.len() {

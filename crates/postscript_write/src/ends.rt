@@ -2,16 +2,16 @@
 ghost use Rattle.std.specs.Prelude.{◌≡◌, IfSome, IsTrue, length};
 ghost use Rattle.std.specs.Option.{unwrap_or};
 ghost use Rattle.postscript_base.specs.declared.compact1.operator.Operator.TheVariants as operators;
-ghost use Rattle.postscript_items.specs.Lent.{items_of};
+ghost use Rattle.postscript_base.specs.Index.Lent.{items_of};
 ghost use Rattle.postscript_view.specs.Select.{offset_of as the_offset};
 ghost use Rattle.postscript_view.specs.Value.{parts_shown, view_shown};
 ghost use Rattle.postscript_write.specs.Whole.{CharSetEnds, EncodingEnds, HasNoByteBeside, IndexEnds, KeyedEnds, OwnEnds, PartsEnd, PrivateEnds, PrivatesEnd, SelectEnds, SingleEnds, TablesEnd};
 
 use crate::spans::{char_set_end, encoding_end};
 use postscript_base::compact1::{Operations, Operator};
-use postscript_items::Items;
-use postscript_items::number::number_within;
-use postscript_view::{FontView, Part};
+use postscript_base::index::IndexView;
+use postscript_base::index::number::number_within;
+use postscript_view::{FontView, PrivateDict};
 
 /// The offset that an operator names. None where it names none.
 #[tactic(auto, unfolding(postscript_view::specs::Select::offset_of))]
@@ -30,7 +30,7 @@ fn offset_of(dictionary: &Operations, operator: Operator) -> Option<usize>
 fn index_end(bytes: &[u8], place: usize) -> Option<usize>
     ensures { IfSome result (λ next. IndexEnds bytes.now place next) }
 {
-    let (_items, next) = Items::read(bytes, place).ok()?;
+    let (_items, next) = IndexView::read(bytes, place).ok()?;
     Some(next)
 }
 
@@ -38,7 +38,7 @@ fn index_end(bytes: &[u8], place: usize) -> Option<usize>
 fn single_end(bytes: &[u8], place: usize) -> Option<usize>
     ensures { IfSome result (λ next. SingleEnds bytes.now place next) }
 {
-    let (items, next) = Items::read(bytes, place).ok()?;
+    let (items, next) = IndexView::read(bytes, place).ok()?;
     if items.len() != 1 {
         return None;
     }
@@ -144,7 +144,7 @@ fn private_end(dictionary: &Operations, place: usize) -> Option<usize>
 }
 
 /// The place behind the private dictionary of a part.
-fn part_end(map: &Operations, part: &Part<'_>, place: usize) -> Option<usize>
+fn part_end(map: &Operations, part: &PrivateDict<'_>, place: usize) -> Option<usize>
     ensures { IfSome result (λ next. PrivateEnds (unwrap_or part.now.font_dictionary map.now) place next) }
 {
     match &part.font_dictionary {
@@ -154,7 +154,7 @@ fn part_end(map: &Operations, part: &Part<'_>, place: usize) -> Option<usize>
 }
 
 /// The place behind the private dictionaries of parts; they begin at a place.
-fn privates_end(map: &Operations, parts: &[Part<'_>], place: usize) -> Option<usize>
+fn privates_end(map: &Operations, parts: &[PrivateDict<'_>], place: usize) -> Option<usize>
     ensures { IfSome result (λ next. PrivatesEnd map.now (parts_shown parts.now) place next) }
 {
     let mut next = place;

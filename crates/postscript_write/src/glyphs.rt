@@ -4,7 +4,7 @@ ghost use Rattle.postscript_base.specs.declared.error.Error.TheVariants as cause
 ghost use Rattle.postscript_type2.specs.Program.Routines.{texts};
 ghost use Rattle.postscript_write.specs.declared.error.Error.TheVariants as errors;
 ghost use Rattle.postscript_view.specs.Value.{view_shown};
-ghost use Rattle.postscript_items.specs.Lent.{items_of};
+ghost use Rattle.postscript_base.specs.Index.Lent.{items_of};
 ghost use Rattle.postscript_write.specs.Glyphs.{AreCodesOf, AreGlyphs, AreNumbersOf, HasPartFor, IsCodeFor, IsCodeOf, IsGlyph};
 ghost use Rattle.postscript_view.specs.Glyphs.{HasPartNumber};
 ghost use Rattle.postscript_write.specs.Refusals.{FontRefusedBy};

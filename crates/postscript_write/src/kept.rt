@@ -58,7 +58,7 @@ pub(crate) const OPERATORS: [Operator; 52] = [
 ];
 
 /// The operators of the dictionary of a font that name strings (Technical Note 5176, section 9, operands of kind SID).
-pub(crate) const NAMED: [Operator; 9] = [
+pub(crate) const SID_OPERATORS: [Operator; 9] = [
     Operator::Version,
     Operator::Notice,
     Operator::Copyright,

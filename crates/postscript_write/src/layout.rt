@@ -1,20 +1,20 @@
 //! The parts of a font, and where they stand (Technical Note 5176, "CFF Data Layout").
 use crate::dictionaries::{Place, replaced, without};
 use crate::indices::put_index;
-use crate::kept::NAMED;
+use crate::kept::SID_OPERATORS;
 use crate::naming::identifier_in;
 use crate::spans::{char_set_end, encoding_end};
 use crate::strings::Strings;
 use postscript_base::compact1::{Operations, Operator};
+use postscript_base::index::IndexView;
+use postscript_base::index::number::number_within;
 use postscript_base::{Error, Result};
-use postscript_items::Items;
-use postscript_items::number::number_within;
 use postscript_view::FontView;
 use postscript_view::tables::slice_at;
 use std::alloc::Global;
 
 /// The items, copied.
-fn copied(alloc: Global, items: &Items<'_>) -> Result<Vec<Vec<u8>>> {
+fn copied(alloc: Global, items: &IndexView<'_>) -> Result<Vec<Vec<u8>>> {
     let mut all = Vec::new(alloc);
     for i in 0..items.len() {
         let mut copy = Vec::new(alloc);
@@ -36,8 +36,8 @@ fn place_of(dictionary: &Operations, operator: Operator) -> Result<usize> {
 /// The bytes of the first dictionary.
 fn first_dictionary(bytes: &[u8]) -> Result<&[u8]> {
     let start = number_within(bytes, 2, 1)?;
-    let (_names, next) = Items::open(bytes, start)?;
-    let (dictionaries, _next) = Items::open(bytes, next)?;
+    let (_names, next) = IndexView::open(bytes, start)?;
+    let (dictionaries, _next) = IndexView::open(bytes, next)?;
     dictionaries.get(0).ok_or(Error::UnexpectedEof)
 }
 
@@ -266,7 +266,7 @@ fn font_dictionaries(
     start: usize,
 ) -> Result<Vec<Vec<u8>>> {
     let place = place_of(&font.dictionary, Operator::FDArray)?;
-    let (sources, _next) = Items::open(font.bytes, place)?;
+    let (sources, _next) = IndexView::open(font.bytes, place)?;
     let mut offset = start;
     let mut all = Vec::new(alloc);
     for i in 0..sources.len() {
@@ -282,7 +282,7 @@ fn font_dictionaries(
 /// The dictionary of a font, whose operators name strings by their new identifiers.
 fn dictionary_with(alloc: Global, font: &FontView<'_>, strings: &Strings) -> Result<Vec<u8>> {
     let mut places = Vec::new(alloc);
-    for operator in &NAMED {
+    for operator in &SID_OPERATORS {
         if let Some(old) = identifier_in(&font.dictionary, *operator) {
             let new = strings.identifier(usize::from(old));
             if new != usize::from(old) {

@@ -1,10 +1,10 @@
 //! Strings of a font, and what names them (Technical Note 5176, sections 9, 10 and 13).
 ghost use Rattle.std.specs.Prelude.{◌≡◌, IsTrue, option_map};
-ghost use Rattle.postscript_items.specs.Lent.{items_of};
+ghost use Rattle.postscript_base.specs.Index.Lent.{items_of};
 ghost use Rattle.postscript_view.specs.Value.{view_shown};
 ghost use Rattle.postscript_write.specs.Strings.{identifier_in as the_identifier, own_named as the_own_named, own_string as the_own_string, NameSame, NamesSame, SameString, SameText, SameTexts};
 
-use crate::kept::NAMED;
+use crate::kept::SID_OPERATORS;
 use crate::same::{same_bytes, same_look};
 use postscript_base::compact1::{Operations, Operator, StringID};
 use postscript_view::{CharSetView, FontView};
@@ -54,7 +54,7 @@ fn names_same(operator: Operator, old: &FontView<'_>, new: &FontView<'_>) -> boo
 pub(crate) fn name_same(old: &FontView<'_>, new: &FontView<'_>) -> bool
     ensures { IsTrue result → NameSame (view_shown old.now).tables (view_shown new.now).tables }
 {
-    for operator in &NAMED {
+    for operator in &SID_OPERATORS {
         if !names_same(*operator, old, new) {
             return false;
         }

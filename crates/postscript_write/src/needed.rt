@@ -7,7 +7,7 @@ ghost use Rattle.postscript_write.specs.Steps.{IsLate};
 ghost use Rattle.postscript_write.specs.Strings.{AreNeeded, AreNeededMarks, IsNeeded};
 
 use crate::error::Result;
-use crate::kept::NAMED;
+use crate::kept::SID_OPERATORS;
 use crate::naming::identifier_in;
 use crate::sources::unmarked;
 use postscript_base::compact1::StringID;
@@ -28,7 +28,7 @@ fn mark(marks: &mut [bool], identifier: StringID)
 fn mark_named(marks: &mut [bool], font: &FontView<'_>)
     ensures { (set : Set) → AreNeededMarks (view_shown font.now) set marks.old → AreNeededMarks (view_shown font.now) set marks.new }
 {
-    for operator in &NAMED {
+    for operator in &SID_OPERATORS {
         if let Some(identifier) = identifier_in(&font.dictionary, *operator) {
             mark(marks, identifier);
         }

@@ -1,6 +1,6 @@
 //! Char sets, encodings and FDSelect of the glyphs that are written (Technical Note 5176, sections 12, 13 and 19).
 ghost use Rattle.std.specs.Prelude.{◌≡◌, ℕ, IfErr, Some, length};
-ghost use Rattle.postscript_items.specs.Lent.{items_of};
+ghost use Rattle.postscript_base.specs.Index.Lent.{items_of};
 ghost use Rattle.postscript_view.specs.CharSets.{IsCharSetOf};
 ghost use Rattle.postscript_view.specs.Naming.{Names};
 ghost use Rattle.postscript_view.specs.Value.{view_shown};

@@ -2,7 +2,7 @@
 ghost use Rattle.std.specs.List.{Contains};
 ghost use Rattle.std.specs.Prelude.{◌≡◌, ◌⊎◌, [], IsTrue, All};
 ghost use Rattle.postscript_base.specs.Compact1.Defaults.{look};
-ghost use Rattle.postscript_items.specs.Lent.{items_of};
+ghost use Rattle.postscript_base.specs.Index.Lent.{items_of};
 ghost use Rattle.postscript_type2.specs.Program.Routines.{texts};
 ghost use Rattle.postscript_write.specs.Fonts.{HasHeader};
 ghost use Rattle.postscript_write.specs.Parts.{IsAmong, SameAt, SameBut};
@@ -10,7 +10,7 @@ ghost use Rattle.postscript_write.specs.Parts.{IsAmong, SameAt, SameBut};
 use crate::kept::OPERATORS;
 use postscript_base::compact1::laws::are_equal;
 use postscript_base::compact1::{Operand, Operations, Operator};
-use postscript_items::Items;
+use postscript_base::index::IndexView;
 
 /// Whether the bytes are the same.
 pub(crate) fn same_bytes(old: &[u8], new: &[u8]) -> bool
@@ -27,7 +27,7 @@ pub(crate) fn has_header(bytes: &[u8]) -> bool
 }
 
 /// Whether the items are the same.
-pub(crate) fn same_items(old: &Items<'_>, new: &Items<'_>) -> bool
+pub(crate) fn same_items(old: &IndexView<'_>, new: &IndexView<'_>) -> bool
     ensures { IsTrue result → items_of new.now ≡ items_of old.now }
 {
     if old.len() != new.len() {
@@ -43,14 +43,14 @@ pub(crate) fn same_items(old: &Items<'_>, new: &Items<'_>) -> bool
 
 /// Whether there are no items.
 #[tactic(auto, using(crate::proofs::Agree::nothing))]
-pub(crate) fn are_none(items: &Items<'_>) -> bool
+pub(crate) fn are_none(items: &IndexView<'_>) -> bool
     ensures { IsTrue result → items_of items.now ≡ [] }
 {
     items.len() == 0
 }
 
 /// Whether the items are these codes.
-pub(crate) fn are_codes(codes: &[Vec<u8>], new: &Items<'_>) -> bool
+pub(crate) fn are_codes(codes: &[Vec<u8>], new: &IndexView<'_>) -> bool
     ensures { IsTrue result → items_of new.now ≡ texts codes.now }
 {
     if codes.len() != new.len() {

@@ -1,9 +1,9 @@
 //! The strings that are written, and the identifiers that name them (Technical Note 5176, sections 9 and 10).
-use crate::kept::NAMED;
+use crate::kept::SID_OPERATORS;
 use crate::naming::identifier_in;
 use postscript_base::Result;
 use postscript_base::compact1::{Operations, StringID};
-use postscript_items::Items;
+use postscript_base::index::IndexView;
 use postscript_view::FontView;
 use std::alloc::Global;
 
@@ -55,7 +55,12 @@ impl Strings {
     }
 
     /// Adds the strings of identifiers.
-    fn add_all(&mut self, alloc: Global, own: &Items<'_>, identifiers: &[StringID]) -> Result<()> {
+    fn add_all(
+        &mut self,
+        alloc: Global,
+        own: &IndexView<'_>,
+        identifiers: &[StringID],
+    ) -> Result<()> {
         for identifier in identifiers {
             self.add(alloc, own, usize::from(*identifier))?;
         }
@@ -63,7 +68,7 @@ impl Strings {
     }
 
     /// Adds the string of an identifier, where it is one of the font's own, and is not there yet.
-    fn add(&mut self, alloc: Global, own: &Items<'_>, identifier: usize) -> Result<()> {
+    fn add(&mut self, alloc: Global, own: &IndexView<'_>, identifier: usize) -> Result<()> {
         if identifier < 391 || identifier - 391 >= self.renumbered.len() {
             return Ok(());
         }
@@ -92,7 +97,7 @@ impl Strings {
 /// The identifiers that operators of a dictionary name strings by.
 fn named(alloc: Global, dictionary: &Operations) -> Result<Vec<StringID>> {
     let mut identifiers = Vec::new(alloc);
-    for operator in &NAMED {
+    for operator in &SID_OPERATORS {
         if let Some(identifier) = identifier_in(dictionary, *operator) {
             identifiers.push(identifier)?;
         }

@@ -5,7 +5,7 @@ ghost use Rattle.postscript_type2.specs.Program.Routines.{texts};
 ghost use Rattle.postscript_view.specs.CharSets.{IsCharSetOf};
 ghost use Rattle.postscript_view.specs.Encodings.{IsEncodingOf};
 ghost use Rattle.postscript_view.specs.Order.{View, view as the_view};
-ghost use Rattle.postscript_items.specs.Lent.{items_of};
+ghost use Rattle.postscript_base.specs.Index.Lent.{items_of};
 ghost use Rattle.postscript_view.specs.Value.{view_shown};
 ghost use Rattle.postscript_write.specs.Fonts.{IsFontOf, Repeats};
 ghost use Rattle.postscript_write.specs.Glyphs.{AreCodesOf, AreNumbersOf};
@@ -20,7 +20,7 @@ use crate::alike::{give_way, same_encoding, same_names, same_numbers, same_parts
 use crate::ends::has_no_byte_beside;
 use crate::error::{Error, Result, not_back, unwritten};
 use crate::glyphs::{codes_of, numbers_of};
-use crate::kept::{CHANGED, NAMED};
+use crate::kept::{CHANGED, SID_OPERATORS};
 use crate::layout::written;
 use crate::naming::{name_same, same_texts};
 use crate::needed::are_needed;
@@ -46,9 +46,9 @@ fn says_same(old: &FontView<'_>, new: &FontView<'_>) -> bool
 
 /// Whether strings keep their numbers: where glyphs do, and in a CID-keyed font.
 fn keeps_numbers(font: &FontView<'_>, kept: bool) -> bool
-    ensures { result ≡ keeps_strings kept font.now.dictionary }
+    ensures { result ≡ keeps_strings retain_gids font.now.dictionary }
 {
-    kept || font.is_cid_keyed()
+    retain_gids || font.is_cid_keyed()
 }
 
 /// Whether strings are as they were, and so are the identifiers that name them.
@@ -64,7 +64,7 @@ fn are_kept(
     if !same_items(&old.strings, &new.strings) {
         return false;
     }
-    if !same_at(&NAMED, &old.dictionary, &new.dictionary) {
+    if !same_at(&SID_OPERATORS, &old.dictionary, &new.dictionary) {
         return false;
     }
     same_names(old_set, sources, new_set)
@@ -175,12 +175,12 @@ fn keeps_codes(
     kept: bool,
 ) -> Result<()>
     requires encoding { IsEncodingOf encoding.now font.now.bytes.now font.now.dictionary }
-    requires names { IsTrue kept → SameNames old.now sources.now new.now }
-    ensures codes { OnOk result (IsTrue kept → KeepsCodes sources.now font.now.bytes.now (view_shown font.now) again.now.bytes.now (view_shown again.now) old.now new.now) }
-    ensures encoding { OnOk result (kept ≡ false → GivesWay font.now.bytes.now (view_shown font.now) again.now.bytes.now (view_shown again.now)) }
+    requires names { IsTrue retain_gids → SameNames old.now sources.now new.now }
+    ensures codes { OnOk result (IsTrue retain_gids → KeepsCodes sources.now font.now.bytes.now (view_shown font.now) again.now.bytes.now (view_shown again.now) old.now new.now) }
+    ensures encoding { OnOk result (retain_gids ≡ false → GivesWay font.now.bytes.now (view_shown font.now) again.now.bytes.now (view_shown again.now)) }
     ensures late { IfErr result (λ e. IsLate e) }
 {
-    if kept {
+    if retain_gids {
         back_codes(encoding, again)?;
     } else {
         other_codes(encoding, again)?;
@@ -204,7 +204,7 @@ fn read_back(
     requires encoding { IsEncodingOf encoding.now font.now.bytes.now font.now.dictionary }
     requires numbers { AreNumbersOf font.now.bytes.now (view_shown font.now) sources.now numbers.now }
     requires codes { AreCodesOf (view_shown font.now) sources.now numbers.now (texts codes.now) }
-    ensures font { OnOk result ((new : View) × (the_view flat.now 0 ≡ Got new 0) × IsFontOf kept sources.now font.now.bytes.now (view_shown font.now) flat.now new) }
+    ensures font { OnOk result ((new : View) × (the_view flat.now 0 ≡ Got new 0) × IsFontOf retain_gids sources.now font.now.bytes.now (view_shown font.now) flat.now new) }
     ensures whole { OnOk result (IsWhole flat.now) }
     ensures late { IfErr result (λ e. IsLate e) }
 {
@@ -224,8 +224,15 @@ fn read_back(
     if !has_no_byte_beside(&again) {
         return Err(Error::NotReadBack);
     }
-    let new = back_names(alloc, font, set, sources, &again, keeps_numbers(font, kept))?;
-    keeps_codes(font, encoding, sources, set, &again, &new, kept)?;
+    let new = back_names(
+        alloc,
+        font,
+        set,
+        sources,
+        &again,
+        keeps_numbers(font, retain_gids),
+    )?;
+    keeps_codes(font, encoding, sources, set, &again, &new, retain_gids)?;
     Ok(())
 }
 
@@ -246,7 +253,7 @@ fn put_together(
     requires encoding { IsEncodingOf encoding.now font.now.bytes.now font.now.dictionary }
     requires numbers { AreNumbersOf font.now.bytes.now (view_shown font.now) sources.now numbers.now }
     requires codes { AreCodesOf (view_shown font.now) sources.now numbers.now (texts codes.now) }
-    ensures font { IfOk result (λ flat. (new : View) × (the_view flat.items 0 ≡ Got new 0) × IsFontOf kept sources.now font.now.bytes.now (view_shown font.now) flat.items new) }
+    ensures font { IfOk result (λ flat. (new : View) × (the_view flat.items 0 ≡ Got new 0) × IsFontOf retain_gids sources.now font.now.bytes.now (view_shown font.now) flat.items new) }
     ensures whole { IfOk result (λ flat. IsWhole flat.items) }
     ensures lenient { IfOk result (λ flat. HasLenientFont font.now.bytes.now → HasLenientFont flat.items) }
     ensures late { IfErr result (λ e. IsLate e) }
@@ -257,7 +264,15 @@ fn put_together(
         Err(fault) => return Err(unwritten(fault)),
     };
     read_back(
-        alloc, font, set, encoding, sources, numbers, codes, kept, &flat,
+        alloc,
+        font,
+        set,
+        encoding,
+        sources,
+        numbers,
+        codes,
+        retain_gids,
+        &flat,
     )?;
     stays_read(alloc, font.bytes, &flat)?;
     Ok(flat)
@@ -274,7 +289,7 @@ fn list_of(
     requires { IsCharSetOf set.now font.now.bytes.now font.now.dictionary (length (items_of font.now.char_strings)) }
     ensures refused { IfErr result (λ e. FontRefusedBy font.now.bytes.now (view_shown font.now) sources.now e) }
 {
-    if kept {
+    if retain_gids {
         return Ok(None);
     }
     Ok(Some(identifiers_of(alloc, font, set, sources)?))
@@ -287,7 +302,7 @@ pub(crate) fn font_of(
     sources: &[Option<usize>],
     kept: bool,
 ) -> Result<Vec<u8>>
-    ensures font { IfOk result (λ flat. (new : View) × (the_view flat.items 0 ≡ Got new 0) × IsFontOf kept sources.now font.now.bytes.now (view_shown font.now) flat.items new) }
+    ensures font { IfOk result (λ flat. (new : View) × (the_view flat.items 0 ≡ Got new 0) × IsFontOf retain_gids sources.now font.now.bytes.now (view_shown font.now) flat.items new) }
     ensures whole { IfOk result (λ flat. IsWhole flat.items) }
     ensures lenient { IfOk result (λ flat. HasLenientFont font.now.bytes.now → HasLenientFont flat.items) }
     ensures refused { IfErr result (λ e. FontRefusedBy font.now.bytes.now (view_shown font.now) sources.now e) }
@@ -296,8 +311,16 @@ pub(crate) fn font_of(
     let encoding = font.encoding()?;
     let numbers = numbers_of(alloc, font, sources)?;
     let codes = codes_of(alloc, font, sources, &numbers)?;
-    let listed = list_of(alloc, font, &set, sources, kept)?;
+    let listed = list_of(alloc, font, &set, sources, retain_gids)?;
     put_together(
-        alloc, font, &set, &encoding, sources, &numbers, &codes, &listed, kept,
+        alloc,
+        font,
+        &set,
+        &encoding,
+        sources,
+        &numbers,
+        &codes,
+        &listed,
+        retain_gids,
     )
 }

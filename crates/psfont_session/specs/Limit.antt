@@ -3,14 +3,14 @@ use Rattle.std.specs.Prelude.{ℕ, List, ◌++◌, true, codes}
 use Rattle.std.specs.Fmt.{decimal}
 use Rattle.hex.specs.Hex.{encode_lower}
 use Rattle.postscript.specs.Program.Limit.{Spends}
-use Rattle.postscript.specs.Program.Runs.{Said}
+use Rattle.postscript.specs.Program.Runs.{Phrase}
 use Rattle.postscript.specs.Program.Within.{Fits}
 use Rattle.psfont_session.specs.Loaded.{Loaded}
 use Rattle.psfont_session.specs.Output.{run_loaded}
 
 -- phrases at the front of the run cost the limit
 abbrev pub IsUsedUp : (limit : ℕ) → Loaded → Type 0
-IsUsedUp limit loaded = (rest : List Said) × Spends limit (run_loaded loaded).trace 0 rest
+IsUsedUp limit loaded = (rest : List Phrase) × Spends limit (run_loaded loaded).trace 0 rest
 
 -- the run comes to its end, or is refused, within the limit
 abbrev pub KeepsToLimit : (limit : ℕ) → Loaded → Type 0

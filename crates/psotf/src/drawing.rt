@@ -68,7 +68,13 @@ pub fn draw<'f, 'l>(
     budget.spend(share.saturating_sub(left));
     budget.spend((segments.len() as u64).saturating_mul(SEGMENT));
     match drawn {
-        Ok(width) => Ok((glyph, Outline { segments, width })),
+        Ok(width) => Ok((
+            glyph,
+            Outline {
+                segments,
+                width_difference: width,
+            },
+        )),
         Err(error) => Err(refusal_of(error, &glyph, share, budget)),
     }
 }
@@ -76,7 +82,7 @@ pub fn draw<'f, 'l>(
 /// The width of a glyph by its program in 65536ths of a unit: told there, and added to the nominal one, or else the default one.
 /// None where the private dictionary tells no whole number of 32 bits.
 pub fn width_of(glyph: &Glyph<'_, '_>, outline: &Outline) -> Option<i64> {
-    let advance = match outline.width {
+    let advance = match outline.width_difference {
         Some(difference) => Advance::Nominal(glyph.part.nominal_width()?, difference),
         None => Advance::Default(glyph.part.default_width()?),
     };

@@ -3,7 +3,7 @@ ghost use Rattle.std.specs.Prelude.{◌≡◌, ◌<◌, ◌≤◌, ◌-◌, ◌*
 ghost use Rattle.psotf.specs.declared.failure.Refusal.TheVariants as refusals;
 
 use crate::failure::Refusal;
-use postscript_items::Items;
+use postscript_base::index::IndexView;
 use postscript_view::{FontView, Glyph};
 
 /// How many times the limit of a glyph all glyphs of a command may take together.
@@ -23,7 +23,7 @@ pub struct Budget {
 }
 
 /// How many bytes the longest of some items has.
-fn longest_of(items: &Items<'_>) -> u64 {
+fn longest_of(items: &IndexView<'_>) -> u64 {
     let mut longest = 0u64;
     for item in items.iter() {
         longest = longest.max(item.len() as u64);

@@ -1,5 +1,5 @@
 //! The table `name` of a subset (ISO/IEC 14496-22, 5.2.7).
-use postscript_items::number::number_within;
+use postscript_base::index::number::number_within;
 use postscript_sfnt::{Name, Names};
 use std::alloc::{AllocError, Global};
 

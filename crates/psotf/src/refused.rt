@@ -2,8 +2,8 @@
 use crate::weight::dictionary_of;
 use postscript_base::Error;
 use postscript_base::compact1::{Operations, Operator};
-use postscript_items::Items;
-use postscript_view::operands::{bounds, place_at};
+use postscript_base::index::IndexView;
+use postscript_compact1::font_set::operands::{bounds, place_at};
 use postscript_view::tables::{header_size, operations_of, slice_at};
 use std::alloc::Global;
 use std::fmt;
@@ -53,7 +53,7 @@ pub fn spot_of(alloc: Global, cff: &[u8]) -> Spot {
     };
     let mut place = size;
     for part in BEHIND_THE_HEADER {
-        match Items::open(cff, place) {
+        match IndexView::open(cff, place) {
             Ok((_items, next)) => place = next,
             Err(_) => return at(part, place as u64),
         }
@@ -63,10 +63,10 @@ pub fn spot_of(alloc: Global, cff: &[u8]) -> Spot {
 
 /// The same, where the INDEXes behind the header stand.
 fn in_dictionary(alloc: Global, cff: &[u8], start: usize) -> Spot {
-    let Ok((_names, place)) = Items::open(cff, start) else {
+    let Ok((_names, place)) = IndexView::open(cff, start) else {
         return at("the names", start as u64);
     };
-    let Ok((dictionaries, _next)) = Items::open(cff, place) else {
+    let Ok((dictionaries, _next)) = IndexView::open(cff, place) else {
         return at("the dictionaries", place as u64);
     };
     let Some(item) = dictionaries.get(0) else {
@@ -83,7 +83,7 @@ fn in_parts(alloc: Global, cff: &[u8], dictionary: &Operations) -> Spot {
     let Ok(place) = place_at(0, 0, dictionary, Operator::CharStrings) else {
         return named("the operator CharStrings of the font's dictionary");
     };
-    if place > cff.len() as u64 || Items::open(cff, place as usize).is_err() {
+    if place > cff.len() as u64 || IndexView::open(cff, place as usize).is_err() {
         return at("the char strings", place);
     }
     if dictionary.get(Operator::ROS).is_some() {
@@ -132,7 +132,7 @@ impl Last {
         let mut place = header_size(cff).unwrap_or(0);
         for part in BEHIND_THE_HEADER {
             self.see(part, place as u64);
-            let Ok((_items, next)) = Items::open(cff, place) else {
+            let Ok((_items, next)) = IndexView::open(cff, place) else {
                 break;
             };
             place = next;

@@ -5,7 +5,7 @@ use crate::failure::Failure;
 use crate::limit::Budget;
 use crate::{along, leaving, naming, saving};
 use clap::ArgMatches;
-use postscript_items::number::number_within;
+use postscript_base::index::number::number_within;
 use postscript_sfnt_write::{
     Mapping, Metric, Table, cmap, file_of, hmtx, with_number_of_glyphs, with_number_of_metrics,
     without_names,

@@ -1,7 +1,7 @@
 //! How much work a table `CFF ` makes, before it is read.
 use postscript_base::compact1::{Operations, Operator};
-use postscript_items::Items;
-use postscript_view::operands::{bounds, place_at};
+use postscript_base::index::IndexView;
+use postscript_compact1::font_set::operands::{bounds, place_at};
 use postscript_view::tables::{header_size, operations_of};
 use std::alloc::Global;
 
@@ -12,8 +12,8 @@ const MOST: u64 = 20_000_000;
 /// The dictionary of the first font.
 pub fn dictionary_of(alloc: Global, cff: &[u8]) -> Option<Operations> {
     let size = header_size(cff).ok()?;
-    let (_names, place) = Items::open(cff, size).ok()?;
-    let (dictionaries, _next) = Items::open(cff, place).ok()?;
+    let (_names, place) = IndexView::open(cff, size).ok()?;
+    let (dictionaries, _next) = IndexView::open(cff, place).ok()?;
     operations_of(alloc, dictionaries.get(0)?).ok()
 }
 
@@ -27,13 +27,17 @@ fn named(cff: &[u8], dictionary: &Operations, operator: Operator) -> Option<usiz
 }
 
 /// The items of an INDEX that an operator names.
-fn items_of<'l>(cff: &'l [u8], dictionary: &Operations, operator: Operator) -> Option<Items<'l>> {
-    let (items, _next) = Items::open(cff, named(cff, dictionary, operator)?).ok()?;
+fn items_of<'l>(
+    cff: &'l [u8],
+    dictionary: &Operations,
+    operator: Operator,
+) -> Option<IndexView<'l>> {
+    let (items, _next) = IndexView::open(cff, named(cff, dictionary, operator)?).ok()?;
     Some(items)
 }
 
 /// The font dictionaries, where the font is CID-keyed.
-fn font_dictionaries<'l>(cff: &'l [u8], dictionary: &Operations) -> Option<Items<'l>> {
+fn font_dictionaries<'l>(cff: &'l [u8], dictionary: &Operations) -> Option<IndexView<'l>> {
     if dictionary.get(Operator::ROS).is_none() {
         return None;
     }

@@ -11,7 +11,7 @@ use postscript_base::{Error, Result};
 ///
 /// Refused: `MissingOperation` where there is none, `MalformedOperation` where it is no whole number of `i32`.
 #[tactic(auto, unfolding(crate::specs::FontSet::Operands::first))]
-pub(super) fn first(dictionary: &Operations, operator: Operator) -> Result<i32>
+pub fn first(dictionary: &Operations, operator: Operator) -> Result<i32>
     ensures exact { (bytes : List ℕ) (place : ℕ) → Answers same result place (the_first dictionary.now operator bytes place) }
     ensures listed { IsListed (13 ∷ 14 ∷ []) result }
 {
@@ -38,17 +38,13 @@ fn two(dictionary: &Operations, operator: Operator) -> Result<(i32, i32)>
     Ok((a, b))
 }
 
-/// The place whose offset is a base and the first operand of an operator.
+/// The place whose offset is a base and the first operand of an operator, counted from the beginning of the font, which stands at
+/// `start` (Technical Note 5176, Table 9, "Offset").
 ///
-/// Refused: `MissingOperation`, `MalformedOperation`, `OutOfRangeOffset` where the offset is negative or 64 bits do not
-/// count the place.
+/// Refused: `MissingOperation` where the dictionary has no such operand; `MalformedOperation` where it is no whole number of 32
+/// bits; `OutOfRangeOffset` where the offset is negative or 64 bits do not count the place.
 #[tactic(auto, unfolding(crate::specs::FontSet::Operands::place_at))]
-pub(super) fn place_at(
-    start: u64,
-    base: u32,
-    dictionary: &Operations,
-    operator: Operator,
-) -> Result<u64>
+pub fn place_at(start: u64, base: u32, dictionary: &Operations, operator: Operator) -> Result<u64>
     ensures exact { (bytes : List ℕ) (place : ℕ) → Answers same result place (the_place_at start base dictionary.now operator bytes place) }
     ensures listed { IsListed (13 ∷ 14 ∷ 15 ∷ []) result }
 {
@@ -61,11 +57,12 @@ pub(super) fn place_at(
         .ok_or(Error::OutOfRangeOffset)
 }
 
-/// Char strings are of Type 2.
+/// Whether char strings are of Type 2 (Technical Note 5176, Table 9, "CharstringType").
 ///
-/// Refused: `MissingOperation`, `MalformedOperation`, `UnknownCharStringFormat` for another type.
+/// Refused: `UnknownCharStringFormat` where they are of another; `MissingOperation` or `MalformedOperation` where the operand is
+/// no whole number.
 #[tactic(auto, unfolding(crate::specs::FontSet::Operands::type_two))]
-pub(super) fn type_two(dictionary: &Operations) -> Result<()>
+pub fn type_two(dictionary: &Operations) -> Result<()>
     ensures exact { (bytes : List ℕ) (place : ℕ) → Answers (λ _. tt) result place (the_type_two dictionary.now bytes place) }
     ensures listed { IsListed (12 ∷ 13 ∷ 14 ∷ []) result }
 {
@@ -76,12 +73,13 @@ pub(super) fn type_two(dictionary: &Operations) -> Result<()>
     }
 }
 
-/// The size of the private dictionary in bytes, its offset and its place.
+/// The size of the private dictionary in bytes, its offset and its place, of a font that stands at `start` (Technical Note 5176,
+/// section 15).
 ///
-/// Refused: `MissingOperation`, `MalformedOperation`, `OutOfRangeOffset` where one is negative or 64 bits do not count
-/// the place.
+/// Refused: `MissingOperation` where `Private` has fewer than two operands; `MalformedOperation` where one is no whole number;
+/// `OutOfRangeOffset` where one is negative or 64 bits do not count the place.
 #[tactic(auto, unfolding(crate::specs::FontSet::Operands::bounds))]
-pub(super) fn bounds(start: u64, dictionary: &Operations) -> Result<(usize, u32, u64)>
+pub fn bounds(start: u64, dictionary: &Operations) -> Result<(usize, u32, u64)>
     ensures exact { (bytes : List ℕ) (place : ℕ) → Answers (λ r. (r.0, r.1, r.2)) result place (the_bounds start dictionary.now bytes place) }
     ensures listed { IsListed (13 ∷ 14 ∷ 15 ∷ []) result }
 {

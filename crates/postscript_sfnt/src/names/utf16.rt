@@ -2,7 +2,7 @@
 ghost use Rattle.std.specs.Prelude.{◌≡◌, ◌+◌, ◌-◌, ◌*◌, ◌<◌, ◌≤◌, length};
 ghost use Rattle.postscript_sfnt.specs.Texts.{BeginsUtf16, pair};
 
-use postscript_items::number::number_at;
+use postscript_base::index::number::number_at;
 
 /// The first character, and how many bytes it takes: a surrogate without its partner is U+FFFD.
 pub(crate) fn first_char(bytes: &[u8]) -> (char, usize)

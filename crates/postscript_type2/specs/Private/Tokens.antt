@@ -4,7 +4,7 @@ use Rattle.postscript_type2.specs.declared.refused.Refused.{Refused}
 use Rattle.postscript_type2.specs.declared.refused.Refused.TheVariants.{Memory, UnexpectedEof}
 use Rattle.postscript_type2.specs.Refused.{reason}
 use Rattle.postscript_type2.specs.declared.operation.Operator.{Operator}
-use Rattle.postscript_type2.specs.Program.Parsing.{Phrase, Complete, NoPhrase, phrase, ending, fronted}
+use Rattle.postscript_type2.specs.Program.Parsing.{Parsed, Complete, NoPhrase, phrase, ending, fronted}
 
 -- the byte at the front
 abbrev pub LooksAt : List ℕ → Option ℕ → Type 0
@@ -12,12 +12,12 @@ LooksAt bytes (Some byte) = (rest : List ℕ) × (bytes ≡ byte ∷ rest)
 LooksAt bytes None = bytes ≡ []
 
 -- a phrase without numbers
-abbrev pub ending_of : List ℕ → Phrase
+abbrev pub ending_of : List ℕ → Parsed
 ending_of [] = NoPhrase (reason UnexpectedEof)
 ending_of (first ∷ rest) = ending first rest
 
 -- the operator of a phrase without numbers, and the place behind it, where its first byte stands just before a place
-abbrev pub EndsAt : Phrase → (place : ℕ) → Result (Operator × ℕ) Refused → Type 0
+abbrev pub EndsAt : Parsed → (place : ℕ) → Result (Operator × ℕ) Refused → Type 0
 EndsAt ends place (Ok read) = (more : ℕ) × (ends ≡ Complete [] read.0 more) × (read.1 ≡ place + more)
 EndsAt ends place (Err e) = ends ≡ NoPhrase (reason e)
 

@@ -6,7 +6,7 @@ use Rattle.postscript_type2.specs.declared.program.inlined.Piece.TheVariants as 
 use Rattle.postscript_type2.specs.declared.program.inlined.Inlined.{Inlined}
 use Rattle.postscript_type2.specs.declared.program.inlined.Lengths.{Lengths}
 use Rattle.postscript_type2.specs.Program.Inlined.{Piece, Stands, Leaves, before_last, put_before, inlined, text}
-use Rattle.postscript_type2.specs.Program.Runs.{Said, by}
+use Rattle.postscript_type2.specs.Program.Runs.{Phrase, by}
 
 -- the bytes of a piece
 abbrev pub IsPiece : code.Piece → Piece → Type 0
@@ -19,13 +19,13 @@ IsLastOf numbers (Some place) = (before_last numbers ≡ Some (take place number
 IsLastOf numbers None = before_last numbers ≡ None
 
 -- the whole text, where these phrases are left: numbers behind the last operator go before them
-abbrev pub written : Inlined → List Said → List ℕ
+abbrev pub written : Inlined → List Phrase → List ℕ
 written inl more = take inl.whole inl.code.items ++ text (put_before (drop inl.whole inl.code.items) (inlined more))
 
 -- its length, by how many bytes end with an operator, and how many there are
-abbrev pub reaching : (whole len : ℕ) → List Said → ℕ
+abbrev pub reaching : (whole len : ℕ) → List Phrase → ℕ
 reaching whole len [] = whole
 reaching whole len (said ∷ more) = len + length (text (said ∷ more))
 
-abbrev pub counted : Lengths → List Said → ℕ
+abbrev pub counted : Lengths → List Phrase → ℕ
 counted lengths more = min (reaching lengths.whole lengths.len (inlined more)) (2 ^ 64 - 1)

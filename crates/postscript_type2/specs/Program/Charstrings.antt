@@ -1,6 +1,6 @@
 -- Charstrings with the subroutines that they may call.
 use Rattle.std.specs.Prelude.{ℕ, List}
-use Rattle.postscript_items.specs.Lent.{items_of}
+use Rattle.postscript_base.specs.Index.Lent.{items_of}
 use Rattle.postscript_type2.specs.declared.program.charstring.Charstring.{Charstring}
 use Rattle.postscript_type2.specs.declared.program.subroutines.Routines.{Routines}
 use Rattle.postscript_type2.specs.declared.program.subroutines.Routines.TheVariants.{Listed, Lent}

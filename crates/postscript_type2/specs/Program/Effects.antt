@@ -35,13 +35,13 @@ cleared stems width st = record { stack = []; stems = stems; width = Some width;
 -- What an operator does: it leaves a stack and stored numbers; it clears the stack, is answered with the operands taken, those of
 -- the stems that a mask implies are its own, and so many bytes of the mask; it calls a routine; it returns; it ends the run, with
 -- the operands taken; or it is refused.
-pub data Move : Type 0 where
-  Keeps : (stack stored : List ℤ) → Move
-  Clears : (taken pairs : List ℤ) (stems : ℕ) (width : Option ℤ) (mask : ℕ) → Move
-  Calls : (routine : List ℕ) (stack : List ℤ) → Move
-  Returns : Move
-  Ends : (taken : List ℤ) (width : Option ℤ) → Move
-  Refuses : Refusal → Move
+pub data Effect : Type 0 where
+  Keeps : (stack stored : List ℤ) → Effect
+  Clears : (taken pairs : List ℤ) (stems : ℕ) (width : Option ℤ) (mask : ℕ) → Effect
+  Calls : (routine : List ℕ) (stack : List ℤ) → Effect
+  Returns : Effect
+  Ends : (taken : List ℤ) (width : Option ℤ) → Effect
+  Refuses : Refusal → Effect
 
 -- The width is settled once: the operand beneath the last u of the stack, or none where they are the whole stack
 -- (Technical Note 5177, "Type 2 Charstring Organization").
@@ -54,7 +54,7 @@ abbrev pub last_of : {A : Type 0} → List A → ℕ → List A
 last_of xs n = drop (length xs - n) xs
 
 -- the stack is cleared, and its last n operands are answered
-abbrev pub clearing : State → (stems : ℕ) → (taken : Option ℕ) → Move
+abbrev pub clearing : State → (stems : ℕ) → (taken : Option ℕ) → Effect
 clearing st stems (Some n) = Clears (last_of st.stack n) [] stems (settled st.width st.stack n) 0
 clearing st stems None = Refuses malformed_operands
 
@@ -63,7 +63,7 @@ abbrev pub stems_after : State → ℕ
 stems_after st = st.stems + length st.stack / 2
 
 -- a move of so many stems, where 32 bits count them
-abbrev pub with_stems : ℕ → Move → Move
+abbrev pub with_stems : ℕ → Effect → Effect
 with_stems stems move = if nat_lt stems (2 ^ 32) then move else Refuses too_many_stems
 
 -- one bit for each stem, in whole bytes
@@ -76,18 +76,18 @@ abbrev pub implied : List ℤ → ℕ
 implied stack = length stack - length stack % 2
 
 -- a mask is answered with the operands taken and those of the stems that it implies, and the width is beneath these
-abbrev pub mask_clearing : State → (stems : ℕ) → (taken : Option ℕ) → Move
+abbrev pub mask_clearing : State → (stems : ℕ) → (taken : Option ℕ) → Effect
 mask_clearing st stems (Some n) =
     Clears (last_of st.stack n) (last_of st.stack (implied st.stack)) stems (settled st.width st.stack (implied st.stack)) (mask_len stems)
 mask_clearing st stems None = Refuses malformed_operands
 
 -- an operator that works on the stack alone
-abbrev pub work_move : (stored : List ℤ) → Result (Unit {0} × List ℤ) Refusal → Move
+abbrev pub work_move : (stored : List ℤ) → Result (Unit {0} × List ℤ) Refusal → Effect
 work_move stored (Ok done) = Keeps done.1 stored
 work_move stored (Err e) = Refuses e
 
 -- one that gives the stored numbers after it
-abbrev pub store_move : Result (List ℤ × List ℤ) Refusal → Move
+abbrev pub store_move : Result (List ℤ × List ℤ) Refusal → Effect
 store_move (Ok done) = Keeps done.1 done.0
 store_move (Err e) = Refuses e
 
@@ -105,7 +105,7 @@ subroutine routines = do
   number ← whole_operand
   given (ok_or (named routines number) missing_subroutine)
 
-abbrev pub call_move : Result (List ℕ × List ℤ) Refusal → Move
+abbrev pub call_move : Result (List ℕ × List ℤ) Refusal → Effect
 call_move (Ok done) = Calls done.0 done.1
 call_move (Err e) = Refuses e
 
@@ -114,25 +114,25 @@ abbrev pub taken_at_end : (count : ℕ) → ℕ
 taken_at_end count = if nat_lt count 4 then 0 else 4
 
 -- the four are those of an accented glyph (Appendix C), and the width is beneath them
-abbrev pub end_move : State → Move
+abbrev pub end_move : State → Effect
 end_move st = Ends (last_of st.stack (taken_at_end (length st.stack))) (settled st.width st.stack (taken_at_end (length st.stack)))
 
 -- an operator that draws ("Path Construction Operators")
-abbrev pub path_move : Operator → State → Move
+abbrev pub path_move : Operator → State → Effect
 path_move op st = clearing st st.stems (taken op (length st.stack))
 
 -- an operator that declares stems
-abbrev pub stem_move : Operator → State → Move
+abbrev pub stem_move : Operator → State → Effect
 stem_move op st = with_stems (stems_after st) (clearing st (stems_after st) (taken op (length st.stack)))
 
 -- a mask, where these bytes follow its operator
-abbrev pub mask_move : Operator → (behind : List ℕ) → State → Move
+abbrev pub mask_move : Operator → (behind : List ℕ) → State → Effect
 mask_move op behind st = with_stems (stems_after st)
     (if nat_lt (length behind) (mask_len (stems_after st)) then Refuses unexpected_eof
     else mask_clearing st (stems_after st) (taken op (length st.stack)))
 
 -- what an operator of a kind does, where these bytes follow it
-abbrev pub effect_of : Kind → Lists → Operator → (behind : List ℕ) → State → Move
+abbrev pub effect_of : Kind → Lists → Operator → (behind : List ℕ) → State → Effect
 effect_of (Draws takes) lists op behind st = path_move op st
 effect_of (DeclaresStems takes) lists op behind st = stem_move op st
 effect_of (Masks takes) lists op behind st = mask_move op behind st
@@ -144,5 +144,5 @@ effect_of EndsGlyph lists op behind st = end_move st
 effect_of (IsRefused part) lists op behind st = Refuses (OfPart part)
 
 -- what an operator does
-abbrev pub effect : Lists → Operator → (behind : List ℕ) → State → Move
+abbrev pub effect : Lists → Operator → (behind : List ℕ) → State → Effect
 effect lists op behind st = effect_of (kind op) lists op behind st

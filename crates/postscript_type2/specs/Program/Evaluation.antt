@@ -2,16 +2,16 @@
 use Rattle.std.specs.Prelude.{ℕ, zero, suc, ◌+◌, ℤ, Bool, true, false, ◌&&◌, not, List, [], ◌∷◌, ◌++◌, take, drop, Option, Some, None, if◌then◌else◌}
 use Rattle.postscript_base.specs.Refusal.{Refusal, return_without_caller, trailing_data, too_deep}
 use Rattle.postscript_type2.specs.declared.operation.Operator.{Operator}
-use Rattle.postscript_type2.specs.Program.Effects.{State, start, Move, Keeps, Clears, Calls, Returns, Ends, Refuses, pushed, stacked, holding, cleared, effect}
-use Rattle.postscript_type2.specs.Program.Parsing.{Phrase, Complete, NoPhrase, phrase}
+use Rattle.postscript_type2.specs.Program.Effects.{State, start, Effect, Keeps, Clears, Calls, Returns, Ends, Refuses, pushed, stacked, holding, cleared, effect}
+use Rattle.postscript_type2.specs.Program.Parsing.{Parsed, Complete, NoPhrase, phrase}
 use Rattle.postscript_type2.specs.Program.Routines.{Lists}
-use Rattle.postscript_type2.specs.Program.Runs.{Answer, Said, End, UsedUp, Returned, Finished, Fault, Run}
+use Rattle.postscript_type2.specs.Program.Runs.{Answer, Phrase, End, UsedUp, Returned, Finished, Fault, Run}
 
 -- runs, one thing after another
 abbrev pub at_end : End → Run
 at_end end = record { answers = []; trace = []; end = end }
 
-abbrev pub with_phrase : Said → Run → Run
+abbrev pub with_phrase : Phrase → Run → Run
 with_phrase said run = record { answers = run.answers; trace = said ∷ run.trace; end = run.end }
 
 abbrev pub with_answer : Answer → Run → Run
@@ -47,13 +47,13 @@ after_call inner behind go (Finished taken width) = at_end (finish inner behind 
 -- What a phrase does, told with it: the run goes on, goes into a routine, back to the caller, is over, or stops. more:
 -- how many bytes of the phrase follow its first one, those of a mask with them.
 pub data Stride : Type 0 where
-  On : Said → Option Answer → State → (more : ℕ) → Stride
-  Into : Said → (routine : List ℕ) → State → (more : ℕ) → Stride
-  Back : Said → State → Stride
-  Over : Said → (taken : List ℤ) → (width : Option ℤ) → (more : ℕ) → Stride
+  On : Phrase → Option Answer → State → (more : ℕ) → Stride
+  Into : Phrase → (routine : List ℕ) → State → (more : ℕ) → Stride
+  Back : Phrase → State → Stride
+  Over : Phrase → (taken : List ℤ) → (width : Option ℤ) → (more : ℕ) → Stride
   Faults : Refusal → Stride
 
-abbrev pub said : Operator → (more : ℕ) → List ℕ → Said
+abbrev pub said : Operator → (more : ℕ) → List ℕ → Phrase
 said op more bytes = record { operator = op; bytes = take (more + 1) bytes }
 
 -- the answer of an operator, more bytes behind the first of its phrase, where these are the bytes of the phrase and of its mask
@@ -62,7 +62,7 @@ answered op taken pairs more bytes width =
     record { operator = op; operands = taken; hints = record { stems = pairs; mask = drop (more + 1) bytes }; width = width }
 
 -- the stride of a phrase at the front of these bytes, by its operator's move
-abbrev pub moved : Operator → (more : ℕ) → (bytes : List ℕ) → State → Move → Stride
+abbrev pub moved : Operator → (more : ℕ) → (bytes : List ℕ) → State → Effect → Stride
 moved op more bytes st (Keeps stack stored) = On (said op more bytes) None (holding stack stored st) more
 moved op more bytes st (Clears taken pairs stems width mask) =
     On (said op (more + mask) bytes) (Some (answered op taken pairs more (said op (more + mask) bytes).bytes width)) (cleared stems width st) (more + mask)
@@ -71,7 +71,7 @@ moved op more bytes st Returns = Back (said op more bytes) st
 moved op more bytes st (Ends taken width) = Over (said op more bytes) taken width more
 moved op more bytes st (Refuses e) = Faults e
 
-abbrev pub stride_by : Lists → (bytes : List ℕ) → State → Phrase → Stride
+abbrev pub stride_by : Lists → (bytes : List ℕ) → State → Parsed → Stride
 stride_by lists bytes st (NoPhrase e) = Faults e
 stride_by lists bytes st (Complete numbers op more) =
     moved op more bytes (pushed numbers st) (effect lists op (drop (more + 1) bytes) (pushed numbers st))

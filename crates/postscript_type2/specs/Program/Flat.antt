@@ -4,18 +4,18 @@ use Rattle.std.specs.Prelude.{ℕ, ◌-◌, ◌^◌, List, [], ◌∷◌, ◌++�
 use Rattle.postscript_type2.specs.declared.operation.Operator.{Operator}
 use Rattle.postscript_type2.specs.declared.operation.Operator.TheVariants.{Drop}
 use Rattle.postscript_type2.specs.Operation.Kinds.{Kind, Draws, DeclaresStems, Masks, Works, Stores, CallsFrom, GoesBack, EndsGlyph, IsRefused, kind}
-use Rattle.postscript_type2.specs.Program.Runs.{Said, by}
+use Rattle.postscript_type2.specs.Program.Runs.{Phrase, by}
 
 -- a phrase without its operator, which has one byte
 abbrev pub without_operator : List ℕ → List ℕ
 without_operator bytes = take (length bytes - 1) bytes
 
 -- the phrase with an operator that drops the top
-abbrev pub dropping : List ℕ → Said
+abbrev pub dropping : List ℕ → Phrase
 dropping numbers = record { operator = Drop; bytes = numbers ++ 0x0c ∷ 0x12 ∷ [] }
 
 -- a phrase in flat code: a call drops its number, a return drops a zero that it pushes, and any other stands as it is
-abbrev pub flat_of : Kind → Operator → List ℕ → Said
+abbrev pub flat_of : Kind → Operator → List ℕ → Phrase
 flat_of (CallsFrom routines) op bytes = dropping (without_operator bytes)
 flat_of GoesBack op bytes = dropping (without_operator bytes ++ 0x8b ∷ [])
 flat_of (Draws takes) op bytes = by op bytes
@@ -26,19 +26,19 @@ flat_of (Stores work) op bytes = by op bytes
 flat_of EndsGlyph op bytes = by op bytes
 flat_of (IsRefused part) op bytes = by op bytes
 
-abbrev pub flat_by : Operator → List ℕ → Said
+abbrev pub flat_by : Operator → List ℕ → Phrase
 flat_by op bytes = flat_of (kind op) op bytes
 
-abbrev pub flat_said : Said → Said
+abbrev pub flat_said : Phrase → Phrase
 flat_said said = flat_by said.operator said.bytes
 
-abbrev pub flat_bytes : Said → List ℕ
+abbrev pub flat_bytes : Phrase → List ℕ
 flat_bytes said = (flat_said said).bytes
 
 -- the flat text of a trace
-abbrev pub flat_text : List Said → List ℕ
+abbrev pub flat_text : List Phrase → List ℕ
 flat_text trace = flat_map flat_bytes trace
 
 -- its length as a usize: usize::MAX where it is longer
-abbrev pub flat_len : List Said → ℕ
+abbrev pub flat_len : List Phrase → ℕ
 flat_len trace = min (length (flat_text trace)) (2 ^ 64 - 1)

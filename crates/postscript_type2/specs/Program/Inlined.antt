@@ -11,11 +11,11 @@ use Rattle.postscript_type2.specs.Program.Flat.{without_operator, dropping, flat
 use Rattle.postscript_type2.specs.Program.Inlining.{is_flat, KeepsMeaning}
 use Rattle.postscript_type2.specs.Program.Phrases.{IsNumber, IsPhrase}
 use Rattle.postscript_type2.specs.Program.Routines.{Lists}
-use Rattle.postscript_type2.specs.Program.Runs.{Said, by, Run, fault_of}
+use Rattle.postscript_type2.specs.Program.Runs.{Phrase, by, Run, fault_of}
 
 -- what stays of a phrase: a phrase that stands, or numbers for the phrase behind it
 pub data Piece : Type 0 where
-  Stands : Said → Piece
+  Stands : Phrase → Piece
   Leaves : (numbers : List ℕ) → Piece
 
 -- the bytes of numbers, one behind another ("Charstring Number Encoding")
@@ -71,36 +71,36 @@ piece_of (Stores work) op bytes = Stands (by op bytes)
 piece_of EndsGlyph op bytes = Stands (by op bytes)
 piece_of (IsRefused part) op bytes = Stands (by op bytes)
 
-abbrev pub piece : Said → Piece
+abbrev pub piece : Phrase → Piece
 piece said = piece_of (kind said.operator) said.operator said.bytes
 
 -- numbers that are left go before those of the phrase behind; where none is behind, no operator takes them, and they go
-abbrev pub put_before : (numbers : List ℕ) → List Said → List Said
+abbrev pub put_before : (numbers : List ℕ) → List Phrase → List Phrase
 put_before numbers [] = []
 put_before numbers (said ∷ more) = by said.operator (numbers ++ said.bytes) ∷ more
 
-abbrev pub pieced : Piece → List Said → List Said
+abbrev pub pieced : Piece → List Phrase → List Phrase
 pieced (Stands said) more = said ∷ more
 pieced (Leaves numbers) more = put_before numbers more
 
 -- the pieces of a trace, and then other phrases
-abbrev pub inlined_onto : List Said → List Said → List Said
+abbrev pub inlined_onto : List Phrase → List Phrase → List Phrase
 inlined_onto [] more = more
 inlined_onto (said ∷ trace) more = pieced (piece said) (inlined_onto trace more)
 
 -- the phrases of inlined code
-abbrev pub inlined : List Said → List Said
+abbrev pub inlined : List Phrase → List Phrase
 inlined trace = inlined_onto trace []
 
 -- the bytes of phrases
-abbrev pub text : List Said → List ℕ
+abbrev pub text : List Phrase → List ℕ
 text phrases = flat_map (λ said. said.bytes) phrases
 
 -- the inlined text of a trace, and its length as a usize: usize::MAX where it is longer
-abbrev pub inlined_text : List Said → List ℕ
+abbrev pub inlined_text : List Phrase → List ℕ
 inlined_text trace = text (inlined trace)
 
-abbrev pub inlined_len : List Said → ℕ
+abbrev pub inlined_len : List Phrase → ℕ
 inlined_len trace = min (length (inlined_text trace)) (2 ^ 64 - 1)
 
 -- A law of the definitions: what stays of a phrase is what is computed.
@@ -120,14 +120,14 @@ InlinedRunIsInlined = (lists other : Lists) (code : List ℕ) → fault_of (run_
 
 -- a law: it has no more bytes than the flat text
 abbrev pub InlinedIsNoLonger : Type 0
-InlinedIsNoLonger = (trace : List Said) → length (inlined_text trace) ≤ length (flat_text trace)
+InlinedIsNoLonger = (trace : List Phrase) → length (inlined_text trace) ≤ length (flat_text trace)
 
 -- the number of a call is spelled right before its operator
-abbrev pub SpellsItsNumber : Said → Type 0
+abbrev pub SpellsItsNumber : Phrase → Type 0
 SpellsItsNumber said = (routines : Lists → List (List ℕ)) → kind said.operator ≡ CallsFrom routines →
     (numbers : List ℤ) × (number : ℤ) × IsPhrase said.bytes (numbers ++ number ∷ []) said.operator
 
-abbrev pub operators : List Said → List Operator
+abbrev pub operators : List Phrase → List Operator
 operators phrases = map (λ said. said.operator) phrases
 
 -- Where each call of a run spells its number, the operators of a code's run over these lists are those of the run without its

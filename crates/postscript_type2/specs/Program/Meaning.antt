@@ -3,10 +3,10 @@
 use Rattle.std.specs.Prelude.{◌≡◌, ◌≢◌, ℕ, suc, ◌<◌, ◌≤◌, ℤ, List, [], ◌∷◌, ◌++◌, length, Option}
 use Rattle.postscript_base.specs.Refusal.{Refusal, return_without_caller, trailing_data, too_deep}
 use Rattle.postscript_type2.specs.declared.operation.Operator.{Operator}
-use Rattle.postscript_type2.specs.Program.Effects.{State, start, Move, Keeps, Clears, Calls, Returns, Ends, Refuses, effect, pushed, stacked, holding, cleared}
+use Rattle.postscript_type2.specs.Program.Effects.{State, start, Effect, Keeps, Clears, Calls, Returns, Ends, Refuses, effect, pushed, stacked, holding, cleared}
 use Rattle.postscript_type2.specs.Program.Phrases.{IsPhrase, HasNoPhrase}
 use Rattle.postscript_type2.specs.Program.Routines.{Lists}
-use Rattle.postscript_type2.specs.Program.Runs.{Answer, Hints, Said, by, End, UsedUp, Returned, Finished, Fault, Run}
+use Rattle.postscript_type2.specs.Program.Runs.{Answer, Hints, Phrase, by, End, UsedUp, Returned, Finished, Fault, Run}
 
 -- the answer of a clearing operator
 abbrev pub answer : Operator → (taken : List ℤ) → Hints → (width : Option ℤ) → Answer
@@ -28,13 +28,13 @@ pub data Stops : End → Type 0 where
   at_fault : (e : Refusal) → Stops (Fault e)
 
 -- A phrase stands before these bytes, and from this state, with its numbers pushed, its operator makes this move.
-pub record Moves (lists : Lists) (st : State) (phrase : List ℕ) (numbers : List ℤ) (op : Operator) (behind : List ℕ) (move : Move) : Type 0 where
+pub record Moves (lists : Lists) (st : State) (phrase : List ℕ) (numbers : List ℤ) (op : Operator) (behind : List ℕ) (move : Effect) : Type 0 where
   pub spelled : IsPhrase phrase numbers op
   pub does : effect lists op behind (pushed numbers st) ≡ move
 
 -- What the rest of a routine means, from a state: its answers, its trace of phrases and its end. depth: how many calls are
 -- open, none in the outermost code. The move of the phrase at the front decides the rule.
-pub data Means (lists : Lists) : (depth : ℕ) → (rest : List ℕ) → State → List Answer → List Said → End → Type 0 where
+pub data Means (lists : Lists) : (depth : ℕ) → (rest : List ℕ) → State → List Answer → List Phrase → End → Type 0 where
   -- the routine is used up
   used_up : (depth : ℕ) (st : State) → Means lists depth [] st [] [] UsedUp
   -- bytes are left, and no phrase stands there
@@ -45,13 +45,13 @@ pub data Means (lists : Lists) : (depth : ℕ) → (rest : List ℕ) → State �
       Means lists depth (phrase ++ behind) st [] [] (Fault e)
   -- the operator leaves a stack and stored numbers, and what follows it goes on with them
   keeps : (depth : ℕ) (phrase behind : List ℕ) (numbers : List ℤ) (op : Operator) (st : State) (stack stored : List ℤ)
-      (answers : List Answer) (trace : List Said) (end : End) →
+      (answers : List Answer) (trace : List Phrase) (end : End) →
       Moves lists st phrase numbers op behind (Keeps stack stored) →
       Means lists depth behind (holding stack stored st) answers trace end →
       Means lists depth (phrase ++ behind) st answers (by op phrase ∷ trace) end
   -- the operator clears the stack and is answered, the bytes of a mask are its own, and what follows them goes on
   clears : (depth : ℕ) (phrase mask behind : List ℕ) (numbers : List ℤ) (op : Operator) (st : State)
-      (taken pairs : List ℤ) (stems : ℕ) (width : Option ℤ) (answers : List Answer) (trace : List Said) (end : End) →
+      (taken pairs : List ℤ) (stems : ℕ) (width : Option ℤ) (answers : List Answer) (trace : List Phrase) (end : End) →
       Moves lists st phrase numbers op (mask ++ behind) (Clears taken pairs stems width (length mask)) →
       Means lists depth behind (cleared stems width st) answers trace end →
       Means lists depth (phrase ++ (mask ++ behind)) st (answer op taken (hinting pairs mask) width ∷ answers)
@@ -63,21 +63,21 @@ pub data Means (lists : Lists) : (depth : ℕ) → (rest : List ℕ) → State �
       Means lists depth (phrase ++ behind) st [] (by op phrase ∷ []) (Fault too_deep)
   -- a call that returns, and what follows it goes on with the state that comes back
   calls : (depth : ℕ) (phrase behind : List ℕ) (numbers : List ℤ) (op : Operator) (st : State)
-      (subroutine : List ℕ) (stack : List ℤ) (inner : List Answer) (inner_trace : List Said) (back : State)
-      (answers : List Answer) (trace : List Said) (end : End) →
+      (subroutine : List ℕ) (stack : List ℤ) (inner : List Answer) (inner_trace : List Phrase) (back : State)
+      (answers : List Answer) (trace : List Phrase) (end : End) →
       Moves lists st phrase numbers op behind (Calls subroutine stack) → depth < 10 →
       Means lists (suc depth) subroutine (stacked stack st) inner inner_trace (Returned back) →
       Means lists depth behind back answers trace end →
       Means lists depth (phrase ++ behind) st (inner ++ answers) (by op phrase ∷ (inner_trace ++ trace)) end
   -- a call whose subroutine is used up or refused: so ends the run
   calls_to_stop : (depth : ℕ) (phrase behind : List ℕ) (numbers : List ℤ) (op : Operator) (st : State)
-      (subroutine : List ℕ) (stack : List ℤ) (inner : List Answer) (inner_trace : List Said) (end : End) →
+      (subroutine : List ℕ) (stack : List ℤ) (inner : List Answer) (inner_trace : List Phrase) (end : End) →
       Moves lists st phrase numbers op behind (Calls subroutine stack) → depth < 10 →
       Means lists (suc depth) subroutine (stacked stack st) inner inner_trace end → Stops end →
       Means lists depth (phrase ++ behind) st inner (by op phrase ∷ inner_trace) end
   -- a call whose subroutine finishes the glyph
   calls_to_finish : (depth : ℕ) (phrase behind : List ℕ) (numbers : List ℤ) (op : Operator) (st : State)
-      (subroutine : List ℕ) (stack : List ℤ) (inner : List Answer) (inner_trace : List Said) (taken : List ℤ) (width : Option ℤ) (end : End) →
+      (subroutine : List ℕ) (stack : List ℤ) (inner : List Answer) (inner_trace : List Phrase) (taken : List ℤ) (width : Option ℤ) (end : End) →
       Moves lists st phrase numbers op behind (Calls subroutine stack) → depth < 10 →
       Means lists (suc depth) subroutine (stacked stack st) inner inner_trace (Finished taken width) → Closes taken width depth behind end →
       Means lists depth (phrase ++ behind) st inner (by op phrase ∷ inner_trace) end

@@ -10,7 +10,7 @@ use Rattle.postscript_type2.specs.declared.operation.Operator.TheVariants.{And, 
 use Rattle.postscript_type2.specs.Number.{whole}
 use Rattle.postscript_type2.specs.Operation.Kinds.{Draws, DeclaresStems, Masks, CallsFrom, GoesBack, EndsGlyph, IsRefused, kind}
 use Rattle.postscript_type2.specs.Operation.Lengths.{exactly}
-use Rattle.postscript_type2.specs.Program.Effects.{State, Move, Keeps, Clears, Calls, Returns, Ends, Refuses, mask_len, named, effect}
+use Rattle.postscript_type2.specs.Program.Effects.{State, Effect, Keeps, Clears, Calls, Returns, Ends, Refuses, mask_len, named, effect}
 use Rattle.postscript_type2.specs.Program.FixedPoint.{cut, truth, is_true}
 use Rattle.postscript_type2.specs.Program.Routines.{Lists}
 use Rattle.postscript_type2.specs.Program.Stacks.{IsRolled, distance}
@@ -133,7 +133,7 @@ pub data TakesAtEnd : (stack beneath taken : List ℤ) → Type 0 where
   fewer : (stack : List ℤ) → length stack < 4 → TakesAtEnd stack stack []
 
 -- What an operator does, from a state and where these bytes follow it.
-pub data Does (lists : Lists) (op : Operator) (behind : List ℕ) (st : State) : Move → Type 0 where
+pub data Does (lists : Lists) (op : Operator) (behind : List ℕ) (st : State) : Effect → Type 0 where
   -- arithmetic, conditions, the stack and the stored numbers
   makes : (beneath taken left after : List ℤ) → Makes st.stored op taken left after → st.stack ≡ beneath ++ taken → Does lists op behind st (Keeps (beneath ++ left) after)
   refused : (e : Refusal) → IsRefusedOn st.stored op st.stack e → Does lists op behind st (Refuses e)
@@ -165,4 +165,4 @@ pub data Does (lists : Lists) (op : Operator) (behind : List ℕ) (st : State) :
 
 -- A law of the definitions: an operator's move is the one that the lines above name, and no other.
 abbrev pub OperatorsDoSo : Type 0
-OperatorsDoSo = (lists : Lists) (op : Operator) (behind : List ℕ) (st : State) (move : Move) → Does lists op behind st move ↔ (effect lists op behind st ≡ move)
+OperatorsDoSo = (lists : Lists) (op : Operator) (behind : List ℕ) (st : State) (move : Effect) → Does lists op behind st move ↔ (effect lists op behind st ≡ move)

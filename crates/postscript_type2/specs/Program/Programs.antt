@@ -5,12 +5,12 @@ use Rattle.postscript_base.specs.declared.error.Error.{Error}
 use Rattle.postscript_base.specs.declared.error.Error.TheVariants.{Memory, AlreadyFailed}
 use Rattle.postscript_base.specs.Refusal.{refusal_of}
 use Rattle.postscript_type2.specs.declared.operation.Operator.{Operator}
-use Rattle.postscript_type2.specs.Program.Runs.{Answer, Hints, Said, End, UsedUp, Returned, Finished, Fault, Run, taken_by}
+use Rattle.postscript_type2.specs.Program.Runs.{Answer, Hints, Phrase, End, UsedUp, Returned, Finished, Fault, Run, taken_by}
 
 -- the answers that are left, the phrases that are left, the end behind them, the width so far, and whether the end has been told
 pub record Pending : Type 0 where
   pub answers : List Answer
-  pub trace : List Said
+  pub trace : List Phrase
   pub end : End
   pub width : Option ℤ
   pub is_told : Bool

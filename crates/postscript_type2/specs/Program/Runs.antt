@@ -21,11 +21,11 @@ pub record Answer : Type 0 where
   pub width : Option ℤ
 
 -- a phrase of the run: its operator, and its bytes with those of its mask
-pub record Said : Type 0 where
+pub record Phrase : Type 0 where
   pub operator : Operator
   pub bytes : List ℕ
 
-abbrev pub by : Operator → (bytes : List ℕ) → Said
+abbrev pub by : Operator → (bytes : List ℕ) → Phrase
 by op bytes = record { operator = op; bytes = bytes }
 
 -- a routine was used up; it returned; EndChar came, and took these operands; or something was refused
@@ -37,7 +37,7 @@ pub data End : Type 0 where
 
 pub record Run : Type 0 where
   pub answers : List Answer
-  pub trace : List Said
+  pub trace : List Phrase
   pub end : End
 
 -- an answer without its hints and its width

@@ -12,12 +12,12 @@ use Rattle.postscript_type2.specs.declared.program.within.Within.{Within}
 use Rattle.postscript_type2.specs.declared.program.within.Within.TheVariants as within
 use Rattle.postscript_type2.specs.Program.Phrases.{IsPhrase}
 use Rattle.postscript_type2.specs.Program.Programs.{Pending}
-use Rattle.postscript_type2.specs.Program.Runs.{Answer, Hints, Said, by}
+use Rattle.postscript_type2.specs.Program.Runs.{Answer, Hints, Phrase, by}
 use Rattle.postscript_type2.specs.Program.Within.{StepsWithin}
 
 -- these phrases come to this one, behind those that are passed, and go on with the rest
-abbrev pub ComesTo : List Said → Said → (rest : List Said) → Type 0
-ComesTo phrases said rest = (passed : List Said) × (phrases ≡ passed ++ said ∷ rest)
+abbrev pub ComesTo : List Phrase → Phrase → (rest : List Phrase) → Type 0
+ComesTo phrases said rest = (passed : List Phrase) × (phrases ≡ passed ++ said ∷ rest)
 
 -- what is told, less the hints and the phrase
 abbrev less : Told → Within

@@ -4,7 +4,7 @@ use Rattle.postscript_type2.specs.declared.operation.Operator.{Operator}
 use Rattle.postscript_type2.specs.Program.Effects.{State, start, Keeps, Clears, Calls, Ends, stacked, holding}
 use Rattle.postscript_type2.specs.Program.Meaning.{Moves, Means, IsRunOf}
 use Rattle.postscript_type2.specs.Program.Routines.{Lists}
-use Rattle.postscript_type2.specs.Program.Runs.{Said, End, UsedUp, Returned, Finished, Fault, Run, width_of}
+use Rattle.postscript_type2.specs.Program.Runs.{Phrase, End, UsedUp, Returned, Finished, Fault, Run, width_of}
 
 -- The first operator that clears the stack or ends the glyph settles this width: the one at the front, one behind operators that
 -- do neither, one in a subroutine, or one behind a subroutine in which none does.
@@ -19,7 +19,7 @@ pub data FirstSettles (lists : Lists) (width : Option ℤ) : (depth : ℕ) → (
   in_subroutine : (depth : ℕ) (phrase behind : List ℕ) (numbers : List ℤ) (op : Operator) (st : State) (subroutine : List ℕ) (stack : List ℤ) →
       Moves lists st phrase numbers op behind (Calls subroutine stack) → depth < 10 → FirstSettles lists width (suc depth) subroutine (stacked stack st) →
       FirstSettles lists width depth (phrase ++ behind) st
-  behind_subroutine : (depth : ℕ) (phrase behind : List ℕ) (numbers : List ℤ) (op : Operator) (st : State) (subroutine : List ℕ) (stack : List ℤ) (trace : List Said) (back : State) →
+  behind_subroutine : (depth : ℕ) (phrase behind : List ℕ) (numbers : List ℤ) (op : Operator) (st : State) (subroutine : List ℕ) (stack : List ℤ) (trace : List Phrase) (back : State) →
       Moves lists st phrase numbers op behind (Calls subroutine stack) → depth < 10 → Means lists (suc depth) subroutine (stacked stack st) [] trace (Returned back) →
       FirstSettles lists width depth behind back → FirstSettles lists width depth (phrase ++ behind) st
 

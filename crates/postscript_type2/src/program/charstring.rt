@@ -37,8 +37,8 @@ impl<'l> Charstring<'l> {
     ///
     /// ```rust
     /// pub fn width_over(alloc: Global, code: &[u8], table: &[u8], global: usize, local: usize) -> Result<Option<Operand>> {
-    ///     let (global, _) = Items::open(table, global)?;
-    ///     let (local, _) = Items::open(table, local)?;
+    ///     let (global, _) = IndexView::open(table, global)?;
+    ///     let (local, _) = IndexView::open(table, local)?;
     ///     let subroutines = Subroutines::indexes(global, local);
     ///     let mut program = Charstring { code, subroutines }.program(alloc);
     ///     program.next()?;

@@ -5,10 +5,10 @@ ghost use Rattle.postscript_base.specs.Refusal.{refusal_of};
 ghost use Rattle.postscript_type2.specs.declared.refused.Refused.TheVariants as cases;
 ghost use Rattle.postscript_type2.specs.Program.Inlined.{behind_first, piece as the_piece, inlined_text, inlined_len};
 ghost use Rattle.postscript_type2.specs.Private.Machines.{IsNested, said_of, still_of};
-ghost use Rattle.postscript_type2.specs.Program.Runs.{Said as Phrase, fault_of};
+ghost use Rattle.postscript_type2.specs.Program.Runs.{Phrase as ShownPhrase, fault_of};
 ghost use Rattle.postscript_type2.specs.Private.Written.{IsPiece, IsLastOf, written, counted};
 
-use super::machine::{Event, Machine, Said};
+use super::machine::{Event, Machine, Phrase};
 use crate::operation::Operator;
 use crate::refused;
 use postscript_base::Result;
@@ -47,7 +47,7 @@ fn last_number(numbers: &[u8]) -> Option<usize>
 }
 
 /// What stays of a phrase in inlined code.
-fn kept<'l>(said: Said<'l>) -> Piece<'l>
+fn kept<'l>(said: Phrase<'l>) -> Piece<'l>
     ensures { IsPiece result (the_piece (said_of said.entry)) }
 {
     let numbers = &said.bytes[..said.bytes.len().saturating_sub(1)];
@@ -70,9 +70,9 @@ struct Inlined {
 
 impl Inlined {
     /// Appends what stays of a phrase.
-    fn append(&mut self, said: Said<'_>) -> refused::Result<()>
+    fn append(&mut self, said: Phrase<'_>) -> refused::Result<()>
         requires { self.old.whole ≤ length self.old.code.items }
-        ensures ok { OnOk result ((more : List Phrase) → written self.new more ≡ written self.old (said_of said.entry ∷ more)) }
+        ensures ok { OnOk result ((more : List ShownPhrase) → written self.new more ≡ written self.old (said_of said.entry ∷ more)) }
         ensures room { OnOk result (self.new.whole ≤ length self.new.code.items) }
         ensures err { IfErr result (λ e. e ≡ cases.Memory) }
     {
@@ -104,9 +104,9 @@ struct Lengths {
 
 impl Lengths {
     /// Counts what stays of a phrase.
-    fn count(self, said: Said<'_>) -> Self
+    fn count(self, said: Phrase<'_>) -> Self
         ensures fits { result.whole ≤ usize.MAX }
-        ensures counts { (more : List Phrase) → counted result more ≡ counted self (said_of said.entry ∷ more) }
+        ensures counts { (more : List ShownPhrase) → counted result more ≡ counted self (said_of said.entry ∷ more) }
     {
         match kept(said) {
             Piece::Stands(bytes) => {
@@ -135,12 +135,12 @@ pub(crate) fn inlined_measured(machine: &mut Machine<'_>) -> Result<usize>
     loop {
         match machine.advance()? {
             Event::UsedUp => return Ok(lengths.whole),
-            Event::Went(said) => lengths = lengths.count(said),
-            Event::Answered(said, taken) => {
+            Event::Continued(said) => lengths = lengths.count(said),
+            Event::Operation(said, taken) => {
                 machine.clear(taken);
                 lengths = lengths.count(said);
             }
-            Event::Over(said) => return Ok(lengths.count(said).whole),
+            Event::EndChar(said) => return Ok(lengths.count(said).whole),
         }
     }
 }
@@ -158,12 +158,12 @@ pub(crate) fn inlined_code(alloc: Global, len: usize, machine: &mut Machine<'_>)
         let event = machine.advance()?;
         match event {
             Event::UsedUp => return Ok(inlined.finish()),
-            Event::Went(said) => inlined.append(said)?,
-            Event::Answered(said, taken) => {
+            Event::Continued(said) => inlined.append(said)?,
+            Event::Operation(said, taken) => {
                 machine.clear(taken);
                 inlined.append(said)?;
             }
-            Event::Over(said) => {
+            Event::EndChar(said) => {
                 inlined.append(said)?;
                 return Ok(inlined.finish());
             }

@@ -22,9 +22,9 @@ pub struct Hints<'p> {
     pub mask: &'p [u8],
 }
 
-/// How far a program comes within its limit, as `Within`, with the hints and the phrase of its next operation. An operation can be
-/// written again from its operands, its operator and its hints. The phrase has the bytes of the numbers that stand before the operator,
-/// which are not all its operands where some were calculated or stand before a call, those of the operator, and those of the mask.
+/// How far a program comes within its limit, as `Within`, with the hints and the phrase of its next operation. The phrase has the
+/// bytes of the numbers that stand before the operator, which are not all its operands where some were calculated or stand before a
+/// call, those of the operator, and those of the mask.
 #[derive(Clone, Copy)]
 pub enum Told<'p> {
     /// To its next operation: the operator, its operands, the lowest first, its hints, and its phrase.

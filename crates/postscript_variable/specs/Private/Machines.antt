@@ -53,9 +53,9 @@ cost_of cost = cost.bytes + cost.beside
 abbrev pub Advances : (before : Run) → (work : ℕ) → Result Event Refused → Machine → Type 0
 Advances before work (Ok events.UsedUp) new = (st : State) × (before ≡ at_end (UsedUp st))
 Advances before work (Ok events.Back) new = (before ≡ still_of new) × (work_of (still_of new) new < work)
-Advances before work (Ok (events.Went cost)) new =
+Advances before work (Ok (events.Continued cost)) new =
     (before ≡ with_step (cost_of cost) (still_of new)) × (0 < cost_of cost) × (work_of (still_of new) new < work)
-Advances before work (Ok (events.Answered operator count mask cost)) new =
+Advances before work (Ok (events.Operation operator count mask cost)) new =
     let stack = new.state.stack.items in
     (before ≡ with_step (cost_of cost) (with_answer (said operator stack (last_of stack count) mask.now) (still_emptied new))) ×
     (0 < cost_of cost) × (work_of (still_emptied new) new < work)

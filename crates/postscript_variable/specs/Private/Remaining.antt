@@ -1,7 +1,7 @@
 -- What a program in the middle of its run still answers.
 use Rattle.std.specs.Prelude.{ℕ, zero, suc, ◌+◌, ℤ, nat_lt, List, [], ◌∷◌, take, drop, length, if◌then◌else◌}
 use Rattle.postscript_base.specs.Refusal.{too_deep, overflow}
-use Rattle.postscript_variable.specs.Effects.{Font, State, stack_limit, pushed, Move, Keeps, Clears, Calls, Refuses}
+use Rattle.postscript_variable.specs.Effects.{Font, State, stack_limit, pushed, Effect, Keeps, Clears, Calls, Refuses}
 use Rattle.postscript_variable.specs.Evaluation.{Run, at_end, with_step, with_answer, followed, after_call, mean}
 use Rattle.postscript_variable.specs.Meaning.{Stopped}
 use Rattle.postscript_variable.specs.Sayings.{said}
@@ -23,7 +23,7 @@ still_number font left behind callers st cost x =
     if nat_lt (length st.stack) stack_limit then with_step cost (still font left behind callers (pushed x st))
     else at_end (Stopped overflow)
 
-abbrev pub still_moved : Font → (left : ℕ) → (behind : List ℕ) → (callers : List (List ℕ)) → (stack : List ℤ) → (cost : ℕ) → Move → Run
+abbrev pub still_moved : Font → (left : ℕ) → (behind : List ℕ) → (callers : List (List ℕ)) → (stack : List ℤ) → (cost : ℕ) → Effect → Run
 still_moved font left behind callers stack cost (Keeps st) = with_step cost (still font left behind callers st)
 still_moved font left behind callers stack cost (Clears op taken st mask) =
     with_step (cost + mask) (with_answer (said op stack taken (take mask behind)) (still font left (drop mask behind) callers st))

@@ -6,12 +6,12 @@ use Rattle.postscript_variable.specs.declared.command.Command.{Command}
 use Rattle.postscript_type2.specs.declared.refused.Refused.{Refused}
 use Rattle.postscript_variable.specs.declared.routine.Token as code_token
 use Rattle.postscript_variable.specs.declared.routine.Token.TheVariants as tokens
-use Rattle.postscript_variable.specs.declared.state.Effect.{Effect}
+use Rattle.postscript_variable.specs.declared.state.Effect.{Effect as CodeEffect}
 use Rattle.postscript_variable.specs.declared.state.Effect.TheVariants as effects
 use Rattle.postscript_variable.specs.declared.state.State as code
 use Rattle.postscript_variable.specs.declared.state.Font as code_font
 use Rattle.postscript_variable.specs.Blending.{values}
-use Rattle.postscript_variable.specs.Effects.{Font, State, Move, Keeps, Clears, Calls, Refuses, cleared}
+use Rattle.postscript_variable.specs.Effects.{Font, State, Effect, Keeps, Clears, Calls, Refuses, cleared}
 use Rattle.postscript_type2.specs.Refused.{reason}
 use Rattle.postscript_variable.specs.Programs.{tables_of}
 use Rattle.postscript_variable.specs.Tokens.{Token, Number, Operator, NoToken, commanded, token}
@@ -75,21 +75,21 @@ Blends old n scalars (Ok done) new =
 Blends old n scalars (Err e) new =
     let top = last_of old (n * suc (length scalars)) in values (take n top) (drop n top) scalars ≡ Err (reason e)
 
-abbrev pub move_of : Effect → State → Move
+abbrev pub move_of : CodeEffect → State → Effect
 move_of effects.Keeps st = Keeps st
 move_of (effects.Clears operator count mask) st = Clears operator (last_of st.stack count) (cleared st.stems st) mask
 move_of (effects.Calls routine) st = Calls routine.now st
 
 -- an operator that is answered leaves the stack as it was, for its operands to be lent
-abbrev pub Leaves : Effect → (old new : List ℤ) → Type 0
+abbrev pub Leaves : CodeEffect → (old new : List ℤ) → Type 0
 Leaves (effects.Clears operator count mask) old new = new ≡ old
 Leaves effect old new = Unit {0}
 
-abbrev pub mask_of : Effect → ℕ
+abbrev pub mask_of : CodeEffect → ℕ
 mask_of (effects.Clears operator count mask) = mask
 mask_of effect = 0
 
 -- The code makes a move to a new state, or it refuses what the move refuses.
-abbrev pub Does : Move → Result Effect Refused → code.State → Type 0
+abbrev pub Does : Effect → Result CodeEffect Refused → code.State → Type 0
 Does move (Ok effect) new = move ≡ move_of effect (state_of new)
 Does move (Err e) new = move ≡ Refuses (reason e)

@@ -5,7 +5,7 @@ use crate::failure::Failure;
 use crate::leaving::put_tag;
 use crate::telling;
 use crate::variable::VariableFace;
-use postscript_items::number::number_within;
+use postscript_base::index::number::number_within;
 use postscript_sfnt::FontFile;
 use postscript_sfnt_write::Table;
 use std::alloc::{AllocError, Global};

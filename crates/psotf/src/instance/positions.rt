@@ -4,7 +4,7 @@
 use super::gaps::Gaps;
 use super::values::{set_signed, set_word, word};
 use crate::variable::{Chosen, VariableFace};
-use postscript_items::number::number_within;
+use postscript_base::index::number::number_within;
 use postscript_variation::{Store, in_whole};
 use std::alloc::{AllocError, Global};
 

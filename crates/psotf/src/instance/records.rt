@@ -3,7 +3,7 @@ use super::style::Style;
 use crate::failure::Failure;
 use crate::naming::{Kept, MOST, Record, record_at};
 use crate::variable::{VariableFace, name_of, text_of};
-use postscript_items::number::number_within;
+use postscript_base::index::number::number_within;
 use postscript_variation::Axes;
 use std::alloc::{AllocError, Global};
 

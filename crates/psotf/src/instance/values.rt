@@ -1,5 +1,5 @@
 //! Numbers of tables, and what they vary by (OpenType 1.9, "MVAR - Metrics Variations Table").
-use postscript_items::number::number_within;
+use postscript_base::index::number::number_within;
 use postscript_variation::{MetricVariations, in_whole};
 
 /// A number of two bytes that varies: its tag, and where it stands in its table.

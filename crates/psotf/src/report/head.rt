@@ -6,7 +6,7 @@ use crate::face::Face;
 use crate::inspect;
 use crate::sheet::Sheet;
 use clap::ArgMatches;
-use postscript_items::Items;
+use postscript_base::index::IndexView;
 use postscript_sfnt::FontFile;
 use std::alloc::Global;
 
@@ -78,7 +78,7 @@ fn codes(sheet: &mut Sheet, face: &Face<'_>) {
 }
 
 /// Writes the bytes of subroutines.
-fn list(sheet: &mut Sheet, items: &Items<'_>) {
+fn list(sheet: &mut Sheet, items: &IndexView<'_>) {
     sheet.begin_array();
     for item in items.iter() {
         sheet.hex(item);

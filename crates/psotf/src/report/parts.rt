@@ -2,8 +2,8 @@
 use crate::face::Face;
 use crate::sheet::Sheet;
 use postscript_base::compact1::{Operations, Operator};
-use postscript_items::Items;
-use postscript_items::number::number_within;
+use postscript_base::index::IndexView;
+use postscript_base::index::number::number_within;
 use postscript_view::{Codes, Identifiers};
 
 /// Writes a part: its name, its place and its size in bytes.
@@ -13,7 +13,7 @@ fn part(sheet: &mut Sheet, name: &str, place: usize, size: usize) {
 
 /// Writes the INDEX at a place, and tells the place behind it.
 fn index(sheet: &mut Sheet, cff: &[u8], name: &str, place: usize) -> usize {
-    let Ok((_, end)) = Items::open(cff, place) else {
+    let Ok((_, end)) = IndexView::open(cff, place) else {
         return place;
     };
     part(sheet, name, place, end.saturating_sub(place));

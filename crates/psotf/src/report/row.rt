@@ -45,7 +45,7 @@ fn width(alloc: Global, sheet: &mut Sheet, glyph: &Glyph<'_, '_>, outline: &Outl
     };
     let mut text = Text::new(alloc);
     short::put_bits(&mut text, bits);
-    if let Some(operand) = outline.width {
+    if let Some(operand) = outline.width_difference {
         short::put_bits(&mut text, i64::from(operand.bits()));
     }
     sheet.put(&text);

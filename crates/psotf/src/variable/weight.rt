@@ -1,8 +1,8 @@
 //! How much work the tables of a variable font make, before it is done.
 use super::VariableFace;
+use postscript_base::index::number::number_within;
 use postscript_cff2::Dictionary;
 use postscript_cff2::layout::PRIVATE;
-use postscript_items::number::number_within;
 use postscript_variation::Store;
 
 /// The most axes, and the most named instances, that a face may have.

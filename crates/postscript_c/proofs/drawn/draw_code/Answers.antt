@@ -1,5 +1,5 @@
 use Rattle.std.proofs.Common.{inr}
-use Rattle.postscript_items.specs.Lent.{items_of}
+use Rattle.postscript_base.specs.Index.Lent.{items_of}
 use Rattle.postscript_c.proofs.Drawing.{if-err, program-there}
 use Rattle.postscript_c.proofs.drawn.draw_code.Goals as goal
 

@@ -1,5 +1,5 @@
 use Rattle.std.proofs.Common.{inr}
-use Rattle.postscript_items.specs.Lent.{items_of}
+use Rattle.postscript_base.specs.Index.Lent.{items_of}
 use Rattle.postscript_c.proofs.glyph.cid_part.Goals as goal
 
 pub returns-in-Ok : goal.returns-in-Ok

@@ -1,5 +1,5 @@
 use Rattle.std.proofs.Common.{ℕ, subst, sym, arith}
-use Rattle.postscript_items.specs.Lent.{items_of}
+use Rattle.postscript_base.specs.Index.Lent.{items_of}
 use Rattle.postscript_c.specs.CidParts.{HasNumber}
 use Rattle.postscript_c.proofs.Selecting.{item-found, no-item}
 use Rattle.postscript_c.proofs.glyph.item_of.Goals as goal

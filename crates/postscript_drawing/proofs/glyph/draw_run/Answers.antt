@@ -1,5 +1,5 @@
 use Rattle.std.proofs.Common.{◌≡◌, ◌∙◌, ap, inr, rules, subst}
-use Rattle.postscript_items.specs.Lent.{items_of}
+use Rattle.postscript_base.specs.Index.Lent.{items_of}
 use Rattle.postscript_type2.specs.Program.Programs.{told_at_end}
 use Rattle.postscript_type2.specs.Program.Routines.{lent}
 use Rattle.postscript_type2.specs.Program.Runs.{taken_by}

@@ -1,4 +1,4 @@
-use Rattle.postscript_items.specs.Lent.{items_of}
+use Rattle.postscript_base.specs.Index.Lent.{items_of}
 use Rattle.postscript_instance.specs.Tables.{AreItems}
 use Rattle.postscript_instance.proofs.tables.are_codes.Given as goal
 

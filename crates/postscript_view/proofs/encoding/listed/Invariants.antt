@@ -1,5 +1,5 @@
 use Rattle.std.proofs.Common.{◌≡◌, ℕ, ◌<◌}
-use Rattle.postscript_items.specs.Items.{number_at}
+use Rattle.postscript_base.specs.Index.{number_at}
 use Rattle.postscript_view.proofs.encoding.listed.Given as goal
 
 -- none of the codes so far is the one

@@ -1,6 +1,6 @@
 use Rattle.std.proofs.Common.{◌≡◌, sym, ap, ◌∙◌, List, ℕ, ◌+◌, ◌<◌, max, length, take, arith}
 use Rattle.std.proofs.lemmas.List.{take_more}
-use Rattle.postscript_items.specs.Lent.{items_of}
+use Rattle.postscript_base.specs.Index.Lent.{items_of}
 use Rattle.postscript_view.specs.Fitting.{longest}
 use Rattle.postscript_view.proofs.Limiting.{longest-more}
 use Rattle.postscript_view.proofs.fitting.longest_of.Goals as goal

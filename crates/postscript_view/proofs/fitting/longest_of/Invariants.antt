@@ -1,5 +1,5 @@
 use Rattle.std.proofs.Common.{◌≡◌, take}
-use Rattle.postscript_items.specs.Lent.{items_of}
+use Rattle.postscript_base.specs.Index.Lent.{items_of}
 use Rattle.postscript_view.specs.Fitting.{longest}
 use Rattle.postscript_view.proofs.fitting.longest_of.Given as goal
 

@@ -1,8 +1,8 @@
 use Rattle.std.proofs.Common.{◌≡◌, ap, ℕ, List, Result, Ok, Err, IfOk}
 use Rattle.postscript_base.specs.Tape.Outcome.{Got, after}
 use Rattle.postscript_base.specs.declared.compact1.operator.Operator.TheVariants as operators
-use Rattle.postscript_items.specs.Items.{opened}
-use Rattle.postscript_items.specs.Lent.{items_of}
+use Rattle.postscript_base.specs.Index.{opened}
+use Rattle.postscript_base.specs.Index.Lent.{items_of}
 use Rattle.postscript_view.proofs.LayoutLaws.{names_index}
 use Rattle.postscript_view.proofs.parts.open_font_parts.Goals as goal
 

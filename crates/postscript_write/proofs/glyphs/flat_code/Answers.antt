@@ -1,6 +1,6 @@
 use Rattle.std.proofs.Common.{◌∙◌, ap, refl, sym, Some}
 use Rattle.std.proofs.lemmas.Option.{slice_get-get_or, slice_get_read}
-use Rattle.postscript_items.specs.Lent.{items_of}
+use Rattle.postscript_base.specs.Index.Lent.{items_of}
 use Rattle.postscript_view.specs.Value.{view_shown, part_shown}
 use Rattle.postscript_write.proofs.Making.{run_refused}
 use Rattle.postscript_write.proofs.Shown.{shown_part, draws_as}

@@ -1,4 +1,4 @@
-use Rattle.postscript_items.specs.Lent.{items_of}
+use Rattle.postscript_base.specs.Index.Lent.{items_of}
 use Rattle.postscript_write.proofs.Renamed.{same_text_by}
 use Rattle.postscript_write.proofs.naming.same_text.Goals as goal
 

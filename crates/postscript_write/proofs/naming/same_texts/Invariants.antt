@@ -1,5 +1,5 @@
 use Rattle.std.proofs.Common.{ℕ, ◌<◌, None, get_or}
-use Rattle.postscript_items.specs.Lent.{items_of}
+use Rattle.postscript_base.specs.Index.Lent.{items_of}
 use Rattle.postscript_write.specs.Strings.{SameText}
 use Rattle.postscript_write.proofs.naming.same_texts.Given as goal
 

@@ -1,5 +1,5 @@
 use Rattle.std.proofs.Common.{◌<◌, inr, length, subst, sym, arith}
-use Rattle.postscript_items.specs.Lent.{items_of}
+use Rattle.postscript_base.specs.Index.Lent.{items_of}
 use Rattle.postscript_view.specs.Naming.{Names}
 use Rattle.postscript_view.specs.Value.{view_shown}
 use Rattle.postscript_write.specs.Strings.{AreNeededMarks}

@@ -1,6 +1,6 @@
 use Rattle.std.proofs.Common.{List, subst}
 use Rattle.postscript_view.specs.Value.{parts_shown}
-use Rattle.postscript_view.specs.declared.part.Part.{Part}
+use Rattle.postscript_view.specs.declared.private_dict.PrivateDict.{PrivateDict}
 use Rattle.postscript_write.specs.Parts.{SameParts}
 use Rattle.postscript_write.proofs.whole.says_same.Goals as goal
 
@@ -9,6 +9,6 @@ returns c = λ h. record {
   names = c.same_items.ensures c.if-not-same_items.false;
   no_global = c.are_none.ensures c.if-not-are_none.false;
   dictionary = c.same_but.ensures c.if-not-same_but.false;
-  parts = subst (λ (ps : List Part). SameParts (parts_shown ps) (parts_shown c.args.new.now.parts.items)) c.deref.ensures.value
-      (subst (λ (ps : List Part). SameParts (parts_shown c.deref.result.now) (parts_shown ps)) c.deref-2.ensures.value (c.same_parts.ensures h));
+  parts = subst (λ (ps : List PrivateDict). SameParts (parts_shown ps) (parts_shown c.args.new.now.parts.items)) c.deref.ensures.value
+      (subst (λ (ps : List PrivateDict). SameParts (parts_shown c.deref.result.now) (parts_shown ps)) c.deref-2.ensures.value (c.same_parts.ensures h));
 }

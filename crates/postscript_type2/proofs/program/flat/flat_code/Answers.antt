@@ -7,5 +7,5 @@ returns-in-UsedUp-clause-refused c = search rules
 pub returns-in-UsedUp-clause-text : goal.returns-in-UsedUp-clause-text
 returns-in-UsedUp-clause-text c = search rules
 
-pub returns-in-Over-clause-text : goal.returns-in-Over-clause-text
-returns-in-Over-clause-text c = search rules
+pub returns-in-EndChar-clause-text : goal.returns-in-EndChar-clause-text
+returns-in-EndChar-clause-text c = search rules

@@ -23,16 +23,16 @@ loop-self-preserved-in-Ok-Back c =
 pub loop-self-preserved : goal.loop-self-preserved
 loop-self-preserved c =
     let so_far = passes-on c.loop-self.invariant.passes c.in_ok-pass_numbers.ensures.passes in
-    let went = subst (λ event. Advances (still_of c.pass_numbers.new.self) (work_of (still_of c.pass_numbers.new.self) c.pass_numbers.new.self) (Ok event) c.advance.new.self) c.in-Ok-Went.field-0-is c.in-Ok-Went.ensures.advances in
-    record { nested = c.in-Ok-Went.ensures.nested; passes = goes-on so_far c.if-limit-eq0.false went.0 went.1 c.spend.ensures went.2 }
+    let went = subst (λ event. Advances (still_of c.pass_numbers.new.self) (work_of (still_of c.pass_numbers.new.self) c.pass_numbers.new.self) (Ok event) c.advance.new.self) c.in-Ok-Continued.field-0-is c.in-Ok-Continued.ensures.advances in
+    record { nested = c.in-Ok-Continued.ensures.nested; passes = goes-on so_far c.if-limit-eq0.false went.0 went.1 c.spend.ensures went.2 }
 
-pub returns-in-Ok-Answered-clause-reaches : goal.returns-in-Ok-Answered-clause-reaches
-returns-in-Ok-Answered-clause-reaches c =
+pub returns-in-Ok-Operation-clause-reaches : goal.returns-in-Ok-Operation-clause-reaches
+returns-in-Ok-Operation-clause-reaches c =
     let so_far = passes-on c.loop-self.invariant.passes c.in_ok-pass_numbers.ensures.passes in
-    let answered = subst (λ event. Advances (still_of c.pass_numbers.new.self) (work_of (still_of c.pass_numbers.new.self) c.pass_numbers.new.self) (Ok event) c.advance.new.self) c.in-Ok-Answered.field-0-is c.in-Ok-Answered.ensures.advances in (
+    let answered = subst (λ event. Advances (still_of c.pass_numbers.new.self) (work_of (still_of c.pass_numbers.new.self) c.pass_numbers.new.self) (Ok event) c.advance.new.self) c.in-Ok-Operation.field-0-is c.in-Ok-Operation.ensures.advances in (
       (sym so_far.answers ∙ ap (λ (run : Run). run.answers) answered.0, sym so_far.end ∙ ap (λ (run : Run). run.end) answered.0),
-      paid so_far.spends c.if-limit-eq0.false answered.0 answered.1 c.spend-in-Ok-Answered.ensures,
-      falls-so so_far.less c.if-limit-eq0.false answered.1 c.spend-in-Ok-Answered.ensures,
+      paid so_far.spends c.if-limit-eq0.false answered.0 answered.1 c.spend-in-Ok-Operation.ensures,
+      falls-so so_far.less c.if-limit-eq0.false answered.1 c.spend-in-Ok-Operation.ensures,
     )
 
 pub returns-in-Ok-UsedUp-clause-reaches : goal.returns-in-Ok-UsedUp-clause-reaches

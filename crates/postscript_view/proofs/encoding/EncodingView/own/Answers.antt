@@ -1,6 +1,6 @@
 use Rattle.std.proofs.Common.{◌≡◌, sym, subst}
 use Rattle.std.proofs.lemmas.Result.{err_from_is_err_and}
-use Rattle.postscript_items.specs.Items.{number_at}
+use Rattle.postscript_base.specs.Index.{number_at}
 use Rattle.postscript_view.specs.Encodings.{AreSupplementsAt}
 use Rattle.postscript_view.specs.Untold.{AreCutSupplements, OfSupplements}
 use Rattle.postscript_view.proofs.Untelling.{is_eof}

@@ -1,5 +1,5 @@
 use Rattle.std.proofs.Common.{length}
-use Rattle.postscript_items.specs.Lent.{items_of}
+use Rattle.postscript_base.specs.Index.Lent.{items_of}
 use Rattle.postscript_view.proofs.SameSets.{none_for, tied}
 use Rattle.postscript_view.proofs.font.FontView.char_set.Goals as goal
 

@@ -1,6 +1,6 @@
 use Rattle.std.proofs.Common.{◌≡◌, ◌<◌, ◌≤◌, length, inl, refl, sym, ap, subst, ltb-true, arith, Some, slice_get}
 use Rattle.std.proofs.lemmas.Option.{slice_get_past, slice_get_read}
-use Rattle.postscript_items.specs.Lent.{items_of}
+use Rattle.postscript_base.specs.Index.Lent.{items_of}
 use Rattle.postscript_view.proofs.font.FontView.glyph.Goals as goal
 
 pub returns-in_default-clause-none : goal.returns-in_default-clause-none

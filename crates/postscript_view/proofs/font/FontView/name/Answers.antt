@@ -1,4 +1,4 @@
-use Rattle.postscript_items.specs.Lent.{items_of}
+use Rattle.postscript_base.specs.Index.Lent.{items_of}
 use Rattle.postscript_view.specs.Value.{view_shown}
 use Rattle.postscript_view.proofs.Naming.{name_none, string_none}
 use Rattle.postscript_view.proofs.font.FontView.name.Goals as goal

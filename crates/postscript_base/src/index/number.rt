@@ -1,0 +1,58 @@
+//! Numbers in place.
+ghost use Rattle.std.specs.Prelude.{◌≡◌, [], ◌∷◌, ◌+◌, ◌-◌, ◌*◌, ◌<◌, ◌≤◌, ◌^◌, length, MatchResult};
+ghost use Rattle.std.specs.List.{slice_range};
+ghost use Rattle.postscript_base.specs.Error.{IsListed};
+ghost use Rattle.postscript_base.specs.Index.{number_at as the_number};
+
+use crate::{Error, Result};
+
+/// The number of so many bytes at a place, at most four, the high byte first.
+#[tactic(auto, using(crate::proofs::NumbersAt::of_none, crate::proofs::NumbersAt::of_one, crate::proofs::NumbersAt::of_two, crate::proofs::NumbersAt::of_three, crate::proofs::NumbersAt::of_four))]
+#[inline(always)]
+pub fn number_at(bytes: &[u8], place: usize, size: usize) -> usize
+    requires size { size ≤ 4 }
+    requires room { place + size ≤ length bytes.now }
+    ensures small { result < 2 ^ (8 * size) }
+    ensures value { result ≡ the_number bytes.now place size }
+{
+    match size {
+        1 => bytes[place] as usize,
+        2 => bytes[place] as usize * 256 + bytes[place + 1] as usize,
+        3 => bytes[place] as usize * 65536
+            + bytes[place + 1] as usize * 256
+            + bytes[place + 2] as usize,
+        4 => u32::from_be_bytes([
+            bytes[place],
+            bytes[place + 1],
+            bytes[place + 2],
+            bytes[place + 3],
+        ]) as usize,
+        _ => 0,
+    }
+}
+
+/// The number of so many bytes at a place, at most four, the high byte first.
+///
+/// Refused: `UnexpectedEof` where fewer are left.
+#[inline(always)]
+pub fn number_within(bytes: &[u8], place: usize, size: usize) -> Result<usize>
+    requires { size ≤ 4 }
+    ensures exact { MatchResult result
+        (λ n. (place + size ≤ length bytes.now) × (n ≡ the_number bytes.now place size) × (n < 2 ^ (8 * size)))
+        (λ e. length bytes.now < place + size) }
+    ensures listed { IsListed (1 ∷ []) result }
+{
+    if place > bytes.len() || bytes.len() - place < size {
+        return Err(Error::UnexpectedEof);
+    }
+    Ok(number_at(bytes, place, size))
+}
+
+/// The bytes from one place to another, as far as there are any.
+#[inline(always)]
+pub(crate) fn lent(bytes: &[u8], from: usize, to: usize) -> &[u8]
+    ensures { result.now ≡ slice_range bytes.now from to }
+{
+    let to = to.min(bytes.len());
+    if from < to { &bytes[from..to] } else { &[] }
+}

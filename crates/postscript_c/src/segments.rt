@@ -1,0 +1,66 @@
+//! What a glyph draws, as C holds it.
+ghost use Rattle.std.specs.Prelude.{◌≡◌, ◌∷◌, ◌++◌, [], None, IfErr, IfOk, OnErr, OnOk, fold, map};
+ghost use Rattle.std.specs.Coded.{Coded-set};
+ghost use Rattle.postscript_base.specs.declared.error.Error.TheVariants as errors;
+ghost use Rattle.postscript_c.specs.Segments.{AreShown, AreShown-prop, meant};
+ghost use Rattle.postscript_outline.specs.Bounds.{IsBoundsOf, points, taking};
+
+use crate::fill::{PsfSegment, shown};
+use postscript_base::Result;
+use postscript_outline::laws::bounds_take_in_points;
+use postscript_outline::{Bounds, Given, Segment, Sink};
+use std::alloc::Global;
+
+/// For how many segments there is room at first: nearly all glyphs have fewer.
+const ROOM: usize = 128;
+
+/// The segments that a glyph draws, as C holds them, and the bounds of their points.
+#[derive(Drop)]
+pub(crate) struct Segments {
+    pub(crate) segments: Vec<PsfSegment>,
+    bounds: Option<Bounds>,
+    ghost shown: { AreShown segments.items } by { AreShown-prop segments.items },
+    ghost bounded: { bounds ≡ fold taking None (map meant segments.items) } by { Coded-set bounds-code bounds (fold taking None (map meant segments.items)) },
+}
+
+impl Segments {
+    /// Nothing yet.
+    pub(crate) fn new(alloc: Global) -> Result<Segments>
+        ensures empty { IfOk result (λ sketch. sketch.segments.items ≡ []) }
+        ensures memory { IfErr result (λ e. e ≡ errors.Memory) }
+    {
+        Ok(Segments {
+            segments: Vec::with_capacity(alloc, ROOM)?,
+            bounds: None,
+        })
+    }
+
+    /// The bounds of the points, control points too. None where there is no point.
+    pub(crate) fn bounds(&self) -> Option<Bounds>
+        ensures { IsBoundsOf result (points (map meant self.now.segments.items)) }
+    {
+        bounds_take_in_points();
+        self.bounds
+    }
+}
+
+impl Sink for Segments {
+    ghost use Rattle.std.specs.Prelude.{◌++◌, ◌∷◌, [], List, map};
+    ghost use Rattle.postscript_c.specs.Segments.{meant};
+    ghost use Rattle.postscript_outline.specs.declared.segment.Segment.{Segment};
+
+    ghost State = { List Segment };
+
+    ghost state = { λ sketch. map meant sketch.segments.items };
+
+    ghost after = { λ segments segment. segments ++ segment ∷ [] };
+
+    ghost refuses = { λ _. Unit {0} };
+
+    #[inline(always)]
+    fn add(&mut self, segment: Segment) -> Given {
+        self.segments.push(shown(segment))?;
+        self.bounds = Bounds::taking(self.bounds, segment);
+        Ok(())
+    }
+}
