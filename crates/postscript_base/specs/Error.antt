@@ -13,7 +13,8 @@ code e = number_of (refusal_of e)
 
 -- A fault of the kind UnexpectedEof is the end of the tape, and any other is kept as it came.
 abbrev pub FromIo : IoError → Error → Type 0
-FromIo fault e = ((error_kind fault ≡ kinds.UnexpectedEof) × (e ≡ UnexpectedEof)) ⊎ ((error_kind fault ≢ kinds.UnexpectedEof) × (e ≡ Io fault))
+FromIo fault e = ((error_kind fault ≡ kinds.UnexpectedEof) × (e ≡ UnexpectedEof))
+    ⊎ ((error_kind fault ≢ kinds.UnexpectedEof) × (e ≡ Io fault))
 
 abbrev pub IsOneOf : List ℕ → ℕ → Type 0
 IsOneOf [] number = ⊥

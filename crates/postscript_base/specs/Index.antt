@@ -84,7 +84,8 @@ pub record HasBadSize (bytes : List ℕ) (place width : ℕ) : Type 0 where
 
 -- an INDEX is laid out at the place, but its offsets do not begin with 1, or fall
 abbrev pub IsOutOfOrder : List ℕ → (place : ℕ) → Type 0
-IsOutOfOrder bytes place = ((next : ℕ) × IsLaidOut bytes place next) × (AreInOrder bytes (place + 3) (size_at bytes place) (count_at bytes place) → ⊥)
+IsOutOfOrder bytes place = ((next : ℕ) × IsLaidOut bytes place next)
+    × (AreInOrder bytes (place + 3) (size_at bytes place) (count_at bytes place) → ⊥)
 
 -- What is answered at a place: the items and the next place, or a refusal. No offset is looked at but the last one.
 unfoldable pub spread : Reading (List (List ℕ))
@@ -104,4 +105,5 @@ opened bytes place =
 
 -- what is opened is what is laid out there
 abbrev pub OpensIndices : Type 0
-OpensIndices = (bytes : List ℕ) (place : ℕ) (items : List (List ℕ)) (next : ℕ) → (opened bytes place ≡ Got items next) ↔ IsOpened bytes place items next
+OpensIndices = (bytes : List ℕ) (place : ℕ) (items : List (List ℕ)) (next : ℕ) → (opened bytes place ≡ Got items next)
+    ↔ IsOpened bytes place items next

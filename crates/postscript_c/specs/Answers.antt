@@ -39,7 +39,8 @@ advance (Some width) part = saturate_signed w64 (part.nominal_width +ℤ width)
 
 -- the bounds that are told, if there is a point
 abbrev pub bounds_of : PsfGlyph → Option Bounds
-bounds_of told = if told.has_bounds == 0 then None else Some (record { low = point told.left told.bottom; high = point told.right told.top })
+bounds_of told = if told.has_bounds ==
+    0 then None else Some (record { low = point told.left told.bottom; high = point told.right told.top })
 
 pub record IsToldOf (drawn : Drawn) (part : PsfPart) (told : PsfGlyph) : Type 0 where
   pub advance : told.advance ≡ advance drawn.width part
@@ -69,7 +70,8 @@ pub record Hands (found : Glyph) (status : ℤ) (old new : Room) : Type 0 where
   pub tells : IsToldOf found.drawn found.part new.told
   pub zeros : HasZeros new.told
   pub width : TellsWidth found.drawn new.told
-  pub handed : ((status ≡ pos 0) × (new.segments ≡ map segment_shown found.drawn.segments ++ drop new.count old.segments)) ⊎ ((status ≡ pos 32) × (length old.segments < new.count) × (new.segments ≡ old.segments))
+  pub handed : ((status ≡ pos 0) × (new.segments ≡ map segment_shown found.drawn.segments ++ drop new.count old.segments))
+      ⊎ ((status ≡ pos 32) × (length old.segments < new.count) × (new.segments ≡ old.segments))
 
 -- What C is told of an answer: a refusal by its number, and 31 where there is no such glyph. Then all is left as it was.
 abbrev pub Tells : Result (Option Glyph) Error → (status : ℤ) → (old new : Room) → Type 0
@@ -80,14 +82,16 @@ Tells (Err e) status old new = (status ≡ pos (undrawn_code e)) × (new ≡ old
 -- What is answered of a glyph by a part: the glyph as it is drawn, accented ones with their components; that there is no such glyph;
 -- or why it is not drawn.
 abbrev pub IsOf : (bytes : List ℕ) (font : PsfFont) (part : PsfPart) (glyph : ℕ) → Result (Option Glyph) Error → Type 0
-IsOf bytes font part glyph (Ok (Some found)) = (found.part ≡ part) × IsDrawnOver bytes font part glyph found.drawn.segments found.drawn.width
+IsOf bytes font part glyph (Ok (Some found)) =
+    (found.part ≡ part) × IsDrawnOver bytes font part glyph found.drawn.segments found.drawn.width
 IsOf bytes font part glyph (Ok None) = HasNone bytes font part glyph
 IsOf bytes font part glyph (Err e) = (e ≡ Font Memory) ⊎ IsUndrawnOver bytes font part glyph e
 
 -- what C is told of the outline of a glyph
 abbrev pub TellsOutline : (bytes : List ℕ) (font : PsfFont) (glyph : ℕ) (status : ℤ) (old new : Room) → Type 0
 TellsOutline bytes font glyph status old new =
-    TellsByPart bytes font glyph status (λ part. (answer : Result (Option Glyph) Error) × IsOf bytes font part glyph answer × Tells answer status old new) (new ≡ old)
+    TellsByPart bytes font glyph status (λ part. (answer : Result (Option Glyph) Error) × IsOf bytes font part glyph answer
+    × Tells answer status old new) (new ≡ old)
 
 -- What C is told of a font: its numbers on 0, or a refusal by its number, which leaves what was there.
 abbrev pub TellsFont : Result PsfFont Cause → (status : ℤ) → (old new : PsfFont) → Type 0
@@ -113,4 +117,5 @@ TellsBounds (Err e) status old new = (status ≡ pos (undrawn_code e)) × (new �
 -- what C is told of the bounds of a glyph
 abbrev pub TellsBoundsOf : (bytes : List ℕ) (font : PsfFont) (glyph : ℕ) (status : ℤ) (old new : PsfBounds) → Type 0
 TellsBoundsOf bytes font glyph status old new =
-    TellsByPart bytes font glyph status (λ part. (answer : Result (Option Glyph) Error) × IsOf bytes font part glyph answer × TellsBounds answer status old new) (new ≡ old)
+    TellsByPart bytes font glyph status (λ part. (answer : Result (Option Glyph) Error) × IsOf bytes font part glyph answer
+    × TellsBounds answer status old new) (new ≡ old)

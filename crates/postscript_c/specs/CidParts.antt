@@ -15,7 +15,8 @@ use Rattle.postscript_view.specs.Select.{Selects}
 -- The number of a glyph's font dictionary: of several that which FDSelect gives the glyph, where there is an FDSelect; a single one is
 -- that of all glyphs.
 abbrev pub HasNumber : List ℕ → PsfFont → (dictionaries glyph fd : ℕ) → Type 0
-HasNumber bytes font dictionaries glyph fd = ((dictionaries ≡ 1) × (fd ≡ 0)) ⊎ ((dictionaries ≢ 1) × (font.fd_select ≢ 0) × Selects bytes font.fd_select font.glyphs glyph fd)
+HasNumber bytes font dictionaries glyph fd = ((dictionaries ≡ 1) × (fd ≡ 0))
+    ⊎ ((dictionaries ≢ 1) × (font.fd_select ≢ 0) × Selects bytes font.fd_select font.glyphs glyph fd)
 
 -- there is such a glyph, and its font dictionary is this item of FDArray
 pub record HasItem (bytes : List ℕ) (font : PsfFont) (items : List (List ℕ)) (glyph : ℕ) (item : List ℕ) : Type 0 where
@@ -26,11 +27,13 @@ pub record HasItem (bytes : List ℕ) (font : PsfFont) (items : List (List ℕ))
 
 -- FDArray stands, and the glyph has this item of it
 abbrev pub HasDictionary : List ℕ → PsfFont → (glyph : ℕ) → (item : List ℕ) → Type 0
-HasDictionary bytes font glyph item = (items : List (List ℕ)) × (index_at font.font_dictionaries bytes 0 ≡ Got items 0) × HasItem bytes font items glyph item
+HasDictionary bytes font glyph item = (items : List (List ℕ)) × (index_at font.font_dictionaries bytes 0 ≡ Got items 0)
+    × HasItem bytes font items glyph item
 
 -- FDArray stands, and the glyph has no item of it
 abbrev pub LacksDictionary : List ℕ → PsfFont → (glyph : ℕ) → Type 0
-LacksDictionary bytes font glyph = (items : List (List ℕ)) × (index_at font.font_dictionaries bytes 0 ≡ Got items 0) × ((item : List ℕ) → HasItem bytes font items glyph item → ⊥)
+LacksDictionary bytes font glyph = (items : List (List ℕ)) × (index_at font.font_dictionaries bytes 0 ≡ Got items 0)
+    × ((item : List ℕ) → HasItem bytes font items glyph item → ⊥)
 
 -- the place of the local subroutines of the font dictionary that an item is
 unfoldable pub item_part : List ℕ → Reading ℕ
@@ -49,7 +52,8 @@ HasPart bytes font glyph found = (item : List ℕ) × HasDictionary bytes font g
 
 -- Why they are refused: FDArray does not stand, or the font dictionary of the glyph or its private dictionary does not.
 abbrev pub NoPart : Error → List ℕ → PsfFont → (glyph : ℕ) → Type 0
-NoPart e bytes font glyph = RefusedAs e (index_at font.font_dictionaries bytes 0) ⊎ ((item : List ℕ) × HasDictionary bytes font glyph item × RefusedAs e (item_part item bytes 0))
+NoPart e bytes font glyph = RefusedAs e (index_at font.font_dictionaries bytes 0)
+    ⊎ ((item : List ℕ) × HasDictionary bytes font glyph item × RefusedAs e (item_part item bytes 0))
 
 -- What is answered: the part of a glyph, or that it has no font dictionary, or why its part is refused, where memory does not run out.
 abbrev pub IsCidPart : List ℕ → PsfFont → (glyph : ℕ) → Result (Option PsfPart) Error → Type 0

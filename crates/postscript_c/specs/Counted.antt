@@ -1,4 +1,5 @@
--- What C is told of how many glyphs a variable font has: as many as its table CFF2 has charstrings (OpenType 1.9, "CFF2", "CharStringINDEX").
+-- What C is told of how many glyphs a variable font has: as many as its table CFF2 has charstrings (OpenType 1.9, "CFF2",
+-- "CharStringINDEX").
 use Rattle.std.specs.Prelude.{◌≡◌, ◌⊎◌, ℕ, ℤ, pos, length}
 use Rattle.postscript_c.specs.Varied.{HasFont, HasNoFont, unvaried_code}
 use Rattle.postscript_c.specs.declared.varied.Unvaried.{Unvaried}

@@ -74,7 +74,8 @@ pub record DrawsWhole (limit : ℕ) (bytes : List ℕ) (program : Pending) (segm
 -- The limit is used up: on phrases at the front of the program, or on all of them and on the runs of two glyphs of the font at most.
 pub data IsUsedUp (limit : ℕ) (bytes : List ℕ) (program : Pending) : Type 0 where
   by_itself : (rest : List Phrase) → Spends limit program.trace 0 rest → IsUsedUp limit bytes program
-  by_components : (font : FontView) (left : ℕ) → IsFirst bytes font → Spends limit program.trace left [] → SpendsOnRuns font 2 left 0 → IsUsedUp limit bytes program
+  by_components : (font : FontView) (left : ℕ) → IsFirst bytes font → Spends limit program.trace left [] → SpendsOnRuns font 2 left 0 →
+      IsUsedUp limit bytes program
 
 -- memory runs out, also where it is for the segments, or the limit is used up
 abbrev pub IsWantingIn : (limit : ℕ) (bytes : List ℕ) → Pending → Error → Type 0
@@ -86,7 +87,8 @@ pub data IsWholeRefused (limit : ℕ) (bytes : List ℕ) (program : Pending) (e 
   wanting : IsWantingIn limit bytes program e → IsWholeRefused limit bytes program e
   undrawn : IsUndrawn zero_point e program.answers program.end → IsWholeRefused limit bytes program e
   unread : e ≡ NoCode → HasNoCodes (taken_by program.end) → IsWholeRefused limit bytes program e
-  unnamed : (accent : Option Accent) → IsNamedBy (taken_by program.end) accent → IsNamedRefused bytes accent e → IsWholeRefused limit bytes program e
+  unnamed : (accent : Option Accent) → IsNamedBy (taken_by program.end) accent → IsNamedRefused bytes accent e →
+      IsWholeRefused limit bytes program e
 
 -- a code over the subroutines at two places
 abbrev pub HasNoneIn : (bytes : List ℕ) → Option (List ℕ) → (global local : ℕ) → Type 0

@@ -25,11 +25,13 @@ pub record HasDirectory (bytes : List ℕ) (face start count : ℕ) : Type 0 whe
 
 -- where the table of a tag stands in a face, and how many bytes it has
 abbrev pub HasTable : List ℕ → (face tag place size : ℕ) → Type 0
-HasTable bytes face tag place size = (start : ℕ) × (count : ℕ) × HasDirectory bytes face start count × IsSpan bytes start count tag place size
+HasTable bytes face tag place size = (start : ℕ) × (count : ℕ) × HasDirectory bytes face start count
+    × IsSpan bytes start count tag place size
 
 -- no record of the face names such a table
 abbrev pub LacksTable : List ℕ → (face tag : ℕ) → Type 0
-LacksTable bytes face tag = (start : ℕ) × (count : ℕ) × HasDirectory bytes face start count × ((i : ℕ) → i < count → Names bytes start tag i → ⊥)
+LacksTable bytes face tag = (start : ℕ) × (count : ℕ) × HasDirectory bytes face start count
+    × ((i : ℕ) → i < count → Names bytes start tag i → ⊥)
 
 -- where a table stands, or that there is none, or why there is no such face
 abbrev pub TellsTable : List ℕ → (face tag : ℕ) → (status : ℤ) → (place size : ℕ) → Type 0

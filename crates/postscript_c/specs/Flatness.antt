@@ -28,4 +28,5 @@ TellsFlatBy bytes font part glyph status old new =
     × Answers (option_map flat_shown) answer 0 (flat_at font part glyph bytes 0) × TellsFlat answer status old new)
 
 abbrev pub TellsFlatOf : (bytes : List ℕ) (font : PsfFont) (glyph : ℕ) (status : ℤ) (old new : Lent ℕ) → Type 0
-TellsFlatOf bytes font glyph status old new = TellsByPart bytes font glyph status (λ part. TellsFlatBy bytes font part glyph status old new) (new ≡ old)
+TellsFlatOf bytes font glyph status old new =
+    TellsByPart bytes font glyph status (λ part. TellsFlatBy bytes font part glyph status old new) (new ≡ old)

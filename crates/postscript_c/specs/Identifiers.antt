@@ -25,7 +25,8 @@ AreIdentifiers set glyphs all = (length all ≡ glyphs) × AreFrom set 0 all
 -- the identifiers of all glyphs of a font are handed over, or it has no char set, or there is no memory
 abbrev pub TellsIdentifiersIn : List ℕ → View → (status : ℤ) → (old new : Lent ℤ) → Type 0
 TellsIdentifiersIn bytes view status old new =
-    ((set : CharSetView) × (all : List ℤ) × IsSetOf bytes view set × AreIdentifiers set (length view.char_strings) all × HandsOver all status old new)
+    ((set : CharSetView) × (all : List ℤ) × IsSetOf bytes view set × AreIdentifiers set (length view.char_strings) all
+    × HandsOver all status old new)
     ⊎ ((LacksSet bytes view status × (new ≡ old)) ⊎ ((status ≡ pos 3) × (new ≡ old)))
 
 abbrev pub TellsIdentifiers : List ℕ → (status : ℤ) → (old new : Lent ℤ) → Type 0

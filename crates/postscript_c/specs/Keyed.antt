@@ -11,10 +11,12 @@ use Rattle.postscript_compact1.specs.FontSet.Operands.{place_at}
 -- the place that an operator of a dictionary names, and 0 where it names none
 abbrev pub IsPlaceOrNone : Dictionary → Operator → (place : ℕ) → Type 0
 IsPlaceOrNone map operator place =
-    (place_at 0 0 map operator [] 0 ≡ Got place 0) ⊎ (((there next : ℕ) → place_at 0 0 map operator [] 0 ≡ Got there next → ⊥) × (place ≡ 0))
+    (place_at 0 0 map operator [] 0 ≡ Got place 0) ⊎ (((there next : ℕ) → place_at 0 0 map operator [] 0 ≡ Got there next → ⊥)
+    × (place ≡ 0))
 
 -- A font is CID-keyed where its dictionary has ROS. Then both places are told, and else none.
 abbrev pub IsKeyedBy : Dictionary → PsfFont → Type 0
 IsKeyedBy map font =
     ((look map operators.ROS ≡ None) × (font.is_cid ≡ 0) × (font.font_dictionaries ≡ 0) × (font.fd_select ≡ 0))
-    ⊎ ((look map operators.ROS ≢ None) × (font.is_cid ≡ 1) × IsPlaceOrNone map operators.FDArray font.font_dictionaries × IsPlaceOrNone map operators.FDSelect font.fd_select)
+    ⊎ ((look map operators.ROS ≢ None) × (font.is_cid ≡ 1) × IsPlaceOrNone map operators.FDArray font.font_dictionaries
+    × IsPlaceOrNone map operators.FDSelect font.fd_select)

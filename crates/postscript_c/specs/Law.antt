@@ -19,7 +19,8 @@ pub record AreOf (bytes : List ℕ) (v : View) (p : Places) : Type 0 where
 abbrev pub NamesSelection : PsfFont → View → Type 0
 NamesSelection font v = font.is_cid ≢ 0 → font.fd_select ≢ 0 → offset_of v.tables.dictionary operators.FDSelect ≡ Some font.fd_select
 
--- The places and the widths that are read, with the limit of 20,000,000 units, or the refusal; and where the font is opened in place, they are of it.
+-- The places and the widths that are read, with the limit of 20,000,000 units, or the refusal; and where the font is opened in place,
+-- they are of it.
 pub record IsFontOf (bytes : List ℕ) (answer : Result PsfFont Error) : Type 0 where
   pub reads : Answers placed answer 0 (places bytes 0)
   pub widths : IfOk answer (λ font. TellsWidths bytes font)

@@ -19,7 +19,13 @@ pub record Rooms : Type 0 where
   pub operand_count : ℕ
 
 abbrev pub rooms : List PsfOperation → ℕ → List ℤ → ℕ → Rooms
-rooms operations count operands operand_count = record { operations = operations; count = count; operands = operands; operand_count = operand_count }
+rooms operations count operands operand_count = record {
+  operations = operations;
+  count = count;
+  operands = operands;
+  operand_count =
+      operand_count;
+}
 
 -- both lists stand at the front of their rooms, and what is behind them stays
 pub record Handed (listed : Listed) (status : ℤ) (old new : Rooms) : Type 0 where
@@ -55,4 +61,5 @@ TellsOperationsBy bytes font part glyph status old new =
     × Answers (option_map shown) answer 0 (listed_at font part glyph bytes 0) × TellsOperations answer status old new)
 
 abbrev pub TellsOperationsOf : (bytes : List ℕ) (font : PsfFont) (glyph : ℕ) (status : ℤ) (old new : Rooms) → Type 0
-TellsOperationsOf bytes font glyph status old new = TellsByPart bytes font glyph status (λ part. TellsOperationsBy bytes font part glyph status old new) (new ≡ old)
+TellsOperationsOf bytes font glyph status old new =
+    TellsByPart bytes font glyph status (λ part. TellsOperationsBy bytes font part glyph status old new) (new ≡ old)

@@ -30,7 +30,8 @@ OfFirst bytes tells status same = ((v : View) × (next : ℕ) × (view bytes 0 �
 abbrev pub TellsNameIn : List ℕ → View → (glyph : ℕ) → (status : ℤ) → (old new : Lent ℕ) → Type 0
 TellsNameIn bytes view glyph status old new =
     ((set : CharSetView) × (name : List ℕ) × IsSetOf bytes view set × HasName view set glyph name × HandsOver name status old new)
-    ⊎ (((set : CharSetView) × IsSetOf bytes view set × (status ≡ pos 38) × ((name : List ℕ) → HasName view set glyph name → ⊥) × (new ≡ old))
+    ⊎ (((set : CharSetView) × IsSetOf bytes view set × (status ≡ pos 38) × ((name : List ℕ) → HasName view set glyph name → ⊥)
+    × (new ≡ old))
     ⊎ (LacksSet bytes view status × (new ≡ old)))
 
 abbrev pub TellsName : List ℕ → (glyph : ℕ) → (status : ℤ) → (old new : Lent ℕ) → Type 0

@@ -23,4 +23,5 @@ IsPartless bytes font glyph status = (font.is_cid ≢ 0) × TellsNoPart bytes fo
 
 -- What is told of a glyph: by its part; or why it has none, and then what C lends is the same as before.
 abbrev pub TellsByPart : (bytes : List ℕ) (font : PsfFont) (glyph : ℕ) (status : ℤ) → (PsfPart → Type 0) → (same : Type 0) → Type 0
-TellsByPart bytes font glyph status tells same = ((part : PsfPart) × IsPartIn bytes font glyph part × tells part) ⊎ (IsPartless bytes font glyph status × same)
+TellsByPart bytes font glyph status tells same = ((part : PsfPart) × IsPartIn bytes font glyph part × tells part)
+    ⊎ (IsPartless bytes font glyph status × same)

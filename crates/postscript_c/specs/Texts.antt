@@ -13,4 +13,5 @@ lent room count = record { room = room; count = count }
 -- the room, which stays.
 pub record HandsOver {A : Type 0} (items : List A) (status : ℤ) (old new : Lent A) : Type 0 where
   pub counted : new.count ≡ length items
-  pub handed : ((status ≡ pos 0) × (new.room ≡ items ++ drop (length items) old.room)) ⊎ ((status ≡ pos 32) × (length old.room < new.count) × (new.room ≡ old.room))
+  pub handed : ((status ≡ pos 0) × (new.room ≡ items ++ drop (length items) old.room))
+      ⊎ ((status ≡ pos 32) × (length old.room < new.count) × (new.room ≡ old.room))

@@ -49,7 +49,8 @@ TellsWritten (Err e) status old new was told = (status ≡ pos (written_code e))
 
 -- Within a limit: where all runs of the font come to their ends within it, an answer is told; else why nothing is asked for, with glyph and
 -- cause 0, and what was lent stays.
-abbrev pub TellsWithin : (bytes : List ℕ) (limit : ℕ) (status : ℤ) (IsAnswer : Result (Vec ℕ Global) Error → Type 0) (old new : Lent ℕ) (was told : PsfRefusal) → Type 0
+abbrev pub TellsWithin : (bytes : List ℕ) (limit : ℕ) (status : ℤ) (IsAnswer : Result (Vec ℕ Global) Error →
+    Type 0) (old new : Lent ℕ) (was told : PsfRefusal) → Type 0
 TellsWithin bytes limit status IsAnswer old new was told =
     (FirstFits bytes limit × ((answer : Result (Vec ℕ Global) Error) × IsAnswer answer × TellsWritten answer status old new was told))
     ⊎ (((left : ℕ) × TellsFits bytes limit status left) × (status ≢ pos 0) × (told ≡ refusal 0 (pos 0)) × (new ≡ old))
@@ -60,8 +61,10 @@ pub record IsFlat (bytes : List ℕ) (answer : Result (Vec ℕ Global) Error) : 
   pub written : IfOk answer (λ flat. IsWritten true every bytes flat.items)
   pub refused : IfErr answer (λ e. IsRefusedBy every bytes e)
 
--- the font made of the glyphs that are named, which are glyphs of the font, and of those that these are drawn with, or why there is none; refused where none is named
-pub record IsSubset (kept : Bool) (sources : (closed : List ℕ) (glyphs : ℕ) → Sources) (bytes named : List ℕ) (answer : Result (Vec ℕ Global) Error) : Type 0 where
+-- the font made of the glyphs that are named, which are glyphs of the font, and of those that these are drawn with, or why there is none;
+-- refused where none is named
+pub record IsSubset (kept : Bool) (sources : (closed : List ℕ) (glyphs : ℕ) →
+    Sources) (bytes named : List ℕ) (answer : Result (Vec ℕ Global) Error) : Type 0 where
   pub written : IfOk answer (λ flat. IsSubsetFont kept sources named bytes flat.items)
   pub drawn : IfOk answer (λ flat. DrawsKept sources named bytes flat.items)
   pub refused : IfErr answer (λ e. IsSubsetRefusedBy named sources bytes e)

@@ -23,7 +23,8 @@ fn draw_named<S: Sink>(
 ) -> Result<()>
     ensures drawn { OnOk result (Takes S.after (S.state sink.old) (S.state sink.new) (AreNamed bytes.now accent)) }
     ensures paid { OnOk result (ArePaid bytes.now accent limit.old limit.new) }
-    ensures why { IfErr result (λ e. (IsWanting limit.new e × IsSpentOnNamed bytes.now limit.old limit.new) ⊎ IsNamedRefused bytes.now accent e) }
+    ensures why { IfErr result (λ e. (IsWanting limit.new e × IsSpentOnNamed bytes.now limit.old limit.new)
+        ⊎ IsNamedRefused bytes.now accent e) }
 {
     let Some(accent) = accent else {
         return Ok(());
@@ -40,7 +41,9 @@ fn draw_whole<S: Sink>(
     limit: u64,
     sink: &mut S,
 ) -> Result<Option<Operand>>
-    ensures drawn { IfOk result (λ width. Takes S.after (S.state sink.old) (S.state sink.new) (λ segments. DrawsWhole limit bytes.now program.old segments width)) }
+    ensures drawn { IfOk result
+        (λ width. Takes S.after (S.state sink.old) (S.state sink.new)
+        (λ segments. DrawsWhole limit bytes.now program.old segments width)) }
     ensures why { IfErr result (λ e. IsWholeRefused limit bytes.now program.old e) }
 {
     let mut left = limit;
@@ -62,7 +65,8 @@ fn draw_code<S: Sink>(
     sink: &mut S,
 ) -> Result<Option<Option<Operand>>>
     ensures drawn { IfOk result (λ found. MatchOption found (HasNoneIn bytes.now (option_map (λ code. code.now) code.entry) global local)
-        (λ width. Takes S.after (S.state sink.old) (S.state sink.new) (λ segments. IsDrawnIn limit bytes.now (option_map (λ code. code.now) code.entry) global local segments width))) }
+        (λ width. Takes S.after (S.state sink.old) (S.state sink.new)
+        (λ segments. IsDrawnIn limit bytes.now (option_map (λ code. code.now) code.entry) global local segments width))) }
     ensures why { IfErr result (λ e. IsCodeRefused limit bytes.now (option_map (λ code. code.now) code.entry) global local e) }
 {
     let Some(code) = code else {
@@ -86,7 +90,8 @@ pub(crate) fn draw_over<S: Sink>(
     sink: &mut S,
 ) -> Result<Option<Option<Operand>>>
     ensures drawn { IfOk result (λ found. MatchOption found (HasNone bytes.now font.now part.now glyph)
-        (λ width. Takes S.after (S.state sink.old) (S.state sink.new) (λ segments. IsDrawnOver bytes.now font.now part.now glyph segments width))) }
+        (λ width. Takes S.after (S.state sink.old) (S.state sink.new)
+        (λ segments. IsDrawnOver bytes.now font.now part.now glyph segments width))) }
     ensures why { IfErr result (λ e. IsUndrawnOver bytes.now font.now part.now glyph e) }
 {
     let codes = index_at(bytes, font.char_strings)?;

@@ -143,7 +143,8 @@ fn program_of<'l>(
     global: u64,
     local: u64,
 ) -> Result<Option<Program<'l>>>
-    ensures exact { (place : ℕ) → Answers same result place (the_program (option_map (λ code. code.now) code.entry) global local bytes.now place) }
+    ensures exact { (place : ℕ) →
+        Answers same result place (the_program (option_map (λ code. code.now) code.entry) global local bytes.now place) }
 {
     let Some(code) = code else {
         return Ok(None);

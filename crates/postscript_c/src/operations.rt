@@ -118,7 +118,8 @@ fn hand(
     operands: &mut [i32],
     operand_count: &mut usize,
 ) -> i32
-    ensures { HandsOperations listed.now result (rooms operations.old count.old operands.old operand_count.old) (rooms operations.new count.new operands.new operand_count.new) }
+    ensures { HandsOperations listed.now result (rooms operations.old count.old operands.old operand_count.old)
+        (rooms operations.new count.new operands.new operand_count.new) }
 {
     *count = listed.rows.len();
     *operand_count = listed.operands.len();
@@ -142,7 +143,8 @@ pub(crate) fn tell_operations_by(
     operands: &mut [i32],
     operand_count: &mut usize,
 ) -> i32
-    ensures { TellsOperationsBy bytes.now font.now part.now glyph result (rooms operations.old count.old operands.old operand_count.old) (rooms operations.new count.new operands.new operand_count.new) }
+    ensures { TellsOperationsBy bytes.now font.now part.now glyph result (rooms operations.old count.old operands.old operand_count.old)
+        (rooms operations.new count.new operands.new operand_count.new) }
 {
     match operations_of(alloc, bytes, font, part, glyph) {
         Ok(Kept::Told(listed)) => hand(&listed, operations, count, operands, operand_count),

@@ -101,7 +101,8 @@ fn shortened(at: i32) -> i16
 
 /// The normalized coordinate of an axis, of the value that is asked for along it.
 fn coordinate_on(found: &Axis, axis: usize, maps: Option<Maps<'_>>, value: i32) -> i16
-    ensures { result ≡ the_shortened (mapped_with maps.entry axis (normalized found.now.minimum found.now.default found.now.maximum value)) }
+    ensures { result ≡ the_shortened
+        (mapped_with maps.entry axis (normalized found.now.minimum found.now.default found.now.maximum value)) }
 {
     shortened(mapped(maps, axis, found.normalized(value)))
 }

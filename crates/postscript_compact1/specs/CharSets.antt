@@ -74,7 +74,8 @@ unfoldable pub char_set_0 : ℕ → Reading Listed
 char_set_0 glyphs = number 1 >>= λ format. if format == 0 then listed glyphs else fault malformed_char_set
 
 unfoldable pub char_set_of : {A : Type 0} → ℕ → (A → ℕ) → Reading A → ℕ → Reading (Covered A)
-char_set_of format size one glyphs = number 1 >>= λ first. if first == format then covered format size one glyphs else fault malformed_char_set
+char_set_of format size one glyphs = number 1 >>= λ first. if first == format then covered format size one glyphs
+    else fault malformed_char_set
 
 abbrev pub char_set_1 : ℕ → Reading (Covered Range1)
 char_set_1 glyphs = char_set_of 1 glyphs_of_1 range_1 glyphs

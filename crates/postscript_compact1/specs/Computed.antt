@@ -1,3 +1,4 @@
--- Definitions that compute, behind the clauses `exact` and `value`; what is in the words of the Note stands beside them, and the laws tie both.
+-- Definitions that compute, behind the clauses `exact` and `value`; what is in the words of the Note stands beside them, and the laws tie
+-- both.
 pub mod Order
 pub mod Encodings

@@ -173,7 +173,8 @@ pub record ReadsIndices : Type 0 where
   pub all : (bytes : List ℕ) (place : ℕ) (i : Index) (next : ℕ) → IsIndex bytes place i next → index bytes place ≡ Got i next
   pub only : (bytes : List ℕ) (place : ℕ) (i : Index) (next : ℕ) → index bytes place ≡ Got i next → IsIndex bytes place i next
   pub whole : (bytes : List ℕ) (place : ℕ) (i : Index) (next : ℕ) → index bytes place ≡ Got i next → IsWhole i
-  pub refusals : (bytes : List ℕ) (place : ℕ) (refusal : Refusal) → index bytes place ≡ Fault refusal → (refusal ≡ unexpected_eof) ⊎ ((refusal ≡ malformed_offset) ⊎ (refusal ≡ malformed_index))
+  pub refusals : (bytes : List ℕ) (place : ℕ) (refusal : Refusal) → index bytes place ≡ Fault refusal → (refusal ≡ unexpected_eof)
+      ⊎ ((refusal ≡ malformed_offset) ⊎ (refusal ≡ malformed_index))
   pub refused : (bytes : List ℕ) (place : ℕ) (refusal : Refusal) → IsNoIndex bytes place refusal → index bytes place ≡ Fault refusal
   pub refused_only : (bytes : List ℕ) (place : ℕ) (refusal : Refusal) → index bytes place ≡ Fault refusal → IsNoIndex bytes place refusal
   pub takes : TakesBytes index

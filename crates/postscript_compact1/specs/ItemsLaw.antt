@@ -20,8 +20,12 @@ HasRefused (item ∷ items) refusal = IsRefused item 0 refusal ⊎ ((map : Dicti
 
 -- The maps are those of the items, or the first item that is no dictionary is refused.
 pub record ReadsItems : Type 0 where
-  pub all : (items : List (List ℕ)) (maps : List Dictionary) (bytes : List ℕ) (place : ℕ) → AreDictionaries items maps → maps_of items bytes place ≡ Got maps place
-  pub only : (items : List (List ℕ)) (maps : List Dictionary) (bytes : List ℕ) (place next : ℕ) → maps_of items bytes place ≡ Got maps next → AreDictionaries items maps × (next ≡ place)
-  pub refused : (items : List (List ℕ)) (refusal : Refusal) (bytes : List ℕ) (place : ℕ) → HasRefused items refusal → maps_of items bytes place ≡ Fault refusal
-  pub refused_only : (items : List (List ℕ)) (refusal : Refusal) (bytes : List ℕ) (place : ℕ) → maps_of items bytes place ≡ Fault refusal → HasRefused items refusal
+  pub all : (items : List (List ℕ)) (maps : List Dictionary) (bytes : List ℕ) (place : ℕ) → AreDictionaries items maps →
+      maps_of items bytes place ≡ Got maps place
+  pub only : (items : List (List ℕ)) (maps : List Dictionary) (bytes : List ℕ) (place next : ℕ) →
+      maps_of items bytes place ≡ Got maps next → AreDictionaries items maps × (next ≡ place)
+  pub refused : (items : List (List ℕ)) (refusal : Refusal) (bytes : List ℕ) (place : ℕ) → HasRefused items refusal →
+      maps_of items bytes place ≡ Fault refusal
+  pub refused_only : (items : List (List ℕ)) (refusal : Refusal) (bytes : List ℕ) (place : ℕ) →
+      maps_of items bytes place ≡ Fault refusal → HasRefused items refusal
   pub never_past : (items : List (List ℕ)) (bytes : List ℕ) (place : ℕ) → maps_of items bytes place ≢ Past

@@ -118,9 +118,12 @@ impl FontSet {
     /// }
     /// ```
     pub fn read_lenient<T: Tape>(alloc: Global, tape: &mut T) -> Result<FontSet>
-        ensures found { IsHonest (T.state tape.old) → IfOk result (λ f. IsLenientFont (T.state tape.old).bytes (T.state tape.old).place (font_shown f)) }
-        ensures only { IsHonest (T.state tape.old) → IfErr result (λ e. e ≢ errors.Memory → (f : Font) → IsLenientFont (T.state tape.old).bytes (T.state tape.old).place f → ⊥) }
-        ensures why { IsHonest (T.state tape.old) → IfErr result (λ e. e ≢ errors.Memory → NoLenientFont e (T.state tape.old).bytes (T.state tape.old).place) }
+        ensures found { IsHonest (T.state tape.old) →
+            IfOk result (λ f. IsLenientFont (T.state tape.old).bytes (T.state tape.old).place (font_shown f)) }
+        ensures only { IsHonest (T.state tape.old) →
+            IfErr result (λ e. e ≢ errors.Memory → (f : Font) → IsLenientFont (T.state tape.old).bytes (T.state tape.old).place f → ⊥) }
+        ensures why { IsHonest (T.state tape.old) →
+            IfErr result (λ e. e ≢ errors.Memory → NoLenientFont e (T.state tape.old).bytes (T.state tape.old).place) }
         ensures exact { Reads font_shown (T.state tape.old) result (T.state tape.new) lenient_font }
         ensures listed { IsListed (1 ∷ 2 ∷ 3 ∷ 5 ∷ 6 ∷ 7 ∷ 8 ∷ 9 ∷ 10 ∷ 11 ∷ 12 ∷ 13 ∷ 14 ∷ 15 ∷ 16 ∷ []) result }
     {
@@ -145,10 +148,15 @@ impl FontSet {
     /// }
     /// ```
     pub fn check<T: Tape>(alloc: Global, tape: &mut T) -> Result<()>
-        ensures found { IsHonest (T.state tape.old) → OnOk result ((f : Font) × IsFont (T.state tape.old).bytes (T.state tape.old).place f (T.state tape.new).place) }
-        ensures only { IsHonest (T.state tape.old) → IfErr result (λ e. e ≢ errors.Memory → (f : Font) (next : ℕ) → IsFont (T.state tape.old).bytes (T.state tape.old).place f next → ⊥) }
-        ensures why { IsHonest (T.state tape.old) → IfErr result (λ e. e ≢ errors.Memory → NoFont e (T.state tape.old).bytes (T.state tape.old).place) }
-        ensures exact { Reads (λ _. tt {0}) (T.state tape.old) result (T.state tape.new) (λ bytes place. after (font bytes place) (λ _ next. Got tt next)) }
+        ensures found { IsHonest (T.state tape.old) →
+            OnOk result ((f : Font) × IsFont (T.state tape.old).bytes (T.state tape.old).place f (T.state tape.new).place) }
+        ensures only { IsHonest (T.state tape.old) →
+            IfErr result (λ e. e ≢ errors.Memory → (f : Font) (next : ℕ) →
+            IsFont (T.state tape.old).bytes (T.state tape.old).place f next → ⊥) }
+        ensures why { IsHonest (T.state tape.old) →
+            IfErr result (λ e. e ≢ errors.Memory → NoFont e (T.state tape.old).bytes (T.state tape.old).place) }
+        ensures exact { Reads (λ _. tt {0}) (T.state tape.old) result (T.state tape.new)
+            (λ bytes place. after (font bytes place) (λ _ next. Got tt next)) }
         ensures listed { IsListed (1 ∷ 2 ∷ 3 ∷ 5 ∷ 6 ∷ 7 ∷ 8 ∷ 9 ∷ 10 ∷ 11 ∷ 12 ∷ 13 ∷ 14 ∷ 15 ∷ 16 ∷ []) result }
     {
         reads_dictionaries();
@@ -167,10 +175,14 @@ impl FontSet {
     /// }
     /// ```
     pub fn check_lenient<T: Tape>(alloc: Global, tape: &mut T) -> Result<()>
-        ensures found { IsHonest (T.state tape.old) → OnOk result ((f : Font) × IsLenientFont (T.state tape.old).bytes (T.state tape.old).place f) }
-        ensures only { IsHonest (T.state tape.old) → IfErr result (λ e. e ≢ errors.Memory → (f : Font) → IsLenientFont (T.state tape.old).bytes (T.state tape.old).place f → ⊥) }
-        ensures why { IsHonest (T.state tape.old) → IfErr result (λ e. e ≢ errors.Memory → NoLenientFont e (T.state tape.old).bytes (T.state tape.old).place) }
-        ensures exact { Reads (λ _. tt {0}) (T.state tape.old) result (T.state tape.new) (λ bytes place. after (lenient_font bytes place) (λ _ next. Got tt next)) }
+        ensures found { IsHonest (T.state tape.old) →
+            OnOk result ((f : Font) × IsLenientFont (T.state tape.old).bytes (T.state tape.old).place f) }
+        ensures only { IsHonest (T.state tape.old) →
+            IfErr result (λ e. e ≢ errors.Memory → (f : Font) → IsLenientFont (T.state tape.old).bytes (T.state tape.old).place f → ⊥) }
+        ensures why { IsHonest (T.state tape.old) →
+            IfErr result (λ e. e ≢ errors.Memory → NoLenientFont e (T.state tape.old).bytes (T.state tape.old).place) }
+        ensures exact { Reads (λ _. tt {0}) (T.state tape.old) result (T.state tape.new)
+            (λ bytes place. after (lenient_font bytes place) (λ _ next. Got tt next)) }
         ensures listed { IsListed (1 ∷ 2 ∷ 3 ∷ 5 ∷ 6 ∷ 7 ∷ 8 ∷ 9 ∷ 10 ∷ 11 ∷ 12 ∷ 13 ∷ 14 ∷ 15 ∷ 16 ∷ []) result }
     {
         reads_dictionaries();
@@ -240,9 +252,13 @@ impl Value for FontSet {
     fn read<T: Tape>(alloc: Global, tape: &mut T) -> Result<FontSet>
         ensures exact { Reads font_shown (T.state tape.old) result (T.state tape.new) font }
         ensures listed { IsListed (1 ∷ 2 ∷ 3 ∷ 5 ∷ 6 ∷ 7 ∷ 8 ∷ 9 ∷ 10 ∷ 11 ∷ 12 ∷ 13 ∷ 14 ∷ 15 ∷ 16 ∷ []) result }
-        ensures found { IsHonest (T.state tape.old) → IfOk result (λ f. IsFont (T.state tape.old).bytes (T.state tape.old).place (font_shown f) (T.state tape.new).place) }
-        ensures only { IsHonest (T.state tape.old) → IfErr result (λ e. e ≢ errors.Memory → (f : Font) (next : ℕ) → IsFont (T.state tape.old).bytes (T.state tape.old).place f next → ⊥) }
-        ensures why { IsHonest (T.state tape.old) → IfErr result (λ e. e ≢ errors.Memory → NoFont e (T.state tape.old).bytes (T.state tape.old).place) }
+        ensures found { IsHonest (T.state tape.old) →
+            IfOk result (λ f. IsFont (T.state tape.old).bytes (T.state tape.old).place (font_shown f) (T.state tape.new).place) }
+        ensures only { IsHonest (T.state tape.old) →
+            IfErr result (λ e. e ≢ errors.Memory → (f : Font) (next : ℕ) →
+            IsFont (T.state tape.old).bytes (T.state tape.old).place f next → ⊥) }
+        ensures why { IsHonest (T.state tape.old) →
+            IfErr result (λ e. e ≢ errors.Memory → NoFont e (T.state tape.old).bytes (T.state tape.old).place) }
     {
         reads_dictionaries();
         read_font(alloc, tape, Manner::Strict)

@@ -53,7 +53,13 @@ impl Model for Index {
 
     ghost Value = { Index };
 
-    ghost view = { λ index. record { count = index.count; offset_size = index.offset_size; offsets = index.offsets.items; items = map (λ item. item.items) index.items.items } };
+    ghost view = { λ index. record {
+      count = index.count;
+      offset_size = index.offset_size;
+      offsets = index.offsets.items;
+      items =
+          map (λ item. item.items) index.items.items;
+    } };
 }
 
 impl Index {
@@ -202,7 +208,8 @@ fn read_offsets<T: Tape>(
 ) -> Result<Vec<Offset>>
     ensures exact { Reads (λ offsets. offsets.items) (T.state tape.old) result (T.state tape.new) (the_offsets size (count + 1)) }
     ensures listed { IsListed (3 ∷ 1 ∷ 2 ∷ 5 ∷ 6 ∷ []) result }
-    ensures linked { IfOk result (λ offsets. AreLinked (λ given next. IsTrue (rises given.1 next)) behind (size, None) (count + 1) offsets.items) }
+    ensures linked { IfOk result
+        (λ offsets. AreLinked (λ given next. IsTrue (rises given.1 next)) behind (size, None) (count + 1) offsets.items) }
 {
     read_chain(alloc, tape, (size, None), usize::from(count) + 1)
 }

@@ -19,4 +19,5 @@ IsRefused from a b c = (is_open : Bool) (segments : List Segment) → drawn (Cur
 abbrev pub IsDrawnBy : (from : Point) (a b c : Vector) (first second to : Point) → Type 0
 IsDrawnBy from a b c first second to =
     (is_open : Bool) (segments : List Segment)
-    → drawn (Curve a b c) (standing from is_open segments) ≡ Ok (extended (begun (standing from is_open segments)) (CurveTo first second to) to)
+    → drawn (Curve a b c) (standing from is_open segments)
+    ≡ Ok (extended (begun (standing from is_open segments)) (CurveTo first second to) to)

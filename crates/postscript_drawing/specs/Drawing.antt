@@ -108,7 +108,8 @@ IsFullWhere refuses (Err Full) new = refuses new
 IsFullWhere refuses answered new = Unit {0}
 
 -- A pen draws strokes from where it stands, and a sink has taken the segments, one after another.
-pub record DrawsStrokes {T : Type 0} (after : T → Segment → T) (refuses : T → Type 0) (strokes : List Stroke) (pen : Pen) (old : T) (answered : Result (Unit {0}) Undrawn) (pen' : Pen) (new : T) : Type 0 where
+pub record DrawsStrokes {T : Type 0} (after : T → Segment → T) (refuses : T → Type 0) (strokes : List Stroke) (pen : Pen) (old : T)
+    (answered : Result (Unit {0}) Undrawn) (pen' : Pen) (new : T) : Type 0 where
   pub given : List Segment
   pub draws : DrawsTo (drawing strokes (held pen [])) answered (held pen' given)
   pub taken : new ≡ fold after old given

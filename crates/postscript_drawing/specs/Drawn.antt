@@ -25,7 +25,8 @@ abbrev pub DrawsAt : Point → Run → List Segment → Type 0
 DrawsAt origin run segments = outlined_at origin run.answers run.end ≡ Ok segments
 
 -- A glyph of the font by itself: the segments of its run, its width, and what its endchar names.
-pub record HasOwn (font : FontView) (glyph : ℕ) (origin : Point) (segments : List Segment) (width : Option ℤ) (accent : Option Accent) : Type 0 where
+pub record HasOwn (font : FontView) (glyph : ℕ) (origin : Point) (segments : List Segment) (width : Option ℤ)
+    (accent : Option Accent) : Type 0 where
   pub part : PrivateDict
   pub run : Run
   pub has : HasRun font glyph part run
@@ -80,4 +81,5 @@ DrawsGlyph after old new font glyph width = Takes after old new (λ segments. Is
 
 -- A law of the definitions: what a glyph draws is contours.
 abbrev pub DrawsContours : Type 0
-DrawsContours = (font : FontView) (glyph : ℕ) (segments : List Segment) (width : Option ℤ) → IsDrawnAs font glyph segments width → AreContours segments
+DrawsContours = (font : FontView) (glyph : ℕ) (segments : List Segment) (width : Option ℤ) → IsDrawnAs font glyph segments width →
+    AreContours segments

@@ -15,7 +15,8 @@ use Rattle.postscript_type2.specs.Program.Runs.{Answer, End, Phrase, UsedUp, wid
 
 -- All that a program still answers is drawn from a point: the sink has taken the segments, one after another, and this is the
 -- width.
-pub record DrawsProgram {T : Type 0} (after : T → Segment → T) (origin : Point) (old new : T) (width : Option ℤ) (pending : Pending) : Type 0 where
+pub record DrawsProgram {T : Type 0} (after : T → Segment → T) (origin : Point) (old new : T) (width : Option ℤ)
+    (pending : Pending) : Type 0 where
   pub segments : List Segment
   pub drawn : outlined_at origin pending.answers pending.end ≡ Ok segments
   pub taken : new ≡ fold after old segments

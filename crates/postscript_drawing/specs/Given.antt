@@ -26,13 +26,15 @@ GivesOwn after origin old new font glyph = (new ≡ old) ⊎ GivesOwnFront after
 
 -- of the glyph of a code: likewise
 abbrev pub GivesComponent : {T : Type 0} (after : T → Segment → T) (origin : Point) (old new : T) → FontView → (code : ℕ) → Type 0
-GivesComponent after origin old new font code = (new ≡ old) ⊎ ((glyph : ℕ) × IsComponent font code glyph × GivesOwnFront after origin old new font glyph)
+GivesComponent after origin old new font code =
+    (new ≡ old) ⊎ ((glyph : ℕ) × IsComponent font code glyph × GivesOwnFront after origin old new font glyph)
 
 -- of a base and an accent: some of the base, or all of it and some of the accent
 abbrev pub GivesComponents : {T : Type 0} (after : T → Segment → T) (old new : T) → FontView → Accent → Type 0
 GivesComponents {T} after old new font accent =
     GivesComponent after zero_point old new font accent.base
-    ⊎ ((between : T) × Takes after old between (DrawsComponent font accent.base zero_point) × GivesComponent after (point accent.dx accent.dy) between new font accent.accent)
+    ⊎ ((between : T) × Takes after old between (DrawsComponent font accent.base zero_point)
+    × GivesComponent after (point accent.dx accent.dy) between new font accent.accent)
 
 -- All of an accented glyph's own run, and some of its components.
 pub record GivesAccented {T : Type 0} (after : T → Segment → T) (old new : T) (font : FontView) (glyph : ℕ) : Type 0 where

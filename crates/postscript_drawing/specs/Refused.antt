@@ -56,11 +56,13 @@ pub record IsComponentUndrawn (font : FontView) (code : ℕ) (origin : Point) (e
 
 -- Why the glyph of a code is refused as a component: there is none, it is refused by itself, or it is accented.
 abbrev pub IsComponentRefused : FontView → (code : ℕ) → (origin : Point) → Error → Type 0
-IsComponentRefused font code origin e = HasNoComponent e font code ⊎ IsComponentUndrawn font code origin e ⊎ ((e ≡ NestedAccent code) × IsNested font code)
+IsComponentRefused font code origin e = HasNoComponent e font code ⊎ IsComponentUndrawn font code origin e
+    ⊎ ((e ≡ NestedAccent code) × IsNested font code)
 
 -- why the components are refused: the base, or the accent
 abbrev pub AreRefused : FontView → Accent → Error → Type 0
-AreRefused font accent e = IsComponentRefused font accent.base zero_point e ⊎ IsComponentRefused font accent.accent (point accent.dx accent.dy) e
+AreRefused font accent e = IsComponentRefused font accent.base zero_point e
+    ⊎ IsComponentRefused font accent.accent (point accent.dx accent.dy) e
 
 -- Why the components of a glyph are refused.
 pub record HasComponentsRefused (font : FontView) (glyph : ℕ) (e : Error) : Type 0 where

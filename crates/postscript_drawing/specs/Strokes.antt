@@ -49,7 +49,8 @@ curves _ = []
 
 -- {da dxb dyb dc}+: each begins and ends along the axis, but the first begins so far aside of it
 abbrev pub curves_along : Axis → (first : ℤ) → List ℤ → List Stroke
-curves_along axis first (da ∷ dxb ∷ dyb ∷ dc ∷ rest) = Curve (aside axis da first) (by dxb dyb) (along axis dc) ∷ curves_along axis (pos 0) rest
+curves_along axis first (da ∷ dxb ∷ dyb ∷ dc ∷ rest) =
+    Curve (aside axis da first) (by dxb dyb) (along axis dc) ∷ curves_along axis (pos 0) rest
 curves_along axis first _ = []
 
 -- d1? {da dxb dyb dc}+: of an odd number of operands the first is how far aside the first curve begins
@@ -65,7 +66,8 @@ alone _ = pos 0
 -- {da dxb dyb dc}+ de?: each begins along one axis and ends along the other, in turn; an operand alone behind the last one is how
 -- far aside that ends
 abbrev pub curves_in_turn : Axis → List ℤ → List Stroke
-curves_in_turn axis (da ∷ dxb ∷ dyb ∷ dc ∷ rest) = Curve (along axis da) (by dxb dyb) (aside (other axis) dc (alone rest)) ∷ curves_in_turn (other axis) rest
+curves_in_turn axis (da ∷ dxb ∷ dyb ∷ dc ∷ rest) = Curve (along axis da) (by dxb dyb) (aside (other axis) dc (alone rest))
+    ∷ curves_in_turn (other axis) rest
 curves_in_turn axis _ = []
 
 -- {dxa dya dxb dyb dxc dyc}+ dxd dyd: the last two are a line

@@ -18,4 +18,5 @@ used op xs = xs
 -- A law of the definitions: strokes use up the operands that fit. Two operations of one path operator that have as many operands,
 -- and draw the same strokes, have the same operands.
 abbrev pub StrokesUseOperands : Type 0
-StrokesUseOperands = (op : Operator) (xs ys : List ℤ) → IsDrawn (kind op) → Fits op xs → length xs ≡ length ys → strokes op xs ≡ strokes op ys → used op xs ≡ used op ys
+StrokesUseOperands = (op : Operator) (xs ys : List ℤ) → IsDrawn (kind op) → Fits op xs → length xs ≡ length ys →
+    strokes op xs ≡ strokes op ys → used op xs ≡ used op ys

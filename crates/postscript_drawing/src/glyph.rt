@@ -125,7 +125,9 @@ fn draw_own<S: Sink>(
     limit: &mut u64,
     sink: &mut S,
 ) -> Result<Own>
-    ensures own { IfOk result (λ own. Takes S.after (S.state sink.old) (S.state sink.new) (λ segments. HasOwn font.now glyph origin segments own.width own.accent)) }
+    ensures own { IfOk result
+        (λ own. Takes S.after (S.state sink.old) (S.state sink.new)
+        (λ segments. HasOwn font.now glyph origin segments own.width own.accent)) }
     ensures paid { IfOk result (λ own. PaysOwn font.now glyph own.accent limit.old limit.new) }
     ensures spends { SpendsOnRuns font.now 1 limit.old limit.new }
     ensures why { IfErr result (λ e. IsWanting limit.new e ⊎ IsGlyphRefused font.now glyph origin e) }
@@ -151,7 +153,8 @@ fn draw_run<S: Sink>(
     ensures told { IfOk result (λ own. IsTold own.accent (run_by glyph.now)) }
     ensures paid { OnOk result (Spends limit.old (run_by glyph.now).trace limit.new []) }
     ensures spends { (rest : List ASaid) × Spends limit.old (run_by glyph.now).trace limit.new rest }
-    ensures why { IfErr result (λ e. IsWanting limit.new e ⊎ IsUndrawn origin e (run_by glyph.now).answers (run_by glyph.now).end ⊎ IsUnread e (run_by glyph.now)) }
+    ensures why { IfErr result (λ e. IsWanting limit.new e ⊎ IsUndrawn origin e (run_by glyph.now).answers (run_by glyph.now).end
+        ⊎ IsUnread e (run_by glyph.now)) }
     ensures front { OnErr result (DrawsFront S.after origin (S.state sink.old) (S.state sink.new) (run_by glyph.now).answers) }
     ensures full { result ≡ Err errors.Full → S.refuses (S.state sink.new) }
 {

@@ -28,7 +28,8 @@ pub fn outline_of_operations(
     ensures fit { OnOk result (AllFit (answers_of width operations.now)) }
     ensures contours { IfOk result (λ outline. AreContours outline.segments.items) }
     ensures exact { let run = run_telling operations.now width in
-        MatchResult result (λ outline. OutlinesApplied outline run) (λ e. (e ≡ errors.Memory) ⊎ (outline_applied run ≡ Err (refusal_of e))) }
+        MatchResult result (λ outline. OutlinesApplied outline run)
+        (λ e. (e ≡ errors.Memory) ⊎ (outline_applied run ≡ Err (refusal_of e))) }
     ensures listed { IsListed (3 ∷ 20 ∷ 26 ∷ []) result }
 {
     applied(alloc, operations, width)
@@ -37,7 +38,8 @@ pub fn outline_of_operations(
 /// The same, as the pen applies them.
 fn applied(alloc: Global, operations: &[Operation], width: Option<Operand>) -> Result<Outline>
     ensures exact { let run = run_telling operations.now width in
-        MatchResult result (λ outline. OutlinesApplied outline run) (λ e. (e ≡ errors.Memory) ⊎ (outline_applied run ≡ Err (refusal_of e))) }
+        MatchResult result (λ outline. OutlinesApplied outline run)
+        (λ e. (e ≡ errors.Memory) ⊎ (outline_applied run ≡ Err (refusal_of e))) }
     ensures listed { IsListed (3 ∷ 20 ∷ 26 ∷ []) result }
 {
     let mut pen = Pen::new();

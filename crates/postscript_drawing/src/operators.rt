@@ -136,7 +136,8 @@ pub(crate) struct CurveVectors<'o> {
 /// dxa dya dxb dyb dxc dyc
 #[inline(always)]
 pub(crate) fn curve(operands: &[Operand]) -> Option<CurveVectors<'_>>
-    ensures { MatchOption result (the_curves operands.now ≡ []) (λ v. the_curves operands.now ≡ Stroke.Curve v.a v.b v.c ∷ the_curves v.rest.now) }
+    ensures { MatchOption result (the_curves operands.now ≡ [])
+        (λ v. the_curves operands.now ≡ Stroke.Curve v.a v.b v.c ∷ the_curves v.rest.now) }
 {
     // one test of the length in place of three
     if operands.len() < 6 {
@@ -159,7 +160,8 @@ fn curves(operands: &[Operand]) -> Option<(Stroke, &[Operand])>
 /// da
 #[inline(always)]
 pub(crate) fn line_in_turn(axis: Axis, operands: &[Operand]) -> Option<(Vector, &[Operand])>
-    ensures { MatchOption result (the_lines_in_turn axis operands.now ≡ []) (λ r. the_lines_in_turn axis operands.now ≡ Stroke.Line r.0 ∷ the_lines_in_turn (the_other axis) r.1.now) }
+    ensures { MatchOption result (the_lines_in_turn axis operands.now ≡ [])
+        (λ r. the_lines_in_turn axis operands.now ≡ Stroke.Line r.0 ∷ the_lines_in_turn (the_other axis) r.1.now) }
 {
     let (d, rest) = one(operands)?;
     Some((axis.along(d), rest))
@@ -176,7 +178,8 @@ fn lines_in_turn(axis: Axis, operands: &[Operand]) -> Option<(Stroke, Strokes<'_
 /// da dxb dyb dc
 #[inline(always)]
 pub(crate) fn curve_along(axis: Axis, first: i64, operands: &[Operand]) -> Option<CurveVectors<'_>>
-    ensures { MatchOption result (the_curves_along axis first operands.now ≡ []) (λ v. the_curves_along axis first operands.now ≡ Stroke.Curve v.a v.b v.c ∷ the_curves_along axis (pos 0) v.rest.now) }
+    ensures { MatchOption result (the_curves_along axis first operands.now ≡ [])
+        (λ v. the_curves_along axis first operands.now ≡ Stroke.Curve v.a v.b v.c ∷ the_curves_along axis (pos 0) v.rest.now) }
 {
     let bow = curve_operands(operands)?;
     Some(CurveVectors {
@@ -201,7 +204,8 @@ fn curves_along(axis: Axis, first: i64, operands: &[Operand]) -> Option<(Stroke,
 /// da dxb dyb dc de?
 #[inline(always)]
 pub(crate) fn curve_in_turn(axis: Axis, operands: &[Operand]) -> Option<CurveVectors<'_>>
-    ensures { MatchOption result (the_curves_in_turn axis operands.now ≡ []) (λ v. the_curves_in_turn axis operands.now ≡ Stroke.Curve v.a v.b v.c ∷ the_curves_in_turn (the_other axis) v.rest.now) }
+    ensures { MatchOption result (the_curves_in_turn axis operands.now ≡ [])
+        (λ v. the_curves_in_turn axis operands.now ≡ Stroke.Curve v.a v.b v.c ∷ the_curves_in_turn (the_other axis) v.rest.now) }
 {
     let bow = curve_operands(operands)?;
     let a = axis.along(bow.begin);

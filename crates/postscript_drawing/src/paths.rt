@@ -26,7 +26,8 @@ impl Pen {
         operands: &[Operand],
         sink: &mut S,
     ) -> Stroked
-        ensures { DrawsStrokes S.after S.refuses (the_strokes operator operands.now) self.old (S.state sink.old) result self.new (S.state sink.new) }
+        ensures { DrawsStrokes S.after S.refuses (the_strokes operator operands.now) self.old (S.state sink.old) result self.new
+            (S.state sink.new) }
     {
         match operator {
             Operator::RMoveTo => self.go(operands, sink),
@@ -53,7 +54,8 @@ impl Pen {
     /// What a flex draws. It stays a call, since few glyphs have one and strokes take much room.
     #[inline(never)]
     fn flexes<S: Sink>(&mut self, operator: Operator, operands: &[Operand], sink: &mut S) -> Stroked
-        ensures { DrawsStrokes S.after S.refuses (the_strokes operator operands.now) self.old (S.state sink.old) result self.new (S.state sink.new) }
+        ensures { DrawsStrokes S.after S.refuses (the_strokes operator operands.now) self.old (S.state sink.old) result self.new
+            (S.state sink.new) }
     {
         self.draw_all(Strokes::of(operator, operands), sink)
     }
@@ -70,7 +72,8 @@ impl Pen {
 
     /// d1
     fn go_along<S: Sink>(&mut self, axis: Axis, operands: &[Operand], sink: &mut S) -> Stroked
-        ensures { DrawsStrokes S.after S.refuses (the_move_along axis operands.now) self.old (S.state sink.old) result self.new (S.state sink.new) }
+        ensures { DrawsStrokes S.after S.refuses (the_move_along axis operands.now) self.old (S.state sink.old) result self.new
+            (S.state sink.new) }
     {
         match operands {
             [d1] => self.move_by(axis.along(wide(*d1)), sink),
@@ -94,7 +97,8 @@ impl Pen {
     /// {da}+: a round draws one line along each axis.
     #[inline(always)]
     fn lines_in_turn<S: Sink>(&mut self, first: Axis, operands: &[Operand], sink: &mut S) -> Stroked
-        ensures { DrawsStrokes S.after S.refuses (the_lines_in_turn first operands.now) self.old (S.state sink.old) result self.new (S.state sink.new) }
+        ensures { DrawsStrokes S.after S.refuses (the_lines_in_turn first operands.now) self.old (S.state sink.old) result self.new
+            (S.state sink.new) }
     {
         let mut ahead = operands;
         while let Some((a, behind)) = line_in_turn(first, ahead) {
@@ -123,7 +127,8 @@ impl Pen {
 
     /// d1? {da dxb dyb dc}+
     fn curves_level<S: Sink>(&mut self, axis: Axis, operands: &[Operand], sink: &mut S) -> Stroked
-        ensures { DrawsStrokes S.after S.refuses (the_curves_level axis operands.now) self.old (S.state sink.old) result self.new (S.state sink.new) }
+        ensures { DrawsStrokes S.after S.refuses (the_curves_level axis operands.now) self.old (S.state sink.old) result self.new
+            (S.state sink.new) }
     {
         let (first, rest) = first_aside(operands);
         self.curves_along(axis, first, rest, sink)
@@ -138,7 +143,8 @@ impl Pen {
         operands: &[Operand],
         sink: &mut S,
     ) -> Stroked
-        ensures { DrawsStrokes S.after S.refuses (the_curves_along axis first operands.now) self.old (S.state sink.old) result self.new (S.state sink.new) }
+        ensures { DrawsStrokes S.after S.refuses (the_curves_along axis first operands.now) self.old (S.state sink.old) result self.new
+            (S.state sink.new) }
     {
         let mut off = first;
         let mut ahead = operands;
@@ -158,7 +164,8 @@ impl Pen {
         operands: &[Operand],
         sink: &mut S,
     ) -> Stroked
-        ensures { DrawsStrokes S.after S.refuses (the_curves_in_turn first operands.now) self.old (S.state sink.old) result self.new (S.state sink.new) }
+        ensures { DrawsStrokes S.after S.refuses (the_curves_in_turn first operands.now) self.old (S.state sink.old) result self.new
+            (S.state sink.new) }
     {
         let mut ahead = operands;
         while let Some(bend) = curve_in_turn(first, ahead) {
@@ -174,7 +181,8 @@ impl Pen {
 
     /// {dxa dya dxb dyb dxc dyc}+ dxd dyd
     fn curves_then_line<S: Sink>(&mut self, operands: &[Operand], sink: &mut S) -> Stroked
-        ensures { DrawsStrokes S.after S.refuses (the_curves_then_line operands.now) self.old (S.state sink.old) result self.new (S.state sink.new) }
+        ensures { DrawsStrokes S.after S.refuses (the_curves_then_line operands.now) self.old (S.state sink.old) result self.new
+            (S.state sink.new) }
     {
         let (these, those) = operands.split_at(operands.len().saturating_sub(2));
         self.curves(these, sink)?;
@@ -183,7 +191,8 @@ impl Pen {
 
     /// {dxa dya}+ dxb dyb dxc dyc dxd dyd
     fn lines_then_curve<S: Sink>(&mut self, operands: &[Operand], sink: &mut S) -> Stroked
-        ensures { DrawsStrokes S.after S.refuses (the_lines_then_curve operands.now) self.old (S.state sink.old) result self.new (S.state sink.new) }
+        ensures { DrawsStrokes S.after S.refuses (the_lines_then_curve operands.now) self.old (S.state sink.old) result self.new
+            (S.state sink.new) }
     {
         let (these, those) = operands.split_at(operands.len().saturating_sub(6));
         self.lines(these, sink)?;

@@ -179,7 +179,8 @@ impl Pen {
         operands: &[Operand],
         segments: &mut Vec<Segment>,
     ) -> Result<()>
-        ensures exact { Draws (drawing (the_strokes operator operands.now) (held self.old segments.old.items)) result (held self.new segments.new.items) }
+        ensures exact { Draws (drawing (the_strokes operator operands.now) (held self.old segments.old.items)) result
+            (held self.new segments.new.items) }
         ensures listed { IsListed (3 ∷ 26 ∷ []) result }
         ensures unchanged { OnErr result (held self.new segments.new.items ≡ held self.old segments.old.items) }
     {

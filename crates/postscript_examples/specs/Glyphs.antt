@@ -37,4 +37,5 @@ first_refused_by lists (code ∷ codes) = option_or (refused_by lists code) (fir
 
 -- one of a font's dictionaries, counted from 0, has these char strings and these local subroutines
 abbrev pub HasGlyphs : Font → ℕ → (codes local : Index) → Type 0
-HasGlyphs font dictionary codes local = (slice_get font.char_strings dictionary ≡ Some codes) × (slice_get font.local_subroutines dictionary ≡ Some local)
+HasGlyphs font dictionary codes local = (slice_get font.char_strings dictionary ≡ Some codes)
+    × (slice_get font.local_subroutines dictionary ≡ Some local)

@@ -28,11 +28,14 @@ pub fn advance(
     dictionary: usize,
     glyph: usize,
 ) -> Result<Option<i64>>
-    ensures advance { (code : List ℕ) (local : Index) (private : Dictionary) → HasGlyph (font_shown font.now) dictionary glyph code local private →
+    ensures advance { (code : List ℕ) (local : Index) (private : Dictionary) →
+        HasGlyph (font_shown font.now) dictionary glyph code local private →
         IfOk result (λ found. found ≡ advance_by (font_shown font.now) code local private) }
-    ensures refused { (code : List ℕ) (local : Index) (private : Dictionary) → HasGlyph (font_shown font.now) dictionary glyph code local private →
+    ensures refused { (code : List ℕ) (local : Index) (private : Dictionary) →
+        HasGlyph (font_shown font.now) dictionary glyph code local private →
         IfErr result (λ e. (e ≡ Error.Memory) ⊎ (refused_by (lists (font_shown font.now).global_subroutines local) code ≡ Some (refusal_of e))) }
-    ensures absent { ((code : List ℕ) (local : Index) (private : Dictionary) → HasGlyph (font_shown font.now) dictionary glyph code local private → ⊥) →
+    ensures absent { ((code : List ℕ) (local : Index) (private : Dictionary) →
+        HasGlyph (font_shown font.now) dictionary glyph code local private → ⊥) →
         IsOkAnd result (λ found. found ≡ None) }
 {
     let (Some(codes), Some(local), Some(private)) = (
@@ -62,8 +65,10 @@ fn advance_over(
     local: &[Vec<u8>],
     private: &Operations,
 ) -> Result<Option<i64>>
-    ensures advance { IfOk result (λ found. found ≡ the_advance private.now (width_of (run_of (subroutines global.now local.now) code.now))) }
-    ensures refused { IfErr result (λ e. (e ≡ Error.Memory) ⊎ (refused_by (subroutines global.now local.now) code.now ≡ Some (refusal_of e))) }
+    ensures advance { IfOk result
+        (λ found. found ≡ the_advance private.now (width_of (run_of (subroutines global.now local.now) code.now))) }
+    ensures refused { IfErr result
+        (λ e. (e ≡ Error.Memory) ⊎ (refused_by (subroutines global.now local.now) code.now ≡ Some (refusal_of e))) }
 {
     let (_operations, width) = drawn(alloc, code, global, local)?;
     Ok(advance_of(private, width))

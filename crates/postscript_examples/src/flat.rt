@@ -13,10 +13,12 @@ use std::alloc::Global;
 
 /// The code of a glyph without calls: over any subroutines, and over none, it draws the same.
 pub fn flat(alloc: Global, code: &[u8], global: &[Vec<u8>], local: &[Vec<u8>]) -> Result<Vec<u8>>
-    ensures same { IfOk result (λ flat. (other : Lists) → drawn_by other flat.items ≡ drawn_by (subroutines global.now local.now) code.now) }
+    ensures same { IfOk result (λ flat. (other : Lists) →
+        drawn_by other flat.items ≡ drawn_by (subroutines global.now local.now) code.now) }
     ensures alone { IfOk result (λ flat. drawn_by (subroutines [] []) flat.items ≡ drawn_by (subroutines global.now local.now) code.now) }
     ensures faultless { OnOk result (refused_by (subroutines global.now local.now) code.now ≡ None) }
-    ensures refused { IfErr result (λ e. (e ≡ Error.Memory) ⊎ (refused_by (subroutines global.now local.now) code.now ≡ Some (refusal_of e))) }
+    ensures refused { IfErr result
+        (λ e. (e ≡ Error.Memory) ⊎ (refused_by (subroutines global.now local.now) code.now ≡ Some (refusal_of e))) }
 {
     Program::flatten(alloc, code, global, local)
 }
@@ -28,9 +30,11 @@ pub fn each_flat(
     global: &[Vec<u8>],
     local: &[Vec<u8>],
 ) -> Result<Vec<Vec<u8>>>
-    ensures same { IfOk result (λ flat. map (λ code. drawn_by (subroutines [] []) code.items) flat.items ≡ map (λ code. drawn_by (subroutines global.now local.now) code.items) codes.now) }
+    ensures same { IfOk result (λ flat. map (λ code. drawn_by (subroutines [] []) code.items) flat.items ≡ map
+        (λ code. drawn_by (subroutines global.now local.now) code.items) codes.now) }
     ensures faultless { OnOk result (first_refused_by (subroutines global.now local.now) (texts codes.now) ≡ None) }
-    ensures refused { IfErr result (λ e. (e ≡ Error.Memory) ⊎ (first_refused_by (subroutines global.now local.now) (texts codes.now) ≡ Some (refusal_of e))) }
+    ensures refused { IfErr result
+        (λ e. (e ≡ Error.Memory) ⊎ (first_refused_by (subroutines global.now local.now) (texts codes.now) ≡ Some (refusal_of e))) }
 {
     let mut flat_codes = Vec::new(alloc);
     for code in codes {
@@ -48,7 +52,8 @@ pub fn flat_glyphs_of(alloc: Global, font: &FontSet, dictionary: usize) -> Resul
         OnOk result (first_refused_by (lists (font_shown font.now).global_subroutines local) codes.items ≡ None) }
     ensures refused { (codes local : Index) → HasGlyphs (font_shown font.now) dictionary codes local →
         IfErr result (λ e. (e ≡ Error.Memory) ⊎ (first_refused_by (lists (font_shown font.now).global_subroutines local) codes.items ≡ Some (refusal_of e))) }
-    ensures absent { (slice_get (font_shown font.now).char_strings dictionary ≡ None) ⊎ (slice_get (font_shown font.now).local_subroutines dictionary ≡ None) →
+    ensures absent { (slice_get (font_shown font.now).char_strings dictionary ≡ None)
+        ⊎ (slice_get (font_shown font.now).local_subroutines dictionary ≡ None) →
         IsOkAnd result (λ flat. flat.items ≡ []) }
 {
     let (Some(codes), Some(local)) = (

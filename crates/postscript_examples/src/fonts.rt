@@ -24,7 +24,8 @@ pub fn font_of(alloc: Global, bytes: &[u8]) -> Result<FontSet>
 
 /// The names of the fonts that bytes hold. They are answered exactly where a font stands, running out of memory aside.
 pub fn names_of(alloc: Global, bytes: &[u8]) -> Result<Vec<String>>
-    ensures names { IfOk result (λ names. (font : Font) × (next : ℕ) × IsFont bytes.now 0 font next × (font.names ≡ map string_bytes names.items)) }
+    ensures names { IfOk result (λ names. (font : Font) × (next : ℕ) × IsFont bytes.now 0 font next
+        × (font.names ≡ map string_bytes names.items)) }
     ensures only { IfErr result (λ e. e ≢ Error.Memory → (font : Font) (next : ℕ) → IsFont bytes.now 0 font next → ⊥) }
 {
     let font = font_of(alloc, bytes)?;
@@ -40,7 +41,8 @@ pub fn glyphs_of(alloc: Global, font: &FontSet, dictionary: usize) -> Result<Vec
         OnOk result (first_refused_by (lists (font_shown font.now).global_subroutines local) codes.items ≡ None) }
     ensures refused { (codes local : Index) → HasGlyphs (font_shown font.now) dictionary codes local →
         IfErr result (λ e. (e ≡ Error.Memory) ⊎ (first_refused_by (lists (font_shown font.now).global_subroutines local) codes.items ≡ Some (refusal_of e))) }
-    ensures absent { (slice_get (font_shown font.now).char_strings dictionary ≡ None) ⊎ (slice_get (font_shown font.now).local_subroutines dictionary ≡ None) →
+    ensures absent { (slice_get (font_shown font.now).char_strings dictionary ≡ None)
+        ⊎ (slice_get (font_shown font.now).local_subroutines dictionary ≡ None) →
         IsOkAnd result (λ glyphs. glyphs.items ≡ []) }
 {
     let (Some(codes), Some(local)) = (

@@ -17,7 +17,8 @@ pub type Glyph = (Operations, Option<Operand>);
 pub fn glyph(alloc: Global, code: &[u8], global: &[Vec<u8>], local: &[Vec<u8>]) -> Result<Glyph>
     ensures drawn { IfOk result (λ glyph. drawn glyph ≡ drawn_by (subroutines global.now local.now) code.now) }
     ensures faultless { OnOk result (refused_by (subroutines global.now local.now) code.now ≡ None) }
-    ensures refused { IfErr result (λ e. (e ≡ Error.Memory) ⊎ (refused_by (subroutines global.now local.now) code.now ≡ Some (refusal_of e))) }
+    ensures refused { IfErr result
+        (λ e. (e ≡ Error.Memory) ⊎ (refused_by (subroutines global.now local.now) code.now ≡ Some (refusal_of e))) }
 {
     let answers = type2::run(alloc, code, global, local)?;
     match answers.fault {
@@ -33,9 +34,11 @@ pub fn each_glyph(
     global: &[Vec<u8>],
     local: &[Vec<u8>],
 ) -> Result<Vec<Glyph>>
-    ensures drawn { IfOk result (λ glyphs. map drawn glyphs.items ≡ map (λ code. drawn_by (subroutines global.now local.now) code.items) codes.now) }
+    ensures drawn { IfOk result
+        (λ glyphs. map drawn glyphs.items ≡ map (λ code. drawn_by (subroutines global.now local.now) code.items) codes.now) }
     ensures faultless { OnOk result (first_refused_by (subroutines global.now local.now) (texts codes.now) ≡ None) }
-    ensures refused { IfErr result (λ e. (e ≡ Error.Memory) ⊎ (first_refused_by (subroutines global.now local.now) (texts codes.now) ≡ Some (refusal_of e))) }
+    ensures refused { IfErr result
+        (λ e. (e ≡ Error.Memory) ⊎ (first_refused_by (subroutines global.now local.now) (texts codes.now) ≡ Some (refusal_of e))) }
 {
     let mut glyphs = Vec::new(alloc);
     for code in codes {

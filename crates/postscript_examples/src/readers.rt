@@ -54,7 +54,8 @@ impl Linked for Rising {
 
 /// So many offsets that rise from 0.
 pub fn offsets<T: Tape>(alloc: Global, tape: &mut T, count: usize) -> Result<Vec<Rising>>
-    ensures exact { Reads (λ offsets. map (λ offset. offset.0) offsets.items) (T.state tape.old) result (T.state tape.new) (chain rising greatest 0 count) }
+    ensures exact { Reads (λ offsets. map (λ offset. offset.0) offsets.items) (T.state tape.old) result (T.state tape.new)
+        (chain rising greatest 0 count) }
     ensures listed { IsListed (3 ∷ 1 ∷ 2 ∷ 5 ∷ []) result }
 {
     read_chain(alloc, tape, 0, count)
@@ -100,7 +101,8 @@ impl Until for Run {
 
 /// Runs until so many glyphs are covered.
 pub fn runs<T: Tape>(alloc: Global, tape: &mut T, glyphs: u64) -> Result<Vec<Run>>
-    ensures exact { Reads (λ runs. map (λ run. run.0) runs.items) (T.state tape.old) result (T.state tape.new) (until is_covered covers uncovered glyphs) }
+    ensures exact { Reads (λ runs. map (λ run. run.0) runs.items) (T.state tape.old) result (T.state tape.new)
+        (until is_covered covers uncovered glyphs) }
     ensures listed { IsListed (3 ∷ 1 ∷ 2 ∷ []) result }
 {
     numbers_move_on(1);
@@ -151,7 +153,8 @@ impl Source for Size {
 
 /// A text for each size, one after the other.
 pub fn texts<T: Tape>(alloc: Global, tape: &mut T, sizes: &[Size]) -> Result<Vec<Vec<u8>>>
-    ensures exact { Reads (λ texts. map (λ text. text.items) texts.items) (T.state tape.old) result (T.state tape.new) (each (text_of 255) (map (λ size. size.0) sizes.now)) }
+    ensures exact { Reads (λ texts. map (λ text. text.items) texts.items) (T.state tape.old) result (T.state tape.new)
+        (each (text_of 255) (map (λ size. size.0) sizes.now)) }
     ensures listed { IsListed (3 ∷ 1 ∷ 2 ∷ 3 ∷ 5 ∷ []) result }
 {
     read_each(alloc, tape, sizes, 255)

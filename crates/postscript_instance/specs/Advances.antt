@@ -18,7 +18,8 @@ IsAdded (Some variations) glyph coordinates added =
 -- the advance of a glyph at the place: that of `hmtx`, and what is added
 abbrev pub IsAdvanceAt : AdvancesAt → (glyph : ℕ) → (advance : ℤ) → Type 0
 IsAdvanceAt advances glyph advance =
-    (added : ℤ) × IsAdded advances.variations glyph advances.coordinates.now added × (advance ≡ pos (advance_in advances.default glyph) +ℤ added)
+    (added : ℤ) × IsAdded advances.variations glyph advances.coordinates.now added
+    × (advance ≡ pos (advance_in advances.default glyph) +ℤ added)
 
 -- a charstring has room for it as its width
 abbrev pub HasRoom : ℤ → Type 0
@@ -35,7 +36,8 @@ pub record AreAdvancesAt (advances : AdvancesAt) (count : ℕ) (operands : List 
 
 -- the advance of a glyph has no room, or its number has more than two bytes
 abbrev pub HasNoOperand : AdvancesAt → (glyph : ℕ) → Error → Type 0
-HasNoOperand advances glyph (errors.Advance number) = (number ≡ glyph) × (advance : ℤ) × IsAdvanceAt advances glyph advance × (HasRoom advance → ⊥)
+HasNoOperand advances glyph (errors.Advance number) = (number ≡ glyph) × (advance : ℤ) × IsAdvanceAt advances glyph advance
+    × (HasRoom advance → ⊥)
 HasNoOperand advances glyph errors.TooLarge = 65536 ≤ glyph
 HasNoOperand advances glyph e = ⊥
 

@@ -28,7 +28,8 @@ in_turn axis (d ∷ rest) = so_far axis d ∷ in_turn (other axis) rest
 
 -- {da dxb dyb dc}+ de?: each begins and ends along these axes, and the next the other way round; an operand alone goes aside of the end
 abbrev pub bows : (begin end : Axis) → List ℤ → List Step
-bows begin end (da ∷ dxb ∷ dyb ∷ dc ∷ rest) = so_far begin da ∷ so_far Horizontal dxb ∷ so_far Vertical dyb ∷ so_far end dc ∷ bows end begin rest
+bows begin end (da ∷ dxb ∷ dyb ∷ dc ∷ rest) = so_far begin da ∷ so_far Horizontal dxb ∷ so_far Vertical dyb ∷ so_far end dc
+    ∷ bows end begin rest
 bows begin end (de ∷ []) = so_far end de ∷ []
 bows begin end _ = []
 
@@ -112,4 +113,5 @@ pub record IsNear (p : Point) (x : Phrase) : Type 0 where
 -- something that is said is not
 pub data LeadsTooFar : Point → List Phrase → Type 0 where
   here : (p : Point) (x : Phrase) (xs : List Phrase) → ¬ IsNear p x → LeadsTooFar p (x ∷ xs)
-  later : (p : Point) (x : Phrase) (xs : List Phrase) → LeadsTooFar (behind_steps p (steps_of x.operator x.operands)) xs → LeadsTooFar p (x ∷ xs)
+  later : (p : Point) (x : Phrase) (xs : List Phrase) → LeadsTooFar (behind_steps p (steps_of x.operator x.operands)) xs →
+      LeadsTooFar p (x ∷ xs)

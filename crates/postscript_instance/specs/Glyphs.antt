@@ -34,7 +34,8 @@ NoStaticGlyph font glyph place width e =
 
 -- there are names, and not as many as glyphs, or not one Font DICT
 abbrev pub IsMiscounted : Font → Naming → Error → Type 0
-IsMiscounted font naming errors.OtherNames = IfSome naming.glyphs (λ names. length names.now ≢ length (view_shown font).char_strings) × IsSome naming.glyphs
+IsMiscounted font naming errors.OtherNames = IfSome naming.glyphs (λ names. length names.now ≢ length (view_shown font).char_strings)
+    × IsSome naming.glyphs
 IsMiscounted font naming errors.NotOneDictionary = IsSome naming.glyphs × (length (view_shown font).font_dictionaries ≢ 1)
 IsMiscounted font naming e = ⊥
 
@@ -51,7 +52,8 @@ abbrev pub DoesAt : Font → Place → (glyph : ℕ) → (width : ℤ) → (code
 DoesAt font place glyph width code = IsStaticGlyph font glyph place (Some width) code
 
 -- the codes of the first so many glyphs, each of which does what it is to do, with its width
-pub record AreCodes (does : (glyph : ℕ) → (width : ℤ) → (code : List ℕ) → Type 0) (widths : List ℤ) (count : ℕ) (codes : List (Vec ℕ Global)) : Type 0 where
+pub record AreCodes (does : (glyph : ℕ) → (width : ℤ) → (code : List ℕ) → Type 0) (widths : List ℤ) (count : ℕ)
+    (codes : List (Vec ℕ Global)) : Type 0 where
   pub counted : length codes ≡ count
   pub each : (glyph : ℕ) → glyph < count → (width : ℤ) × (code : Vec ℕ Global) × (slice_get widths glyph ≡ Some width) ×
       (slice_get codes glyph ≡ Some code) × does glyph width code.items
@@ -85,7 +87,8 @@ pub record HasNoCode (does : (glyph : ℕ) → (width : ℤ) → (code : List �
 
 -- there is one; or what is written is too large or not read back, or memory runs out
 abbrev pub LacksCode : Font → Place → (widths : List ℤ) → Error → Type 0
-LacksCode font place widths e = IsLate e ⊎ HasNoCode (DoesAt font place) (λ glyph width e. NoStaticGlyph font glyph place (Some width) e) widths e
+LacksCode font place widths e = IsLate e ⊎ HasNoCode (DoesAt font place)
+    (λ glyph width e. NoStaticGlyph font glyph place (Some width) e) widths e
 
 abbrev pub LacksRoundedCode : Font → Place → (widths : List ℤ) → Error → Type 0
 LacksRoundedCode font place widths e =

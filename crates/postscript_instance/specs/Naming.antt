@@ -12,7 +12,8 @@ use Rattle.postscript_view.specs.declared.char_set.CharSetView.{CharSetView}
 
 -- so many glyphs have these names, by a char set; but the first, which is `.notdef`
 pub record AreNames (view : View) (set : CharSetView) (names : List (Bor (List ℕ))) (count : ℕ) : Type 0 where
-  pub each : (glyph : ℕ) (name : Bor (List ℕ)) → 0 < glyph → glyph < count → slice_get names glyph ≡ Some name → HasName view set glyph name.now
+  pub each : (glyph : ℕ) (name : Bor (List ℕ)) → 0 < glyph → glyph < count → slice_get names glyph ≡ Some name →
+      HasName view set glyph name.now
 
 -- the font is CID-keyed, and the CIDs of so many glyphs are their numbers
 pub record AreCids (view : View) (set : CharSetView) (count : ℕ) : Type 0 where

@@ -34,5 +34,6 @@ pub record IsInPieces (x : Phrase) (pieces : List Phrase) : Type 0 where
 pub data AreInPieces : List Phrase → List Phrase → Type 0 where
   nothing : AreInPieces [] []
   as_it_is : (x : Phrase) (xs written : List Phrase) → AreInPieces xs written → AreInPieces (x ∷ xs) (x ∷ written)
-  in_pieces : (x : Phrase) (pieces xs written : List Phrase) → stack_limit < length x.operands → IsInPieces x pieces → AreInPieces xs written →
+  in_pieces : (x : Phrase) (pieces xs written : List Phrase) → stack_limit < length x.operands → IsInPieces x pieces →
+      AreInPieces xs written →
       AreInPieces (x ∷ xs) (pieces ++ written)

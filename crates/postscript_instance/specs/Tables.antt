@@ -37,7 +37,8 @@ pub record IsPlainFont (view : View) (codes : List (Vec ℕ Global)) : Type 0 wh
 -- A font stands in the bytes (Technical Note 5176, "CFF Data Layout"), which has no subroutines that its glyphs share. Each of its glyphs
 -- has a code that does what it is to do, with its advance as its width, and nothing is added to that. The font and its glyphs are called
 -- as they are to be.
-pub record IsTable (does : (glyph : ℕ) → (advance : ℤ) → (code : List ℕ) → Type 0) (naming : Naming) (advances : List ℤ) (bytes : List ℕ) : Type 0 where
+pub record IsTable (does : (glyph : ℕ) → (advance : ℤ) → (code : List ℕ) → Type 0) (naming : Naming) (advances : List ℤ)
+    (bytes : List ℕ) : Type 0 where
   pub view : View
   pub stands : IsLaidOut bytes 0 view
   pub counted : length view.char_strings ≡ length advances
@@ -48,7 +49,8 @@ pub record IsTable (does : (glyph : ℕ) → (advance : ℤ) → (code : List �
   pub widths : HaveNoWidths view.parts
   pub called : IsCalled naming bytes view
 
--- The table of a font at the place of the coordinates of its advances: each code does what it is to do there, with the glyph's advance there
+-- The table of a font at the place of the coordinates of its advances: each code does what it is to do there, with the glyph's advance
+-- there
 -- as its width.
 pub record IsTableAt (does : Font → Place → (glyph : ℕ) → (advance : ℤ) → (code : List ℕ) → Type 0) (font : Font) (naming : Naming)
     (advances : AdvancesAt) (bytes : List ℕ) : Type 0 where

@@ -128,7 +128,8 @@ fn have_no_widths(parts: &[PrivateDict<'_>]) -> bool
 
 /// Reads back what was written. Refused: `NotReadBack` where it is not the font of these codes, called so; `Font` with `Memory`.
 fn read_back(alloc: Global, bytes: &[u8], codes: &[Vec<u8>], naming: &Naming<'_>) -> Result<()>
-    ensures font { OnOk result ((view : View) × IsLaidOut bytes.now 0 view × IsPlainFont view codes.now × IsCalled naming.now bytes.now view) }
+    ensures font { OnOk result ((view : View) × IsLaidOut bytes.now 0 view × IsPlainFont view codes.now
+        × IsCalled naming.now bytes.now view) }
     ensures late { IfErr result (λ e. IsLate e) }
 {
     let font = match FontView::read(alloc, bytes) {
@@ -233,7 +234,8 @@ fn place_of(alloc: Global, font: &Font<'_>, coordinates: &[i16]) -> Result<Place
     }
 }
 
-/// The table `CFF ` of a place of a variable font, that of the coordinates of its advances, and with these names. Each glyph's charstring is
+/// The table `CFF ` of a place of a variable font, that of the coordinates of its advances, and with these names. Each glyph's charstring
+/// is
 /// that of `glyph`; its width is the glyph's advance at the place, and `nominalWidthX` is 0. Where glyphs have names, the char set and the
 /// strings tell them, but for the first, which is `.notdef`; where they have none, it is a CID-keyed font (ROS Adobe, Identity, 0), whose
 /// CIDs are the numbers of its glyphs, with the Font DICTs of the table CFF2. It has the FontMatrix of the table CFF2, and no subroutines.
@@ -246,7 +248,8 @@ fn place_of(alloc: Global, font: &Font<'_>, coordinates: &[i16]) -> Result<Place
 ///
 /// Refused: `OtherNames` where there are not as many names as glyphs; `NotOneDictionary` where there are names, and not one Font DICT; as
 /// `AdvancesAt::operands` is; `NoData` for the first item variation data that do not stand; as `glyph` is, for the first glyph that is;
-/// `TooLarge` where there are more than 65,535 glyphs, 64,609 names that are no standard strings, or 256 Font DICTs, or offsets that 31 bits
+/// `TooLarge` where there are more than 65,535 glyphs, 64,609 names that are no standard strings, or 256 Font DICTs, or offsets that 31
+/// bits
 /// do not hold; `NotReadBack` where what was written is not read as the font that it is to be.
 pub fn table(
     alloc: Global,

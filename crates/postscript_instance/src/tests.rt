@@ -338,7 +338,8 @@ fn glyphs_alone(rt: HostRuntime) {
     );
 }
 
-/// Advances at places: past the list it is the last one, which varies by nothing there; -9 has no room, at -1 of a region that falls by 609.
+/// Advances at places: past the list it is the last one, which varies by nothing there; -9 has no room, at -1 of a region that falls by
+/// 609.
 #[test]
 fn advances(rt: HostRuntime) {
     let at = advances_at(&rt, Some(VARIED), &[16384]);
@@ -382,7 +383,8 @@ const TWO: &[u8] = &[
     0x00, 0x55, 0x12, 0xdb, 0x0b, 0xe5, 0x0b,
 ];
 
-/// FontMatrix, FDSelect and the Private DICTs of a static table. The Top DICT begins at 19, behind the header, an INDEX of the name `Small`,
+/// FontMatrix, FDSelect and the Private DICTs of a static table. The Top DICT begins at 19, behind the header, an INDEX of the name
+/// `Small`,
 /// and the count and the offsets of its own; its FontMatrix stands behind the nine bytes of ROS.
 #[test]
 fn matrix_and_font_dictionaries(rt: HostRuntime) {
@@ -402,7 +404,8 @@ fn matrix_and_font_dictionaries(rt: HostRuntime) {
     }
 }
 
-/// The same table, whose Private DICT has hints: `vsindex` 1, BlueValues -10 10, blended by 3 0 and 0 0, StdVW 80, blended by 20 0, and BlueScale
+/// The same table, whose Private DICT has hints: `vsindex` 1, BlueValues -10 10, blended by 3 0 and 0 0, StdVW 80, blended by 20 0, and
+/// BlueScale
 /// 0.039625. fontTools 4.38 reads it so.
 const HINTED: &[u8] = &[
     0x02, 0x00, 0x05, 0x00, 0x13, 0x1d, 0x00, 0x00, 0x00, 0x22, 0x11, 0x1d, 0x00, 0x00, 0x00, 0x35,
@@ -432,7 +435,8 @@ fn named<R: Abort>(rt: &R, alloc: Global, coordinate: i16) -> Vec<u8> {
     table(alloc, &font, &naming, &advances).expect(rt, "a table")
 }
 
-/// The hints at places: by hand, at 1/2 the zone is from -8.5 to 1.5, and so from -8 to 2, and the stem is 90 wide; at -1, where the second region is
+/// The hints at places: by hand, at 1/2 the zone is from -8.5 to 1.5, and so from -8 to 2, and the stem is 90 wide; at -1, where the
+/// second region is
 /// 1, all are as at the default, and at 1 the zone is from -7 to 3, and the stem is 100 wide. The Private DICT is the last part.
 #[test]
 fn hints_at_places(rt: HostRuntime) {
@@ -607,7 +611,8 @@ fn whole_units_in_range(rt: HostRuntime) {
     }
 }
 
-/// Char sets: A, B, C, D are 34 to 37, and names that are no standard strings begin with 391. In ranges six of them take 9 bytes; the two of the
+/// Char sets: A, B, C, D are 34 to 37, and names that are no standard strings begin with 391. In ranges six of them take 9 bytes; the two
+/// of the
 /// other row take fewer in a list.
 #[test]
 fn char_sets(rt: HostRuntime) {

@@ -1,4 +1,5 @@
--- The names of glyphs in the table `post` of version 2.0 (ISO/IEC 14496-22, 5.2.8; OpenType 1.9, "post", "Version 2.0"): behind 32 bytes a count of
+-- The names of glyphs in the table `post` of version 2.0 (ISO/IEC 14496-22, 5.2.8; OpenType 1.9, "post", "Version 2.0"): behind 32 bytes
+-- a count of
 -- glyphs, for each of them a number of two bytes, and behind these strings, each behind a byte that tells its length.
 use Rattle.std.specs.Prelude.{◌≡◌, ◌⊎◌, ℕ, zero, suc, ◌+◌, ◌-◌, ◌*◌, ◌<◌, ◌≤◌, List, Some, length, slice_get}
 use Rattle.std.specs.Borrow.{Bor}
@@ -30,7 +31,8 @@ abbrev pub start_of : (post : List ℕ) (number : ℕ) → ℕ
 start_of post zero = 34 + count_of post * 2
 start_of post (suc number) = let place = start_of post number in place + 1 + number_at post place 1
 
--- the name of a number below 258 is that of the glyph of this number of the standard Macintosh set; any other one's is a string, from 258 on
+-- the name of a number below 258 is that of the glyph of this number of the standard Macintosh set; any other one's is a string, from 258
+-- on
 abbrev pub HasNumberedName : (post : List ℕ) (number : ℕ) (name : List ℕ) → Type 0
 HasNumberedName post number name =
     ((number < 258) × (macintosh_name number ≡ Some name)) ⊎ ((258 ≤ number) × IsString post (start_of post (number - 258)) name)

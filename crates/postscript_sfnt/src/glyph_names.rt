@@ -23,7 +23,8 @@ pub struct GlyphNames<'l> {
 /// The string that begins at a place, behind the byte that tells how long it is. None where it is cut.
 fn string_at(table: &[u8], place: usize) -> Option<&[u8]>
     requires { place ≤ length table.now }
-    ensures is { MatchOption result (length table.now < place + 1 + the_number table.now place 1) (λ text. IsString table.now place text.now) }
+    ensures is { MatchOption result (length table.now < place + 1 + the_number table.now place 1)
+        (λ text. IsString table.now place text.now) }
     ensures size { MatchOption result (Unit {0}) (λ text. length text.now ≡ the_number table.now place 1) }
 {
     if place == table.len() {

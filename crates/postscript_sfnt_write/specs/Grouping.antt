@@ -73,7 +73,9 @@ rows_text groups = row_text End groups ++ (uint16 0 ++ (row_text Start groups ++
 
 unfoldable pub head4_text : (count selector : ℕ) → List ℕ
 head4_text count selector =
-    uint16 4 ++ (uint16 (16 + count * 8) ++ (uint16 0 ++ (uint16 (count * 2) ++ (uint16 (2 ^ selector * 2) ++ (uint16 selector ++ uint16 (count * 2 - 2 ^ selector * 2))))))
+    uint16 4 ++ (uint16 (16 + count * 8)
+    ++ (uint16 0 ++ (uint16 (count * 2)
+    ++ (uint16 (2 ^ selector * 2) ++ (uint16 selector ++ uint16 (count * 2 - 2 ^ selector * 2))))))
 
 -- the character that ends all segments, with no glyph
 abbrev pub end : Mapping
@@ -91,7 +93,8 @@ pub record IsSmall (table : List ℕ) (segments : List Group) : Type 0 where
   pub text : table ≡ small_text ++ (head4_text (length segments) selector ++ rows_text segments)
 
 unfoldable pub large_text : (behind : ℕ) → List ℕ
-large_text behind = uint16 0 ++ (uint16 4 ++ (encoding_text 0 3 36 ++ (encoding_text 0 4 behind ++ (encoding_text 3 1 36 ++ encoding_text 3 10 behind))))
+large_text behind = uint16 0
+    ++ (uint16 4 ++ (encoding_text 0 3 36 ++ (encoding_text 0 4 behind ++ (encoding_text 3 1 36 ++ encoding_text 3 10 behind))))
 
 pub record IsLarge (table : List ℕ) (low all : List Group) : Type 0 where
   pub selector : ℕ

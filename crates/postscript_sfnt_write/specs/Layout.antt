@@ -59,7 +59,8 @@ pub record IsWritten (tables : List Table) (bytes : List ℕ) : Type 0 where
   pub selected : IsSelector (length tables) selector
   pub adjustment : ℕ
   pub small : adjustment < 2 ^ 32
-  pub adjusted : adjustment ≡ ((0xb1b0afba + 2 ^ 32 - checksum (directory_text selector tables)) % 2 ^ 32 + 2 ^ 32 - checksums tables % 2 ^ 32) % 2 ^ 32
+  pub adjusted : adjustment
+      ≡ ((0xb1b0afba + 2 ^ 32 - checksum (directory_text selector tables)) % 2 ^ 32 + 2 ^ 32 - checksums tables % 2 ^ 32) % 2 ^ 32
   pub text : bytes ≡ directory_text selector tables ++ tables_text adjustment tables
 
 -- metrics

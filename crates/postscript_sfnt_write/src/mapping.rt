@@ -98,7 +98,8 @@ fn next_group(
     group: Group,
     mapping: &Mapping,
 ) -> std::result::Result<Group, AllocError>
-    ensures exact { IfOk result (λ next. (rest : List Mapping) → groups.new.items ++ grouped next rest ≡ groups.old.items ++ grouped group (mapping.now ∷ rest)) }
+    ensures exact { IfOk result (λ next. (rest : List Mapping) →
+        groups.new.items ++ grouped next rest ≡ groups.old.items ++ grouped group (mapping.now ∷ rest)) }
     ensures fits { Fits mapping.now }
 {
     if goes_on(&group, mapping) {
@@ -225,7 +226,8 @@ fn put_head4(out: &mut Vec<u8>, count: u16, selector: u32) -> std::result::Resul
 fn put_format4(out: &mut Vec<u8>, groups: &[Group]) -> std::result::Result<(), AllocError>
     requires some { 0 < length groups.now }
     requires most { length groups.now < 8002 }
-    ensures { OnOk result ((selector : ℕ) × (out.new.items ≡ out.old.items ++ (head4_text (length groups.now) selector ++ rows_text groups.now))) }
+    ensures { OnOk result ((selector : ℕ)
+        × (out.new.items ≡ out.old.items ++ (head4_text (length groups.now) selector ++ rows_text groups.now))) }
 {
     let count = groups.len() as u16;
     let selector = count.ilog2();

@@ -67,7 +67,8 @@ pub fn draw<S: Sink>(
     limit: &mut u64,
     sink: &mut S,
 ) -> Result<()>
-    ensures drawn { OnOk result (Gives S.after (S.state sink.old) (S.state sink.new) (IsOutlineOf the_origin (begun (run_from charstring.entry)))) }
+    ensures drawn { OnOk result
+        (Gives S.after (S.state sink.old) (S.state sink.new) (IsOutlineOf the_origin (begun (run_from charstring.entry)))) }
     ensures why { IfErr result (λ e. IsRefused the_origin (begun (run_from charstring.entry)) limit.new e) }
     ensures front { OnErr result (DrawsFront S.after the_origin (S.state sink.old) (S.state sink.new) (run_from charstring.entry).answers) }
     ensures full { result ≡ Err errors.Full → S.refuses (S.state sink.new) }

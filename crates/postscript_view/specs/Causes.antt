@@ -22,16 +22,23 @@ NoIndex e bytes place = RefusedAs e (opened bytes place)
 -- an operator names no place, or one where no INDEX is opened; offsets count from a base
 pub data NamesNone (e : Error) (bytes : List ℕ) (base : ℕ) (map : Dictionary) (operator : Operator) : Type 0 where
   OfOffset : NoOffset e 0 base map operator → NamesNone e bytes base map operator
-  OfIndex : (z : ℤ) (offset : ℕ) → HasFirst map operator z → pos base +ℤ z ≡ pos offset → NoIndex e bytes offset → NamesNone e bytes base map operator
+  OfIndex : (z : ℤ) (offset : ℕ) → HasFirst map operator z → pos base +ℤ z ≡ pos offset → NoIndex e bytes offset →
+      NamesNone e bytes base map operator
 
 -- names, dictionaries, strings and global subroutines, in their order, and then the dictionary of the number
 pub data NoTables (e : Error) (bytes : List ℕ) (place number : ℕ) : Type 0 where
   OfNames : NoIndex e bytes place → NoTables e bytes place number
-  OfDictionaries : (names : List (List ℕ)) (first : ℕ) → IsOpened bytes place names first → NoIndex e bytes first → NoTables e bytes place number
-  OfStrings : (names maps : List (List ℕ)) (first second : ℕ) → IsOpened bytes place names first → IsOpened bytes first maps second → NoIndex e bytes second → NoTables e bytes place number
-  OfSubroutines : (names maps strings : List (List ℕ)) (first second third : ℕ) → IsOpened bytes place names first → IsOpened bytes first maps second → IsOpened bytes second strings third → NoIndex e bytes third → NoTables e bytes place number
-  OfNumber : (names maps : List (List ℕ)) (first second : ℕ) → IsOpened bytes place names first → IsOpened bytes first maps second → slice_get maps number ≡ None → refusal_of e ≡ unexpected_eof → NoTables e bytes place number
-  OfDictionary : (names maps : List (List ℕ)) (item : List ℕ) (first second : ℕ) → IsOpened bytes place names first → IsOpened bytes first maps second → slice_get maps number ≡ Some item → IsRefused item 0 (refusal_of e) → NoTables e bytes place number
+  OfDictionaries : (names : List (List ℕ)) (first : ℕ) → IsOpened bytes place names first → NoIndex e bytes first →
+      NoTables e bytes place number
+  OfStrings : (names maps : List (List ℕ)) (first second : ℕ) → IsOpened bytes place names first → IsOpened bytes first maps second →
+      NoIndex e bytes second → NoTables e bytes place number
+  OfSubroutines : (names maps strings : List (List ℕ)) (first second third : ℕ) → IsOpened bytes place names first →
+      IsOpened bytes first maps second → IsOpened bytes second strings third → NoIndex e bytes third → NoTables e bytes place number
+  OfNumber : (names maps : List (List ℕ)) (first second : ℕ) → IsOpened bytes place names first → IsOpened bytes first maps second →
+      slice_get maps number ≡ None → refusal_of e ≡ unexpected_eof → NoTables e bytes place number
+  OfDictionary : (names maps : List (List ℕ)) (item : List ℕ) (first second : ℕ) → IsOpened bytes place names first →
+      IsOpened bytes first maps second → slice_get maps number ≡ Some item → IsRefused item 0 (refusal_of e) →
+      NoTables e bytes place number
 
 -- char strings are of another type than 2
 pub data NoType (e : Error) (map : Dictionary) : Type 0 where
@@ -41,14 +48,18 @@ pub data NoType (e : Error) (map : Dictionary) : Type 0 where
 pub data NoCharStrings (e : Error) (bytes : List ℕ) (map : Dictionary) : Type 0 where
   OfTheirOffset : NoOffset e 0 0 map operators.CharStrings → NoCharStrings e bytes map
   OfTheirType : NoType e map → NoCharStrings e bytes map
-  OfTheirIndex : (offset : ℕ) → HasFirst map operators.CharStrings (pos offset) → HasFirst map operators.CharStringType (pos 2) → NoIndex e bytes offset → NoCharStrings e bytes map
+  OfTheirIndex : (offset : ℕ) → HasFirst map operators.CharStrings (pos offset) → HasFirst map operators.CharStringType (pos 2) →
+      NoIndex e bytes offset → NoCharStrings e bytes map
 
 -- the private dictionary that is named, or its subroutines
 pub data NoPart (e : Error) (bytes : List ℕ) (map : Dictionary) : Type 0 where
   OfBounds : IsSome (first_two_of (look map operators.Private)) → NoBounds e 0 map → NoPart e bytes map
-  OfSlice : (size offset : ℕ) → HasTwo map operators.Private (pos size) (pos offset) → 0 < size → length bytes < offset + size → refusal_of e ≡ unexpected_eof → NoPart e bytes map
-  OfPrivate : (size offset : ℕ) (held : List ℕ) → HasTwo map operators.Private (pos size) (pos offset) → IsSlice bytes offset size held → IsRefused held 0 (refusal_of e) → NoPart e bytes map
-  OfSubrs : (offset : ℕ) (local : Dictionary) → HasPrivate bytes 0 map offset local → IsSome (first_of (look local operators.Subrs)) → NamesNone e bytes offset local operators.Subrs → NoPart e bytes map
+  OfSlice : (size offset : ℕ) → HasTwo map operators.Private (pos size) (pos offset) → 0 < size → length bytes < offset + size →
+      refusal_of e ≡ unexpected_eof → NoPart e bytes map
+  OfPrivate : (size offset : ℕ) (held : List ℕ) → HasTwo map operators.Private (pos size) (pos offset) → IsSlice bytes offset size held →
+      IsRefused held 0 (refusal_of e) → NoPart e bytes map
+  OfSubrs : (offset : ℕ) (local : Dictionary) → HasPrivate bytes 0 map offset local → IsSome (first_of (look local operators.Subrs)) →
+      NamesNone e bytes offset local operators.Subrs → NoPart e bytes map
 
 -- some font dictionary or its part, and those before it stand
 abbrev pub NoItem : Error → List ℕ → List (List ℕ) → Type 0
@@ -61,11 +72,14 @@ NoItem e bytes (item ∷ items) =
 pub data NoParts (e : Error) (bytes : List ℕ) (map : Dictionary) : Type 0 where
   OfFont : look map operators.ROS ≡ None → NoPart e bytes map → NoParts e bytes map
   OfArray : IsSome (look map operators.ROS) → NamesNone e bytes 0 map operators.FDArray → NoParts e bytes map
-  OfItem : (items : List (List ℕ)) → IsSome (look map operators.ROS) → NamesIndex bytes map operators.FDArray items → NoItem e bytes items → NoParts e bytes map
+  OfItem : (items : List (List ℕ)) → IsSome (look map operators.ROS) → NamesIndex bytes map operators.FDArray items →
+      NoItem e bytes items → NoParts e bytes map
 
 -- the header, then what stands behind it, then the char strings, then the parts
 pub data NoFont (e : Error) (bytes : List ℕ) (number : ℕ) : Type 0 where
   OfHeader : length bytes < 3 → refusal_of e ≡ unexpected_eof → NoFont e bytes number
   OfTables : 3 ≤ length bytes → NoTables e bytes (number_at bytes 2 1) number → NoFont e bytes number
-  OfCharStrings : (tables : Tables) → AreTables bytes (number_at bytes 2 1) number tables → NoCharStrings e bytes tables.dictionary → NoFont e bytes number
-  OfParts : (tables : Tables) (codes : List (List ℕ)) → AreTables bytes (number_at bytes 2 1) number tables → AreCharStrings bytes tables.dictionary codes → NoParts e bytes tables.dictionary → NoFont e bytes number
+  OfCharStrings : (tables : Tables) → AreTables bytes (number_at bytes 2 1) number tables → NoCharStrings e bytes tables.dictionary →
+      NoFont e bytes number
+  OfParts : (tables : Tables) (codes : List (List ℕ)) → AreTables bytes (number_at bytes 2 1) number tables →
+      AreCharStrings bytes tables.dictionary codes → NoParts e bytes tables.dictionary → NoFont e bytes number

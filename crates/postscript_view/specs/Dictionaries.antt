@@ -1,4 +1,5 @@
--- The dictionaries that say how a glyph is (Technical Note 5176, section 9, "Top DICT Data", section 15, "Private DICT Data", and section 18, "CID-keyed Fonts").
+-- The dictionaries that say how a glyph is (Technical Note 5176, section 9, "Top DICT Data", section 15, "Private DICT Data", and section
+-- 18, "CID-keyed Fonts").
 use Rattle.std.specs.Prelude.{◌≡◌, ℕ, List, Option, Some, None}
 use Rattle.std.specs.FinMap.{get}
 use Rattle.std.specs.Option.{option_or}
@@ -17,7 +18,8 @@ own_or (Some own) font = own
 
 -- a glyph has this font dictionary
 abbrev pub HasFontDictionary : FontView → (glyph : ℕ) → Dictionary → Type 0
-HasFontDictionary font glyph map = (code : List ℕ) × (part : PrivateDict) × HasGlyph font glyph code part × (map ≡ own_or part.font_dictionary font.dictionary)
+HasFontDictionary font glyph map = (code : List ℕ) × (part : PrivateDict) × HasGlyph font glyph code part
+    × (map ≡ own_or part.font_dictionary font.dictionary)
 
 -- the FontMatrix of a font dictionary; where it has none, that of the font's dictionary, or the default
 abbrev pub matrix_of : (own font : Dictionary) → Option (List Decimal)

@@ -57,7 +57,8 @@ pub record IsFirstSupplement (supplements : List ℕ) (code identifier : ℕ) : 
 
 -- Without supplements: a predefined encoding tells the name of the glyph that it gives a code, and a format tells the glyph.
 abbrev pub GivesOwn : Codes → CharSetView → (code glyph : ℕ) → Type 0
-GivesOwn (Predefined encoding) set code glyph = (identifier : ℕ) × (identifier_of encoding code ≡ Some identifier) × (0 < identifier) × Names set glyph identifier
+GivesOwn (Predefined encoding) set code glyph = (identifier : ℕ) × (identifier_of encoding code ≡ Some identifier) × (0 < identifier)
+    × Names set glyph identifier
 GivesOwn (Listed codes) set code glyph = IsInList codes.now code glyph
 GivesOwn (Ranges ranges) set code glyph = IsInRanges ranges.now code glyph
 

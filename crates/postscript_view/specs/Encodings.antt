@@ -19,9 +19,11 @@ pub record IsHeld (bytes : List ℕ) (place size : ℕ) (held : List ℕ) : Type
 abbrev pub AreCodesAt : Codes → List ℕ → (place next : ℕ) → Type 0
 AreCodesAt (Predefined encoding) bytes place next = ⊥
 AreCodesAt (Listed codes) bytes place next =
-    (number_at bytes place 1 % 128 ≡ 0) × IsHeld bytes (place + 2) (number_at bytes (place + 1) 1) codes.now × (next ≡ place + 2 + number_at bytes (place + 1) 1)
+    (number_at bytes place 1 % 128 ≡ 0) × IsHeld bytes (place + 2) (number_at bytes (place + 1) 1) codes.now
+    × (next ≡ place + 2 + number_at bytes (place + 1) 1)
 AreCodesAt (Ranges ranges) bytes place next =
-    (number_at bytes place 1 % 128 ≡ 1) × IsHeld bytes (place + 2) (2 * number_at bytes (place + 1) 1) ranges.now × (next ≡ place + 2 + 2 * number_at bytes (place + 1) 1)
+    (number_at bytes place 1 % 128 ≡ 1) × IsHeld bytes (place + 2) (2 * number_at bytes (place + 1) 1) ranges.now
+    × (next ≡ place + 2 + 2 * number_at bytes (place + 1) 1)
 
 -- Where the high bit of the format is set, a count of supplements and so many of three bytes stand behind the codes.
 abbrev pub AreSupplementsAt : List ℕ → (format next : ℕ) → List ℕ → Type 0

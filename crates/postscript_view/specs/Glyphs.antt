@@ -8,7 +8,8 @@ use Rattle.postscript_view.specs.declared.private_dict.PrivateDict.{PrivateDict}
 -- Of several parts a glyph has that of the font dictionary that FDSelect gives it; a single part is that of all glyphs.
 abbrev pub IsPartNumber : FontView → (glyph part : ℕ) → Type 0
 IsPartNumber font glyph part =
-    ((length font.parts.items ≡ 1) × (part ≡ 0)) ⊎ ((length font.parts.items ≢ 1) × IsSelected font.bytes.now font.dictionary (length (items_of font.char_strings)) glyph part)
+    ((length font.parts.items ≡ 1) × (part ≡ 0))
+    ⊎ ((length font.parts.items ≢ 1) × IsSelected font.bytes.now font.dictionary (length (items_of font.char_strings)) glyph part)
 
 -- there is such a glyph, and such a part
 pub record HasPartNumber (font : FontView) (glyph part : ℕ) : Type 0 where

@@ -47,9 +47,12 @@ AreSubroutines bytes base local subroutines =
 
 -- The private dictionary that a dictionary names, and its local subroutines, either of which may be lacking.
 pub data HasLocals (bytes : List ℕ) (map local : Dictionary) (subroutines : List (List ℕ)) : Type 0 where
-  WithBoth : (offset : ℕ) → HasPrivate bytes 0 map offset local → AreSubroutines bytes offset local subroutines → HasLocals bytes map local subroutines
-  WithoutSubrs : (offset : ℕ) → HasPrivate bytes 0 map offset local → first_of (look local operators.Subrs) ≡ None → subroutines ≡ [] → HasLocals bytes map local subroutines
-  WithoutPrivate : first_two_of (look map operators.Private) ≡ None → local ≡ dictionary_of [] → subroutines ≡ [] → HasLocals bytes map local subroutines
+  WithBoth : (offset : ℕ) → HasPrivate bytes 0 map offset local → AreSubroutines bytes offset local subroutines →
+      HasLocals bytes map local subroutines
+  WithoutSubrs : (offset : ℕ) → HasPrivate bytes 0 map offset local → first_of (look local operators.Subrs) ≡ None → subroutines ≡ [] →
+      HasLocals bytes map local subroutines
+  WithoutPrivate : first_two_of (look map operators.Private) ≡ None → local ≡ dictionary_of [] → subroutines ≡ [] →
+      HasLocals bytes map local subroutines
 
 -- the part of a dictionary, which may be a font dictionary
 abbrev pub IsPart : List ℕ → Dictionary → Option Dictionary → PrivateDict → Type 0
@@ -58,14 +61,16 @@ IsPart bytes map font part = HasLocals bytes map part.dictionary part.subroutine
 -- each item is a font dictionary, and has the part in its place
 abbrev pub ArePartsOf : List ℕ → List (List ℕ) → List PrivateDict → Type 0
 ArePartsOf bytes [] [] = Unit {0}
-ArePartsOf bytes (item ∷ items) (part ∷ parts) = (map : Dictionary) × IsDictionary item 0 map × IsPart bytes map (Some map) part × ArePartsOf bytes items parts
+ArePartsOf bytes (item ∷ items) (part ∷ parts) = (map : Dictionary) × IsDictionary item 0 map × IsPart bytes map (Some map) part
+    × ArePartsOf bytes items parts
 ArePartsOf bytes [] (part ∷ parts) = ⊥
 ArePartsOf bytes (item ∷ items) [] = ⊥
 
 -- A font has one part. One that is CID-keyed has a part for each of the font dictionaries that FDArray names.
 pub data AreParts (bytes : List ℕ) (map : Dictionary) (parts : List PrivateDict) : Type 0 where
   OfFont : (part : PrivateDict) → look map operators.ROS ≡ None → IsPart bytes map None part → parts ≡ part ∷ [] → AreParts bytes map parts
-  OfFontDictionaries : (items : List (List ℕ)) → IsSome (look map operators.ROS) → NamesIndex bytes map operators.FDArray items → ArePartsOf bytes items parts → AreParts bytes map parts
+  OfFontDictionaries : (items : List (List ℕ)) → IsSome (look map operators.ROS) → NamesIndex bytes map operators.FDArray items →
+      ArePartsOf bytes items parts → AreParts bytes map parts
 
 -- the font of a number stands in the bytes; the third byte is the size of the header
 pub record IsLaidOut (bytes : List ℕ) (number : ℕ) (view : View) : Type 0 where

@@ -13,4 +13,5 @@ IsSameEncoding encoding view = (view.codes ≡ Predefined encoding) × (view.sup
 
 -- the encoding of the font of a number is the one that the dictionary of its view names
 abbrev pub HasEncodingOf : ℕ → Font → FontView → Type 0
-HasEncodingOf number font view = (encoding : Encoding) × (slice_get font.encodings number ≡ Some encoding) × HasEncoding view.dictionary encoding
+HasEncodingOf number font view = (encoding : Encoding) × (slice_get font.encodings number ≡ Some encoding)
+    × HasEncoding view.dictionary encoding

@@ -17,7 +17,8 @@ AreIdentifiers listed identifiers = (i : ℕ) → identifier_at identifiers i �
 -- ranges begin with those of a list: each has the same first identifier, and covers as many more glyphs
 abbrev pub BeginWith : {A : Type 0} → (A → ℕ) → (A → ℕ) → (size : ℕ) → List A → List ℕ → Type 0
 BeginWith {A} first left size listed ranges =
-    (r : ℕ) (range : A) → slice_get listed r ≡ Some range → (r < length ranges / (2 + size)) × (first_of ranges size r ≡ first range) × (more_of ranges size r ≡ left range)
+    (r : ℕ) (range : A) → slice_get listed r ≡ Some range → (r < length ranges / (2 + size)) × (first_of ranges size r ≡ first range)
+    × (more_of ranges size r ≡ left range)
 
 -- the same predefined set, the same identifiers, or the same ranges
 abbrev pub IsSame : CharSet → Identifiers → Type 0
@@ -31,4 +32,5 @@ IsSame _ _ = ⊥
 
 -- the char set of the font of a number is the one that the dictionary of its view names, for as many glyphs
 abbrev pub HasSetOf : ℕ → Font → FontView → Type 0
-HasSetOf number font view = (set : CharSet) × (slice_get font.char_sets number ≡ Some set) × HasCharSet view.bytes.now 0 (length (items_of view.char_strings)) view.dictionary set
+HasSetOf number font view = (set : CharSet) × (slice_get font.char_sets number ≡ Some set)
+    × HasCharSet view.bytes.now 0 (length (items_of view.char_strings)) view.dictionary set

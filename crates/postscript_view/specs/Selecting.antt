@@ -15,7 +15,8 @@ StandsAt Unknown bytes place glyphs = (glyph fd : ℕ) → Selects bytes place g
 
 -- it is what a dictionary names
 abbrev pub IsOf : Select → List ℕ → Dictionary → (glyphs : ℕ) → Type 0
-IsOf (Listed list) bytes map glyphs = (list.bytes.now ≡ bytes) × (offset_of map operators.FDSelect ≡ Some list.place) × (list.glyphs ≡ glyphs)
+IsOf (Listed list) bytes map glyphs = (list.bytes.now ≡ bytes) × (offset_of map operators.FDSelect ≡ Some list.place)
+    × (list.glyphs ≡ glyphs)
 IsOf (InRanges ranges) bytes map glyphs = (ranges.bytes.now ≡ bytes) × (offset_of map operators.FDSelect ≡ Some ranges.place)
 IsOf Unknown bytes map glyphs = (glyph fd : ℕ) → IsSelected bytes map glyphs glyph fd → ⊥
 

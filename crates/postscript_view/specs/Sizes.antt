@@ -1,4 +1,5 @@
--- How many bytes the dictionaries of a CID-keyed font have (Technical Note 5176, section 15, and Table 9, "Private": its size and its offset).
+-- How many bytes the dictionaries of a CID-keyed font have (Technical Note 5176, section 15, and Table 9, "Private": its size and its
+-- offset).
 use Rattle.std.specs.Prelude.{ℕ, ◌+◌, ◌≤◌, ℤ, pos, negsuc, List, length, Option, Some, None, IsSome}
 use Rattle.std.specs.List.{sum_by}
 use Rattle.postscript_base.specs.Compact1.Decimal.{Decimal, to_i32}

@@ -21,17 +21,20 @@ pub data NamesNoOffset (e : Error) (map : Dictionary) (operator : Operator) : Ty
 -- the byte of the format is cut off, or those of format 0 are
 abbrev pub AreCutIdentifiers : List ℕ → (place glyphs : ℕ) → Type 0
 AreCutIdentifiers bytes place glyphs =
-    (length bytes < place + 1) ⊎ ((place + 1 ≤ length bytes) × (number_at bytes place 1 ≡ 0) × (length bytes < place + 1 + 2 * (glyphs - 1)))
+    (length bytes < place + 1)
+    ⊎ ((place + 1 ≤ length bytes) × (number_at bytes place 1 ≡ 0) × (length bytes < place + 1 + 2 * (glyphs - 1)))
 
 -- no identifiers stand at a place: they are cut off, or of another format than 0, 1 and 2
 pub data NoIdentifiers (e : Error) (bytes : List ℕ) (place glyphs : ℕ) : Type 0 where
   OfCut : AreCutIdentifiers bytes place glyphs → refusal_of e ≡ unexpected_eof → NoIdentifiers e bytes place glyphs
-  OfFormat : place + 1 ≤ length bytes → 2 < number_at bytes place 1 → refusal_of e ≡ unknown_char_set_format → NoIdentifiers e bytes place glyphs
+  OfFormat : place + 1 ≤ length bytes → 2 < number_at bytes place 1 → refusal_of e ≡ unknown_char_set_format →
+      NoIdentifiers e bytes place glyphs
 
 -- why a font of so many glyphs has no char set
 pub data NoCharSet (e : Error) (bytes : List ℕ) (map : Dictionary) (glyphs : ℕ) : Type 0 where
   OfItsOffset : NamesNoOffset e map operators.CharSet → NoCharSet e bytes map glyphs
-  OfIdentifiers : (offset : ℕ) → offset_of map operators.CharSet ≡ Some offset → 3 ≤ offset → NoIdentifiers e bytes offset glyphs → NoCharSet e bytes map glyphs
+  OfIdentifiers : (offset : ℕ) → offset_of map operators.CharSet ≡ Some offset → 3 ≤ offset → NoIdentifiers e bytes offset glyphs →
+      NoCharSet e bytes map glyphs
 
 -- the byte of the format is cut off, the count behind it, or the codes that it counts
 abbrev pub AreCutCodes : List ℕ → (place : ℕ) → Type 0
@@ -43,16 +46,19 @@ AreCutCodes bytes place =
 -- no codes stand at a place: they are cut off, or of another format than 0 and 1
 pub data NoCodes (e : Error) (bytes : List ℕ) (place : ℕ) : Type 0 where
   OfCutCodes : AreCutCodes bytes place → refusal_of e ≡ unexpected_eof → NoCodes e bytes place
-  OfOtherFormat : place + 2 ≤ length bytes → 1 < number_at bytes place 1 % 128 → refusal_of e ≡ OfPart unsupported.CustomEncoding → NoCodes e bytes place
+  OfOtherFormat : place + 2 ≤ length bytes → 1 < number_at bytes place 1 % 128 → refusal_of e ≡ OfPart unsupported.CustomEncoding →
+      NoCodes e bytes place
 
 -- supplements that the format announces are cut off: their count, or what it counts
 abbrev pub AreCutSupplements : List ℕ → (format next : ℕ) → Type 0
-AreCutSupplements bytes format next = (128 ≤ format) × ((length bytes < next + 1) ⊎ ((next + 1 ≤ length bytes) × (length bytes < next + 1 + 3 * number_at bytes next 1)))
+AreCutSupplements bytes format next =
+    (128 ≤ format) × ((length bytes < next + 1) ⊎ ((next + 1 ≤ length bytes) × (length bytes < next + 1 + 3 * number_at bytes next 1)))
 
 -- no encoding stands at a place: its codes do not, or behind them its supplements do not
 pub data NoOwnEncoding (e : Error) (bytes : List ℕ) (place : ℕ) : Type 0 where
   OfCodes : NoCodes e bytes place → NoOwnEncoding e bytes place
-  OfSupplements : (codes : Codes) (next : ℕ) → place + 2 ≤ length bytes → AreCodesAt codes bytes place next → AreCutSupplements bytes (number_at bytes place 1) next → refusal_of e ≡ unexpected_eof → NoOwnEncoding e bytes place
+  OfSupplements : (codes : Codes) (next : ℕ) → place + 2 ≤ length bytes → AreCodesAt codes bytes place next →
+      AreCutSupplements bytes (number_at bytes place 1) next → refusal_of e ≡ unexpected_eof → NoOwnEncoding e bytes place
 
 -- why a font has no encoding
 pub data NoEncoding (e : Error) (bytes : List ℕ) (map : Dictionary) : Type 0 where

@@ -59,7 +59,8 @@ IsSaid found run = MatchOption found ((accent : Accent) → IsAccentOf accent ru
 
 -- what is told of a glyph
 abbrev pub IsSaidOf : FontView → (glyph : ℕ) → Option Accent → Type 0
-IsSaidOf font glyph found = MatchOption found ((accent : Accent) → IsAccented font glyph accent → ⊥) (λ accent. IsAccented font glyph accent)
+IsSaidOf font glyph found = MatchOption found ((accent : Accent) → IsAccented font glyph accent → ⊥)
+    (λ accent. IsAccented font glyph accent)
 
 -- what is told of a code: its glyph, or that the font has none
 abbrev pub IsFound : FontView → (code : ℕ) → Option ℕ → Type 0
@@ -67,7 +68,8 @@ IsFound font code found = MatchOption found ((glyph : ℕ) → IsComponent font 
 
 -- What is known of the 256 codes: of each one that was looked up, whether the font has a glyph for it, and which.
 abbrev pub AreKnown : FontView → List (Option (Option ℕ)) → Type 0
-AreKnown font known = (length known ≡ 256) × ((code : ℕ) (found : Option ℕ) → slice_index_or known code None ≡ Some found → IsFound font code found)
+AreKnown font known = (length known ≡ 256) × ((code : ℕ) (found : Option ℕ) → slice_index_or known code None ≡ Some found →
+    IsFound font code found)
 
 -- these are the components of a glyph
 abbrev pub AreComponentsOf : FontView → (from : ℕ) → List ℕ → Type 0

@@ -55,8 +55,13 @@ operation_of place = (place.operator, operands_of (numbers_of place.size place.o
 -- Laws: an operation that is written behind operations is one more of them; and whole operations are a dictionary, in
 -- which the last of each operator counts.
 pub record WritesOperations : Type 0 where
-  pub append : (kept : List ℕ) (operations : List Operation) (numbers : List ℕ) (code : ℕ) (operator : Operator) → OperationsAt kept 0 operations (length kept) → AreHeld numbers → IsCode code operator →
-      OperationsAt (kept ++ operation_text numbers code) 0 (operations ++ (operator, operands_of numbers) ∷ []) (length (kept ++ operation_text numbers code))
-  pub escaped : (kept : List ℕ) (operations : List Operation) (numbers : List ℕ) (second : ℕ) (operator : Operator) → OperationsAt kept 0 operations (length kept) → AreHeld numbers → IsEscaped second operator →
-      OperationsAt (kept ++ escaped_text numbers second) 0 (operations ++ (operator, operands_of numbers) ∷ []) (length (kept ++ escaped_text numbers second))
-  pub all : (bytes : List ℕ) (operations : List Operation) → OperationsAt bytes 0 operations (length bytes) → IsDictionary bytes 0 (dictionary_of operations)
+  pub append : (kept : List ℕ) (operations : List Operation) (numbers : List ℕ) (code : ℕ) (operator : Operator) →
+      OperationsAt kept 0 operations (length kept) → AreHeld numbers → IsCode code operator →
+      OperationsAt (kept ++ operation_text numbers code) 0 (operations ++ (operator, operands_of numbers) ∷ [])
+      (length (kept ++ operation_text numbers code))
+  pub escaped : (kept : List ℕ) (operations : List Operation) (numbers : List ℕ) (second : ℕ) (operator : Operator) →
+      OperationsAt kept 0 operations (length kept) → AreHeld numbers → IsEscaped second operator →
+      OperationsAt (kept ++ escaped_text numbers second) 0 (operations ++ (operator, operands_of numbers) ∷ [])
+      (length (kept ++ escaped_text numbers second))
+  pub all : (bytes : List ℕ) (operations : List Operation) → OperationsAt bytes 0 operations (length bytes) →
+      IsDictionary bytes 0 (dictionary_of operations)

@@ -14,11 +14,13 @@ pub record StandsAt (sources : Sources) (i glyph : ℕ) : Type 0 where
 
 -- A glyph of one font is drawn as segments with a width exactly where a glyph of the other one is.
 abbrev pub DrawsTheSame : (old new : FontView) → (glyph i : ℕ) → Type 0
-DrawsTheSame old new glyph i = (segments : List Segment) (width : Option ℤ) → IsDrawnAs old glyph segments width ↔ IsDrawnAs new i segments width
+DrawsTheSame old new glyph i = (segments : List Segment) (width : Option ℤ) → IsDrawnAs old glyph segments width
+    ↔ IsDrawnAs new i segments width
 
 -- Each glyph of the new font, which this gives for so many of the old one, is drawn as it was.
 abbrev pub KeepsDrawings : (sources : (glyphs : ℕ) → Sources) → (bytes flat : List ℕ) → Type 0
-KeepsDrawings sources bytes flat = (old new : FontView) (glyph i : ℕ) → IsOpened bytes old → IsOpened flat new → StandsAt (sources (glyphs_of old)) i glyph → DrawsTheSame old new glyph i
+KeepsDrawings sources bytes flat = (old new : FontView) (glyph i : ℕ) → IsOpened bytes old → IsOpened flat new →
+    StandsAt (sources (glyphs_of old)) i glyph → DrawsTheSame old new glyph i
 
 -- the same of the glyphs that a subset keeps
 abbrev pub DrawsKept : (sources : (closed : List ℕ) (glyphs : ℕ) → Sources) → (named bytes flat : List ℕ) → Type 0

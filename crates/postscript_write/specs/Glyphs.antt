@@ -13,7 +13,8 @@ use Rattle.postscript_view.specs.Select.{IsSelected}
 -- of all glyphs.
 pub record HasPart (bytes : List ℕ) (font : View) (glyph number : ℕ) : Type 0 where
   pub there : number < length font.parts
-  pub selected : ((length font.parts ≡ 1) × (number ≡ 0)) ⊎ ((length font.parts ≢ 1) × IsSelected bytes font.tables.dictionary (length font.char_strings) glyph number)
+  pub selected : ((length font.parts ≡ 1) × (number ≡ 0))
+      ⊎ ((length font.parts ≢ 1) × IsSelected bytes font.tables.dictionary (length font.char_strings) glyph number)
 
 -- the run of a code over the subroutines that all char strings share and those of a part
 abbrev pub run_in : View → PrivateDict → List ℕ → Run
@@ -58,7 +59,8 @@ IsCodeFor font (Some glyph) number flat = IsCodeOf font glyph number flat
 -- as many codes, each of the glyph in its place
 pub record AreCodesOf (font : View) (sources : Sources) (numbers : List ℕ) (flats : List (List ℕ)) : Type 0 where
   pub many : length flats ≡ length sources
-  pub each : (i : ℕ) → i < length sources → IsCodeFor font (slice_index_or sources i None) (slice_index_or numbers i 0) (slice_index_or flats i [])
+  pub each : (i : ℕ) → i < length sources →
+      IsCodeFor font (slice_index_or sources i None) (slice_index_or numbers i 0) (slice_index_or flats i [])
 
 -- the number of the part of a glyph; an empty one gets the first
 abbrev pub HasPartFor : List ℕ → View → Option ℕ → (number : ℕ) → Type 0

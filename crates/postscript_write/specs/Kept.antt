@@ -5,4 +5,5 @@ use Rattle.postscript_write.specs.Sources.{IsWritten, chosen}
 
 -- of the glyphs that are told a subset is made, in this order
 abbrev pub KeptAreWritten : Type 0
-KeptAreWritten = (named bytes flat kept : List ℕ) → AreKept named bytes kept → IsSubset false chosen named bytes flat → IsWritten false (λ glyphs. map Some kept) bytes flat
+KeptAreWritten = (named bytes flat kept : List ℕ) → AreKept named bytes kept → IsSubset false chosen named bytes flat →
+    IsWritten false (λ glyphs. map Some kept) bytes flat

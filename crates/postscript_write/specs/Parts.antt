@@ -45,4 +45,5 @@ pub record SamePart (old new : PrivateDict) : Type 0 where
 -- as many parts, each of which says what the one in its place says
 pub record SameParts (old new : List PrivateDict) : Type 0 where
   pub many : length new ≡ length old
-  pub each : (number : ℕ) (part new_part : PrivateDict) → slice_get old number ≡ Some part → slice_get new number ≡ Some new_part → SamePart part new_part
+  pub each : (number : ℕ) (part new_part : PrivateDict) → slice_get old number ≡ Some part → slice_get new number ≡ Some new_part →
+      SamePart part new_part

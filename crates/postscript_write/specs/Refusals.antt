@@ -46,7 +46,8 @@ pub record IsFirstRefused (font : View) (sources : Sources) (numbers : List ℕ)
 
 -- the first refused one of these glyphs of a font, each with its part
 abbrev pub IsFirst : List ℕ → View → Sources → (glyph : ℕ) → causes.Error → Type 0
-IsFirst bytes font sources glyph cause = (numbers : List ℕ) × AreNumbersOf bytes font sources numbers × IsFirstRefused font sources numbers glyph cause
+IsFirst bytes font sources glyph cause = (numbers : List ℕ) × AreNumbersOf bytes font sources numbers
+    × IsFirstRefused font sources numbers glyph cause
 
 -- one of these glyphs
 abbrev pub IsOneOf : Sources → (glyph : ℕ) → Type 0
@@ -74,7 +75,8 @@ HasEncoding bytes font = (encoding : EncodingView) × IsEncodingOf encoding byte
 -- Each of these glyphs has its part, and no fault ends its run.
 abbrev pub AreSound : List ℕ → View → Sources → Type 0
 AreSound bytes font sources =
-    (numbers : List ℕ) × AreNumbersOf bytes font sources numbers × ((i : ℕ) → i < length sources → IsFaultless font (slice_index_or sources i None) (slice_index_or numbers i 0))
+    (numbers : List ℕ) × AreNumbersOf bytes font sources numbers
+    × ((i : ℕ) → i < length sources → IsFaultless font (slice_index_or sources i None) (slice_index_or numbers i 0))
 
 -- What a refusal says of the font that glyphs are taken from. `TooLarge` and `NotReadBack` come only where nothing is wrong with it.
 abbrev pub FontRefusedBy : List ℕ → View → Sources → Error → Type 0
@@ -103,7 +105,8 @@ IsRefusedAs bytes cause = RefusedAs cause (fonts bytes 0) ⊎ RefusedAs cause (v
 -- What a refusal says of the bytes, from whose font are taken the glyphs that this gives for so many.
 abbrev pub IsRefusedBy : ((glyphs : ℕ) → Sources) → List ℕ → Error → Type 0
 IsRefusedBy sources bytes SeveralFonts = HasOtherFonts bytes
-IsRefusedBy sources bytes (Refused cause) = cause ≢ Memory → IsRefusedAs bytes cause ⊎ OfFont bytes (λ old. (HasSet bytes old → ⊥) ⊎ (HasEncoding bytes old → ⊥))
+IsRefusedBy sources bytes (Refused cause) = cause ≢ Memory → IsRefusedAs bytes cause
+    ⊎ OfFont bytes (λ old. (HasSet bytes old → ⊥) ⊎ (HasEncoding bytes old → ⊥))
 IsRefusedBy sources bytes e = OfFont bytes (λ old. FontRefusedBy bytes old (sources (length old.char_strings)) e)
 
 -- the first one that is named and is none of so many glyphs

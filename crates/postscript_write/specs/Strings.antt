@@ -44,7 +44,8 @@ pub record SameString (old : List (List ℕ)) (was : ℕ) (new : List (List ℕ)
   pub identifier : own_string old was ≡ None → is ≡ was
 
 -- A glyph has the name of the one that it is made of, and where that has none, none; a standard string keeps its identifier.
-pub record HasSameText (old : CharSetView) (old_strings : List (List ℕ)) (glyph : ℕ) (new : CharSetView) (new_strings : List (List ℕ)) (i : ℕ) : Type 0 where
+pub record HasSameText (old : CharSetView) (old_strings : List (List ℕ)) (glyph : ℕ) (new : CharSetView) (new_strings : List (List ℕ))
+    (i : ℕ) : Type 0 where
   pub name : (name : List ℕ) → HasString old old_strings glyph name ↔ HasString new new_strings i name
   pub standard : (identifier : ℕ) → identifier < 391 → Names old glyph identifier ↔ Names new i identifier
 
@@ -53,12 +54,14 @@ SameText old old_strings None new new_strings i = Unit {0}
 SameText old old_strings (Some glyph) new new_strings i = HasSameText old old_strings glyph new new_strings i
 
 abbrev pub SameTexts : CharSetView → List (List ℕ) → Sources → CharSetView → List (List ℕ) → Type 0
-SameTexts old old_strings sources new new_strings = (i : ℕ) → i < length sources → SameText old old_strings (slice_index_or sources i None) new new_strings i
+SameTexts old old_strings sources new new_strings = (i : ℕ) → i < length sources →
+    SameText old old_strings (slice_index_or sources i None) new new_strings i
 
 -- An operator of the dictionary names the string of a number, or it names a glyph.
 abbrev pub IsNeeded : View → CharSetView → (number : ℕ) → Type 0
 IsNeeded font set number =
-    Any (λ operator. identifier_in font.tables.dictionary operator ≡ Some (391 + number)) naming ⊎ ((glyph : ℕ) × (glyph < length font.char_strings) × Names set glyph (391 + number))
+    Any (λ operator. identifier_in font.tables.dictionary operator ≡ Some (391 + number)) naming
+    ⊎ ((glyph : ℕ) × (glyph < length font.char_strings) × Names set glyph (391 + number))
 
 abbrev pub AreNeeded : View → CharSetView → Type 0
 AreNeeded font set = (number : ℕ) → number < length font.tables.strings → IsNeeded font set number
@@ -84,7 +87,8 @@ abbrev pub keeps_strings : (kept : Bool) → Dictionary → Bool
 keeps_strings kept map = kept || is_some (look map operators.ROS)
 
 abbrev pub SameStrings : (keeps : Bool) → Sources → View → CharSetView → View → CharSetView → Type 0
-SameStrings keeps sources old old_set new new_set = MatchBool keeps (KeepsStrings sources old old_set new new_set) (CutsStrings sources old old_set new new_set)
+SameStrings keeps sources old old_set new new_set =
+    MatchBool keeps (KeepsStrings sources old old_set new new_set) (CutsStrings sources old old_set new new_set)
 
 -- the char sets of both fonts, and what names strings
 pub record KeepsNames (kept : Bool) (sources : Sources) (bytes : List ℕ) (old : View) (flat : List ℕ) (new : View) : Type 0 where

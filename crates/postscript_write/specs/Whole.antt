@@ -1,4 +1,5 @@
--- No byte stands beside the parts of a font: where each begins, and where it ends (Technical Note 5176, sections 2, 5, 7 to 10, 12 to 16, 18 and 19).
+-- No byte stands beside the parts of a font: where each begins, and where it ends (Technical Note 5176, sections 2, 5, 7 to 10, 12 to 16,
+-- 18 and 19).
 use Rattle.std.specs.Prelude.{◌≡◌, ◌⊎◌, ℕ, ◌+◌, ◌-◌, ◌*◌, ◌%◌, ◌<◌, ◌≤◌, pos, List, [], ◌∷◌, length, drop, Some, None}
 use Rattle.std.specs.Option.{unwrap_or}
 use Rattle.postscript_base.specs.Compact1.Defaults.{look, first_two_of}
@@ -56,7 +57,8 @@ pub record RangesEnd (ranges : List ℕ) (size glyphs bytes : ℕ) : Type 0 wher
 abbrev pub CharSetEnds : List ℕ → (glyphs place next : ℕ) → Type 0
 CharSetEnds bytes glyphs place next =
     ((number_at bytes place 1 ≡ 0) × (next ≡ place + 1 + 2 * (glyphs - 1)))
-    ⊎ ((size : ℕ) × (len : ℕ) × (number_at bytes place 1 ≡ size) × (1 ≤ size) × (size ≤ 2) × RangesEnd (drop (place + 1) bytes) size (glyphs - 1) len × (next ≡ place + 1 + len))
+    ⊎ ((size : ℕ) × (len : ℕ) × (number_at bytes place 1 ≡ size) × (1 ≤ size) × (size ≤ 2)
+    × RangesEnd (drop (place + 1) bytes) size (glyphs - 1) len × (next ≡ place + 1 + len))
 
 -- FDSelect of format 0 has a byte for each glyph; of format 3 a count of ranges of three bytes, the ranges, and the sentinel.
 abbrev pub SelectEnds : List ℕ → (glyphs place next : ℕ) → Type 0
@@ -86,7 +88,8 @@ PrivateEnds map place next =
 -- of a font that is not CID-keyed.
 abbrev pub PrivatesEnd : Dictionary → List PrivateDict → (place next : ℕ) → Type 0
 PrivatesEnd map [] place next = next ≡ place
-PrivatesEnd map (part ∷ parts) place next = (behind : ℕ) × PrivateEnds (unwrap_or part.font map) place behind × PrivatesEnd map parts behind next
+PrivatesEnd map (part ∷ parts) place next = (behind : ℕ) × PrivateEnds (unwrap_or part.font map) place behind
+    × PrivatesEnd map parts behind next
 
 -- Each part begins where the one before it ends, the first where the bytes begin, and the last ends at a place.
 pub record PartsEnd (flat : List ℕ) (new : View) (next : ℕ) : Type 0 where

@@ -63,7 +63,8 @@ fn has_number(number: usize, new: &FontView<'_>, i: usize) -> bool
 
 /// Whether each glyph has the part of its number.
 pub(crate) fn same_numbers(numbers: &[usize], new: &FontView<'_>) -> bool
-    ensures { IsTrue result → (i : ℕ) → i < length numbers.now → HasPart new.now.bytes.now (view_shown new.now) i (slice_index_or numbers.now i 0) }
+    ensures { IsTrue result → (i : ℕ) → i < length numbers.now →
+        HasPart new.now.bytes.now (view_shown new.now) i (slice_index_or numbers.now i 0) }
 {
     for i in 0..numbers.len() {
         if !has_number(numbers[i], new, i) {

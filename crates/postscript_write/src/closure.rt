@@ -59,7 +59,8 @@ fn reach_components(
     requires marked { AreMarkedAs marks.old.items glyphs.old.items }
     requires many { length marks.old.items ≡ glyphs_of font.now }
     ensures known { OnOk result (AreKnown font.now known.new.items) }
-    ensures grown { OnOk result ((added : List ℕ) × AreComponentsOf font.now glyph added × Grow marks.old.items glyphs.old.items added marks.new.items glyphs.new.items) }
+    ensures grown { OnOk result ((added : List ℕ) × AreComponentsOf font.now glyph added
+        × Grow marks.old.items glyphs.old.items added marks.new.items glyphs.new.items) }
     ensures untold { IfErr result (λ e. IsUntold font.now e) }
 {
     let mut components = Vec::new(alloc);

@@ -151,7 +151,8 @@ pub(crate) fn push_components(
 ) -> Result<()>
     requires known { AreKnown font.now known.old.items }
     ensures known { OnOk result (AreKnown font.now known.new.items) }
-    ensures pushed { OnOk result ((added : List ℕ) × AreComponentsOf font.now glyph added × (components.new.items ≡ components.old.items ++ added)) }
+    ensures pushed { OnOk result ((added : List ℕ) × AreComponentsOf font.now glyph added
+        × (components.new.items ≡ components.old.items ++ added)) }
     ensures untold { IfErr result (λ e. IsUntold font.now e) }
 {
     let said = accent_of(alloc, font, glyph)?;

@@ -14,7 +14,8 @@ use std::io::Cursor;
 /// The place behind the last whole operation.
 pub(crate) fn whole_end(alloc: Global, text: &[u8]) -> Result<usize>
     ensures within { IfOk result (λ end. end ≤ length text.now) }
-    ensures whole { IfOk result (λ end. (operations : List Operation) × OperationsAt text.now 0 operations end × UnfinishedAt text.now end) }
+    ensures whole { IfOk result (λ end. (operations : List Operation) × OperationsAt text.now 0 operations end
+        × UnfinishedAt text.now end) }
 {
     let mut cursor = Cursor::new(text);
     let mut place = 0u64;
@@ -187,7 +188,8 @@ pub(crate) fn without(alloc: Global, text: &[u8], left_out: &[Operator]) -> Resu
 
 /// The dictionary that bytes are, with the operations of places in the place of earlier ones of their operators.
 pub(crate) fn replaced(alloc: Global, text: &[u8], places: &[Place]) -> Result<Vec<u8>>
-    ensures { IfOk result (λ out. (dictionary : Dictionary) → IsDictionary text.now 0 dictionary → IsDictionary out.items 0 (fold put dictionary (map operation_of places.now))) }
+    ensures { IfOk result (λ out. (dictionary : Dictionary) → IsDictionary text.now 0 dictionary →
+        IsDictionary out.items 0 (fold put dictionary (map operation_of places.now))) }
 {
     let end = whole_end(alloc, text)?;
     let mut out = copied(alloc, &text[..end])?;

@@ -71,7 +71,8 @@ fn own_encoding_end(font: &FontView<'_>, place: usize) -> Option<usize>
 
 /// The place behind the char set, where the font has its own; it begins at a place.
 fn own_char_set_end(font: &FontView<'_>, place: usize) -> Option<usize>
-    ensures { IfSome result (λ next. OwnEnds font.now.dictionary operators.CharSet 3 (CharSetEnds font.now.bytes.now (length (items_of font.now.char_strings))) place next) }
+    ensures { IfSome result (λ next. OwnEnds font.now.dictionary operators.CharSet 3
+        (CharSetEnds font.now.bytes.now (length (items_of font.now.char_strings))) place next) }
 {
     let offset = offset_of(&font.dictionary, Operator::CharSet)?;
     if offset < 3 {
@@ -104,7 +105,8 @@ fn select_end(bytes: &[u8], place: usize, glyphs: usize) -> Option<usize>
 
 /// The place behind FDSelect, in a CID-keyed font; it begins at a place.
 fn own_select_end(font: &FontView<'_>, place: usize) -> Option<usize>
-    ensures { IfSome result (λ next. KeyedEnds font.now.dictionary operators.FDSelect (SelectEnds font.now.bytes.now (length (items_of font.now.char_strings))) place next) }
+    ensures { IfSome result (λ next. KeyedEnds font.now.dictionary operators.FDSelect
+        (SelectEnds font.now.bytes.now (length (items_of font.now.char_strings))) place next) }
 {
     if !font.is_cid_keyed() {
         return Some(place);

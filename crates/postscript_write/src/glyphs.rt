@@ -20,7 +20,8 @@ use std::alloc::Global;
 fn number_of(font: &FontView<'_>, source: Option<usize>) -> Result<usize>
     ensures number { IfOk result (λ number. HasPartFor font.now.bytes.now (view_shown font.now) source number) }
     ensures there { OnOk result (IsGlyph source (length (items_of font.now.char_strings))) }
-    ensures refused { IfErr result (λ e. (glyph : ℕ) × (source ≡ Some glyph) × (e ≡ errors.MissingPart glyph) × ((part : ℕ) → HasPartNumber font.now glyph part → ⊥)) }
+    ensures refused { IfErr result (λ e. (glyph : ℕ) × (source ≡ Some glyph) × (e ≡ errors.MissingPart glyph)
+        × ((part : ℕ) → HasPartNumber font.now glyph part → ⊥)) }
 {
     let Some(glyph) = source else {
         return Ok(0);

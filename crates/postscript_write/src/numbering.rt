@@ -33,7 +33,8 @@ fn copied(alloc: Global, bytes: postscript_base::Result<Option<&[u8]>>) -> Resul
 
 /// The identifier that names what a glyph is made of; 0, that of `.notdef`, of an empty one.
 fn identifier_of(set: &CharSetView<'_>, source: Option<usize>) -> Result<u16>
-    ensures refused { IfErr result (λ e. (glyph : ℕ) × (source ≡ Some glyph) × (e ≡ errors.MissingName glyph) × ((identifier : ℕ) → Names set.now glyph identifier → ⊥)) }
+    ensures refused { IfErr result (λ e. (glyph : ℕ) × (source ≡ Some glyph) × (e ≡ errors.MissingName glyph)
+        × ((identifier : ℕ) → Names set.now glyph identifier → ⊥)) }
 {
     let Some(glyph) = source else {
         return Ok(0);

@@ -79,7 +79,8 @@ fn are_cut(
     new: &FontView<'_>,
     new_set: &CharSetView<'_>,
 ) -> Result<bool>
-    ensures cut { IfOk result (λ same. IsTrue same → CutsStrings sources.now (view_shown old.now) old_set.now (view_shown new.now) new_set.now) }
+    ensures cut { IfOk result
+        (λ same. IsTrue same → CutsStrings sources.now (view_shown old.now) old_set.now (view_shown new.now) new_set.now) }
     ensures late { IfErr result (λ e. IsLate e) }
 {
     if !name_same(old, new) || !same_texts(old, old_set, sources, new, new_set) {
@@ -98,7 +99,8 @@ fn same_strings(
     new_set: &CharSetView<'_>,
     keeps: bool,
 ) -> Result<bool>
-    ensures same { IfOk result (λ same. IsTrue same → SameStrings keeps sources.now (view_shown old.now) old_set.now (view_shown new.now) new_set.now) }
+    ensures same { IfOk result
+        (λ same. IsTrue same → SameStrings keeps sources.now (view_shown old.now) old_set.now (view_shown new.now) new_set.now) }
     ensures late { IfErr result (λ e. IsLate e) }
 {
     if keeps {
@@ -176,8 +178,10 @@ fn keeps_codes(
 ) -> Result<()>
     requires encoding { IsEncodingOf encoding.now font.now.bytes.now font.now.dictionary }
     requires names { IsTrue retain_gids → SameNames old.now sources.now new.now }
-    ensures codes { OnOk result (IsTrue retain_gids → KeepsCodes sources.now font.now.bytes.now (view_shown font.now) again.now.bytes.now (view_shown again.now) old.now new.now) }
-    ensures encoding { OnOk result (retain_gids ≡ false → GivesWay font.now.bytes.now (view_shown font.now) again.now.bytes.now (view_shown again.now)) }
+    ensures codes { OnOk result (IsTrue retain_gids →
+        KeepsCodes sources.now font.now.bytes.now (view_shown font.now) again.now.bytes.now (view_shown again.now) old.now new.now) }
+    ensures encoding { OnOk result (retain_gids ≡ false →
+        GivesWay font.now.bytes.now (view_shown font.now) again.now.bytes.now (view_shown again.now)) }
     ensures late { IfErr result (λ e. IsLate e) }
 {
     if retain_gids {
@@ -204,7 +208,8 @@ fn read_back(
     requires encoding { IsEncodingOf encoding.now font.now.bytes.now font.now.dictionary }
     requires numbers { AreNumbersOf font.now.bytes.now (view_shown font.now) sources.now numbers.now }
     requires codes { AreCodesOf (view_shown font.now) sources.now numbers.now (texts codes.now) }
-    ensures font { OnOk result ((new : View) × (the_view flat.now 0 ≡ Got new 0) × IsFontOf retain_gids sources.now font.now.bytes.now (view_shown font.now) flat.now new) }
+    ensures font { OnOk result ((new : View) × (the_view flat.now 0 ≡ Got new 0)
+        × IsFontOf retain_gids sources.now font.now.bytes.now (view_shown font.now) flat.now new) }
     ensures whole { OnOk result (IsWhole flat.now) }
     ensures late { IfErr result (λ e. IsLate e) }
 {
@@ -253,7 +258,8 @@ fn put_together(
     requires encoding { IsEncodingOf encoding.now font.now.bytes.now font.now.dictionary }
     requires numbers { AreNumbersOf font.now.bytes.now (view_shown font.now) sources.now numbers.now }
     requires codes { AreCodesOf (view_shown font.now) sources.now numbers.now (texts codes.now) }
-    ensures font { IfOk result (λ flat. (new : View) × (the_view flat.items 0 ≡ Got new 0) × IsFontOf retain_gids sources.now font.now.bytes.now (view_shown font.now) flat.items new) }
+    ensures font { IfOk result (λ flat. (new : View) × (the_view flat.items 0 ≡ Got new 0)
+        × IsFontOf retain_gids sources.now font.now.bytes.now (view_shown font.now) flat.items new) }
     ensures whole { IfOk result (λ flat. IsWhole flat.items) }
     ensures lenient { IfOk result (λ flat. HasLenientFont font.now.bytes.now → HasLenientFont flat.items) }
     ensures late { IfErr result (λ e. IsLate e) }
@@ -302,7 +308,8 @@ pub(crate) fn font_of(
     sources: &[Option<usize>],
     kept: bool,
 ) -> Result<Vec<u8>>
-    ensures font { IfOk result (λ flat. (new : View) × (the_view flat.items 0 ≡ Got new 0) × IsFontOf retain_gids sources.now font.now.bytes.now (view_shown font.now) flat.items new) }
+    ensures font { IfOk result (λ flat. (new : View) × (the_view flat.items 0 ≡ Got new 0)
+        × IsFontOf retain_gids sources.now font.now.bytes.now (view_shown font.now) flat.items new) }
     ensures whole { IfOk result (λ flat. IsWhole flat.items) }
     ensures lenient { IfOk result (λ flat. HasLenientFont font.now.bytes.now → HasLenientFont flat.items) }
     ensures refused { IfErr result (λ e. FontRefusedBy font.now.bytes.now (view_shown font.now) sources.now e) }

@@ -18,4 +18,5 @@ KeepsToLimit limit loaded = (left : ℕ) × Fits (run_loaded loaded).trace limit
 
 -- a run that is too long: its glyph, by its code, the limit, and the option that names it
 abbrev pub past_line : (limit : ℕ) → (code : List ℕ) → List ℕ
-past_line limit code = codes "too long: code " ++ (encode_lower code ++ (codes " takes more than --limit " ++ (decimal limit ++ codes "\n")))
+past_line limit code = codes "too long: code "
+    ++ (encode_lower code ++ (codes " takes more than --limit " ++ (decimal limit ++ codes "\n")))

@@ -35,9 +35,11 @@ FlatTold loaded old new = ((fault_of (run_loaded loaded).end ≡ None) × Append
 
 -- what the reading of these bytes answers is told, in lines or as its refusal
 abbrev pub ReadingTold : Manner → List ℕ → Option (List ℕ) → Option (List ℕ) → Type 0
-ReadingTold manner bytes old new = (outcome : Result FontSet Error) × ((next : ℕ) × Answered font_shown outcome next (reading_of manner bytes 0))
+ReadingTold manner bytes old new = (outcome : Result FontSet Error)
+    × ((next : ℕ) × Answered font_shown outcome next (reading_of manner bytes 0))
     × Appends old new (font_told outcome)
 
 -- the font of the bytes that hex digits spell; or that they spell none
 abbrev pub FontTold : Manner → List ℕ → Option (List ℕ) → Option (List ℕ) → Type 0
-FontTold manner digits old new = MatchResult (decode_of digits) (λ bytes. ReadingTold manner bytes old new) (λ _. Appends old new (codes "bad hex\n"))
+FontTold manner digits old new = MatchResult (decode_of digits) (λ bytes. ReadingTold manner bytes old new)
+    (λ _. Appends old new (codes "bad hex\n"))

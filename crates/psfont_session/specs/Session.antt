@@ -31,8 +31,10 @@ AsksRun line = ((word_of line ≡ name_of Run) ⊎ (word_of line ≡ name_of Fla
 
 -- What is told within a limit, if there is one: where the line asks for a run that uses up the limit, that it does, and where memory is
 -- wanting for that, so; else what is told without a limit, of a run that comes to its end, or is refused, within it.
-pub data ToldWithin (limit : ℕ) (line : List ℕ) (old : Loaded) (before : Option (List ℕ)) (new : Loaded) (after : Option (List ℕ)) : Type 0 where
-  past : AsksRun line → IsUsedUp limit old → new ≡ old → Appends before after (past_line limit old.code) → ToldWithin limit line old before new after
+pub data ToldWithin (limit : ℕ) (line : List ℕ) (old : Loaded) (before : Option (List ℕ)) (new : Loaded)
+    (after : Option (List ℕ)) : Type 0 where
+  past : AsksRun line → IsUsedUp limit old → new ≡ old → Appends before after (past_line limit old.code) →
+      ToldWithin limit line old before new after
   wanting : AsksRun line → new ≡ old → Appends before after (fault_line Memory) → ToldWithin limit line old before new after
   told : (AsksRun line → KeepsToLimit limit old) → LineTold line old before new after → ToldWithin limit line old before new after
 
@@ -55,11 +57,13 @@ IsFree bytes = All (λ byte. byte ≢ 10) bytes
 
 -- a line that has its end, as it is answered: without the carriage return at its end, if it has one
 abbrev pub IsText : List ℕ → List ℕ → Type 0
-IsText line text = ((front : List ℕ) → line ≡ front ++ 13 ∷ [] → text ≡ front) × (((front : List ℕ) → line ≢ front ++ 13 ∷ []) → text ≡ line)
+IsText line text = ((front : List ℕ) → line ≡ front ++ 13 ∷ [] → text ≡ front)
+    × (((front : List ℕ) → line ≢ front ++ 13 ∷ []) → text ≡ line)
 
 -- a line is answered; the writer may be flushed before
 abbrev pub Answered : (limit : Option ℕ) → Talk → List ℕ → Talk → Type 0
-Answered limit old text new = (flushed : Option (List ℕ)) × Keeps old.written flushed × LineToldWithin limit text old.loaded flushed new.loaded new.written
+Answered limit old text new = (flushed : Option (List ℕ)) × Keeps old.written flushed
+    × LineToldWithin limit text old.loaded flushed new.loaded new.written
 
 -- the same of a line that has its end
 abbrev pub AnsweredLine : (limit : Option ℕ) → Talk → List ℕ → Talk → Type 0
@@ -74,7 +78,8 @@ pub record Heard (limit : Option ℕ) (input : List ℕ) (old : Talk) (open_line
 
 -- an input is answered, line by line, and its open line at last, within a limit, if there is one
 abbrev pub SessionWithin : (limit : Option ℕ) → List ℕ → Option (List ℕ) → Option (List ℕ) → Type 0
-SessionWithin limit input before after = (open_line : List ℕ) × (talk : Talk) × (last : Talk) × Heard limit input (fresh before) open_line talk
+SessionWithin limit input before after = (open_line : List ℕ) × (talk : Talk) × (last : Talk)
+    × Heard limit input (fresh before) open_line talk
     × Answered limit talk open_line last × Keeps last.written after
 
 abbrev pub Session : List ℕ → Option (List ℕ) → Option (List ℕ) → Type 0

@@ -24,7 +24,8 @@ field_text field = codes " " ++ decimal field
 
 -- the header's four fields
 abbrev pub header_line : Header → List ℕ
-header_line header = codes "header" ++ (flat_map field_text (header.major ∷ header.minor ∷ header.header_size ∷ header.offset_size ∷ []) ++ codes "\n")
+header_line header = codes "header" ++ (flat_map field_text (header.major ∷ header.minor ∷ header.header_size ∷ header.offset_size ∷ [])
+    ++ codes "\n")
 
 -- a byte of a name: a control character of ASCII is shown as ?
 abbrev pub shown_byte : ℕ → List ℕ
@@ -48,12 +49,14 @@ counts_text glyphs locals = codes " glyphs " ++ (decimal glyphs ++ (codes " loca
 
 -- the line of a dictionary; none where it lacks one of the four
 abbrev pub dictionary_line : Option Encoding → Option CharSet → Option Index → Option Index → List ℕ
-dictionary_line (Some encoding) (Some char_set) (Some codes) (Some local) = sets_text encoding char_set ++ counts_text (length codes.items) (length local.items)
+dictionary_line (Some encoding) (Some char_set) (Some codes) (Some local) =
+    sets_text encoding char_set ++ counts_text (length codes.items) (length local.items)
 dictionary_line encoding char_set codes local = []
 
 -- the line of the dictionary of this number, from 0 on
 abbrev pub line_at : Font → ℕ → List ℕ
-line_at font number = dictionary_line (slice_get font.encodings number) (slice_get font.char_sets number) (slice_get font.char_strings number) (slice_get font.local_subroutines number)
+line_at font number = dictionary_line (slice_get font.encodings number) (slice_get font.char_sets number)
+    (slice_get font.char_strings number) (slice_get font.local_subroutines number)
 
 -- the lines of the first dictionaries, so many of them
 unfoldable pub lines_below : Font → ℕ → List ℕ
@@ -62,11 +65,13 @@ lines_below font (suc count) = lines_below font count ++ line_at font count
 
 -- how many strings and global subroutines there are
 abbrev pub tables_text : Font → List ℕ
-tables_text font = count_line (codes "strings ") (length font.strings.items) ++ count_line (codes "globals ") (length font.global_subroutines.items)
+tables_text font = count_line (codes "strings ") (length font.strings.items)
+    ++ count_line (codes "globals ") (length font.global_subroutines.items)
 
 -- how many dictionaries there are, and a line for each
 abbrev pub dictionaries_text : Font → List ℕ
-dictionaries_text font = count_line (codes "dictionaries ") (length font.global_dictionaries) ++ lines_below font (length font.global_dictionaries)
+dictionaries_text font = count_line (codes "dictionaries ") (length font.global_dictionaries)
+    ++ lines_below font (length font.global_dictionaries)
 
 -- all of it, and the end
 abbrev pub font_text : Font → List ℕ

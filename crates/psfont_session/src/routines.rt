@@ -126,7 +126,8 @@ impl Routines {
         ensures faultless { OnOk result (fault_of (run_of (lists_of self.now) self.now.code).end ≡ None) }
         ensures text { IfOk result (λ flat. flat.items ≡ flat_text (run_of (lists_of self.now) self.now.code).trace) }
         ensures keeps { IfOk result (λ flat. (other : Lists) → KeepsMeaning other flat.items (run_of (lists_of self.now) self.now.code)) }
-        ensures refused { IfErr result (λ e. (e ≡ Error.Memory) ⊎ (fault_of (run_of (lists_of self.now) self.now.code).end ≡ Some (refusal_of e))) }
+        ensures refused { IfErr result
+            (λ e. (e ≡ Error.Memory) ⊎ (fault_of (run_of (lists_of self.now) self.now.code).end ≡ Some (refusal_of e))) }
         ensures listed { IsListed flatten_refusals result }
     {
         Program::flatten(

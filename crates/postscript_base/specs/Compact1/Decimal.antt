@@ -87,7 +87,8 @@ to_i32 d =
 
 -- the mantissa where the exponent is 0, else mantissa, e, exponent
 abbrev pub printed : Decimal → List ℕ
-printed d = if int_eq d.exponent (pos 0) then signed_decimal d.mantissa else signed_decimal d.mantissa ++ (codes "e" ++ signed_decimal d.exponent)
+printed d = if int_eq d.exponent (pos 0) then signed_decimal d.mantissa
+    else signed_decimal d.mantissa ++ (codes "e" ++ signed_decimal d.exponent)
 
 -- the number that digits spell
 abbrev pub digits_number : List ℕ → ℕ
@@ -100,4 +101,8 @@ IsDigits digits = (k : ℕ) → k < length digits → slice_index digits k < 10
 -- mantissa, and those behind the point lower the exponent.
 abbrev pub real_value : (negative : Bool) → (whole fraction : List ℕ) → (down : Bool) → (exponent : List ℕ) → Decimal
 real_value negative whole fraction down exponent =
-    record { mantissa = signed negative (digits_number (whole ++ fraction)); exponent = signed down (digits_number exponent) -ℤ pos (length fraction) }
+    record {
+      mantissa = signed negative (digits_number (whole ++ fraction));
+      exponent =
+          signed down (digits_number exponent) -ℤ pos (length fraction);
+    }

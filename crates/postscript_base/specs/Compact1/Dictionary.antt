@@ -16,7 +16,8 @@ abbrev pub Dictionary : Type 0
 Dictionary = FinMap operator_cmp (List Decimal)
 
 abbrev pub decimals_code : Coded (List Decimal)
-decimals_code = coded_list (code_by (ℤ × ℤ) (coded× coded_ℤ coded_ℤ) (λ d. (d.mantissa, d.exponent)) (λ p. record { mantissa = p.0; exponent = p.1 }) (λ _. refl))
+decimals_code = coded_list (code_by (ℤ × ℤ) (coded× coded_ℤ coded_ℤ) (λ d. (d.mantissa, d.exponent))
+    (λ p. record { mantissa = p.0; exponent = p.1 }) (λ _. refl))
 
 -- the entries of a hash map, as they are seen
 abbrev pub listed : List (Operator × Vec Decimal Global) → List (Operator × List Decimal)

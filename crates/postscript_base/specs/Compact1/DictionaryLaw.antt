@@ -30,7 +30,8 @@ OperationAt bytes place operation next = (at : ℕ) × OperandsAt bytes place op
 
 abbrev pub OperationsAt : List ℕ → ℕ → List Operation → ℕ → Type 0
 OperationsAt bytes place [] next = next ≡ place
-OperationsAt bytes place (operation ∷ operations) next = (at : ℕ) × OperationAt bytes place operation at × OperationsAt bytes at operations next
+OperationsAt bytes place (operation ∷ operations) next = (at : ℕ) × OperationAt bytes place operation at
+    × OperationsAt bytes at operations next
 
 -- no nibble ends the text of a real, and none is reserved
 abbrev pub is_open : List ℕ → Bool
@@ -61,7 +62,8 @@ pub record UnfinishedAt (bytes : List ℕ) (place : ℕ) : Type 0 where
 -- the operands of an operator's last operation
 abbrev pub last_of : List Operation → Operator → Option (List Decimal)
 last_of [] q = None
-last_of (operation ∷ operations) q = option_or (last_of operations q) (if eq_by_cmp operator_cmp q operation.0 then Some operation.1 else None)
+last_of (operation ∷ operations) q =
+    option_or (last_of operations q) (if eq_by_cmp operator_cmp q operation.0 then Some operation.1 else None)
 
 -- From the place on the bytes are operations, followed by an unfinished rest. The map has exactly the operators that
 -- occur, each with the operands of its last operation.
@@ -98,7 +100,8 @@ pub record ReadsOperations : Type 0 where
   pub all : (bytes : List ℕ) (place : ℕ) (o : Operation) (next : ℕ) → OperationAt bytes place o next → operation bytes place ≡ Got o next
   pub only : (bytes : List ℕ) (place : ℕ) (o : Operation) (next : ℕ) → operation bytes place ≡ Got o next → OperationAt bytes place o next
   pub refused : (bytes : List ℕ) (place : ℕ) (refusal : Refusal) → IsNoOperation bytes place refusal → operation bytes place ≡ Fault refusal
-  pub refused_only : (bytes : List ℕ) (place : ℕ) (refusal : Refusal) → operation bytes place ≡ Fault refusal → IsNoOperation bytes place refusal
+  pub refused_only : (bytes : List ℕ) (place : ℕ) (refusal : Refusal) → operation bytes place ≡ Fault refusal →
+      IsNoOperation bytes place refusal
   pub never_past : (bytes : List ℕ) (place : ℕ) → operation bytes place ≢ Past
 
 -- Behind operations and operands of one more, what stands is refused, though the end does not cut it.
@@ -116,8 +119,11 @@ pub record IsRefused (bytes : List ℕ) (place : ℕ) (refusal : Refusal) : Type
 -- first number or operator that is bad.
 pub record ReadsDictionaries : Type 0 where
   pub all : (bytes : List ℕ) (place : ℕ) (map : Dictionary) → IsDictionary bytes place map → dictionary bytes place ≡ Got map (length bytes)
-  pub only : (bytes : List ℕ) (place : ℕ) (map : Dictionary) (next : ℕ) → dictionary bytes place ≡ Got map next → IsDictionary bytes place map × (next ≡ length bytes)
+  pub only : (bytes : List ℕ) (place : ℕ) (map : Dictionary) (next : ℕ) → dictionary bytes place ≡ Got map next →
+      IsDictionary bytes place map × (next ≡ length bytes)
   pub refused : (bytes : List ℕ) (place : ℕ) (refusal : Refusal) → IsRefused bytes place refusal → dictionary bytes place ≡ Fault refusal
-  pub refused_only : (bytes : List ℕ) (place : ℕ) (refusal : Refusal) → dictionary bytes place ≡ Fault refusal → IsRefused bytes place refusal
-  pub refusals : (bytes : List ℕ) (place : ℕ) (refusal : Refusal) → dictionary bytes place ≡ Fault refusal → (refusal ≡ malformed_number) ⊎ ((refusal ≡ out_of_range_number) ⊎ (refusal ≡ unknown_operator))
+  pub refused_only : (bytes : List ℕ) (place : ℕ) (refusal : Refusal) → dictionary bytes place ≡ Fault refusal →
+      IsRefused bytes place refusal
+  pub refusals : (bytes : List ℕ) (place : ℕ) (refusal : Refusal) → dictionary bytes place ≡ Fault refusal → (refusal ≡ malformed_number)
+      ⊎ ((refusal ≡ out_of_range_number) ⊎ (refusal ≡ unknown_operator))
   pub never_past : (bytes : List ℕ) (place : ℕ) → dictionary bytes place ≢ Past

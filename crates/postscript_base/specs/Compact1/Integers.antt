@@ -10,8 +10,10 @@ pub data IsInteger : List ℕ → ℤ → Type 0 where
   -- one byte: from -107 to 107
   small : (first : ℕ) → 0x20 ≤ first → first < 0xf7 → IsInteger (first ∷ []) (pos first -ℤ pos 139)
   -- two bytes: from 108 to 1131, and from -108 to -1131
-  positive : (first second : ℕ) → 0xf7 ≤ first → first < 0xfb → IsInteger (first ∷ second ∷ []) ((pos first -ℤ pos 247) *ℤ pos 256 +ℤ pos second +ℤ pos 108)
-  negative : (first second : ℕ) → 0xfb ≤ first → first < 0xff → IsInteger (first ∷ second ∷ []) ((pos 251 -ℤ pos first) *ℤ pos 256 -ℤ pos second -ℤ pos 108)
+  positive : (first second : ℕ) → 0xf7 ≤ first → first < 0xfb →
+      IsInteger (first ∷ second ∷ []) ((pos first -ℤ pos 247) *ℤ pos 256 +ℤ pos second +ℤ pos 108)
+  negative : (first second : ℕ) → 0xfb ≤ first → first < 0xff →
+      IsInteger (first ∷ second ∷ []) ((pos 251 -ℤ pos first) *ℤ pos 256 -ℤ pos second -ℤ pos 108)
   -- two bytes behind 1c, and four behind 1d, in two's complement
   of_two_bytes : (a b : ℕ) → IsInteger (0x1c ∷ a ∷ b ∷ []) (two_sided 0x8000 (big_endian (a ∷ b ∷ [])))
   of_four_bytes : (a b c d : ℕ) → IsInteger (0x1d ∷ a ∷ b ∷ c ∷ d ∷ []) (two_sided 0x80000000 (big_endian (a ∷ b ∷ c ∷ d ∷ [])))
@@ -31,5 +33,7 @@ pub record IsIntegerAt (bytes : List ℕ) (place : ℕ) (operand : Decimal) (nex
 
 -- Every integer that stands at a place is read, as its value. What is read is such an integer, but where a real begins.
 pub record ReadsIntegers : Type 0 where
-  pub all : (bytes : List ℕ) (place : ℕ) (operand : Decimal) (next : ℕ) → IsIntegerAt bytes place operand next → number bytes place ≡ Got operand next
-  pub only : (bytes : List ℕ) (place : ℕ) (operand : Decimal) (next : ℕ) → number bytes place ≡ Got operand next → StandAt bytes place (0x1e ∷ []) ⊎ IsIntegerAt bytes place operand next
+  pub all : (bytes : List ℕ) (place : ℕ) (operand : Decimal) (next : ℕ) → IsIntegerAt bytes place operand next →
+      number bytes place ≡ Got operand next
+  pub only : (bytes : List ℕ) (place : ℕ) (operand : Decimal) (next : ℕ) → number bytes place ≡ Got operand next →
+      StandAt bytes place (0x1e ∷ []) ⊎ IsIntegerAt bytes place operand next

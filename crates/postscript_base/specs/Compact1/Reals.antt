@@ -91,7 +91,8 @@ exponent_at (n ∷ ns) = if (n == e_symbol) && is_exponent (after_sign ns) then 
 abbrev pub joined : Bool → List ℕ → Option (List ℕ) → Option (Option (Bool × List ℕ)) → Option Real
 joined negative whole fraction None = None
 joined negative whole fraction (Some exponent) =
-    if nat_lt 0 (length (whole ++ fraction_digits fraction)) then Some (record { negative = negative; whole = whole; fraction = fraction; exponent = exponent }) else None
+    if nat_lt 0 (length (whole ++ fraction_digits fraction))
+    then Some (record { negative = negative; whole = whole; fraction = fraction; exponent = exponent }) else None
 
 -- the real that a text spells, where it spells one
 unfoldable pub real_of : List ℕ → Option Real

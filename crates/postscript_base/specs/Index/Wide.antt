@@ -51,4 +51,5 @@ IsWideOpened bytes place items next = IsWideEmpty bytes place items next ⊎ IsW
 -- an INDEX is laid out at the place, but its offsets do not begin with 1, or fall
 abbrev pub IsWideOutOfOrder : List ℕ → (place : ℕ) → Type 0
 IsWideOutOfOrder bytes place =
-    ((next : ℕ) × IsWideLaidOut bytes place next) × (AreInOrder bytes (place + 5) (wide_size_at bytes place) (wide_count_at bytes place) → ⊥)
+    ((next : ℕ) × IsWideLaidOut bytes place next)
+    × (AreInOrder bytes (place + 5) (wide_size_at bytes place) (wide_count_at bytes place) → ⊥)

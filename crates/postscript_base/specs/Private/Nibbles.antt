@@ -7,7 +7,8 @@ use Rattle.postscript_base.specs.Compact1.Reals.{symbols, end_nibble, reserved_n
 
 -- a text and one nibble more, and whether the text is at its end
 abbrev pub one_nibble : List ℕ → ℕ → Option (Bool × List ℕ)
-one_nibble text nibble = if nibble == end_nibble then Some (true, text) else if nibble == reserved_nibble then None else Some (false, text ++ symbols nibble)
+one_nibble text nibble = if nibble == end_nibble then Some (true, text) else if nibble == reserved_nibble then None
+    else Some (false, text ++ symbols nibble)
 
 -- the high nibble, and then the low one
 abbrev pub then_low : Option (Bool × List ℕ) → ℕ → Option (Bool × List ℕ)

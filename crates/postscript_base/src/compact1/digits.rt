@@ -52,7 +52,8 @@ pub(crate) fn of_real(
     ensures exact { let v = real_value negative whole.now fraction.now down exponent.now in result ≡ operand_of v.mantissa v.exponent }
     ensures some { IfSome result (λ o. AreEqual o (real_value negative whole.now fraction.now down exponent.now)) }
     ensures operand { IfSome result HasOperand }
-    ensures none { IfNone result ((d : Decimal) → HasOperand d → AreEqual d (real_value negative whole.now fraction.now down exponent.now) → ⊥) }
+    ensures none { IfNone result ((d : Decimal) → HasOperand d →
+        AreEqual d (real_value negative whole.now fraction.now down exponent.now) → ⊥) }
 {
     let front = push_all(Significant::new(), whole);
     let kept = push_all(front, fraction);

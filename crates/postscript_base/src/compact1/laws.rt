@@ -18,7 +18,8 @@ pub fn are_equal(a: &Operand, b: &Operand) -> bool
 
 /// A law: operands of one value hash alike. It does nothing and is never refused.
 pub fn hash_alike()
-    ensures { (a b : Decimal) → HasOperand a → HasOperand b → AreEqual a b → ⟦<Operand as Hash>⟧.hash_input a ≡ ⟦<Operand as Hash>⟧.hash_input b }
+    ensures { (a b : Decimal) → HasOperand a → HasOperand b → AreEqual a b →
+        ⟦<Operand as Hash>⟧.hash_input a ≡ ⟦<Operand as Hash>⟧.hash_input b }
 {}
 
 /// A law: an operation of a dictionary is read where operands are spelled one behind the other, and then an operator.

@@ -104,7 +104,8 @@ impl Operand {
     /// ```
     pub fn to_i32(&self) -> Option<i32>
         ensures some { IfSome result (λ v. IsSameValue self.now.mantissa self.now.exponent v (pos 0)) }
-        ensures none { IfNone result ((v : ℤ) → negsuc (2 ^ 31 - 1) ≤ℤ v → v ≤ℤ pos (2 ^ 31 - 1) → IsSameValue self.now.mantissa self.now.exponent v (pos 0) → ⊥) }
+        ensures none { IfNone result ((v : ℤ) → negsuc (2 ^ 31 - 1) ≤ℤ v → v ≤ℤ pos (2 ^ 31 - 1) →
+            IsSameValue self.now.mantissa self.now.exponent v (pos 0) → ⊥) }
         ensures exact { result ≡ the_i32 self.now }
     {
         let (mantissa, exponent) = (self.mantissa(), self.exponent());
@@ -124,7 +125,8 @@ impl PartialEq for Operand {
 
     ghost eq = { eq_of_both (on (λ o. o.mantissa) int_eq) (on (λ o. o.exponent) int_eq) };
 
-    ghost laws = { and_per (on_per (λ o. o.mantissa) (partial_equiv_from_equiv int_eq_equiv)) (on_per (λ o. o.exponent) (partial_equiv_from_equiv int_eq_equiv)) };
+    ghost laws = { and_per (on_per (λ o. o.mantissa) (partial_equiv_from_equiv int_eq_equiv)) (on_per
+        (λ o. o.exponent) (partial_equiv_from_equiv int_eq_equiv)) };
 
     fn eq(&self, other: &Operand) -> bool
         ensures exact { result ≡ (int_eq self.now.mantissa other.now.mantissa && int_eq self.now.exponent other.now.exponent) }

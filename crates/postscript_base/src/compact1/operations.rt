@@ -168,7 +168,8 @@ impl Value for Operations {
 
 /// The dictionary that operations leave.
 fn of_all(alloc: Global, all: Vec<Operation>) -> Result<Operations>
-    ensures dictionary { IfOk result (λ operations. operations ≡ dictionary_of (map (λ operation. (operation.0, operation.1.items)) all.items)) }
+    ensures dictionary { IfOk result
+        (λ operations. operations ≡ dictionary_of (map (λ operation. (operation.0, operation.1.items)) all.items)) }
     ensures listed { IsListed (3 ∷ []) result }
 {
     let mut operations = Operations::with_capacity(alloc, all.len())?;

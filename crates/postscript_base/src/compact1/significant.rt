@@ -31,7 +31,8 @@ impl Significant {
     pub(crate) fn push(self, digit: u8) -> Self
         requires digit { digit < 10 }
         requires room { self.zeros + 1 < 2 ^ 64 }
-        ensures keeps { (n : ℕ) → Keeps self.is_long self.mantissa self.zeros n → Keeps result.is_long result.mantissa result.zeros (10 * n + digit) }
+        ensures keeps { (n : ℕ) → Keeps self.is_long self.mantissa self.zeros n →
+            Keeps result.is_long result.mantissa result.zeros (10 * n + digit) }
         ensures zeros { result.zeros ≤ self.zeros + 1 }
     {
         if self.is_long {
@@ -68,7 +69,8 @@ impl Significant {
 pub(crate) fn push_all(mut kept: Significant, digits: &[u8]) -> Significant
     requires digits { IsDigits digits.now }
     requires room { kept.zeros + length digits.now < 2 ^ 64 }
-    ensures keeps { (front : List ℕ) → Keeps kept.is_long kept.mantissa kept.zeros (digits_number front) → Keeps result.is_long result.mantissa result.zeros (digits_number (front ++ digits.now)) }
+    ensures keeps { (front : List ℕ) → Keeps kept.is_long kept.mantissa kept.zeros (digits_number front) →
+        Keeps result.is_long result.mantissa result.zeros (digits_number (front ++ digits.now)) }
     ensures zeros { result.zeros ≤ kept.zeros + length digits.now }
 {
     for digit in digits {

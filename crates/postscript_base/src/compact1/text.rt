@@ -49,7 +49,8 @@ fn step<T: Tape>(tape: &mut T, text: &mut Vec<u8>) -> Result<bool>
 /// Takes one nibble more, and says whether it ends the text.
 #[inline(always)]
 fn push(text: &mut Vec<u8>, nibble: u8) -> Result<bool>
-    ensures exact { MatchResult result (λ ended. one_nibble text.old.items nibble ≡ Some (ended, text.new.items)) (λ e. (e ≡ errors.Memory) ⊎ ((e ≡ errors.MalformedNumber) × (one_nibble text.old.items nibble ≡ None))) }
+    ensures exact { MatchResult result (λ ended. one_nibble text.old.items nibble ≡ Some (ended, text.new.items))
+        (λ e. (e ≡ errors.Memory) ⊎ ((e ≡ errors.MalformedNumber) × (one_nibble text.old.items nibble ≡ None))) }
     ensures longer { MatchResult result (λ ended. ended ≡ false → vec_len text.old < vec_len text.new) (λ _. Unit {0}) }
 {
     match nibble {
@@ -130,7 +131,8 @@ fn split_fraction(text: &[u8]) -> (&[u8], &[u8])
 
 /// An exponent that is all of the text: whether it has a minus, and its digits, none where there is no exponent.
 fn split_exponent(text: &[u8]) -> Option<(bool, &[u8])>
-    ensures some { IfSome result (λ r. (p : Option (Bool × List ℕ)) × (exponent_at text.now ≡ Some p) × (r.0 ≡ is_exponent_negative p) × (r.1.now ≡ exponent_digits p)) }
+    ensures some { IfSome result (λ r. (p : Option (Bool × List ℕ)) × (exponent_at text.now ≡ Some p) × (r.0 ≡ is_exponent_negative p)
+        × (r.1.now ≡ exponent_digits p)) }
     ensures none { IfNone result (exponent_at text.now ≡ None) }
     ensures digits { IfSome result (λ r. IsDigits r.1.now) }
 {

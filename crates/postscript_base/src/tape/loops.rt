@@ -143,7 +143,8 @@ pub fn read_until<W: Until + Drop, T: Tape>(
 pub fn read_to_end<V: Value + Drop, T: Tape>(alloc: Global, tape: &mut T) -> Result<Vec<V>>
     requires { TakesBytes V.reading }
     ensures rises { IfOk result (λ values. vec_len values < 2 ^ 64) }
-    ensures takes { IsHonest (T.state tape.old) → IfOk result (λ values. vec_len values ≤ length (T.state tape.old).bytes - (T.state tape.old).place) }
+    ensures takes { IsHonest (T.state tape.old) →
+        IfOk result (λ values. vec_len values ≤ length (T.state tape.old).bytes - (T.state tape.old).place) }
     ensures exact { Reads (λ values. V.views values.items) (T.state tape.old) result (T.state tape.new)
         (to_end V.reading) }
     ensures listed { IsListed (1 ∷ 2 ∷ 3 ∷ 4 ∷ V.refusals) result }

@@ -25,7 +25,8 @@ use Rattle.postscript_compact1.specs.FontSet.Font.{Part, Tables, Columns, Font, 
 
 -- the encoding of a dictionary: 0 and 1 name the predefined ones
 abbrev pub encoding_of : ℤ → Reading Encoding
-encoding_of (pos n) = if n == 0 then pure encodings.Standard else if n == 1 then pure encodings.Expert else fault (OfPart unsupported.CustomEncoding)
+encoding_of (pos n) = if n == 0 then pure encodings.Standard else if n == 1 then pure encodings.Expert
+    else fault (OfPart unsupported.CustomEncoding)
 encoding_of (negsuc n) = fault (OfPart unsupported.CustomEncoding)
 
 unfoldable pub encoding : Dictionary → Reading Encoding
@@ -100,7 +101,13 @@ part manner start map = do
   encoding ← encoding map
   glyphs ← glyphs start map
   locals ← locals manner start map
-  pure (record { encoding = encoding; char_strings = glyphs.0; char_set = glyphs.1; local_dictionary = locals.0; local_subroutines = locals.1 })
+  pure (record {
+    encoding = encoding;
+    char_strings = glyphs.0;
+    char_set = glyphs.1;
+    local_dictionary = locals.0;
+    local_subroutines = locals.1;
+  })
 
 -- the names at a place, each a text
 unfoldable pub names : ℕ → Reading (List (List ℕ))

@@ -45,33 +45,46 @@ pub data NoOffset (e : Error) (start base : ℕ) (map : Dictionary) (op : Operat
 
 pub data NoEncoding (e : Error) (map : Dictionary) : Type 0 where
   EncodingOperand : NoFirst e map operators.Encoding → NoEncoding e map
-  OtherEncoding : (z : ℤ) → HasFirst map operators.Encoding z → (z ≡ pos 0 → ⊥) → (z ≡ pos 1 → ⊥) → refusal_of e ≡ OfPart unsupported.CustomEncoding → NoEncoding e map
+  OtherEncoding : (z : ℤ) → HasFirst map operators.Encoding z → (z ≡ pos 0 → ⊥) → (z ≡ pos 1 → ⊥) →
+      refusal_of e ≡ OfPart unsupported.CustomEncoding → NoEncoding e map
 
 pub data NoCharStrings (e : Error) (bytes : List ℕ) (start : ℕ) (map : Dictionary) : Type 0 where
   StringsOffset : NoOffset e start 0 map operators.CharStrings → NoCharStrings e bytes start map
-  TypeOperand : (n : ℕ) → HasFirst map operators.CharStrings (pos n) → IsPlace (start + n) → NoFirst e map operators.CharStringType → NoCharStrings e bytes start map
-  OtherType : (n : ℕ) (z : ℤ) → HasFirst map operators.CharStrings (pos n) → IsPlace (start + n) → HasFirst map operators.CharStringType z → (z ≡ pos 2 → ⊥) → refusal_of e ≡ unknown_char_string_format → NoCharStrings e bytes start map
-  StringsRefused : (n : ℕ) → HasFirst map operators.CharStrings (pos n) → IsPlace (start + n) → HasFirst map operators.CharStringType (pos 2) → RefusedAt e index bytes (start + n) → NoCharStrings e bytes start map
+  TypeOperand : (n : ℕ) → HasFirst map operators.CharStrings (pos n) → IsPlace (start + n) → NoFirst e map operators.CharStringType →
+      NoCharStrings e bytes start map
+  OtherType : (n : ℕ) (z : ℤ) → HasFirst map operators.CharStrings (pos n) → IsPlace (start + n) →
+      HasFirst map operators.CharStringType z → (z ≡ pos 2 → ⊥) → refusal_of e ≡ unknown_char_string_format →
+      NoCharStrings e bytes start map
+  StringsRefused : (n : ℕ) → HasFirst map operators.CharStrings (pos n) → IsPlace (start + n) →
+      HasFirst map operators.CharStringType (pos 2) → RefusedAt e index bytes (start + n) → NoCharStrings e bytes start map
 
 pub data NoCharSet (e : Error) (bytes : List ℕ) (start glyphs : ℕ) (map : Dictionary) : Type 0 where
   SetOperand : NoFirst e map operators.CharSet → NoCharSet e bytes start glyphs map
-  SetNegative : (n : ℕ) → HasFirst map operators.CharSet (negsuc n) → refusal_of e ≡ out_of_range_offset → NoCharSet e bytes start glyphs map
-  SetFar : (n : ℕ) → HasFirst map operators.CharSet (pos n) → 3 ≤ n → (IsPlace (start + n) → ⊥) → refusal_of e ≡ out_of_range_offset → NoCharSet e bytes start glyphs map
-  SetRefused : (n : ℕ) → HasFirst map operators.CharSet (pos n) → 3 ≤ n → IsPlace (start + n) → RefusedAt e (char_set glyphs) bytes (start + n) → NoCharSet e bytes start glyphs map
+  SetNegative : (n : ℕ) → HasFirst map operators.CharSet (negsuc n) → refusal_of e ≡ out_of_range_offset →
+      NoCharSet e bytes start glyphs map
+  SetFar : (n : ℕ) → HasFirst map operators.CharSet (pos n) → 3 ≤ n → (IsPlace (start + n) → ⊥) → refusal_of e ≡ out_of_range_offset →
+      NoCharSet e bytes start glyphs map
+  SetRefused : (n : ℕ) → HasFirst map operators.CharSet (pos n) → 3 ≤ n → IsPlace (start + n) →
+      RefusedAt e (char_set glyphs) bytes (start + n) → NoCharSet e bytes start glyphs map
 
 pub data NoBounds (e : Error) (start : ℕ) (map : Dictionary) : Type 0 where
   TooFew : first_two_of (look map operators.Private) ≡ None → refusal_of e ≡ OfMissing operators.Private → NoBounds e start map
-  NotWhole : (x y : Decimal) → first_two_of (look map operators.Private) ≡ Some (x, y) → (to_i32 x ≡ None) ⊎ (to_i32 y ≡ None) → refusal_of e ≡ OfMalformed operators.Private → NoBounds e start map
-  BoundsRange : (m n : ℤ) → HasTwo map operators.Private m n → refusal_of e ≡ out_of_range_offset → ((size offset : ℕ) → m ≡ pos size → n ≡ pos offset → IsPlace (start + offset) → ⊥) → NoBounds e start map
+  NotWhole : (x y : Decimal) → first_two_of (look map operators.Private) ≡ Some (x, y) → (to_i32 x ≡ None) ⊎ (to_i32 y ≡ None) →
+      refusal_of e ≡ OfMalformed operators.Private → NoBounds e start map
+  BoundsRange : (m n : ℤ) → HasTwo map operators.Private m n → refusal_of e ≡ out_of_range_offset →
+      ((size offset : ℕ) → m ≡ pos size → n ≡ pos offset → IsPlace (start + offset) → ⊥) → NoBounds e start map
 
 pub data NoPrivate (e : Error) (bytes : List ℕ) (start : ℕ) (map : Dictionary) : Type 0 where
   PrivateBounds : NoBounds e start map → NoPrivate e bytes start map
-  PrivateSlice : (size offset : ℕ) → HasTwo map operators.Private (pos size) (pos offset) → IsPlace (start + offset) → 0 < size → RefusedAt e (slice size) bytes (start + offset) → NoPrivate e bytes start map
-  PrivateRefused : (size offset : ℕ) (held : List ℕ) → HasTwo map operators.Private (pos size) (pos offset) → IsPlace (start + offset) → IsSlice bytes (start + offset) size held → IsRefused held 0 (refusal_of e) → NoPrivate e bytes start map
+  PrivateSlice : (size offset : ℕ) → HasTwo map operators.Private (pos size) (pos offset) → IsPlace (start + offset) → 0 < size →
+      RefusedAt e (slice size) bytes (start + offset) → NoPrivate e bytes start map
+  PrivateRefused : (size offset : ℕ) (held : List ℕ) → HasTwo map operators.Private (pos size) (pos offset) → IsPlace (start + offset) →
+      IsSlice bytes (start + offset) size held → IsRefused held 0 (refusal_of e) → NoPrivate e bytes start map
 
 pub data NoSubroutines (e : Error) (bytes : List ℕ) (start base : ℕ) (local : Dictionary) : Type 0 where
   SubrsOffset : NoOffset e start base local operators.Subrs → NoSubroutines e bytes start base local
-  SubrsRefused : (z : ℤ) (n : ℕ) → HasFirst local operators.Subrs z → pos base +ℤ z ≡ pos n → IsPlace (start + n) → RefusedAt e index bytes (start + n) → NoSubroutines e bytes start base local
+  SubrsRefused : (z : ℤ) (n : ℕ) → HasFirst local operators.Subrs z → pos base +ℤ z ≡ pos n → IsPlace (start + n) →
+      RefusedAt e index bytes (start + n) → NoSubroutines e bytes start base local
 
 -- operands that are there, or may not be missing
 abbrev pub IsSought : {A : Type 0} → Manner → Option A → Type 0
@@ -80,29 +93,42 @@ IsSought manner operands = IsLacking manner operands → ⊥
 pub data NoPart (manner : Manner) (e : Error) (bytes : List ℕ) (start : ℕ) (map : Dictionary) : Type 0 where
   OfEncoding : NoEncoding e map → NoPart manner e bytes start map
   OfStrings : (encoding : Encoding) → HasEncoding map encoding → NoCharStrings e bytes start map → NoPart manner e bytes start map
-  OfSet : (encoding : Encoding) (strings : Index) (next : ℕ) → HasEncoding map encoding → HasCharStrings bytes start map strings next → NoCharSet e bytes start (length strings.items) map → NoPart manner e bytes start map
-  OfPrivate : (encoding : Encoding) (strings : Index) (next : ℕ) (set : CharSet) → HasEncoding map encoding → HasCharStrings bytes start map strings next → HasCharSet bytes start (length strings.items) map set
+  OfSet : (encoding : Encoding) (strings : Index) (next : ℕ) → HasEncoding map encoding → HasCharStrings bytes start map strings next →
+      NoCharSet e bytes start (length strings.items) map → NoPart manner e bytes start map
+  OfPrivate : (encoding : Encoding) (strings : Index) (next : ℕ) (set : CharSet) → HasEncoding map encoding →
+      HasCharStrings bytes start map strings next → HasCharSet bytes start (length strings.items) map set
       → IsSought manner (first_two_of (look map operators.Private)) → NoPrivate e bytes start map → NoPart manner e bytes start map
-  OfSubroutines : (encoding : Encoding) (strings : Index) (next : ℕ) (set : CharSet) (offset : ℕ) (local : Dictionary) → HasEncoding map encoding → HasCharStrings bytes start map strings next → HasCharSet bytes start (length strings.items) map set
-      → HasPrivate bytes start map offset local → IsSought manner (first_of (look local operators.Subrs)) → NoSubroutines e bytes start offset local → NoPart manner e bytes start map
+  OfSubroutines : (encoding : Encoding) (strings : Index) (next : ℕ) (set : CharSet) (offset : ℕ) (local : Dictionary) →
+      HasEncoding map encoding → HasCharStrings bytes start map strings next → HasCharSet bytes start (length strings.items) map set
+      → HasPrivate bytes start map offset local → IsSought manner (first_of (look local operators.Subrs)) →
+      NoSubroutines e bytes start offset local → NoPart manner e bytes start map
 
 -- the part of some dictionary is refused, and those before it have theirs
 abbrev pub NoParts : Manner → Error → List ℕ → ℕ → List Dictionary → Type 0
 NoParts manner e bytes start [] = ⊥
-NoParts manner e bytes start (m ∷ ms) = NoPart manner e bytes start m ⊎ ((p : Part) × (next : ℕ) × IsPart manner bytes start m p next × NoParts manner e bytes start ms)
+NoParts manner e bytes start (m ∷ ms) = NoPart manner e bytes start m
+    ⊎ ((p : Part) × (next : ℕ) × IsPart manner bytes start m p next × NoParts manner e bytes start ms)
 
 pub data NoTables (e : Error) (bytes : List ℕ) (place : ℕ) : Type 0 where
   OfNames : RefusedAt e index bytes place → NoTables e bytes place
   OfItems : (names : Index) (behind : ℕ) → IsIndex bytes place names behind → RefusedAs e (index bytes behind) → NoTables e bytes place
-  OfDictionaries : (names items : Index) (behind next : ℕ) → IsIndex bytes place names behind → IsIndex bytes behind items next → HasRefused items.items (refusal_of e) → NoTables e bytes place
-  OfStringList : (names items : Index) (maps : List Dictionary) (behind next : ℕ) → IsIndex bytes place names behind → IsIndex bytes behind items next → AreDictionaries items.items maps → RefusedAs e (index bytes next) → NoTables e bytes place
-  OfGlobalList : (names items strings : Index) (maps : List Dictionary) (behind next at : ℕ) → IsIndex bytes place names behind → IsIndex bytes behind items next → AreDictionaries items.items maps → IsIndex bytes next strings at → RefusedAs e (index bytes at) → NoTables e bytes place
+  OfDictionaries : (names items : Index) (behind next : ℕ) → IsIndex bytes place names behind → IsIndex bytes behind items next →
+      HasRefused items.items (refusal_of e) → NoTables e bytes place
+  OfStringList : (names items : Index) (maps : List Dictionary) (behind next : ℕ) → IsIndex bytes place names behind →
+      IsIndex bytes behind items next → AreDictionaries items.items maps → RefusedAs e (index bytes next) → NoTables e bytes place
+  OfGlobalList : (names items strings : Index) (maps : List Dictionary) (behind next at : ℕ) → IsIndex bytes place names behind →
+      IsIndex bytes behind items next → AreDictionaries items.items maps → IsIndex bytes next strings at → RefusedAs e (index bytes at) →
+      NoTables e bytes place
 
 pub data NoFontBy (manner : Manner) (e : Error) (bytes : List ℕ) (start : ℕ) : Type 0 where
   OfHeader : RefusedAs e (header bytes start) → NoFontBy manner e bytes start
-  HeaderSize : (h : Header) (at : ℕ) → Stands header bytes start h at → refusal_of e ≡ out_of_range_offset → (IsPlace (start + h.header_size) → ⊥) → NoFontBy manner e bytes start
-  OfTables : (h : Header) (at : ℕ) → Stands header bytes start h at → IsPlace (start + h.header_size) → NoTables e bytes (start + h.header_size) → NoFontBy manner e bytes start
-  OfParts : (h : Header) (at : ℕ) (tables : Tables) (behind : ℕ) → Stands header bytes start h at → IsPlace (start + h.header_size) → AreTables bytes (start + h.header_size) tables behind → NoParts manner e bytes start tables.dictionaries → NoFontBy manner e bytes start
+  HeaderSize : (h : Header) (at : ℕ) → Stands header bytes start h at → refusal_of e ≡ out_of_range_offset →
+      (IsPlace (start + h.header_size) → ⊥) → NoFontBy manner e bytes start
+  OfTables : (h : Header) (at : ℕ) → Stands header bytes start h at → IsPlace (start + h.header_size) →
+      NoTables e bytes (start + h.header_size) → NoFontBy manner e bytes start
+  OfParts : (h : Header) (at : ℕ) (tables : Tables) (behind : ℕ) → Stands header bytes start h at → IsPlace (start + h.header_size) →
+      AreTables bytes (start + h.header_size) tables behind → NoParts manner e bytes start tables.dictionaries →
+      NoFontBy manner e bytes start
 
 abbrev pub NoFont : Error → List ℕ → ℕ → Type 0
 NoFont e bytes start = NoFontBy Strict e bytes start
@@ -116,6 +142,7 @@ NoLenientFont e bytes start = NoFontBy Lenient e bytes start
 pub record RefusesLayout : Type 0 where
   pub both_ways : (e : Error) (bytes : List ℕ) (start : ℕ) → RefusedAs e (font bytes start) ↔ NoFont e bytes start
   pub leniently : (e : Error) (bytes : List ℕ) (start : ℕ) → RefusedAs e (lenient_font bytes start) ↔ NoLenientFont e bytes start
-  pub alone : (manner : Manner) (e g : Error) (bytes : List ℕ) (start : ℕ) → NoFontBy manner e bytes start → NoFontBy manner g bytes start → (refusal_of e ≡ refusal_of g) ⊎ ((code e ≤ 2) × (code g ≤ 2))
+  pub alone : (manner : Manner) (e g : Error) (bytes : List ℕ) (start : ℕ) → NoFontBy manner e bytes start →
+      NoFontBy manner g bytes start → (refusal_of e ≡ refusal_of g) ⊎ ((code e ≤ 2) × (code g ≤ 2))
   pub no_font : (e : Error) (bytes : List ℕ) (start : ℕ) (f : Font) (next : ℕ) → NoFont e bytes start → IsFont bytes start f next → ⊥
   pub no_lenient_font : (e : Error) (bytes : List ℕ) (start : ℕ) (f : Font) → NoLenientFont e bytes start → IsLenientFont bytes start f → ⊥

@@ -27,7 +27,8 @@ abbrev pub HasFirst : Dictionary → Operator → ℤ → Type 0
 HasFirst map operator n = (x : Decimal) × (first_of (look map operator) ≡ Some x) × (to_i32 x ≡ Some n)
 
 abbrev pub HasTwo : Dictionary → Operator → ℤ → ℤ → Type 0
-HasTwo map operator m n = (x : Decimal) × (y : Decimal) × (first_two_of (look map operator) ≡ Some (x, y)) × (to_i32 x ≡ Some m) × (to_i32 y ≡ Some n)
+HasTwo map operator m n = (x : Decimal) × (y : Decimal) × (first_two_of (look map operator) ≡ Some (x, y)) × (to_i32 x ≡ Some m)
+    × (to_i32 y ≡ Some n)
 
 -- a value stands at a place of bytes, and the next place is behind it
 abbrev pub Stands : {A : Type 0} → Reading A → List ℕ → ℕ → A → ℕ → Type 0
@@ -44,12 +45,14 @@ IsPlace place = place < 2 ^ 64
 -- the encoding is 0 or 1
 abbrev pub HasEncoding : Dictionary → Encoding → Type 0
 HasEncoding map encoding =
-    (HasFirst map operators.Encoding (pos 0) × (encoding ≡ encodings.Standard)) ⊎ (HasFirst map operators.Encoding (pos 1) × (encoding ≡ encodings.Expert))
+    (HasFirst map operators.Encoding (pos 0) × (encoding ≡ encodings.Standard))
+    ⊎ (HasFirst map operators.Encoding (pos 1) × (encoding ≡ encodings.Expert))
 
 -- the char strings of a dictionary, which are of Type 2
 abbrev pub HasCharStrings : List ℕ → ℕ → Dictionary → Index → ℕ → Type 0
 HasCharStrings bytes start map char_strings next =
-    (offset : ℕ) × HasFirst map operators.CharStrings (pos offset) × HasFirst map operators.CharStringType (pos 2) × IsPlace (start + offset)
+    (offset : ℕ) × HasFirst map operators.CharStrings (pos offset) × HasFirst map operators.CharStringType (pos 2)
+    × IsPlace (start + offset)
     × IsIndex bytes (start + offset) char_strings next
 
 -- the char set of a dictionary, for so many glyphs: 0, 1 and 2 name the predefined ones, and another stands at its place
@@ -57,7 +60,8 @@ pub data HasCharSet (bytes : List ℕ) (start glyphs : ℕ) (map : Dictionary) (
   Is_0 : HasFirst map operators.CharSet (pos 0) → set ≡ sets.ISOAdobe → HasCharSet bytes start glyphs map set
   Is_1 : HasFirst map operators.CharSet (pos 1) → set ≡ sets.Expert → HasCharSet bytes start glyphs map set
   Is_2 : HasFirst map operators.CharSet (pos 2) → set ≡ sets.ExpertSubset → HasCharSet bytes start glyphs map set
-  Own : (offset next : ℕ) → HasFirst map operators.CharSet (pos offset) → 3 ≤ offset → IsPlace (start + offset) → IsCharSet bytes (start + offset) glyphs set next → HasCharSet bytes start glyphs map set
+  Own : (offset next : ℕ) → HasFirst map operators.CharSet (pos offset) → 3 ≤ offset → IsPlace (start + offset) →
+      IsCharSet bytes (start + offset) glyphs set next → HasCharSet bytes start glyphs map set
 
 -- the private dictionary at an offset
 abbrev pub HasPrivate : List ℕ → ℕ → Dictionary → ℕ → Dictionary → Type 0
@@ -78,9 +82,12 @@ IsLacking manner operands = (manner ≡ Lenient) × (operands ≡ None)
 -- The private dictionary and the local subroutines of a dictionary, and the place behind these. Where Subrs has no operand there
 -- are no subroutines, and where Private has fewer than two there is no private dictionary either: the next place is then open.
 pub data HasLocals (manner : Manner) (bytes : List ℕ) (start : ℕ) (map local : Dictionary) (subroutines : Index) (next : ℕ) : Type 0 where
-  WithBoth : (offset : ℕ) → HasPrivate bytes start map offset local → HasSubroutines bytes start offset local subroutines next → HasLocals manner bytes start map local subroutines next
-  WithoutSubrs : (offset : ℕ) → HasPrivate bytes start map offset local → IsLacking manner (first_of (look local operators.Subrs)) → subroutines ≡ empty → HasLocals manner bytes start map local subroutines next
-  WithoutPrivate : IsLacking manner (first_two_of (look map operators.Private)) → local ≡ dictionary_of [] → subroutines ≡ empty → HasLocals manner bytes start map local subroutines next
+  WithBoth : (offset : ℕ) → HasPrivate bytes start map offset local → HasSubroutines bytes start offset local subroutines next →
+      HasLocals manner bytes start map local subroutines next
+  WithoutSubrs : (offset : ℕ) → HasPrivate bytes start map offset local → IsLacking manner (first_of (look local operators.Subrs)) →
+      subroutines ≡ empty → HasLocals manner bytes start map local subroutines next
+  WithoutPrivate : IsLacking manner (first_two_of (look map operators.Private)) → local ≡ dictionary_of [] → subroutines ≡ empty →
+      HasLocals manner bytes start map local subroutines next
 
 -- what a font has for one dictionary, and the place behind its local subroutines
 pub record IsPart (manner : Manner) (bytes : List ℕ) (start : ℕ) (map : Dictionary) (part : Part) (next : ℕ) : Type 0 where
@@ -93,7 +100,8 @@ pub record IsPart (manner : Manner) (bytes : List ℕ) (start : ℕ) (map : Dict
 -- a part for each dictionary, and the place behind the last, or this place where there are none
 abbrev pub AreParts : Manner → List ℕ → ℕ → List Dictionary → List Part → ℕ → ℕ → Type 0
 AreParts manner bytes start [] [] place next = place ≡ next
-AreParts manner bytes start (m ∷ ms) (p ∷ ps) place next = (behind : ℕ) × IsPart manner bytes start m p behind × AreParts manner bytes start ms ps behind next
+AreParts manner bytes start (m ∷ ms) (p ∷ ps) place next = (behind : ℕ) × IsPart manner bytes start m p behind
+    × AreParts manner bytes start ms ps behind next
 AreParts manner bytes start [] (p ∷ ps) place next = ⊥
 AreParts manner bytes start (m ∷ ms) [] place next = ⊥
 
@@ -134,11 +142,13 @@ IsLenientFont bytes start font = (next : ℕ) × IsFontBy Lenient bytes start fo
 -- a reading gives a font exactly where one stands, and no other stands there
 pub record ReadsLayout : Type 0 where
   pub both_ways : (bytes : List ℕ) (start : ℕ) (f : Font) (next : ℕ) → (font bytes start ≡ Got f next) ↔ IsFont bytes start f next
-  pub alone : (bytes : List ℕ) (start : ℕ) (f g : Font) (next other : ℕ) → IsFont bytes start f next → IsFont bytes start g other → (f ≡ g) × (next ≡ other)
+  pub alone : (bytes : List ℕ) (start : ℕ) (f g : Font) (next other : ℕ) → IsFont bytes start f next → IsFont bytes start g other →
+      (f ≡ g) × (next ≡ other)
 
 -- a lenient reading gives a font exactly where one stands that may lack them, and no other stands there; one that lacks neither is
 -- such a font
 pub record ReadsLeniently : Type 0 where
-  pub both_ways : (bytes : List ℕ) (start : ℕ) (f : Font) → ((next : ℕ) × (lenient_font bytes start ≡ Got f next)) ↔ IsLenientFont bytes start f
+  pub both_ways : (bytes : List ℕ) (start : ℕ) (f : Font) → ((next : ℕ) × (lenient_font bytes start ≡ Got f next))
+      ↔ IsLenientFont bytes start f
   pub alone : (bytes : List ℕ) (start : ℕ) (f g : Font) → IsLenientFont bytes start f → IsLenientFont bytes start g → f ≡ g
   pub wider : (bytes : List ℕ) (start : ℕ) (f : Font) (next : ℕ) → IsFont bytes start f next → IsLenientFont bytes start f

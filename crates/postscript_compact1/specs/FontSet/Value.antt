@@ -7,7 +7,14 @@ use Rattle.postscript_compact1.specs.declared.font_set.tables.Tables.{Tables as 
 use Rattle.postscript_compact1.specs.FontSet.Font.{Part, Tables, Columns, Font}
 
 abbrev pub part_shown : RustPart → Part
-part_shown p = record { encoding = p.encoding; char_strings = p.char_strings; char_set = p.char_set; local_dictionary = p.local_dictionary; local_subroutines = p.local_subroutines }
+part_shown p = record {
+  encoding = p.encoding;
+  char_strings = p.char_strings;
+  char_set = p.char_set;
+  local_dictionary =
+      p.local_dictionary;
+  local_subroutines = p.local_subroutines;
+}
 
 abbrev pub parts_shown : Parts → Columns
 parts_shown p = record {
@@ -19,7 +26,13 @@ parts_shown p = record {
 }
 
 abbrev pub tables_shown : RustTables → Tables
-tables_shown t = record { names = map string_bytes t.names.items; dictionaries = t.dictionaries.items; strings = t.strings; subroutines = t.subroutines }
+tables_shown t = record {
+  names = map string_bytes t.names.items;
+  dictionaries = t.dictionaries.items;
+  strings = t.strings;
+  subroutines =
+      t.subroutines;
+}
 
 abbrev pub font_shown : FontSet → Font
 font_shown f = record {

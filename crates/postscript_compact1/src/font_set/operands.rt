@@ -80,7 +80,8 @@ pub fn type_two(dictionary: &Operations) -> Result<()>
 /// `OutOfRangeOffset` where one is negative or 64 bits do not count the place.
 #[tactic(auto, unfolding(crate::specs::FontSet::Operands::bounds))]
 pub fn bounds(start: u64, dictionary: &Operations) -> Result<(usize, u32, u64)>
-    ensures exact { (bytes : List ℕ) (place : ℕ) → Answers (λ r. (r.0, r.1, r.2)) result place (the_bounds start dictionary.now bytes place) }
+    ensures exact { (bytes : List ℕ) (place : ℕ) →
+        Answers (λ r. (r.0, r.1, r.2)) result place (the_bounds start dictionary.now bytes place) }
     ensures listed { IsListed (13 ∷ 14 ∷ 15 ∷ []) result }
 {
     let (size, offset) = two(dictionary, Operator::Private)?;

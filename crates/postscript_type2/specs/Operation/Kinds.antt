@@ -1,5 +1,6 @@
 -- The operators, by their kinds (Technical Note 5177, "Path Construction Operators", "Operator for Finishing a Path", "Hint
--- Operators", "Arithmetic Operators", "Conditional Operators", "Subroutine Operators", "Storage Operators"). A comment has the operands before an operator.
+-- Operators", "Arithmetic Operators", "Conditional Operators", "Subroutine Operators", "Storage Operators"). A comment has the operands
+-- before an operator.
 use Rattle.std.specs.Prelude.{ℕ, ℤ, Bool, false, List, Option}
 use Rattle.postscript_base.specs.declared.error.Part.{Part}
 use Rattle.postscript_base.specs.declared.error.Part.TheVariants as parts

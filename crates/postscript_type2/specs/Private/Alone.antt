@@ -15,4 +15,5 @@ alone b = whole (small b)
 -- The first bytes, one at least, are numbers by themselves and are put onto a stack; next: the place behind them.
 abbrev pub PutsAlone : List ℕ → (place : ℕ) → List ℤ → (next : ℕ) → List ℤ → Type 0
 PutsAlone bytes place stack next stack' =
-    (count : ℕ) × (0 < count) × (count ≤ prefix_len is_alone bytes) × (next ≡ place + count) × (stack' ≡ stack ++ map alone (take count bytes))
+    (count : ℕ) × (0 < count) × (count ≤ prefix_len is_alone bytes) × (next ≡ place + count)
+    × (stack' ≡ stack ++ map alone (take count bytes))

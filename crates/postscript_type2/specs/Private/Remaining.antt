@@ -25,9 +25,11 @@ are_used_up rest (caller ∷ callers) = is_empty rest && are_used_up caller call
 
 -- One step of a program with a chain of callers. behind more: the bytes behind the phrase's first one and so many more
 abbrev pub next_still : Lists → (left : ℕ) → (behind : ℕ → List ℕ) → (callers : List (List ℕ)) → Stride → Run
-next_still lists left behind callers (On said answer st more) = with_phrase said (with_any_answer answer (still lists left (behind more) callers st))
+next_still lists left behind callers (On said answer st more) =
+    with_phrase said (with_any_answer answer (still lists left (behind more) callers st))
 next_still lists zero behind callers (Into said routine st more) = with_phrase said (at_end (Fault too_deep))
-next_still lists (suc left) behind callers (Into said routine st more) = with_phrase said (still lists left routine (behind more ∷ callers) st)
+next_still lists (suc left) behind callers (Into said routine st more) =
+    with_phrase said (still lists left routine (behind more ∷ callers) st)
 next_still lists left behind [] (Back said st) = with_phrase said (at_end (Fault return_without_caller))
 next_still lists left behind (caller ∷ callers) (Back said st) = with_phrase said (still lists (suc left) caller callers st)
 next_still lists left behind callers (Over said taken width more) =

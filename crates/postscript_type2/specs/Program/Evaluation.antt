@@ -65,7 +65,8 @@ answered op taken pairs more bytes width =
 abbrev pub moved : Operator → (more : ℕ) → (bytes : List ℕ) → State → Effect → Stride
 moved op more bytes st (Keeps stack stored) = On (said op more bytes) None (holding stack stored st) more
 moved op more bytes st (Clears taken pairs stems width mask) =
-    On (said op (more + mask) bytes) (Some (answered op taken pairs more (said op (more + mask) bytes).bytes width)) (cleared stems width st) (more + mask)
+    On (said op (more + mask) bytes) (Some (answered op taken pairs more (said op (more + mask) bytes).bytes width))
+    (cleared stems width st) (more + mask)
 moved op more bytes st (Calls routine stack) = Into (said op more bytes) routine (stacked stack st) more
 moved op more bytes st Returns = Back (said op more bytes) st
 moved op more bytes st (Ends taken width) = Over (said op more bytes) taken width more

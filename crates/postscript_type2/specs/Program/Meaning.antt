@@ -28,7 +28,8 @@ pub data Stops : End → Type 0 where
   at_fault : (e : Refusal) → Stops (Fault e)
 
 -- A phrase stands before these bytes, and from this state, with its numbers pushed, its operator makes this move.
-pub record Moves (lists : Lists) (st : State) (phrase : List ℕ) (numbers : List ℤ) (op : Operator) (behind : List ℕ) (move : Effect) : Type 0 where
+pub record Moves (lists : Lists) (st : State) (phrase : List ℕ) (numbers : List ℤ) (op : Operator) (behind : List ℕ)
+    (move : Effect) : Type 0 where
   pub spelled : IsPhrase phrase numbers op
   pub does : effect lists op behind (pushed numbers st) ≡ move
 
@@ -38,7 +39,8 @@ pub data Means (lists : Lists) : (depth : ℕ) → (rest : List ℕ) → State �
   -- the routine is used up
   used_up : (depth : ℕ) (st : State) → Means lists depth [] st [] [] UsedUp
   -- bytes are left, and no phrase stands there
-  unread : (depth : ℕ) (rest : List ℕ) (st : State) (e : Refusal) → rest ≢ [] → HasNoPhrase rest e → Means lists depth rest st [] [] (Fault e)
+  unread : (depth : ℕ) (rest : List ℕ) (st : State) (e : Refusal) → rest ≢ [] → HasNoPhrase rest e →
+      Means lists depth rest st [] [] (Fault e)
   -- the operator is refused
   refused : (depth : ℕ) (phrase behind : List ℕ) (numbers : List ℤ) (op : Operator) (st : State) (e : Refusal) →
       Moves lists st phrase numbers op behind (Refuses e) →
@@ -77,7 +79,8 @@ pub data Means (lists : Lists) : (depth : ℕ) → (rest : List ℕ) → State �
       Means lists depth (phrase ++ behind) st inner (by op phrase ∷ inner_trace) end
   -- a call whose subroutine finishes the glyph
   calls_to_finish : (depth : ℕ) (phrase behind : List ℕ) (numbers : List ℤ) (op : Operator) (st : State)
-      (subroutine : List ℕ) (stack : List ℤ) (inner : List Answer) (inner_trace : List Phrase) (taken : List ℤ) (width : Option ℤ) (end : End) →
+      (subroutine : List ℕ) (stack : List ℤ) (inner : List Answer) (inner_trace : List Phrase) (taken : List ℤ)
+      (width : Option ℤ) (end : End) →
       Moves lists st phrase numbers op behind (Calls subroutine stack) → depth < 10 →
       Means lists (suc depth) subroutine (stacked stack st) inner inner_trace (Finished taken width) → Closes taken width depth behind end →
       Means lists depth (phrase ++ behind) st inner (by op phrase ∷ inner_trace) end
@@ -89,7 +92,8 @@ pub data Means (lists : Lists) : (depth : ℕ) → (rest : List ℕ) → State �
       Moves lists st phrase numbers op behind Returns →
       Means lists 0 (phrase ++ behind) st [] (by op phrase ∷ []) (Fault return_without_caller)
   -- the end of the glyph
-  finishes : (depth : ℕ) (phrase behind : List ℕ) (numbers : List ℤ) (op : Operator) (st : State) (taken : List ℤ) (width : Option ℤ) (end : End) →
+  finishes : (depth : ℕ) (phrase behind : List ℕ) (numbers : List ℤ) (op : Operator) (st : State) (taken : List ℤ)
+      (width : Option ℤ) (end : End) →
       Moves lists st phrase numbers op behind (Ends taken width) → Closes taken width depth behind end →
       Means lists depth (phrase ++ behind) st [] (by op phrase ∷ []) end
 

@@ -46,7 +46,8 @@ pub data Leaves : Operator → (taken left : List ℤ) → Type 0 where
   dup : (a : ℤ) → Leaves Dup (a ∷ []) (a ∷ a ∷ [])
   -- the operand that so many others stand above; for a number below zero it is the top
   index : (x : ℤ) (above : List ℤ) (i : ℤ) → distance i ≡ length above → Leaves Index (x ∷ (above ++ whole i ∷ [])) (x ∷ (above ++ x ∷ []))
-  roll : (shift : ℤ) (items rolled : List ℤ) → IsRolled shift items rolled → Leaves Roll (items ++ (whole (pos (length items)) ∷ whole shift ∷ [])) rolled
+  roll : (shift : ℤ) (items rolled : List ℤ) → IsRolled shift items rolled →
+      Leaves Roll (items ++ (whole (pos (length items)) ∷ whole shift ∷ [])) rolled
 
 -- The same with the stored numbers before and after it, which the two storage operators alone look at.
 pub data Makes (stored : List ℤ) : Operator → (taken left after : List ℤ) → Type 0 where
@@ -94,15 +95,20 @@ pub data IsRefusedOn (stored : List ℤ) : Operator → (stack : List ℤ) → R
   too_few : (op : Operator) (stack : List ℤ) → length stack < pops op → IsRefusedOn stored op stack expected_operand
   zero_divisor_on_top : (beneath : List ℤ) (a : ℤ) → IsRefusedOn stored Div (beneath ++ (a ∷ pos 0 ∷ [])) zero_divisor
   root_of_negative : (beneath : List ℤ) (n : ℕ) → IsRefusedOn stored Sqrt (beneath ++ negsuc n ∷ []) negative_root
-  past_range : (op : Operator) (beneath taken : List ℤ) (x : ℤ) → HasResult op taken x → ¬ IsHeld x → IsRefusedOn stored op (beneath ++ taken) overflow
+  past_range : (op : Operator) (beneath taken : List ℤ) (x : ℤ) → HasResult op taken x → ¬ IsHeld x →
+      IsRefusedOn stored op (beneath ++ taken) overflow
   nothing_to_double : IsRefusedOn stored Dup [] expected_more_operands
   no_whole_top : (op : Operator) (stack : List ℤ) → NamesByTop op → HasNoWholeTop stack → IsRefusedOn stored op stack expected_integer
   -- index: as many or fewer stand beneath
-  index_too_deep : (beneath : List ℤ) (i : ℤ) → length beneath ≤ distance i → IsRefusedOn stored Index (beneath ++ whole i ∷ []) expected_more_operands
+  index_too_deep : (beneath : List ℤ) (i : ℤ) → length beneath ≤ distance i →
+      IsRefusedOn stored Index (beneath ++ whole i ∷ []) expected_more_operands
   -- roll: of the span, and then of what it spans
-  no_whole_span : (beneath : List ℤ) (shift : ℤ) → HasNoWholeTop beneath → IsRefusedOn stored Roll (beneath ++ whole shift ∷ []) expected_integer
-  span_below_zero : (beneath : List ℤ) (n : ℕ) (shift : ℤ) → IsRefusedOn stored Roll (beneath ++ (whole (negsuc n) ∷ whole shift ∷ [])) invalid_operand
-  span_too_long : (beneath : List ℤ) (n : ℕ) (shift : ℤ) → length beneath < n → IsRefusedOn stored Roll (beneath ++ (whole (pos n) ∷ whole shift ∷ [])) expected_more_operands
+  no_whole_span : (beneath : List ℤ) (shift : ℤ) → HasNoWholeTop beneath →
+      IsRefusedOn stored Roll (beneath ++ whole shift ∷ []) expected_integer
+  span_below_zero : (beneath : List ℤ) (n : ℕ) (shift : ℤ) →
+      IsRefusedOn stored Roll (beneath ++ (whole (negsuc n) ∷ whole shift ∷ [])) invalid_operand
+  span_too_long : (beneath : List ℤ) (n : ℕ) (shift : ℤ) → length beneath < n →
+      IsRefusedOn stored Roll (beneath ++ (whole (pos n) ∷ whole shift ∷ [])) expected_more_operands
   nothing_to_put : (i : ℤ) → IsRefusedOn stored Put (whole i ∷ []) expected_operand
   put_nowhere : (beneath : List ℤ) (a i : ℤ) → NamesNone stored i → IsRefusedOn stored Put (beneath ++ (a ∷ whole i ∷ [])) invalid_operand
   get_nowhere : (beneath : List ℤ) (i : ℤ) → NamesNone stored i → IsRefusedOn stored Get (beneath ++ whole i ∷ []) invalid_operand
@@ -135,7 +141,8 @@ pub data TakesAtEnd : (stack beneath taken : List ℤ) → Type 0 where
 -- What an operator does, from a state and where these bytes follow it.
 pub data Does (lists : Lists) (op : Operator) (behind : List ℕ) (st : State) : Effect → Type 0 where
   -- arithmetic, conditions, the stack and the stored numbers
-  makes : (beneath taken left after : List ℤ) → Makes st.stored op taken left after → st.stack ≡ beneath ++ taken → Does lists op behind st (Keeps (beneath ++ left) after)
+  makes : (beneath taken left after : List ℤ) → Makes st.stored op taken left after → st.stack ≡ beneath ++ taken →
+      Does lists op behind st (Keeps (beneath ++ left) after)
   refused : (e : Refusal) → IsRefusedOn st.stored op st.stack e → Does lists op behind st (Refuses e)
   without_meaning : (part : Part) → kind op ≡ IsRefused part → Does lists op behind st (Refuses (OfPart part))
   -- an operator that draws
@@ -143,26 +150,37 @@ pub data Does (lists : Lists) (op : Operator) (behind : List ℕ) (st : State) :
       TakesMost takes st.stack beneath taken → IsSettled st.width beneath width → Does lists op behind st (Clears taken [] st.stems width 0)
   draws_none : (takes : ℕ → Bool) → kind op ≡ Draws takes → TakesNone takes st.stack → Does lists op behind st (Refuses malformed_operands)
   -- one that declares stems, which 32 bits count
-  declares : (takes : ℕ → Bool) (beneath taken : List ℤ) (width : Option ℤ) (stems : ℕ) → kind op ≡ DeclaresStems takes → StemsAfter st stems → stems < 2 ^ 32 →
+  declares : (takes : ℕ → Bool) (beneath taken : List ℤ) (width : Option ℤ) (stems : ℕ) → kind op ≡ DeclaresStems takes →
+      StemsAfter st stems → stems < 2 ^ 32 →
       TakesMost takes st.stack beneath taken → IsSettled st.width beneath width → Does lists op behind st (Clears taken [] stems width 0)
   declares_none : (takes : ℕ → Bool) (stems : ℕ) → kind op ≡ DeclaresStems takes → StemsAfter st stems → stems < 2 ^ 32 →
       TakesNone takes st.stack → Does lists op behind st (Refuses malformed_operands)
-  declares_too_many : (takes : ℕ → Bool) (stems : ℕ) → kind op ≡ DeclaresStems takes → StemsAfter st stems → 2 ^ 32 ≤ stems → Does lists op behind st (Refuses too_many_stems)
+  declares_too_many : (takes : ℕ → Bool) (stems : ℕ) → kind op ≡ DeclaresStems takes → StemsAfter st stems → 2 ^ 32 ≤ stems →
+      Does lists op behind st (Refuses too_many_stems)
   -- a mask, which has a bit for each stem in whole bytes: all pairs on the stack are stems, and one operand may be beneath them
-  masks : (beneath pairs : List ℤ) (width : Option ℤ) (stems : ℕ) → kind op ≡ Masks (exactly 0) → StemsAfter st stems → stems < 2 ^ 32 → mask_len stems ≤ length behind →
-      st.stack ≡ beneath ++ pairs → length beneath < 2 → length pairs % 2 ≡ 0 → IsSettled st.width beneath width → Does lists op behind st (Clears [] pairs stems width (mask_len stems))
-  masks_cut : (takes : ℕ → Bool) (stems : ℕ) → kind op ≡ Masks takes → StemsAfter st stems → stems < 2 ^ 32 → length behind < mask_len stems → Does lists op behind st (Refuses unexpected_eof)
-  masks_too_many : (takes : ℕ → Bool) (stems : ℕ) → kind op ≡ Masks takes → StemsAfter st stems → 2 ^ 32 ≤ stems → Does lists op behind st (Refuses too_many_stems)
+  masks : (beneath pairs : List ℤ) (width : Option ℤ) (stems : ℕ) → kind op ≡ Masks (exactly 0) → StemsAfter st stems → stems < 2 ^ 32 →
+      mask_len stems ≤ length behind →
+      st.stack ≡ beneath ++ pairs → length beneath < 2 → length pairs % 2 ≡ 0 → IsSettled st.width beneath width →
+      Does lists op behind st (Clears [] pairs stems width (mask_len stems))
+  masks_cut : (takes : ℕ → Bool) (stems : ℕ) → kind op ≡ Masks takes → StemsAfter st stems → stems < 2 ^ 32 →
+      length behind < mask_len stems → Does lists op behind st (Refuses unexpected_eof)
+  masks_too_many : (takes : ℕ → Bool) (stems : ℕ) → kind op ≡ Masks takes → StemsAfter st stems → 2 ^ 32 ≤ stems →
+      Does lists op behind st (Refuses too_many_stems)
   -- a call of the subroutine that the number on top names
-  calls : (routines : Lists → List (List ℕ)) (beneath : List ℤ) (n : ℤ) (routine : List ℕ) → kind op ≡ CallsFrom routines → st.stack ≡ beneath ++ whole n ∷ [] →
+  calls : (routines : Lists → List (List ℕ)) (beneath : List ℤ) (n : ℤ) (routine : List ℕ) → kind op ≡ CallsFrom routines →
+      st.stack ≡ beneath ++ whole n ∷ [] →
       named (routines lists) n ≡ Some routine → Does lists op behind st (Calls routine beneath)
-  calls_no_number : (routines : Lists → List (List ℕ)) → kind op ≡ CallsFrom routines → HasNoWholeTop st.stack → Does lists op behind st (Refuses expected_integer)
-  calls_nothing : (routines : Lists → List (List ℕ)) (beneath : List ℤ) (n : ℤ) → kind op ≡ CallsFrom routines → st.stack ≡ beneath ++ whole n ∷ [] →
+  calls_no_number : (routines : Lists → List (List ℕ)) → kind op ≡ CallsFrom routines → HasNoWholeTop st.stack →
+      Does lists op behind st (Refuses expected_integer)
+  calls_nothing : (routines : Lists → List (List ℕ)) (beneath : List ℤ) (n : ℤ) → kind op ≡ CallsFrom routines →
+      st.stack ≡ beneath ++ whole n ∷ [] →
       named (routines lists) n ≡ None → Does lists op behind st (Refuses missing_subroutine)
   returns : kind op ≡ GoesBack → Does lists op behind st Returns
-  ends : (beneath taken : List ℤ) (width : Option ℤ) → kind op ≡ EndsGlyph → TakesAtEnd st.stack beneath taken → IsSettled st.width beneath width →
+  ends : (beneath taken : List ℤ) (width : Option ℤ) → kind op ≡ EndsGlyph → TakesAtEnd st.stack beneath taken →
+      IsSettled st.width beneath width →
       Does lists op behind st (Ends taken width)
 
 -- A law of the definitions: an operator's move is the one that the lines above name, and no other.
 abbrev pub OperatorsDoSo : Type 0
-OperatorsDoSo = (lists : Lists) (op : Operator) (behind : List ℕ) (st : State) (move : Effect) → Does lists op behind st move ↔ (effect lists op behind st ≡ move)
+OperatorsDoSo = (lists : Lists) (op : Operator) (behind : List ℕ) (st : State) (move : Effect) → Does lists op behind st move
+    ↔ (effect lists op behind st ≡ move)

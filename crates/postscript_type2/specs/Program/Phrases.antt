@@ -17,7 +17,8 @@ pub data IsNumber : List ℕ → ℤ → Type 0 where
   positive : (first second : ℕ) → 0xf7 ≤ first → first < 0xfb → IsNumber (first ∷ second ∷ []) (whole (above first second))
   negative : (first second : ℕ) → 0xfb ≤ first → first < 0xff → IsNumber (first ∷ second ∷ []) (whole (below first second))
   -- four bytes behind ff: the bits themselves
-  of_bits : (first a b c d : ℕ) → 0xff ≤ first → IsNumber (first ∷ a ∷ b ∷ c ∷ d ∷ []) (two_sided 0x80000000 (big_endian (a ∷ b ∷ c ∷ d ∷ [])))
+  of_bits : (first a b c d : ℕ) → 0xff ≤ first →
+      IsNumber (first ∷ a ∷ b ∷ c ∷ d ∷ []) (two_sided 0x80000000 (big_endian (a ∷ b ∷ c ∷ d ∷ [])))
 
 -- A number stands at a place: its spelling is the bytes there, and the next place is behind it.
 pub record IsNumberAt (bytes : List ℕ) (place : ℕ) (bits : ℤ) (next : ℕ) : Type 0 where
@@ -35,15 +36,18 @@ pub record ReadsNumbers : Type 0 where
 pub data IsPhrase : List ℕ → List ℤ → Operator → Type 0 where
   operator : (code : ℕ) (op : Operator) → code < 0x20 → operator_of code ≡ Some op → IsPhrase (code ∷ []) [] op
   escaped_operator : (second : ℕ) (op : Operator) → operator_of (0x0c00 + second) ≡ Some op → IsPhrase (0x0c ∷ second ∷ []) [] op
-  after_number : (number more : List ℕ) (x : ℤ) (xs : List ℤ) (op : Operator) → IsNumber number x → IsPhrase more xs op → IsPhrase (number ++ more) (x ∷ xs) op
+  after_number : (number more : List ℕ) (x : ℤ) (xs : List ℤ) (op : Operator) → IsNumber number x → IsPhrase more xs op →
+      IsPhrase (number ++ more) (x ∷ xs) op
 
 -- Why no phrase stands at the front of these bytes: they end before its operator, or no operator has the code.
 pub data HasNoPhrase : List ℕ → Refusal → Type 0 where
   no_operator : HasNoPhrase [] unexpected_eof
   lone_escape : HasNoPhrase (0x0c ∷ []) unexpected_eof
   -- more bytes are needed for the number at the front
-  cut_number : (bytes missing : List ℕ) (x : ℤ) → bytes ≢ [] → missing ≢ [] → IsNumber (bytes ++ missing) x → HasNoPhrase bytes unexpected_eof
-  no_such_operator : (code : ℕ) (rest : List ℕ) → code < 0x20 → code ≢ 0x0c → code ≢ 0x1c → operator_of code ≡ None → HasNoPhrase (code ∷ rest) unknown_operator
+  cut_number : (bytes missing : List ℕ) (x : ℤ) → bytes ≢ [] → missing ≢ [] → IsNumber (bytes ++ missing) x →
+      HasNoPhrase bytes unexpected_eof
+  no_such_operator : (code : ℕ) (rest : List ℕ) → code < 0x20 → code ≢ 0x0c → code ≢ 0x1c → operator_of code ≡ None →
+      HasNoPhrase (code ∷ rest) unknown_operator
   no_such_escape : (second : ℕ) (rest : List ℕ) → operator_of (0x0c00 + second) ≡ None → HasNoPhrase (0x0c ∷ second ∷ rest) unknown_operator
   -- a number, and no phrase behind it
   behind_number : (number rest : List ℕ) (x : ℤ) (e : Refusal) → IsNumber number x → HasNoPhrase rest e → HasNoPhrase (number ++ rest) e

@@ -47,7 +47,8 @@ told_at_end pending = if pending.is_told then taken_by pending.end else []
 -- before a refusal. Want of memory may come in place of any answer. The hints of a mask are not told.
 abbrev pub Next : Pending → Result (Option (Operator × Vec ℤ Global)) Error → Pending → Type 0
 Next old (Ok (Some operation)) new =
-    ((hints : Hints) × (old.answers ≡ record { operator = operation.0; operands = operation.1.items; hints = hints; width = new.width } ∷ new.answers))
+    ((hints : Hints) × (old.answers ≡ record { operator = operation.0; operands = operation.1.items; hints = hints; width = new.width }
+    ∷ new.answers))
     × (new.end ≡ old.end) × (new.is_told ≡ false)
 Next old (Ok None) new = (old.answers ≡ []) × IsLastWidth old.end old.width new.width × (new ≡ ended_over (taken_by old.end) new.width)
 Next old (Err e) new = ((e ≡ Memory) ⊎ ((old.answers ≡ []) × (old.end ≡ Fault (refusal_of e)))) × (new ≡ failed old.width)

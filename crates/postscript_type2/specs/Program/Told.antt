@@ -45,5 +45,6 @@ HeadHas answers hints = (answer : Answer) × (rest : List Answer) × (answers �
 
 -- the hints of an operation are those of the first answer that is left
 abbrev pub TellsHintsOf : Pending → Result Told Error → Type 0
-TellsHintsOf old (Ok (told.Operation operator operands hints phrase)) = HeadHas old.answers (record { stems = hints.stems.now; mask = hints.mask.now })
+TellsHintsOf old (Ok (told.Operation operator operands hints phrase)) =
+    HeadHas old.answers (record { stems = hints.stems.now; mask = hints.mask.now })
 TellsHintsOf old answer = Unit {0}

@@ -16,11 +16,15 @@ pub data FirstSettles (lists : Lists) (width : Option ℤ) : (depth : ℕ) → (
   behind_others : (depth : ℕ) (phrase behind : List ℕ) (numbers : List ℤ) (op : Operator) (st : State) (stack stored : List ℤ) →
       Moves lists st phrase numbers op behind (Keeps stack stored) → FirstSettles lists width depth behind (holding stack stored st) →
       FirstSettles lists width depth (phrase ++ behind) st
-  in_subroutine : (depth : ℕ) (phrase behind : List ℕ) (numbers : List ℤ) (op : Operator) (st : State) (subroutine : List ℕ) (stack : List ℤ) →
-      Moves lists st phrase numbers op behind (Calls subroutine stack) → depth < 10 → FirstSettles lists width (suc depth) subroutine (stacked stack st) →
+  in_subroutine : (depth : ℕ) (phrase behind : List ℕ) (numbers : List ℤ) (op : Operator) (st : State) (subroutine : List ℕ)
+      (stack : List ℤ) →
+      Moves lists st phrase numbers op behind (Calls subroutine stack) → depth < 10 →
+      FirstSettles lists width (suc depth) subroutine (stacked stack st) →
       FirstSettles lists width depth (phrase ++ behind) st
-  behind_subroutine : (depth : ℕ) (phrase behind : List ℕ) (numbers : List ℤ) (op : Operator) (st : State) (subroutine : List ℕ) (stack : List ℤ) (trace : List Phrase) (back : State) →
-      Moves lists st phrase numbers op behind (Calls subroutine stack) → depth < 10 → Means lists (suc depth) subroutine (stacked stack st) [] trace (Returned back) →
+  behind_subroutine : (depth : ℕ) (phrase behind : List ℕ) (numbers : List ℤ) (op : Operator) (st : State) (subroutine : List ℕ)
+      (stack : List ℤ) (trace : List Phrase) (back : State) →
+      Moves lists st phrase numbers op behind (Calls subroutine stack) → depth < 10 →
+      Means lists (suc depth) subroutine (stacked stack st) [] trace (Returned back) →
       FirstSettles lists width depth behind back → FirstSettles lists width depth (phrase ++ behind) st
 
 -- every answer has this width, and so has the end of the glyph

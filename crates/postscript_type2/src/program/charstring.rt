@@ -110,7 +110,8 @@ impl<'l> Charstring<'l> {
         ensures suffices { cost (run_from self.entry).trace < limit.old → result ≢ Ok None }
         ensures faultless { IfOk result (λ told. IfSome told (λ _. fault_of (run_from self.entry).end ≡ None)) }
         ensures text { IfOk result (λ told. IfSome told (λ flat. flat.items ≡ flat_text (run_from self.entry).trace)) }
-        ensures meant { IfOk result (λ told. IfSome told (λ flat. (run : Run) × IsRunFrom self.entry run × (flat.items ≡ flat_text run.trace))) }
+        ensures meant { IfOk result
+            (λ told. IfSome told (λ flat. (run : Run) × IsRunFrom self.entry run × (flat.items ≡ flat_text run.trace))) }
         ensures keeps { IfOk result (λ told. IfSome told (λ flat. (other : Lists) → KeepsMeaning other flat.items (run_from self.entry))) }
         ensures refused { IfErr result (λ e. (e ≡ errors.Memory) ⊎ (fault_of (run_from self.entry).end ≡ Some (refusal_of e))) }
         ensures listed { IsListed flatten_refusals result }
