@@ -150,7 +150,7 @@ typedef struct psf_font {
     uint64_t char_strings;       /* the place of the INDEX of char strings */
     uint64_t global_subroutines; /* the place of the INDEX of global subroutines */
     uint64_t font_dictionaries;  /* of a CID-keyed font the place of the INDEX FDArray; else 0 */
-    uint64_t selection;          /* of a CID-keyed font the place of FDSelect; else 0 */
+    uint64_t fd_select;          /* of a CID-keyed font the place of FDSelect; else 0 */
     psf_part part;               /* of any other font */
     uint64_t glyphs;             /* how many glyphs there are */
     uint32_t is_cid;             /* 1 of a CID-keyed font, else 0 */

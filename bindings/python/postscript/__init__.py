@@ -252,7 +252,7 @@ class _Font(Structure):
         ("char_strings", c_uint64),
         ("global_subroutines", c_uint64),
         ("font_dictionaries", c_uint64),
-        ("selection", c_uint64),
+        ("fd_select", c_uint64),
         ("part", _Part),
         ("glyphs", c_uint64),
         ("is_cid", c_uint32),

@@ -21,7 +21,7 @@ pub struct Font {
     char_strings: u64,
     global_subroutines: u64,
     font_dictionaries: u64,
-    selection: u64,
+    fd_select: u64,
     part: Part,
     pub glyphs: u64,
     pub is_cid: u32,

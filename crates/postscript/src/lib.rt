@@ -4,7 +4,7 @@
 //!
 //! - `Refused:` names each `Error` that a call may answer: in the order in which they are tried, and the faults of
 //!   tapes and of memory last. Where the contract has a clause `listed`, no other is answered.
-//! - `Memory` is want of memory, and may come in place of any answer of a call that names it.
+//! - `Memory` is that memory ran out, and may come in place of any answer of a call that names it.
 //! - An honest tape is one of which contracts know the bytes and the place, as a `Cursor` over bytes
 //!   (`tape::ReadSeek`). On it the parts of fonts are read exactly: what is said of bytes is said of such a tape.
 //!   There `Io` is answered only where a place past the end is sought.

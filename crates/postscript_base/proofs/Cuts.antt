@@ -21,7 +21,7 @@ use Rattle.postscript_base.proofs.Nibbles.{byte_at, byte_none}
 use Rattle.postscript_base.proofs.Onward.{Goes}
 use Rattle.postscript_base.proofs.OperationSteps.{Found, step_goes}
 
--- whether a reading was refused for want of bytes
+-- whether a reading was refused at the end of the input
 abbrev pub wants : {A : Type 0} → Outcome A → Bool
 wants (Got value next) = false
 wants (Fault refusal) = is_end refusal
@@ -134,7 +134,7 @@ stands bytes place = by (drop place bytes) refl
     by [] e = let none = byte_none bytes place e in an_operator unexpected_eof (ap begins (sym e)) (λ operands. rw none refl) (rw none (ap is_cut e)) (rw none refl)
     by (first ∷ rest) e = at_byte bytes rest place first e
 
--- a step is refused for want of bytes exactly where the end cuts
+-- a step is refused at the end of the input exactly where the end cuts
 wants_step : (front : List Decimal) (bytes : List ℕ) (place : ℕ) → wants (step front bytes place) ≡ is_cut (drop place bytes)
 wants_step front bytes place = elim (stands bytes place) [
   | a_number b s w n ↦ ap wants (s front) ∙ wants_after (number bytes place) (found_operand front) (λ operand next. refl) ∙ w

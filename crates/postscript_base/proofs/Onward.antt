@@ -77,7 +77,7 @@ pub dict_number_takes : TakesBytes dict_number
 unfolding dict_number
 dict_number_takes bytes place = goes_moves (dict_number bytes place) place (length bytes) (byte_then_goes begun begun_goes bytes place)
 
--- past the end bytes are wanting
+-- past the end the input ends early
 pub slice_needs : (size : ℕ) → 0 < size → NeedsBytes (slice size)
 unfolding slice
 slice_needs size some bytes place past = let wanting : nat_lt (length bytes - place) size ≡ true = grind (arith, nat_tests) in rw wanting refl

@@ -13,7 +13,7 @@ pub data Refusal : Type 0 where
   OfMalformed : Operator → Refusal
   OfMissing : Operator → Refusal
 
--- bytes were wanting, or the tape answered a fault of this kind
+-- the input ends early, or the tape answered a fault of this kind
 abbrev pub unexpected_eof : Refusal
 unexpected_eof = Numbered 1
 

@@ -14,7 +14,7 @@ pub type Result<T> = std::result::Result<T, Error>;
 /// A refusal.
 #[derive(Debug, Drop, Error)]
 pub enum Error {
-    /// Bytes were wanting: something is cut off, or its place lies past the end. Also a fault of this kind of a
+    /// The input ends early: something is cut off, or its place lies past the end. Also a fault of this kind of a
     /// reader, a seek or a writer.
     #[error("failed to fill whole buffer")]
     UnexpectedEof,
@@ -67,7 +67,7 @@ pub enum Error {
     /// An operator takes an operand off an empty stack.
     #[error("expected an operand")]
     ExpectedOperand,
-    /// The number of a subroutine, or a number that an operator counts by, is wanting or no whole number.
+    /// The number of a subroutine, or a number that an operator counts by, is missing or no whole number.
     #[error("expected an operand of a different type")]
     ExpectedInteger,
     /// The stack is shallower than `dup`, `index` or `roll` reaches.

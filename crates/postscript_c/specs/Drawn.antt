@@ -82,7 +82,7 @@ abbrev pub IsWantingIn : (limit : ℕ) (bytes : List ℕ) → Pending → Error 
 IsWantingIn limit bytes program TooLong = IsUsedUp limit bytes program
 IsWantingIn limit bytes program e = IsWanting 0 e
 
--- Why it does not: something is wanting, its own run or what it names is refused, or it names no codes.
+-- Why it does not: something runs out, its own run or what it names is refused, or it names no codes.
 pub data IsWholeRefused (limit : ℕ) (bytes : List ℕ) (program : Pending) (e : Error) : Type 0 where
   wanting : IsWantingIn limit bytes program e → IsWholeRefused limit bytes program e
   undrawn : IsUndrawn zero_point e program.answers program.end → IsWholeRefused limit bytes program e

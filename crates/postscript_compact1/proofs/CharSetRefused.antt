@@ -50,11 +50,11 @@ module _ {A : Type 0} (one : Reading A) where
   many_cut (value ∷ values) (suc count) bytes place next refusal h fewer cut = rw (h.1, many_cut values count bytes h.0 next refusal h.2 (omega arith) cut) refl
 
 module _ {A : Type 0} (size : A → ℕ) (one : Reading A) (takes : TakesBytes one) where
-  -- the next value is cut, or covers more than are wanting
+  -- the next value is cut, or covers more than are still to be covered
   abbrev pub StopsAt : ℕ → List ℕ → ℕ → Refusal → Type 0
   StopsAt wanting bytes place refusal = (one bytes place ≡ Fault refusal) ⊎ ((last : A) × (end : ℕ) × (one bytes place ≡ Got last end) × (wanting < size last) × (refusal ≡ malformed_char_set))
 
-  -- behind values that cover fewer than are wanting
+  -- behind values that cover fewer than are still to be covered
   abbrev pub StopsBehind : ℕ → List ℕ → ℕ → Refusal → Type 0
   StopsBehind wanting bytes place refusal = (values : List A) × (next : ℕ) × StandAt one bytes place values next × (sum_by size values < wanting) × StopsAt (wanting - sum_by size values) bytes next refusal
 

@@ -32,18 +32,18 @@ glyphs_of_1 range = range.left + 1
 abbrev pub glyphs_of_2 : Range2 → ℕ
 glyphs_of_2 range = range.left + 1
 
--- a range that covers no more glyphs than are still wanting
+-- a range that covers no more glyphs than are still to be covered
 unfoldable pub covering : {A : Type 0} → (A → ℕ) → Reading A → ℕ → Reading A
 covering size one wanting = one >>= λ range. if nat_lt wanting (size range) then fault malformed_char_set else pure range
 
--- how many are wanting behind it
+-- how many are to be covered behind it
 abbrev pub uncovered : {A : Type 0} → (A → ℕ) → ℕ → A → ℕ
 uncovered size wanting range = wanting - size range
 
 abbrev pub none_wanting : ℕ → Bool
 none_wanting wanting = wanting == 0
 
--- ranges until no glyph is wanting
+-- ranges until no glyph is left to cover
 abbrev pub ranges : {A : Type 0} → (A → ℕ) → Reading A → ℕ → Reading (List A)
 ranges size one wanting = until none_wanting (covering size one) (uncovered size) wanting
 

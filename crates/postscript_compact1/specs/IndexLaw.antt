@@ -157,7 +157,7 @@ pub record HasCutItems (bytes : List ℕ) (place : ℕ) : Type 0 where
   pub rise : AreOffsets offsets
   pub cut : IsCut bytes (place + 2 + (count + 1) * size) (last_of 0 offsets)
 
--- bytes are wanting: of the count, of the size, of an offset or of the items
+-- the input ends early: of the count, of the size, of an offset or of the items
 abbrev pub WantsBytes : List ℕ → ℕ → Type 0
 WantsBytes bytes place = IsCut bytes place 2 ⊎ (HasCutSize bytes place ⊎ (HasCutOffset bytes place ⊎ HasCutItems bytes place))
 
@@ -167,8 +167,8 @@ IsNoIndex bytes place refusal =
     ((refusal ≡ unexpected_eof) × WantsBytes bytes place) ⊎
     (((refusal ≡ malformed_offset) × HasBadSize bytes place) ⊎ ((refusal ≡ malformed_index) × HasBadOffset bytes place))
 
--- What is read is the INDEX that stands there, with its next place, and every INDEX is read. Past the end bytes are
--- wanting. Other bytes are refused for the cause that they give.
+-- What is read is the INDEX that stands there, with its next place, and every INDEX is read. Past the end the
+-- input ends early. Other bytes are refused for the cause that they give.
 pub record ReadsIndices : Type 0 where
   pub all : (bytes : List ℕ) (place : ℕ) (i : Index) (next : ℕ) → IsIndex bytes place i next → index bytes place ≡ Got i next
   pub only : (bytes : List ℕ) (place : ℕ) (i : Index) (next : ℕ) → index bytes place ≡ Got i next → IsIndex bytes place i next

@@ -132,7 +132,7 @@ impl CharSet {
     }
 }
 
-/// As `CharSet::clone`, so that lists of them are cloned as well. Refused only for want of memory.
+/// As `CharSet::clone`, so that lists of them are cloned as well. Refused only where memory runs out.
 impl Clone for CharSet {
     ghost use Rattle.std.specs.Prelude.{◌≡◌};
 
@@ -146,7 +146,7 @@ impl Clone for CharSet {
 /// A char set of the format that its first byte names (Technical Note 5176, "Charsets"). The parameter is the number
 /// of glyphs, of which glyph 0 is not told.
 ///
-/// Refused: `UnexpectedEof` where the first byte is wanting; `UnknownCharSetFormat` for another format than 0, 1 and
+/// Refused: `UnexpectedEof` where no byte is left; `UnknownCharSetFormat` for another format than 0, 1 and
 /// 2; `MalformedCharSet` for no glyphs; then, in the order of the bytes, `UnexpectedEof` where an identifier or a
 /// range is cut and `MalformedCharSet` where a range covers more glyphs than are left; `Io`, `Memory`.
 #[tactic(auto, unfolding(crate::specs::CharSets::char_set))]

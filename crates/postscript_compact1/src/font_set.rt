@@ -102,7 +102,7 @@ impl FontSet {
 
     /// A font that may lack private dictionaries and local subroutines: with fewer than two operands of `Private` a
     /// dictionary has an empty private one, and without an operand of `Subrs` no local subroutines. On an honest tape
-    /// it is answered exactly where such a font stands at the tape's place, want of memory aside; the layout leaves
+    /// it is answered exactly where such a font stands at the tape's place, running out of memory aside; the layout leaves
     /// open where the font ends.
     ///
     /// A CID-keyed font is mostly read so, since its dictionary has no `Private`; but its glyphs find no local subroutines
@@ -137,7 +137,7 @@ impl FontSet {
     /// else is read of a dictionary is dropped before the next one, and names, strings and global subroutines at the end.
     /// A tape that faults within char strings is not noticed; none that is honest does.
     ///
-    /// On an honest tape it is answered exactly where a font stands (`specs/FontSet/Layout.antt`), want of memory aside,
+    /// On an honest tape it is answered exactly where a font stands (`specs/FontSet/Layout.antt`), running out of memory aside,
     /// and the tape then stands where `read` leaves it. Offsets count from the tape's place.
     ///
     /// Refused: as `read` is, with the same error in the same order; `Memory` in fewer cases.
@@ -165,7 +165,7 @@ impl FontSet {
 
     /// Whether `read_lenient` answers a font at the tape's place, and where it does not, why. It is to `read_lenient` as
     /// `check` is to `read`: the font is passed over, its char strings are not read, and on an honest tape it is answered
-    /// exactly where a font stands that may lack private dictionaries and local subroutines, want of memory aside.
+    /// exactly where a font stands that may lack private dictionaries and local subroutines, running out of memory aside.
     ///
     /// Refused: as `read_lenient` is, with the same error in the same order; `Memory` in fewer cases.
     ///
@@ -192,7 +192,7 @@ impl FontSet {
 
 /// The font at the tape's place (Technical Note 5176, "CFF Data Layout"), from which offsets count. The version in the
 /// header is not looked at. On an honest tape a font is answered exactly where one stands
-/// (`specs/FontSet/Layout.antt`), want of memory aside; the tape then stands behind the local subroutines of the last
+/// (`specs/FontSet/Layout.antt`), running out of memory aside; the tape then stands behind the local subroutines of the last
 /// dictionary, or behind the global ones where there is no dictionary.
 ///
 /// Refused, in this order: for the header, `UnexpectedEof`, and `OutOfRangeOffset` where 64 bits do not count the

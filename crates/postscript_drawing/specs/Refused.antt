@@ -70,6 +70,6 @@ pub record HasComponentsRefused (font : FontView) (glyph : ℕ) (e : Error) : Ty
   pub accented : IsAccented font glyph accent
   pub refused : AreRefused font accent e
 
--- Why a glyph is not drawn: memory, room or the limit is wanting, the glyph is refused by itself, or its components are.
+-- Why a glyph is not drawn: memory, room or the limit runs out, the glyph is refused by itself, or its components are.
 abbrev pub IsRefused : FontView → (glyph : ℕ) → (left : ℕ) → Error → Type 0
 IsRefused font glyph left e = IsWanting left e ⊎ IsGlyphRefused font glyph zero_point e ⊎ HasComponentsRefused font glyph e

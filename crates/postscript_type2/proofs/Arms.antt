@@ -165,7 +165,7 @@ unread : (lists : Lists) (left : ℕ) (cs : List (List ℕ)) (bytes : List ℕ) 
     ((still lists left bytes cs st).answers ≡ []) × ((still lists left bytes cs st).end ≡ Fault e)
 unread lists left cs bytes st e some bad = grind (arith, still_step-at)
 
--- the same, where want of memory may come in place of a refusal
+-- the same, where running out of memory may come in place of a refusal
 pub refused-or-memory : (lists : Lists) (left : ℕ) (cs : List (List ℕ)) {bytes rest : List ℕ} {st : State} {ys : List ℤ} {op : Operator} {more : ℕ} {e : Refused} →
     IsRead bytes rest st ys op more → (e ≡ Memory) ⊎ (effect lists op rest (stacked ys st) ≡ Refuses (reason e)) →
     (e ≡ Memory) ⊎ (((still lists left bytes cs st).answers ≡ []) × ((still lists left bytes cs st).end ≡ Fault (reason e)))

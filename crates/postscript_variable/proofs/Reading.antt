@@ -29,7 +29,7 @@ pub operator-one : (rest : List ℕ) (place first : ℕ) (r : Result (Command ×
     r ≡ ok_or (option_map (λ command. (command, place)) (command_of first)) UnknownOperator → EndsAt first rest place r
 operator-one rest place first r other e = grind (arith, nat_tests)
 
--- an operator of two bytes, whose second one is wanting
+-- an operator of two bytes, whose second one is missing
 pub operator-cut : (rest : List ℕ) (first : ℕ) (e : Refused) → rest ≡ [] → first ≡ 12 → reason e ≡ unexpected_eof → commanded first rest ≡ NoToken (reason e)
 operator-cut rest first e none two is = rw (none, two, is) refl
 

@@ -103,7 +103,7 @@ fn check<R: Abort>(rt: &R, alloc: Global, code: &str, lists: Lists<'_>, wanted: 
     is_text(rt, text.as_str(), wanted, code);
 }
 
-/// Whether the operations of a front begin the whole code's, and its fault is that of the whole code, or bytes are wanting.
+/// Whether the operations of a front begin the whole code's, and its fault is that of the whole code, or the input ends early.
 fn is_front<R: Abort>(rt: &R, alloc: Global, part: &Answers, whole: &Answers) -> bool {
     let begun = operations_of(rt, alloc, part);
     let all = operations_of(rt, alloc, whole);

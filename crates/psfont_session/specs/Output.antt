@@ -23,12 +23,12 @@ use Rattle.psfont_session.specs.Texts.{answers_text, flat_line, fault_line}
 abbrev pub run_loaded : Loaded → Run
 run_loaded loaded = run_of (lists_of loaded) loaded.code
 
--- all that the run tells is written, or that memory is wanting
+-- all that the run tells is written, or that memory runs out
 abbrev pub RunTold : Loaded → Option (List ℕ) → Option (List ℕ) → Type 0
 RunTold loaded old new = ((answers : Answers) × Tells answers (run_loaded loaded) × Appends old new (answers_text answers))
     ⊎ Appends old new (fault_line errors.Memory)
 
--- a faultless run's code without calls is written; or the run's refusal, or that memory is wanting
+-- a faultless run's code without calls is written; or the run's refusal, or that memory runs out
 abbrev pub FlatTold : Loaded → Option (List ℕ) → Option (List ℕ) → Type 0
 FlatTold loaded old new = ((fault_of (run_loaded loaded).end ≡ None) × Appends old new (flat_line (flat_text (run_loaded loaded).trace)))
     ⊎ ((e : Error) × ((e ≡ errors.Memory) ⊎ (fault_of (run_loaded loaded).end ≡ Some (refusal_of e))) × Appends old new (fault_line e))

@@ -29,8 +29,8 @@ pub record LineTold (line : List ℕ) (old : Loaded) (before : Option (List ℕ)
 abbrev pub AsksRun : List ℕ → Type 0
 AsksRun line = ((word_of line ≡ name_of Run) ⊎ (word_of line ≡ name_of Flat)) × (argument_of line ≡ [])
 
--- What is told within a limit, if there is one: where the line asks for a run that uses up the limit, that it does, and where memory is
--- wanting for that, so; else what is told without a limit, of a run that comes to its end, or is refused, within it.
+-- What is told within a limit, if there is one: where the line asks for a run that uses up the limit, that it does, and where memory
+-- runs out for that, so; else what is told without a limit, of a run that comes to its end, or is refused, within it.
 pub data ToldWithin (limit : ℕ) (line : List ℕ) (old : Loaded) (before : Option (List ℕ)) (new : Loaded)
     (after : Option (List ℕ)) : Type 0 where
   past : AsksRun line → IsUsedUp limit old → new ≡ old → Appends before after (past_line limit old.code) →

@@ -35,14 +35,14 @@ until_from done one next (suc most) given bytes place =
 unfoldable pub until : {P A : Type 0} → (P → Bool) → (P → Reading A) → (P → A → P) → P → Reading (List A)
 until done one next given bytes place = until_from done one next (suc (length bytes)) given bytes place
 
--- bytes were wanting
+-- the input ends early
 abbrev pub is_end : Refusal → Bool
 is_end (Numbered number) = number == 1
 is_end (OfPart part) = false
 is_end (OfMalformed operator) = false
 is_end (OfMissing operator) = false
 
--- a list that a refusal for want of bytes ends
+-- a list that a refusal at the end of the input ends
 abbrev pub unless_end : {A B : Type 0} → Outcome A → Outcome B → (A → ℕ → Outcome B) → Outcome B
 unless_end (Got value next) ended more = more value next
 unless_end (Fault refusal) ended more = if is_end refusal then ended else Fault refusal

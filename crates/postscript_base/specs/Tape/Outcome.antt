@@ -12,7 +12,7 @@ pub data Outcome (A : Type 0) : Type 0 where
   Fault : Refusal → Outcome A
   Past : Outcome A
 
--- bytes are wanting: the refusal UnexpectedEof
+-- the input ends early: the refusal UnexpectedEof
 abbrev pub end : {A : Type 0} → Outcome A
 end = Fault unexpected_eof
 

@@ -18,7 +18,7 @@ use std::alloc::Global;
 /// Reads a number of a dictionary (Technical Note 5176, "DICT Data") as its one decimal: an integer of one, two, three
 /// or five bytes, or a real.
 ///
-/// Refused: `UnexpectedEof` where bytes are wanting; `MalformedNumber` where the first byte begins no number, or the
+/// Refused: `UnexpectedEof` where the input ends early; `MalformedNumber` where the first byte begins no number, or the
 /// text of a real is none; `OutOfRangeNumber` where a real has no operand (`Operand::new`); `Io`, `Memory`. On an
 /// honest tape where no real begins never `Memory`.
 ///

@@ -21,7 +21,7 @@ pub type Operation = (Operator, Vec<Operand>);
 /// Operands, as many as there are, and then an operator of one byte, or of two behind 0x0c (Technical Note 5176, "DICT
 /// Data").
 ///
-/// Refused: as the first that is bad: `UnexpectedEof` where bytes are wanting, `MalformedNumber` or `OutOfRangeNumber`
+/// Refused: as the first that is bad: `UnexpectedEof` where the input ends early, `MalformedNumber` or `OutOfRangeNumber`
 /// for an operand, `UnknownOperator`; `Io`, `Memory`.
 impl Value for Operation {
     ghost use Rattle.std.specs.Prelude.{[], ◌∷◌, map, refl};

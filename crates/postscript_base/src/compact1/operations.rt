@@ -111,7 +111,7 @@ impl Operations {
     }
 }
 
-/// As `Operations::clone`, so that lists of them are cloned as well. Refused only for want of memory.
+/// As `Operations::clone`, so that lists of them are cloned as well. Refused only where memory runs out.
 impl Clone for Operations {
     ghost use Rattle.std.specs.Prelude.{◌≡◌};
 

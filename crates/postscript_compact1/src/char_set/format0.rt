@@ -49,7 +49,7 @@ impl CharSet0 {
 /// A char set of format 0: the byte 0, and identifiers, one for each glyph from 1 (Technical Note 5176, "Charsets",
 /// Table 17). The parameter is the number of glyphs, of which glyph 0 is not told.
 ///
-/// Refused: `UnexpectedEof` where the first byte is wanting; `MalformedCharSet` where it is another than 0, and for no
+/// Refused: `UnexpectedEof` where no byte is left; `MalformedCharSet` where it is another than 0, and for no
 /// glyphs; `UnexpectedEof` where an identifier is cut; `Io`, `Memory`.
 #[tactic(auto, unfolding(crate::specs::CharSets::char_set_0))]
 impl Walue for CharSet0 {

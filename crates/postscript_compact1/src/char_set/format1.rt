@@ -50,7 +50,7 @@ impl CharSet1 {
 /// A char set of format 1: the byte 1, and ranges of three bytes (Technical Note 5176, "Charsets", Table 18). The
 /// parameter is the number of glyphs, of which glyph 0 is not told.
 ///
-/// Refused: `UnexpectedEof` where the first byte is wanting; `MalformedCharSet` where it is another than 1, and for no
+/// Refused: `UnexpectedEof` where no byte is left; `MalformedCharSet` where it is another than 1, and for no
 /// glyphs; then, in the order of the bytes, `UnexpectedEof` where a range is cut and `MalformedCharSet` where one
 /// covers more glyphs than are left; `Io`, `Memory`.
 #[tactic(auto, unfolding(crate::specs::CharSets::char_set_of))]

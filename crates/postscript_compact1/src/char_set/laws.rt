@@ -13,7 +13,7 @@ pub fn reads_char_sets()
     ensures law { ReadsCharSets }
 {}
 
-/// A fact for callers of `read_given_at`: past the end bytes are wanting for a char set, of any format or of one, for
+/// A fact for callers of `read_given_at`: past the end the input ends early for a char set, of any format or of one, for
 /// so many glyphs. It does nothing and is never refused.
 #[tactic(auto, using(crate::proofs::CharSetIs::char_set_needs, crate::proofs::CharSetIs::char_set_0_needs, crate::proofs::CharSetIs::char_set_of_needs))]
 pub fn char_sets_need_bytes(glyphs: usize)

@@ -78,7 +78,7 @@ impl Range for Range2 {
     }
 }
 
-/// Reads a range that covers no more glyphs than are still wanting.
+/// Reads a range that covers no more glyphs than are still to be covered.
 #[tactic(auto, unfolding(crate::specs::CharSets::covering))]
 fn read_covering<R: Range + Drop, T: Tape>(alloc: Global, tape: &mut T, wanting: usize) -> Result<R>
     ensures exact { Reads same (T.state tape.old) result (T.state tape.new) (covering R.size R.one wanting) }
@@ -165,9 +165,9 @@ impl Value for Range2 {
     }
 }
 
-/// A range is given how many glyphs are still wanting, and leaves how many are wanting behind it.
+/// A range is given how many glyphs are still to be covered, and leaves how many are to be covered behind it.
 ///
-/// Refused: `UnexpectedEof` where it is cut; `MalformedCharSet` where it covers more glyphs than are wanting; `Io`.
+/// Refused: `UnexpectedEof` where it is cut; `MalformedCharSet` where it covers more glyphs than are still to be covered; `Io`.
 impl Linked for Range1 {
     ghost use Rattle.postscript_compact1.specs.declared.char_set.range.Range1.{Range1};
 
@@ -196,9 +196,9 @@ impl Linked for Range1 {
     }
 }
 
-/// A range is given how many glyphs are still wanting, and leaves how many are wanting behind it.
+/// A range is given how many glyphs are still to be covered, and leaves how many are to be covered behind it.
 ///
-/// Refused: `UnexpectedEof` where it is cut; `MalformedCharSet` where it covers more glyphs than are wanting; `Io`.
+/// Refused: `UnexpectedEof` where it is cut; `MalformedCharSet` where it covers more glyphs than are still to be covered; `Io`.
 impl Linked for Range2 {
     ghost use Rattle.postscript_compact1.specs.declared.char_set.range.Range2.{Range2};
 
@@ -227,7 +227,7 @@ impl Linked for Range2 {
     }
 }
 
-/// No range is read any more once no glyph is wanting.
+/// No range is read any more once no glyph is left to cover.
 impl Until for Range1 {
     ghost is_last = { none_wanting };
 
@@ -236,7 +236,7 @@ impl Until for Range1 {
     }
 }
 
-/// No range is read any more once no glyph is wanting.
+/// No range is read any more once no glyph is left to cover.
 impl Until for Range2 {
     ghost is_last = { none_wanting };
 

@@ -22,7 +22,7 @@ pub fn reads_leniently()
 }
 
 /// A law: a font is refused with an error exactly where the first step of the layout that fails does so for that cause
-/// (`NoFont`, and `NoLenientFont` of a lenient reading), want of memory aside. The steps are the header, the names, the
+/// (`NoFont`, and `NoLenientFont` of a lenient reading), running out of memory aside. The steps are the header, the names, the
 /// dictionaries, the strings and the global subroutines; then for each dictionary its encoding, its char strings, its char
 /// set, its private dictionary and its local subroutines. It does nothing and is never refused.
 pub fn refuses_layout()

@@ -48,7 +48,7 @@ impl CharStrings {
     }
 }
 
-/// As `CharStrings::clone`, so that lists of them are cloned as well. Refused only for want of memory.
+/// As `CharStrings::clone`, so that lists of them are cloned as well. Refused only where memory runs out.
 impl Clone for CharStrings {
     ghost use Rattle.std.specs.Prelude.{◌≡◌};
 

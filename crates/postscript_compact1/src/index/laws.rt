@@ -12,7 +12,7 @@ use postscript_base::compact1::laws::reads_dictionaries;
 
 /// A law: an INDEX is read where the bytes at a place are one: a count, the size of the offsets, offsets that begin
 /// with 1 and rise, and the slices between them. For callers of `read_at` and `read_to_end`: it takes a byte at least
-/// and stays within the bytes, and past the end bytes are wanting. It does nothing and is never refused.
+/// and stays within the bytes, and past the end the input ends early. It does nothing and is never refused.
 #[tactic(auto, using(crate::proofs::IndexRefused::reads_indices, crate::proofs::IndexIs::char_strings_need))]
 pub fn reads_indices()
     ensures law { ReadsIndices }

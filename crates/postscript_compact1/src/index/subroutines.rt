@@ -52,7 +52,7 @@ impl Subroutines {
     }
 }
 
-/// As `Subroutines::clone`, so that lists of them are cloned as well. Refused only for want of memory.
+/// As `Subroutines::clone`, so that lists of them are cloned as well. Refused only where memory runs out.
 impl Clone for Subroutines {
     ghost use Rattle.std.specs.Prelude.{◌≡◌};
 

@@ -6,11 +6,11 @@ use Rattle.postscript_type2.specs.Program.Evaluation.{run_of}
 use Rattle.postscript_type2.specs.Program.Routines.{Lists}
 use Rattle.postscript_type2.specs.Program.Runs.{End, UsedUp, Returned, Finished, Fault}
 
--- the refusals that end a run, by their numbers: bytes are wanting, no such operator, and those of the operators
+-- the refusals that end a run, by their numbers: the input ends early, no such operator, and those of the operators
 abbrev pub run_refusals : List ℕ
 run_refusals = 1 ∷ 9 ∷ 16 ∷ 17 ∷ 18 ∷ 19 ∷ 20 ∷ 21 ∷ 22 ∷ 23 ∷ 24 ∷ 25 ∷ 26 ∷ 27 ∷ 28 ∷ 29 ∷ []
 
--- the same, and want of memory
+-- the same, and running out of memory
 abbrev pub flatten_refusals : List ℕ
 flatten_refusals = 3 ∷ run_refusals
 
