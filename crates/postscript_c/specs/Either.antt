@@ -1,6 +1,5 @@
 -- What C is told of a face with outlines in a table `CFF2` or `CFF `: an outline at a place, and how many glyphs there are. The latter
--- varies
--- along no axis, so it is the same at each place.
+-- varies along no axis, so it is the same at each place.
 use Rattle.std.specs.Prelude.{◌≡◌, ◌⊎◌, ℕ, ℤ, pos, List, codes, Option, Some, None, Result, Ok, Err}
 use Rattle.postscript_base.specs.Error.{code}
 use Rattle.postscript_base.specs.Numbers.{big_endian}

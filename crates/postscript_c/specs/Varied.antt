@@ -51,9 +51,8 @@ pub record IsPlaceAt (limit : ℕ) (file : FontFile) (font : Font) (values : Lis
   pub are : AreCoordinatesAt file values coordinates
   pub is : IsPlaceIn limit font.store coordinates place
 
--- Within a limit a glyph draws these segments at a place, or why it does not. What was read of its charstring is paid, all of it where it
--- is
--- drawn; and where its run costs less than the limit, it is not too long.
+-- Within a limit a glyph draws these segments at a place, or why it does not. What was read of its charstring is paid, all of it where
+-- it is drawn; and where its run costs less than the limit, it is not too long.
 pub record IsDrawnWithin (limit : ℕ) (font : Font) (glyph : ℕ) (place : Place) (answer : Result (List Segment) Error) : Type 0 where
   pub left : ℕ
   pub drawn : IfOk answer (λ segments. DrawsGlyph font glyph place segments)

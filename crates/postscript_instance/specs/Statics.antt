@@ -27,9 +27,8 @@ pub data AreSpelled : (width : Option ℤ) → List Phrase → List runs.Phrase 
 abbrev pub answer_with : Option ℤ → Phrase → Answer
 answer_with width x = answer x.operator x.operands (hinting x.stems x.mask) width
 
--- Over these subroutines a code answers all that is said, operand by operand and hint by hint, with this width; its phrases are those of
--- what is said; and
--- endchar, which takes nothing, finishes it.
+-- Over these subroutines a code answers all that is said, operand by operand and hint by hint, with this width; its phrases are those
+-- of what is said; and endchar, which takes nothing, finishes it.
 pub record SaysSo (lists : Lists) (code : List ℕ) (width : Option ℤ) (says : List Phrase) : Type 0 where
   pub run : runs.Run
   pub is : IsRunOf lists code run

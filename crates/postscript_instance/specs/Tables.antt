@@ -50,8 +50,7 @@ pub record IsTable (does : (glyph : ℕ) → (advance : ℤ) → (code : List �
   pub called : IsCalled naming bytes view
 
 -- The table of a font at the place of the coordinates of its advances: each code does what it is to do there, with the glyph's advance
--- there
--- as its width.
+-- there as its width.
 pub record IsTableAt (does : Font → Place → (glyph : ℕ) → (advance : ℤ) → (code : List ℕ) → Type 0) (font : Font) (naming : Naming)
     (advances : AdvancesAt) (bytes : List ℕ) : Type 0 where
   pub place : Place

@@ -34,8 +34,7 @@ impl<'l> AdvancesAt<'l> {
     }
 
     /// The advance of a glyph at the place, in units of the em: that of `hmtx`, and what `HVAR` adds to it, to the nearest unit. Of two
-    /// that
-    /// are as near it is the higher one; nothing is added where the table tells nothing of the glyph.
+    /// that are as near it is the higher one; nothing is added where the table tells nothing of the glyph.
     pub fn of(&self, glyph: u16) -> i128
         ensures { IsAdvanceAt self.now glyph result }
     {

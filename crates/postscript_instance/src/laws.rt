@@ -25,10 +25,9 @@ pub fn nearest_is_nearest()
     ensures { NearestIsNearest }
 {}
 
-/// A law: where the charstring's run draws segments from the origin, the run of a code in whole units (`specs/Rounded.antt`) draws the same
-/// segments in the same order, each point at the nearest whole units, over whatever subroutines. So a contour that ends where it began
-/// still
-/// does. It does nothing and is never refused.
+/// A law: where the charstring's run draws segments from the origin, the run of a code in whole units (`specs/Rounded.antt`) draws the
+/// same segments in the same order, each point at the nearest whole units, over whatever subroutines. So a contour that ends where it
+/// began still does. It does nothing and is never refused.
 pub fn rounded_outlines()
     ensures { RoundedOutlines }
 {}

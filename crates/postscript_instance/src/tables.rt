@@ -234,11 +234,11 @@ fn place_of(alloc: Global, font: &Font<'_>, coordinates: &[i16]) -> Result<Place
     }
 }
 
-/// The table `CFF ` of a place of a variable font, that of the coordinates of its advances, and with these names. Each glyph's charstring
-/// is
-/// that of `glyph`; its width is the glyph's advance at the place, and `nominalWidthX` is 0. Where glyphs have names, the char set and the
-/// strings tell them, but for the first, which is `.notdef`; where they have none, it is a CID-keyed font (ROS Adobe, Identity, 0), whose
-/// CIDs are the numbers of its glyphs, with the Font DICTs of the table CFF2. It has the FontMatrix of the table CFF2, and no subroutines.
+/// The table `CFF ` of a place of a variable font, that of the coordinates of its advances, and with these names. Each glyph's
+/// charstring is that of `glyph`; its width is the glyph's advance at the place, and `nominalWidthX` is 0. Where glyphs have names, the
+/// char set and the strings tell them, but for the first, which is `.notdef`; where they have none, it is a CID-keyed font (ROS Adobe,
+/// Identity, 0), whose CIDs are the numbers of its glyphs, with the Font DICTs of the table CFF2. It has the FontMatrix of the table
+/// CFF2, and no subroutines.
 ///
 /// The Private DICTs have the hints of those of CFF2: zones, widths of stems, and what goes with them. Those that are blended are at the
 /// nearest whole units, halves up: of a zone or a list of widths each edge is. A hint whose blends have other numbers than whole ones, or
@@ -246,11 +246,10 @@ fn place_of(alloc: Global, font: &Font<'_>, coordinates: &[i16]) -> Result<Place
 /// widths and its nominal widths are, and what they are called. FontMatrix, FDSelect and the hints are tested (`src/tests.rt`), and have no
 /// clause.
 ///
-/// Refused: `OtherNames` where there are not as many names as glyphs; `NotOneDictionary` where there are names, and not one Font DICT; as
-/// `AdvancesAt::operands` is; `NoData` for the first item variation data that do not stand; as `glyph` is, for the first glyph that is;
-/// `TooLarge` where there are more than 65,535 glyphs, 64,609 names that are no standard strings, or 256 Font DICTs, or offsets that 31
-/// bits
-/// do not hold; `NotReadBack` where what was written is not read as the font that it is to be.
+/// Refused: `OtherNames` where there are not as many names as glyphs; `NotOneDictionary` where there are names, and not one Font DICT;
+/// as `AdvancesAt::operands` is; `NoData` for the first item variation data that do not stand; as `glyph` is, for the first glyph that
+/// is; `TooLarge` where there are more than 65,535 glyphs, 64,609 names that are no standard strings, or 256 Font DICTs, or offsets
+/// that 31 bits do not hold; `NotReadBack` where what was written is not read as the font that it is to be.
 pub fn table(
     alloc: Global,
     font: &Font<'_>,

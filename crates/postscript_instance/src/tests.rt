@@ -384,8 +384,7 @@ const TWO: &[u8] = &[
 ];
 
 /// FontMatrix, FDSelect and the Private DICTs of a static table. The Top DICT begins at 19, behind the header, an INDEX of the name
-/// `Small`,
-/// and the count and the offsets of its own; its FontMatrix stands behind the nine bytes of ROS.
+/// `Small`, and the count and the offsets of its own; its FontMatrix stands behind the nine bytes of ROS.
 #[test]
 fn matrix_and_font_dictionaries(rt: HostRuntime) {
     let bytes = numbered(&rt, rt.alloc(), TWO, None, 0);
@@ -611,9 +610,8 @@ fn whole_units_in_range(rt: HostRuntime) {
     }
 }
 
-/// Char sets: A, B, C, D are 34 to 37, and names that are no standard strings begin with 391. In ranges six of them take 9 bytes; the two
-/// of the
-/// other row take fewer in a list.
+/// Char sets: A, B, C, D are 34 to 37, and names that are no standard strings begin with 391. In ranges six of them take 9 bytes; the
+/// two of the other row take fewer in a list.
 #[test]
 fn char_sets(rt: HostRuntime) {
     let long: [&[u8]; 7] = [b".notdef", b"A", b"B", b"C", b"D", b"alpha", b"beta"];

@@ -1,6 +1,5 @@
--- The names of glyphs in the table `post` of version 2.0 (ISO/IEC 14496-22, 5.2.8; OpenType 1.9, "post", "Version 2.0"): behind 32 bytes
--- a count of
--- glyphs, for each of them a number of two bytes, and behind these strings, each behind a byte that tells its length.
+-- The names of glyphs in the table `post` of version 2.0 (ISO/IEC 14496-22, 5.2.8; OpenType 1.9, "post", "Version 2.0"): behind 32
+-- bytes a count of glyphs, for each of them a number of two bytes, and behind these strings, each behind a byte that tells its length.
 use Rattle.std.specs.Prelude.{◌≡◌, ◌⊎◌, ℕ, zero, suc, ◌+◌, ◌-◌, ◌*◌, ◌<◌, ◌≤◌, List, Some, length, slice_get}
 use Rattle.std.specs.Borrow.{Bor}
 use Rattle.std.specs.List.{slice_range}

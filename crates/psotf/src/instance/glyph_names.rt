@@ -60,9 +60,8 @@ fn fit<'l>(alloc: Global, names: Vec<&'l [u8]>) -> Result<Kept<'l>, AllocError> 
     Ok(Kept::Names(names))
 }
 
-/// The names that the table `post` of a face tells of its glyphs. A table `CFF ` with names has one Private DICT, so they are lost where
-/// the
-/// face has several Font DICTs.
+/// The names that the table `post` of a face tells of its glyphs. A table `CFF ` with names has one Private DICT, so they are lost
+/// where the face has several Font DICTs.
 pub fn names_of<'l>(alloc: Global, face: &VariableFace<'l>) -> Result<Kept<'l>, AllocError> {
     let Some(post) = face.file.table(*b"post") else {
         return Ok(Kept::Untold);

@@ -1,7 +1,6 @@
-//! The tables `GDEF` and `GPOS` of a place (OpenType 1.9). What a number varies by is added to it where it stands; the device table that
-//! tells
-//! it is named no more, and taken out. An anchor without device tables has the shorter form. Where a part of `GPOS` is not known, no byte
-//! moves.
+//! The tables `GDEF` and `GPOS` of a place (OpenType 1.9). What a number varies by is added to it where it stands; the device table
+//! that tells it is named no more, and taken out. An anchor without device tables has the shorter form. Where a part of `GPOS` is not
+//! known, no byte moves.
 use super::gaps::Gaps;
 use super::values::{set_signed, set_word, word};
 use crate::variable::{Chosen, VariableFace};
@@ -394,9 +393,8 @@ impl<'v> Varied<'v> {
         last
     }
 
-    /// Takes the store of a table `GDEF` out, where it stands behind all other tables, and these are lists of classes and sets of marks.
-    /// Else no
-    /// byte moves.
+    /// Takes the store of a table `GDEF` out, where it stands behind all other tables, and these are lists of classes and sets of
+    /// marks. Else no byte moves.
     fn take_store_out(&mut self) {
         let store = number_within(&self.bytes, 14, 4).unwrap_or(0);
         let last = self.word(4).max(self.word(10)).max(self.last_set());
