@@ -14,15 +14,12 @@ many points then as `psotf glyph --json` tells of, and that it says of each read
 masks of glyphs, all of them or some 500, are compared with those that fontTools meets when it runs the glyphs, how often each subroutine
 is called with the sum of these, and the parts of the table CFF with its size: together they cover it without a gap. Where a report has
 several pages, each is opened, they hold each glyph once, and a character of another page is found there by the link. A screenshot of each
-first page at 1280 and 400 pixels goes into FOLDER. With --sums it prints the sums of the script and the style instead, which stand in the
-policy of the page (crates/psotf/src/report/page.rt): where one differs, the browser runs no script, and says so. Needs Debian's chromium,
+first page at 1280 and 400 pixels goes into FOLDER. Needs Debian's chromium,
 chromium-driver, python3-selenium and python3-fonttools. A line is printed for each report: bytes of the font, of the first page and of
 all, seconds of psotf, and seconds until the first page is loaded. The status is 1 where something is otherwise.
 """
 
 import argparse
-import base64
-import hashlib
 import json
 import pathlib
 import subprocess
@@ -387,28 +384,11 @@ def try_page(driver, name, path, folder, shot_folder, is_ours=True):
     return bool(faults)
 
 
-def inner(path):
-    """What stands in the text of a source file."""
-    return path.read_text(encoding="utf-8").split('r##"', 1)[1].rsplit('"##', 1)[0]
-
-
-def print_sums():
-    """The sums of the script and the style, as the policy spells them. The parts of the script are one text."""
-    folder = TOP / "crates/psotf/src/report"
-    parts = (folder / "script.rt").read_text(encoding="utf-8").rsplit("[", 1)[1].split("]")[0].split(", ")
-    script = "".join(inner(folder / "script" / f"{part.lower()}.rt") for part in parts)
-    for name, text in (("script", script), ("style", inner(folder / "style.rt"))):
-        print(f"{name}-src 'sha256-{base64.b64encode(hashlib.sha256(text.encode()).digest()).decode()}'")
-
-
 def main():
     parser = argparse.ArgumentParser()
     parser.add_argument("--shots")
-    parser.add_argument("--sums", action="store_true")
     parser.add_argument("fonts", nargs="*")
     words = parser.parse_args()
-    if words.sums:
-        return print_sums()
     root = pathlib.Path("/usr/share/fonts/opentype")
     fonts = words.fonts or [str(root / name) for name in [*FONTS, KEYED] if (root / name).is_file()]
     shot_folder = pathlib.Path(words.shots) if words.shots else None

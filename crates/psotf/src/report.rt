@@ -9,6 +9,7 @@ mod row;
 mod script;
 mod short;
 mod style;
+mod sum;
 mod unread;
 
 use crate::characters::{Mapped, by_glyph};
@@ -22,12 +23,13 @@ use crate::saving::save;
 use crate::sheet::Sheet;
 use crate::stopped::Stopped;
 use clap::ArgMatches;
-use page::{BEFORE_DATA, BEFORE_SCRIPT, BEFORE_STYLE, END};
+use page::{BEFORE_DATA, BEFORE_SCRIPT, BEFORE_SCRIPT_SUM, BEFORE_STYLE, BEFORE_STYLE_SUM, END};
 use pages::{PAGES, Pages};
 use script::SCRIPT;
-use std::alloc::AllocError;
+use std::alloc::{AllocError, Global};
 use std::ops::Range;
 use style::STYLE;
+use sum::put_sum;
 pub use unread::write_refused;
 
 /// What a unit of a run may come to: it is drawn and told, looked at for hints, asked for its cost, and measured twice without calls.
@@ -96,7 +98,11 @@ fn put_data(
 }
 
 /// Adds what stands before the head of the block of JSON.
-fn begin(page: &mut Vec<u8>) -> Result<(), AllocError> {
+fn begin(alloc: Global, page: &mut Vec<u8>) -> Result<(), AllocError> {
+    page.extend_from_slice(BEFORE_SCRIPT_SUM.as_bytes())?;
+    put_sum(alloc, page, &SCRIPT)?;
+    page.extend_from_slice(BEFORE_STYLE_SUM.as_bytes())?;
+    put_sum(alloc, page, &[STYLE])?;
     for text in [BEFORE_STYLE, STYLE, BEFORE_DATA, "{\"head\":"] {
         page.extend_from_slice(text.as_bytes())?;
     }
@@ -121,7 +127,7 @@ fn page_of(
     stopped: &mut Stopped<'_>,
 ) -> Result<Vec<u8>, Failure> {
     let mut page = Vec::new(rt.alloc());
-    begin(&mut page)?;
+    begin(rt.alloc(), &mut page)?;
     put_data(rt, common, first, budget, stopped, &mut page)?;
     end(&mut page)?;
     Ok(page)

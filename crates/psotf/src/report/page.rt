@@ -1,14 +1,20 @@
 //! The frame of the page.
 
-/// What stands before the style. The policy allows no network, and no script and style but those whose sums it tells.
-pub const BEFORE_STYLE: &str = r##"<!DOCTYPE html>
+/// What stands before the sum of the script. The policy allows no network, and no script and style but those whose sums it tells.
+pub const BEFORE_SCRIPT_SUM: &str = r##"<!DOCTYPE html>
 <html lang="en">
 <head>
 <meta charset="utf-8">
 <meta name="viewport" content="width=device-width">
 <meta http-equiv="Content-Security-Policy" content="default-src 'none';
-  script-src 'sha256-93WWx76JGpGAFWI333G6hiqb5tdEduh9oCTgv4UfrjU=';
-  style-src 'sha256-oJgDk5ldYqbIqCPZyrtg/HBgBa7qJQzoz11XxmdOwIQ='; base-uri 'none'; form-action 'none'">
+  script-src '"##;
+
+/// What stands between the sums of the script and of the style.
+pub const BEFORE_STYLE_SUM: &str = r##"';
+  style-src '"##;
+
+/// What stands between the sum of the style and the style.
+pub const BEFORE_STYLE: &str = r##"'; base-uri 'none'; form-action 'none'">
 <title>psotf report</title>
 <style>"##;
 
