@@ -37,7 +37,6 @@ from selenium.common.exceptions import TimeoutException
 from selenium.webdriver.chrome.service import Service
 from selenium.webdriver.common.by import By
 
-from building import TOP
 from hostile_files import BEGIN, END, ONE, PSOTF, call, file_of, long, plain_font, short
 
 FONTS = [

@@ -192,24 +192,28 @@ fn keeps_codes(
     Ok(())
 }
 
+/// What a font is made of: another one with its char set and encoding, what each glyph is made of, the number of its font dictionary and
+/// its code, and whether glyphs keep their numbers.
+#[derive(Clone, Copy)]
+struct Making<'m, 'l> {
+    font: &'m FontView<'l>,
+    set: &'m CharSetView<'l>,
+    encoding: &'m EncodingView<'l>,
+    sources: &'m [Option<usize>],
+    numbers: &'m [usize],
+    codes: &'m [Vec<u8>],
+    retain_gids: bool,
+}
+
 /// Reads back what was written. Refused where it is not the font that was to be written.
-fn read_back(
-    alloc: Global,
-    font: &FontView<'_>,
-    set: &CharSetView<'_>,
-    encoding: &EncodingView<'_>,
-    sources: &[Option<usize>],
-    numbers: &[usize],
-    codes: &[Vec<u8>],
-    kept: bool,
-    flat: &[u8],
-) -> Result<()>
-    requires set { IsCharSetOf set.now font.now.bytes.now font.now.dictionary (length (items_of font.now.char_strings)) }
-    requires encoding { IsEncodingOf encoding.now font.now.bytes.now font.now.dictionary }
-    requires numbers { AreNumbersOf font.now.bytes.now (view_shown font.now) sources.now numbers.now }
-    requires codes { AreCodesOf (view_shown font.now) sources.now numbers.now (texts codes.now) }
+fn read_back(alloc: Global, from: &Making<'_, '_>, flat: &[u8]) -> Result<()>
+    requires set { IsCharSetOf from.now.set.now from.now.font.now.bytes.now from.now.font.now.dictionary
+        (length (items_of from.now.font.now.char_strings)) }
+    requires encoding { IsEncodingOf from.now.encoding.now from.now.font.now.bytes.now from.now.font.now.dictionary }
+    requires numbers { AreNumbersOf from.now.font.now.bytes.now (view_shown from.now.font.now) from.now.sources.now from.now.numbers.now }
+    requires codes { AreCodesOf (view_shown from.now.font.now) from.now.sources.now from.now.numbers.now (texts from.now.codes.now) }
     ensures font { OnOk result ((new : View) × (the_view flat.now 0 ≡ Got new 0)
-        × IsFontOf retain_gids sources.now font.now.bytes.now (view_shown font.now) flat.now new) }
+        × IsFontOf from.now.retain_gids from.now.sources.now from.now.font.now.bytes.now (view_shown from.now.font.now) flat.now new) }
     ensures whole { OnOk result (IsWhole flat.now) }
     ensures late { IfErr result (λ e. IsLate e) }
 {
@@ -220,24 +224,26 @@ fn read_back(
     if !has_header(flat) {
         return Err(Error::NotReadBack);
     }
-    if !says_same(font, &again) || !are_codes(codes, &again.char_strings) {
+    if !says_same(from.font, &again) || !are_codes(from.codes, &again.char_strings) {
         return Err(Error::NotReadBack);
     }
-    if !same_numbers(numbers, &again) {
+    if !same_numbers(from.numbers, &again) {
         return Err(Error::NotReadBack);
     }
     if !has_no_byte_beside(&again) {
         return Err(Error::NotReadBack);
     }
-    let new = back_names(
-        alloc,
-        font,
-        set,
-        sources,
+    let keeps = keeps_numbers(from.font, from.retain_gids);
+    let new = back_names(alloc, from.font, from.set, from.sources, &again, keeps)?;
+    keeps_codes(
+        from.font,
+        from.encoding,
+        from.sources,
+        from.set,
         &again,
-        keeps_numbers(font, retain_gids),
+        &new,
+        from.retain_gids,
     )?;
-    keeps_codes(font, encoding, sources, set, &again, &new, retain_gids)?;
     Ok(())
 }
 
@@ -245,42 +251,27 @@ fn read_back(
 /// stay as they are.
 fn put_together(
     alloc: Global,
-    font: &FontView<'_>,
-    set: &CharSetView<'_>,
-    encoding: &EncodingView<'_>,
-    sources: &[Option<usize>],
-    numbers: &[usize],
-    codes: &[Vec<u8>],
+    from: &Making<'_, '_>,
     identifiers: &Option<Vec<StringID>>,
-    kept: bool,
 ) -> Result<Vec<u8>>
-    requires set { IsCharSetOf set.now font.now.bytes.now font.now.dictionary (length (items_of font.now.char_strings)) }
-    requires encoding { IsEncodingOf encoding.now font.now.bytes.now font.now.dictionary }
-    requires numbers { AreNumbersOf font.now.bytes.now (view_shown font.now) sources.now numbers.now }
-    requires codes { AreCodesOf (view_shown font.now) sources.now numbers.now (texts codes.now) }
+    requires set { IsCharSetOf from.now.set.now from.now.font.now.bytes.now from.now.font.now.dictionary
+        (length (items_of from.now.font.now.char_strings)) }
+    requires encoding { IsEncodingOf from.now.encoding.now from.now.font.now.bytes.now from.now.font.now.dictionary }
+    requires numbers { AreNumbersOf from.now.font.now.bytes.now (view_shown from.now.font.now) from.now.sources.now from.now.numbers.now }
+    requires codes { AreCodesOf (view_shown from.now.font.now) from.now.sources.now from.now.numbers.now (texts from.now.codes.now) }
     ensures font { IfOk result (λ flat. (new : View) × (the_view flat.items 0 ≡ Got new 0)
-        × IsFontOf retain_gids sources.now font.now.bytes.now (view_shown font.now) flat.items new) }
+        × IsFontOf from.now.retain_gids from.now.sources.now from.now.font.now.bytes.now (view_shown from.now.font.now) flat.items new) }
     ensures whole { IfOk result (λ flat. IsWhole flat.items) }
-    ensures lenient { IfOk result (λ flat. HasLenientFont font.now.bytes.now → HasLenientFont flat.items) }
+    ensures lenient { IfOk result (λ flat. HasLenientFont from.now.font.now.bytes.now → HasLenientFont flat.items) }
     ensures late { IfErr result (λ e. IsLate e) }
 {
-    let glyphs = numbered(alloc, font, numbers, identifiers)?;
-    let flat = match written(alloc, font, &glyphs, codes) {
+    let glyphs = numbered(alloc, from.font, from.numbers, identifiers)?;
+    let flat = match written(alloc, from.font, &glyphs, from.codes) {
         Ok(flat) => flat,
         Err(fault) => return Err(unwritten(fault)),
     };
-    read_back(
-        alloc,
-        font,
-        set,
-        encoding,
-        sources,
-        numbers,
-        codes,
-        retain_gids,
-        &flat,
-    )?;
-    stays_read(alloc, font.bytes, &flat)?;
+    read_back(alloc, from, &flat)?;
+    stays_read(alloc, from.font.bytes, &flat)?;
     Ok(flat)
 }
 
@@ -319,15 +310,14 @@ pub(crate) fn font_of(
     let numbers = numbers_of(alloc, font, sources)?;
     let codes = codes_of(alloc, font, sources, &numbers)?;
     let listed = list_of(alloc, font, &set, sources, retain_gids)?;
-    put_together(
-        alloc,
+    let from = Making {
         font,
-        &set,
-        &encoding,
+        set: &set,
+        encoding: &encoding,
         sources,
-        &numbers,
-        &codes,
-        &listed,
+        numbers: &numbers,
+        codes: &codes,
         retain_gids,
-    )
+    };
+    put_together(alloc, &from, &listed)
 }

@@ -12,7 +12,7 @@ returns-clause-font c =
     let same = c.deref.ensures.value in (
       back.0,
       subst (λ (xs : List ℕ). view xs 0 ≡ Got back.0 0) same back.1,
-      subst (λ (xs : List ℕ). IsFontOf c.args.retain_gids c.args.sources.now c.args.font.now.bytes.now (view_shown c.args.font.now) xs back.0) same back.2,
+      subst (λ (xs : List ℕ). IsFontOf c.args.from.now.retain_gids c.args.from.now.sources.now c.args.from.now.font.now.bytes.now (view_shown c.args.from.now.font.now) xs back.0) same back.2,
     )
 
 pub returns-clause-whole : goal.returns-clause-whole

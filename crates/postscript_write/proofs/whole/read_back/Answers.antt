@@ -16,12 +16,12 @@ pub returns-clause-font : goal.returns-clause-font
 returns-clause-font c =
     let again = c.in-Ok.again in
     let new = view_shown again in
-    let old = view_shown c.args.font.now in
-    let bytes = c.args.font.now.bytes.now in
+    let old = view_shown c.args.from.now.font.now in
+    let bytes = c.args.from.now.font.now.bytes.now in
     let flat = c.args.flat.now in
-    let sources = c.args.sources.now in
-    let numbers = c.args.numbers.now in
-    let codes = texts c.args.codes.now in
+    let sources = c.args.from.now.sources.now in
+    let numbers = c.args.from.now.numbers.now in
+    let codes = texts c.args.from.now.codes.now in
     let same : again.bytes.now ≡ flat = c.in-Ok.ensures.bytes in
     let repeats = c.says_same.ensures c.if-not-says_same.false in
     let are : new.char_strings ≡ codes = c.are_codes.ensures c.if-not-are_codes.false in
@@ -39,14 +39,14 @@ returns-clause-font c =
             made bytes flat old new (slice_index_or sources i None) i (slice_index_or numbers i 0) code repeats.parts there (c.requires.numbers.each i less) (c.requires.codes.each i less)
             (subst (λ (bs : List ℕ). HasPart bs new i (slice_index_or numbers i 0)) same (c.same_numbers.ensures c.if-not-same_numbers.false i (omega (arith, less, numbered))));
         naming = record {
-          old_set = c.args.set.now;
+          old_set = c.args.from.now.set.now;
           new_set = c.in_ok-new.new;
           was = c.requires.set;
           is = subst (λ (bs : List ℕ). IsCharSetOf c.in_ok-new.new bs again.dictionary (length (items_of again.char_strings))) same c.in_ok-new.ensures.is;
-          strings = subst (λ keeps. SameStrings keeps sources old c.args.set.now new c.in_ok-new.new) c.keeps_numbers.ensures c.in_ok-new.ensures.same;
+          strings = subst (λ keeps. SameStrings keeps sources old c.args.from.now.set.now new c.in_ok-new.new) c.keeps_numbers.ensures c.in_ok-new.ensures.same;
         };
         encoding = λ anew. subst (λ (bs : List ℕ). GivesWay bytes old bs new) same (c.in_ok-keeps_codes.ensures.encoding anew);
-        codes = λ kept. subst (λ (bs : List ℕ). KeepsCodes sources bytes old bs new c.args.set.now c.in_ok-new.new) same (c.in_ok-keeps_codes.ensures.codes kept);
+        codes = λ kept. subst (λ (bs : List ℕ). KeepsCodes sources bytes old bs new c.args.from.now.set.now c.in_ok-new.new) same (c.in_ok-keeps_codes.ensures.codes kept);
       },
     )
 
