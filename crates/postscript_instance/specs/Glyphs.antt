@@ -11,6 +11,8 @@ use Rattle.postscript_variable_font.specs.declared.place.Place.{Place}
 use Rattle.postscript_instance.specs.Advances.{AreAdvancesAt, LacksRoom}
 use Rattle.postscript_instance.specs.declared.advances.AdvancesAt.{AdvancesAt}
 use Rattle.postscript_instance.specs.declared.naming.Naming.{Naming}
+use Rattle.postscript_instance.specs.declared.tables.Numbers.{Numbers}
+use Rattle.postscript_instance.specs.declared.tables.Numbers.TheVariants as numbers
 use Rattle.postscript_instance.specs.declared.error.Error.{Error}
 use Rattle.postscript_instance.specs.declared.error.Error.TheVariants as errors
 use Rattle.postscript_instance.specs.Far.{NotRounded}
@@ -75,35 +77,38 @@ NoRoundedGlyph font glyph place width e =
 abbrev pub DoesRoundedAt : Font → Place → (glyph : ℕ) → (width : ℤ) → (code : List ℕ) → Type 0
 DoesRoundedAt font place glyph width code = IsRoundedGlyph font glyph place (Some width) code
 
+-- so it does with numbers as they are, or in whole units; and so there is none
+abbrev pub DoesIn : Numbers → Font → Place → (glyph : ℕ) → (width : ℤ) → (code : List ℕ) → Type 0
+DoesIn numbers.Exact = DoesAt
+DoesIn numbers.Whole = DoesRoundedAt
+
+abbrev pub NoCodeIn : Numbers → Font → Place → (glyph : ℕ) → (width : ℤ) → Error → Type 0
+NoCodeIn numbers.Exact font place glyph width e = NoStaticGlyph font glyph place (Some width) e
+NoCodeIn numbers.Whole font place glyph width e = NoRoundedGlyph font glyph place (Some width) e
+
 -- A glyph of which no code is written with its width, the first: those before it have codes that do what they are to do.
-pub record HasNoCode (does : (glyph : ℕ) → (width : ℤ) → (code : List ℕ) → Type 0) (none : (glyph : ℕ) → (width : ℤ) → Error → Type 0)
-    (widths : List ℤ) (e : Error) : Type 0 where
+pub record HasNoCode (numbers : Numbers) (font : Font) (place : Place) (widths : List ℤ) (e : Error) : Type 0 where
   pub glyph : ℕ
   pub width : ℤ
   pub is_width : slice_get widths glyph ≡ Some width
   pub before : List (Vec ℕ Global)
-  pub are_codes : AreCodes does widths glyph before
-  pub refused : none glyph width e
+  pub are_codes : AreCodes (DoesIn numbers font place) widths glyph before
+  pub refused : NoCodeIn numbers font place glyph width e
 
 -- there is one; or what is written is too large or not read back, or memory runs out
-abbrev pub LacksCode : Font → Place → (widths : List ℤ) → Error → Type 0
-LacksCode font place widths e = IsLate e ⊎ HasNoCode (DoesAt font place)
-    (λ glyph width e. NoStaticGlyph font glyph place (Some width) e) widths e
-
-abbrev pub LacksRoundedCode : Font → Place → (widths : List ℤ) → Error → Type 0
-LacksRoundedCode font place widths e =
-    IsLate e ⊎ HasNoCode (DoesRoundedAt font place) (λ glyph width e. NoRoundedGlyph font glyph place (Some width) e) widths e
+abbrev pub LacksCode : Numbers → Font → Place → (widths : List ℤ) → Error → Type 0
+LacksCode numbers font place widths e = IsLate e ⊎ HasNoCode numbers font place widths e
 
 -- There are no widths, or no place, or a glyph has no code there with its width, or what is written is too large or not read back; or
 -- memory runs out.
-abbrev pub LacksTable : (Font → Place → (widths : List ℤ) → Error → Type 0) → Font → Naming → AdvancesAt → Error → Type 0
-LacksTable lacks font naming advances e = LacksWidths font naming advances e ⊎ LacksPlace font.store e
+abbrev pub LacksTable : Numbers → Font → Naming → AdvancesAt → Error → Type 0
+LacksTable numbers font naming advances e = LacksWidths font naming advances e ⊎ LacksPlace font.store e
     ⊎ ((place : Place) × (widths : List ℤ) × IsPlaceIn font.store advances.coordinates.now place × AreWidthsOf font advances widths
-    × lacks font place widths e)
+    × LacksCode numbers font place widths e)
 
 abbrev pub NoTable : Font → Naming → AdvancesAt → Error → Type 0
-NoTable font naming advances e = LacksTable LacksCode font naming advances e
+NoTable font naming advances e = LacksTable numbers.Exact font naming advances e
 
 -- the same of a table in whole units
 abbrev pub NoRoundedTable : Font → Naming → AdvancesAt → Error → Type 0
-NoRoundedTable font naming advances e = LacksTable LacksRoundedCode font naming advances e
+NoRoundedTable font naming advances e = LacksTable numbers.Whole font naming advances e

@@ -2,11 +2,11 @@
 ghost use Rattle.std.specs.Prelude.{◌≡◌, Some, length, slice_get, IsTrue, IfOk, IfErr, OnOk};
 ghost use Rattle.postscript_cff2.specs.Shown.{view_shown as varying_shown};
 ghost use Rattle.postscript_instance.specs.Advances.{AreAdvancesAt};
-ghost use Rattle.postscript_instance.specs.Glyphs.{AreCodes, DoesAt, DoesRoundedAt, IsMiscounted, IsStaticGlyph, LacksCode, LacksRoundedCode, LacksWidths, NoRoundedTable, NoStaticGlyph, NoTable};
+ghost use Rattle.postscript_instance.specs.Glyphs.{AreCodes, DoesIn, IsMiscounted, IsStaticGlyph, LacksCode, LacksTable, LacksWidths, NoCodeIn, NoRoundedTable, NoStaticGlyph, NoTable};
 ghost use Rattle.postscript_instance.specs.Naming.{IsCalled};
 ghost use Rattle.postscript_instance.specs.Placed.{IsPlaceIn, LacksPlace};
 ghost use Rattle.postscript_instance.specs.Refusals.{IsLate};
-ghost use Rattle.postscript_instance.specs.Tables.{AreItems, HasNoWidths, HaveNoWidths, IsPlainFont, IsRoundedTableOf, IsTable, IsTableOf};
+ghost use Rattle.postscript_instance.specs.Tables.{AreItems, HasNoWidths, HaveNoWidths, IsPlainFont, IsRoundedTableOf, IsTable, IsTableAt, IsTableOf};
 ghost use Rattle.postscript_base.specs.Index.Lent.{items_of};
 ghost use Rattle.postscript_view.specs.Layout.{IsLaidOut};
 ghost use Rattle.postscript_view.specs.Order.{View};
@@ -45,36 +45,45 @@ pub fn glyph(
     }
 }
 
-/// The charstrings of the glyphs that have widths.
+/// How numbers are written: as they are, in 16.16 bits, or in whole units.
+#[derive(Clone, Copy)]
+enum Numbers {
+    Exact,
+    Whole,
+}
+
+/// The charstring of a glyph with a width, and with numbers so written.
+fn code_of(
+    alloc: Global,
+    font: &Font<'_>,
+    number: usize,
+    place: &Place,
+    width: Operand,
+    numbers: Numbers,
+) -> Result<Vec<u8>>
+    ensures written { IfOk result (λ code. DoesIn numbers font.now place.now number width code.items) }
+    ensures refused { IfErr result (λ e. NoCodeIn numbers font.now place.now number width e) }
+{
+    match numbers {
+        Numbers::Exact => glyph(alloc, font, number, place, Some(width)),
+        Numbers::Whole => rounded_glyph(alloc, font, number, place, Some(width)),
+    }
+}
+
+/// The charstrings of the glyphs that have widths, with numbers so written.
 fn codes_of(
     alloc: Global,
     font: &Font<'_>,
     place: &Place,
     widths: &[Operand],
+    numbers: Numbers,
 ) -> Result<Vec<Vec<u8>>>
-    ensures are { IfOk result (λ codes. AreCodes (DoesAt font.now place.now) widths.now (length widths.now) codes.items) }
-    ensures refused { IfErr result (λ e. LacksCode font.now place.now widths.now e) }
+    ensures are { IfOk result (λ codes. AreCodes (DoesIn numbers font.now place.now) widths.now (length widths.now) codes.items) }
+    ensures refused { IfErr result (λ e. LacksCode numbers font.now place.now widths.now e) }
 {
     let mut codes = Vec::with_capacity(alloc, widths.len())?;
     for number in 0..widths.len() {
-        codes.push(glyph(alloc, font, number, place, Some(widths[number]))?)?;
-    }
-    Ok(codes)
-}
-
-/// The charstrings in whole units of the glyphs that have widths.
-fn rounded_codes_of(
-    alloc: Global,
-    font: &Font<'_>,
-    place: &Place,
-    widths: &[Operand],
-) -> Result<Vec<Vec<u8>>>
-    ensures are { IfOk result (λ codes. AreCodes (DoesRoundedAt font.now place.now) widths.now (length widths.now) codes.items) }
-    ensures refused { IfErr result (λ e. LacksRoundedCode font.now place.now widths.now e) }
-{
-    let mut codes = Vec::with_capacity(alloc, widths.len())?;
-    for number in 0..widths.len() {
-        codes.push(rounded_glyph(alloc, font, number, place, Some(widths[number]))?)?;
+        codes.push(code_of(alloc, font, number, place, widths[number], numbers)?)?;
     }
     Ok(codes)
 }
@@ -181,35 +190,20 @@ fn widths_of(
     advances.operands(alloc, font.char_strings.len())
 }
 
-/// The table of a place, with these widths. Refused: as `glyph` is, `TooLarge`, `NotReadBack`.
-fn exact_at(
+/// The table of a place, with these widths, and with numbers so written. Refused: as `glyph` or `rounded_glyph` is, `TooLarge`,
+/// `NotReadBack`.
+fn table_of(
     alloc: Global,
     font: &Font<'_>,
     place: &Place,
     naming: &Naming<'_>,
     widths: &[Operand],
+    numbers: Numbers,
 ) -> Result<Vec<u8>>
-    ensures written { IfOk result (λ bytes. IsTable (DoesAt font.now place.now) naming.now widths.now bytes.items) }
-    ensures refused { IfErr result (λ e. LacksCode font.now place.now widths.now e) }
+    ensures written { IfOk result (λ bytes. IsTable (DoesIn numbers font.now place.now) naming.now widths.now bytes.items) }
+    ensures refused { IfErr result (λ e. LacksCode numbers font.now place.now widths.now e) }
 {
-    let codes = codes_of(alloc, font, place, widths)?;
-    let bytes = laid_out(alloc, font, place, naming, &codes)?;
-    read_back(alloc, &bytes, &codes, naming)?;
-    Ok(bytes)
-}
-
-/// The same in whole units. Refused: as `rounded_glyph` is, `TooLarge`, `NotReadBack`.
-fn rounded_at(
-    alloc: Global,
-    font: &Font<'_>,
-    place: &Place,
-    naming: &Naming<'_>,
-    widths: &[Operand],
-) -> Result<Vec<u8>>
-    ensures written { IfOk result (λ bytes. IsTable (DoesRoundedAt font.now place.now) naming.now widths.now bytes.items) }
-    ensures refused { IfErr result (λ e. LacksRoundedCode font.now place.now widths.now e) }
-{
-    let codes = rounded_codes_of(alloc, font, place, widths)?;
+    let codes = codes_of(alloc, font, place, widths, numbers)?;
     let bytes = laid_out(alloc, font, place, naming, &codes)?;
     read_back(alloc, &bytes, &codes, naming)?;
     Ok(bytes)
@@ -231,6 +225,25 @@ fn place_of(alloc: Global, font: &Font<'_>, coordinates: &[i16]) -> Result<Place
         None => Ok(Place {
             tables: Vec::new(alloc),
         }),
+    }
+}
+
+/// The table of a place, with numbers so written.
+fn table_at(
+    alloc: Global,
+    font: &Font<'_>,
+    naming: &Naming<'_>,
+    advances: &AdvancesAt<'_>,
+    numbers: Numbers,
+) -> Result<Vec<u8>>
+    ensures written { IfOk result (λ bytes. IsTableAt (DoesIn numbers) font.now naming.now advances.now bytes.items) }
+    ensures refused { IfErr result (λ e. LacksTable numbers font.now naming.now advances.now e) }
+{
+    let widths = widths_of(alloc, font, naming, advances)?;
+    let place = place_of(alloc, font, advances.coordinates)?;
+    match table_of(alloc, font, &place, naming, &widths, numbers) {
+        Ok(bytes) => Ok(bytes),
+        Err(e) => Err(e),
     }
 }
 
@@ -259,12 +272,7 @@ pub fn table(
     ensures written { IfOk result (λ bytes. IsTableOf font.now naming.now advances.now bytes.items) }
     ensures refused { IfErr result (λ e. NoTable font.now naming.now advances.now e) }
 {
-    let widths = widths_of(alloc, font, naming, advances)?;
-    let place = place_of(alloc, font, advances.coordinates)?;
-    match exact_at(alloc, font, &place, naming, &widths) {
-        Ok(bytes) => Ok(bytes),
-        Err(e) => Err(e),
-    }
+    table_at(alloc, font, naming, advances, Numbers::Exact)
 }
 
 /// The table of a place as `table` writes it, with the charstrings of `rounded_glyph`: each point is at the nearest whole units.
@@ -279,10 +287,5 @@ pub fn rounded_table(
     ensures written { IfOk result (λ bytes. IsRoundedTableOf font.now naming.now advances.now bytes.items) }
     ensures refused { IfErr result (λ e. NoRoundedTable font.now naming.now advances.now e) }
 {
-    let widths = widths_of(alloc, font, naming, advances)?;
-    let place = place_of(alloc, font, advances.coordinates)?;
-    match rounded_at(alloc, font, &place, naming, &widths) {
-        Ok(bytes) => Ok(bytes),
-        Err(e) => Err(e),
-    }
+    table_at(alloc, font, naming, advances, Numbers::Whole)
 }

@@ -1,14 +1,14 @@
 use Rattle.std.proofs.Common.{subst}
 use Rattle.postscript_view.specs.Layout.{IsLaidOut}
-use Rattle.postscript_instance.specs.Glyphs.{DoesAt}
+use Rattle.postscript_instance.specs.Glyphs.{DoesIn}
 use Rattle.postscript_instance.specs.Naming.{IsCalled}
 use Rattle.postscript_instance.specs.Tables.{IsPlainFont}
 use Rattle.postscript_instance.proofs.Codes.{table-of}
-use Rattle.postscript_instance.proofs.tables.exact_at.Goals as goal
+use Rattle.postscript_instance.proofs.tables.table_of.Goals as goal
 
 pub returns-clause-written : goal.returns-clause-written
 returns-clause-written c =
     let back = c.in_ok-read_back.ensures.font in
-    table-of (DoesAt c.args.font.now c.args.place.now) c.args.naming.now c.args.widths.now c.in_ok-bytes.bytes.items c.in_ok-codes.codes.items back.0 c.in_ok-codes.ensures.are
+    table-of (DoesIn c.args.numbers c.args.font.now c.args.place.now) c.args.naming.now c.args.widths.now c.in_ok-bytes.bytes.items c.in_ok-codes.codes.items back.0 c.in_ok-codes.ensures.are
     (subst (λ bytes. IsLaidOut bytes 0 back.0) c.deref-2.ensures.value back.1) (subst (IsPlainFont back.0) c.deref-3.ensures.value back.2)
     (subst (λ bytes. IsCalled c.args.naming.now bytes back.0) c.deref-2.ensures.value back.3)
