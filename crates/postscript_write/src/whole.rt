@@ -45,7 +45,7 @@ fn says_same(old: &FontView<'_>, new: &FontView<'_>) -> bool
 }
 
 /// Whether strings keep their numbers: where glyphs do, and in a CID-keyed font.
-fn keeps_numbers(font: &FontView<'_>, kept: bool) -> bool
+fn keeps_numbers(font: &FontView<'_>, retain_gids: bool) -> bool
     ensures { result ≡ keeps_strings retain_gids font.now.dictionary }
 {
     retain_gids || font.is_cid_keyed()
@@ -174,7 +174,7 @@ fn keeps_codes(
     old: &CharSetView<'_>,
     again: &FontView<'_>,
     new: &CharSetView<'_>,
-    kept: bool,
+    retain_gids: bool,
 ) -> Result<()>
     requires encoding { IsEncodingOf encoding.now font.now.bytes.now font.now.dictionary }
     requires names { IsTrue retain_gids → SameNames old.now sources.now new.now }
@@ -281,7 +281,7 @@ fn list_of(
     font: &FontView<'_>,
     set: &CharSetView<'_>,
     sources: &[Option<usize>],
-    kept: bool,
+    retain_gids: bool,
 ) -> Result<Option<Vec<StringID>>>
     requires { IsCharSetOf set.now font.now.bytes.now font.now.dictionary (length (items_of font.now.char_strings)) }
     ensures refused { IfErr result (λ e. FontRefusedBy font.now.bytes.now (view_shown font.now) sources.now e) }
@@ -297,7 +297,7 @@ pub(crate) fn font_of(
     alloc: Global,
     font: &FontView<'_>,
     sources: &[Option<usize>],
-    kept: bool,
+    retain_gids: bool,
 ) -> Result<Vec<u8>>
     ensures font { IfOk result (λ flat. (new : View) × (the_view flat.items 0 ≡ Got new 0)
         × IsFontOf retain_gids sources.now font.now.bytes.now (view_shown font.now) flat.items new) }

@@ -138,7 +138,7 @@ fn frame_of(
     }
     let outline = Outline {
         segments,
-        width: None,
+        width_difference: None,
     };
     Ok(outline.tight_bounds().map(Frame::round))
 }

@@ -51,7 +51,7 @@ fn put_head(
 /// The page of a head, with no glyphs.
 fn page_of(alloc: Global, head: &mut Sheet) -> Result<Vec<u8>, AllocError> {
     let mut page = Vec::new(alloc);
-    begin(&mut page)?;
+    begin(alloc, &mut page)?;
     head.end_in(&mut page)?;
     page.extend_from_slice(b",\n\"glyphs\":[]}\n")?;
     end(&mut page)?;

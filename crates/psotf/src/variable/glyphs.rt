@@ -80,7 +80,7 @@ pub fn outline_of(
     match drawn {
         Ok(()) => Ok(Outline {
             segments,
-            width: None,
+            width_difference: None,
         }),
         Err(error) => Err(refusal_of(error, face, share, budget)),
     }
