@@ -22,6 +22,8 @@ mod fonts;
 #[cfg(test)]
 mod hostile;
 #[cfg(test)]
+mod in_place;
+#[cfg(test)]
 mod indices;
 #[cfg(test)]
 mod lenient;
