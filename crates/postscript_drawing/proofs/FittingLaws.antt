@@ -5,7 +5,7 @@ use Rattle.postscript_drawing.specs.Fitting.{AllFit, Fits, RunsFit}
 use Rattle.postscript_type2.specs.declared.operation.Operator.{Operator}
 use Rattle.postscript_type2.specs.Operation.Kinds.{Kind, Draws, DeclaresStems, Masks, Works, Stores, CallsFrom, GoesBack, EndsGlyph, IsRefused, kind, lengths, taken}
 use Rattle.postscript_type2.specs.Operation.Lengths.{greatest}
-use Rattle.postscript_type2.specs.Program.Effects.{State, Move, Clears, Refuses, call_move, clearing, effect_of, last_of, mask_clearing, store_move, work_move, pushed}
+use Rattle.postscript_type2.specs.Program.Effects.{State, Effect, Clears, Refuses, call_move, clearing, effect_of, last_of, mask_clearing, store_move, work_move, pushed}
 use Rattle.postscript_type2.specs.Program.Meaning.{Means}
 use Rattle.postscript_type2.specs.Program.Meaning as rules
 use Rattle.postscript_type2.specs.Program.Routines.{Lists}
@@ -40,11 +40,11 @@ fits-mask op st stems (Some n) t u s m w is e = let z : last_of st.stack n ≡ t
 fits-mask op st stems None t u s m w is e = cc
 
 -- a move that is chosen by a test, and else is a refusal
-chosen : (b : Bool) (e : Refusal) (move other : Move) → (if b then move else Refuses e) ≡ other → ((r : Refusal) → other ≡ Refuses r → ⊥) → move ≡ other
+chosen : (b : Bool) (e : Refusal) (move other : Effect) → (if b then move else Refuses e) ≡ other → ((r : Refusal) → other ≡ Refuses r → ⊥) → move ≡ other
 chosen true e move other is not = is
 chosen false e move other is not = absurd (not e (sym is))
 
-chosen-not : (b : Bool) (e : Refusal) (move other : Move) → (if b then Refuses e else move) ≡ other → ((r : Refusal) → other ≡ Refuses r → ⊥) → move ≡ other
+chosen-not : (b : Bool) (e : Refusal) (move other : Effect) → (if b then Refuses e else move) ≡ other → ((r : Refusal) → other ≡ Refuses r → ⊥) → move ≡ other
 chosen-not true e move other is not = absurd (not e (sym is))
 chosen-not false e move other is not = is
 

@@ -10,7 +10,7 @@ use Rattle.postscript_type2.specs.Program.Effects.{mask_len, last_of, implied}
 use Rattle.postscript_type2.specs.Program.OperatorRules.{TakesMost}
 use Rattle.postscript_type2.specs.Program.Runs.{Answer}
 use Rattle.postscript_variable.specs.declared.command.Command.{Command}
-use Rattle.postscript_variable.specs.Effects.{Font, State, Move, Keeps, Clears, Calls, Refuses, effect}
+use Rattle.postscript_variable.specs.Effects.{Font, State, Effect, Keeps, Clears, Calls, Refuses, effect}
 use Rattle.postscript_variable.specs.Meaning as rules
 use Rattle.postscript_variable.specs.Meaning.{End, UsedUp, Stopped, Means}
 use Rattle.postscript_variable.specs.OperatorRules as does
@@ -47,7 +47,7 @@ pub mask-kind : (op : Operator) (takes : ℕ → Bool) → kind op ≡ Masks tak
 mask-kind op takes k = grind arith
 
 -- what a move says
-abbrev Good : State → Move → Type 0
+abbrev Good : State → Effect → Type 0
 Good st (Keeps after) = after.stems ≡ st.stems
 Good st (Calls routine after) = after.stems ≡ st.stems
 Good st (Clears op taken after mask) = (bytes : List ℕ) → length bytes ≡ mask → IsSayable st.stems (said op st.stack taken bytes) after.stems
@@ -103,7 +103,7 @@ masks-good op takes st after bytes k (in_pairs n odd low long) few full =
       (n, ap (λ k'. length (implied_by k' st.stack)) k ∙ implied-pairs st.stack n odd low long, refl),
     )
 
-good : {font : Font} {behind : List ℕ} {st : State} {command : Command} {move : Move} → Does font behind st command move → Good st move
+good : {font : Font} {behind : List ℕ} {st : State} {command : Command} {move : Effect} → Does font behind st command move → Good st move
 good (does.draws op takes beneath taken k most) = λ bytes empty. draws-good op takes _ _ taken bytes k most.allowed empty
 good (does.draws_none op takes k nowhere) = tt
 good (does.declares op takes beneath taken stems k counts few most) = λ bytes empty. declares-good op takes _ beneath taken stems bytes k counts few most empty
@@ -127,7 +127,7 @@ good (does.calls command routines beneath n routine from e there) = refl
 good (does.calls_no_number command routines from h) = tt
 good (does.calls_nothing command routines beneath n from e nowhere) = tt
 
-made-good : (font : Font) (command : Command) (behind : List ℕ) (st : State) (move : Move) → effect font command behind st ≡ move → Good st move
+made-good : (font : Font) (command : Command) (behind : List ℕ) (st : State) (move : Effect) → effect font command behind st ≡ move → Good st move
 made-good font command behind st move is = good ((operators.law font command behind st move).1 is)
 
 -- the stems at an end, and some where a refusal ends the run

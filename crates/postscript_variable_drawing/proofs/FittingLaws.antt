@@ -8,7 +8,7 @@ use Rattle.postscript_type2.specs.Operation.Lengths.{greatest}
 use Rattle.postscript_type2.specs.Program.Effects.{last_of, mask_len}
 use Rattle.postscript_type2.specs.Program.Runs.{Answer}
 use Rattle.postscript_variable.specs.declared.command.Command.{Command}
-use Rattle.postscript_variable.specs.Effects.{Font, State, Move, Clears, Refuses, clearing, path_move, with_stems, stems_after, answer_move, index_move, blend_over, call_move, effect}
+use Rattle.postscript_variable.specs.Effects.{Font, State, Effect, Clears, Refuses, clearing, path_move, with_stems, stems_after, answer_move, index_move, blend_over, call_move, effect}
 use Rattle.postscript_variable.specs.Meaning.{End, Means}
 use Rattle.postscript_variable.specs.Meaning as rules
 use Rattle.postscript_variable.proofs.MeaningLaws.{run-means}
@@ -35,7 +35,7 @@ fits-last op stack m is =
     subst (λ n. taken op n ≡ Some n) (sym size) fits.1
 
 -- what a move answers fits
-abbrev MoveFits : Move → Type 0
+abbrev MoveFits : Effect → Type 0
 MoveFits (Clears op operands st mask) = Fits op operands
 MoveFits move = Unit {0}
 
@@ -43,13 +43,13 @@ clearing-fits : (op : Operator) (st : State) (stems mask : ℕ) (o : Option ℕ)
 clearing-fits op st stems mask (Some n) is = fits-last op st.stack n is
 clearing-fits op st stems mask None is = tt
 
-chosen-fits : (b : Bool) (e : Refusal) (move : Move) → MoveFits move → MoveFits (if b then move else Refuses e)
+chosen-fits : (b : Bool) (e : Refusal) (move : Effect) → MoveFits move → MoveFits (if b then move else Refuses e)
 chosen-fits b e move h = grind arith
 
-chosen-not-fits : (b : Bool) (e : Refusal) (move : Move) → MoveFits move → MoveFits (if b then Refuses e else move)
+chosen-not-fits : (b : Bool) (e : Refusal) (move : Effect) → MoveFits move → MoveFits (if b then Refuses e else move)
 chosen-not-fits b e move h = grind arith
 
-with-fits : (stems : ℕ) (move : Move) → MoveFits move → MoveFits (with_stems stems move)
+with-fits : (stems : ℕ) (move : Effect) → MoveFits move → MoveFits (with_stems stems move)
 with-fits stems move h = chosen-fits (nat_lt stems (2 ^ 32)) too_many_stems move h
 
 path-fits : (op : Operator) (st : State) → MoveFits (path_move op st)
