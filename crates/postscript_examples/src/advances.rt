@@ -33,7 +33,8 @@ pub fn advance(
         IfOk result (λ found. found ≡ advance_by (font_shown font.now) code local private) }
     ensures refused { (code : List ℕ) (local : Index) (private : Dictionary) →
         HasGlyph (font_shown font.now) dictionary glyph code local private →
-        IfErr result (λ e. (e ≡ Error.Memory) ⊎ (refused_by (lists (font_shown font.now).global_subroutines local) code ≡ Some (refusal_of e))) }
+        IfErr result (λ e. (e ≡ Error.Memory)
+        ⊎ (refused_by (lists (font_shown font.now).global_subroutines local) code ≡ Some (refusal_of e))) }
     ensures absent { ((code : List ℕ) (local : Index) (private : Dictionary) →
         HasGlyph (font_shown font.now) dictionary glyph code local private → ⊥) →
         IsOkAnd result (λ found. found ≡ None) }

@@ -47,11 +47,13 @@ pub fn each_flat(
 /// dictionary.
 pub fn flat_glyphs_of(alloc: Global, font: &FontSet, dictionary: usize) -> Result<Vec<Vec<u8>>>
     ensures same { (codes local : Index) → HasGlyphs (font_shown font.now) dictionary codes local →
-        IfOk result (λ flat. map (λ code. drawn_by (subroutines [] []) code.items) flat.items ≡ map (drawn_by (lists (font_shown font.now).global_subroutines local)) codes.items) }
+        IfOk result (λ flat. map (λ code. drawn_by (subroutines [] []) code.items) flat.items
+        ≡ map (drawn_by (lists (font_shown font.now).global_subroutines local)) codes.items) }
     ensures faultless { (codes local : Index) → HasGlyphs (font_shown font.now) dictionary codes local →
         OnOk result (first_refused_by (lists (font_shown font.now).global_subroutines local) codes.items ≡ None) }
     ensures refused { (codes local : Index) → HasGlyphs (font_shown font.now) dictionary codes local →
-        IfErr result (λ e. (e ≡ Error.Memory) ⊎ (first_refused_by (lists (font_shown font.now).global_subroutines local) codes.items ≡ Some (refusal_of e))) }
+        IfErr result (λ e. (e ≡ Error.Memory)
+        ⊎ (first_refused_by (lists (font_shown font.now).global_subroutines local) codes.items ≡ Some (refusal_of e))) }
     ensures absent { (slice_get (font_shown font.now).char_strings dictionary ≡ None)
         ⊎ (slice_get (font_shown font.now).local_subroutines dictionary ≡ None) →
         IsOkAnd result (λ flat. flat.items ≡ []) }

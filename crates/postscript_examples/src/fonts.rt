@@ -40,7 +40,8 @@ pub fn glyphs_of(alloc: Global, font: &FontSet, dictionary: usize) -> Result<Vec
     ensures faultless { (codes local : Index) → HasGlyphs (font_shown font.now) dictionary codes local →
         OnOk result (first_refused_by (lists (font_shown font.now).global_subroutines local) codes.items ≡ None) }
     ensures refused { (codes local : Index) → HasGlyphs (font_shown font.now) dictionary codes local →
-        IfErr result (λ e. (e ≡ Error.Memory) ⊎ (first_refused_by (lists (font_shown font.now).global_subroutines local) codes.items ≡ Some (refusal_of e))) }
+        IfErr result (λ e. (e ≡ Error.Memory)
+        ⊎ (first_refused_by (lists (font_shown font.now).global_subroutines local) codes.items ≡ Some (refusal_of e))) }
     ensures absent { (slice_get (font_shown font.now).char_strings dictionary ≡ None)
         ⊎ (slice_get (font_shown font.now).local_subroutines dictionary ≡ None) →
         IsOkAnd result (λ glyphs. glyphs.items ≡ []) }
