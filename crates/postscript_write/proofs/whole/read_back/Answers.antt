@@ -43,7 +43,7 @@ returns-clause-font c =
           new_set = c.in_ok-new.new;
           was = c.requires.set;
           is = subst (λ (bs : List ℕ). IsCharSetOf c.in_ok-new.new bs again.dictionary (length (items_of again.char_strings))) same c.in_ok-new.ensures.is;
-          strings = subst (λ keeps. SameStrings keeps sources old c.args.from.now.set.now new c.in_ok-new.new) c.keeps_numbers.ensures c.in_ok-new.ensures.same;
+          strings = subst (λ keeps. SameStrings keeps sources old c.args.from.now.set.now new c.in_ok-new.new) c.keeps_numbers-keeps.ensures c.in_ok-new.ensures.same;
         };
         encoding = λ anew. subst (λ (bs : List ℕ). GivesWay bytes old bs new) same (c.in_ok-keeps_codes.ensures.encoding anew);
         codes = λ kept. subst (λ (bs : List ℕ). KeepsCodes sources bytes old bs new c.args.from.now.set.now c.in_ok-new.new) same (c.in_ok-keeps_codes.ensures.codes kept);
