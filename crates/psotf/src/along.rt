@@ -9,14 +9,14 @@ use std::alloc::{AllocError, Global};
 
 /// A glyph that was not named, and the first one that is drawn with it.
 #[derive(Clone, Copy)]
-pub struct Component {
+struct Component {
     glyph: usize,
     of: usize,
 }
 
 /// The glyphs that are kept, as far as they are found.
 #[derive(Drop)]
-struct Kept {
+pub struct Kept {
     /// Those to be asked, in the order in which they are found.
     glyphs: Vec<usize>,
     /// Whether each glyph of the font is one of them.
@@ -25,18 +25,13 @@ struct Kept {
 }
 
 impl Kept {
-    /// Those that are named.
-    fn new(alloc: Global, named: &[usize], glyphs: usize) -> Result<Kept, AllocError> {
-        let mut kept = Kept {
+    /// None.
+    pub fn new(alloc: Global) -> Kept {
+        Kept {
             glyphs: Vec::new(alloc),
             marks: Vec::new(alloc),
             components: Vec::new(alloc),
-        };
-        kept.marks.resize(glyphs, false)?;
-        for glyph in named {
-            let _ = kept.put(*glyph)?;
         }
-        Ok(kept)
     }
 
     /// Adds a glyph of the font, and tells whether it was not there.
@@ -59,6 +54,15 @@ impl Kept {
         Ok(())
     }
 
+    /// Adds those that are named, of so many glyphs of the font.
+    fn put_named(&mut self, named: &[usize], glyphs: usize) -> Result<(), AllocError> {
+        self.marks.resize(glyphs, false)?;
+        for glyph in named {
+            let _ = self.put(*glyph)?;
+        }
+        Ok(())
+    }
+
     /// Adds the base and the accent of a glyph, as far as the font has them.
     fn put_both(
         &mut self,
@@ -73,54 +77,54 @@ impl Kept {
         }
         Ok(())
     }
+
+    /// Asks each glyph that is kept, also those that come along.
+    fn ask_each(
+        &mut self,
+        alloc: Global,
+        font: &FontView<'_>,
+        budget: &mut Budget,
+    ) -> Result<(), Failure> {
+        for i in 0..font.char_strings.len() {
+            let Some(glyph) = self.glyphs.get(i).copied() else {
+                break;
+            };
+            if let Some(accent) = ask(alloc, font, glyph, budget)? {
+                budget.search(font);
+                self.put_both(font, &accent, glyph)?;
+            }
+        }
+        Ok(())
+    }
+
+    /// Asks each glyph that is kept, those that are named and those that come along, whether it keeps to its share. No run goes on
+    /// longer.
+    pub fn ask(
+        &mut self,
+        alloc: Global,
+        font: &FontView<'_>,
+        named: &[usize],
+        budget: &mut Budget,
+    ) -> Result<(), Failure> {
+        self.put_named(named, font.char_strings.len())?;
+        self.ask_each(alloc, font, budget)
+    }
+
+    /// Tells on standard error, in a line each, which of the glyphs that are kept were not named, and with which other one each is
+    /// drawn.
+    pub fn tell(&self, rt: &HostRuntime) -> Result<(), Failure> {
+        for component in &self.components {
+            let Component { glyph, of } = *component;
+            telling::tell(
+                rt,
+                format_args!("glyph {glyph} is kept, since glyph {of} is drawn with it"),
+            )?;
+        }
+        Ok(())
+    }
 }
 
 /// The glyph of a code, if the font has one.
 fn component_in(font: &FontView<'_>, code: u8) -> Option<usize> {
     component_of(font, code).ok()
-}
-
-/// Asks each glyph that is kept, also those that come along.
-fn ask_kept(
-    alloc: Global,
-    font: &FontView<'_>,
-    kept: &mut Kept,
-    budget: &mut Budget,
-) -> Result<(), Failure> {
-    for i in 0..font.char_strings.len() {
-        let Some(glyph) = kept.glyphs.get(i).copied() else {
-            break;
-        };
-        if let Some(accent) = ask(alloc, font, glyph, budget)? {
-            budget.search(font);
-            kept.put_both(font, &accent, glyph)?;
-        }
-    }
-    Ok(())
-}
-
-/// Asks each glyph that is kept, those that are named and those that come along, whether it keeps to its share; and which glyphs
-/// come along. No run goes on longer.
-pub fn asked(
-    alloc: Global,
-    font: &FontView<'_>,
-    named: &[usize],
-    budget: &mut Budget,
-) -> Result<Vec<Component>, Failure> {
-    let mut kept = Kept::new(alloc, named, font.char_strings.len())?;
-    ask_kept(alloc, font, &mut kept, budget)?;
-    Ok(kept.components)
-}
-
-/// Tells on standard error, in a line each, which of the glyphs that are kept were not named, and with which other one each is
-/// drawn.
-pub fn tell(rt: &HostRuntime, components: &[Component]) -> Result<(), Failure> {
-    for component in components {
-        let Component { glyph, of } = *component;
-        telling::tell(
-            rt,
-            format_args!("glyph {glyph} is kept, since glyph {of} is drawn with it"),
-        )?;
-    }
-    Ok(())
 }

@@ -149,17 +149,27 @@ impl Choice {
         Ok(())
     }
 
-    /// What words name, with `.notdef`: glyphs and characters that rise. Words that name nothing are refused.
+    /// Adds what words name, with `.notdef`: glyphs and characters that rise then. Words that name nothing are refused.
+    fn fill(
+        &mut self,
+        alloc: Global,
+        face: &Face<'_>,
+        words: &ArgMatches<'_>,
+    ) -> Result<(), Failure> {
+        self.put(alloc, face, words)?;
+        if self.glyphs.is_empty() {
+            return Err(Failure::no_glyphs());
+        }
+        Ok(self.order()?)
+    }
+
+    /// What words name.
     pub fn read(alloc: Global, face: &Face<'_>, words: &ArgMatches<'_>) -> Result<Choice, Failure> {
         let mut choice = Choice {
             glyphs: Vec::new(alloc),
             pairs: Vec::new(alloc),
         };
-        choice.put(alloc, face, words)?;
-        if choice.glyphs.is_empty() {
-            return Err(Failure::no_glyphs());
-        }
-        choice.order()?;
+        choice.fill(alloc, face, words)?;
         Ok(choice)
     }
 }

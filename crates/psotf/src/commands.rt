@@ -36,15 +36,13 @@ enum Word {
     Out(bool, &'static str),
 }
 
-/// A subcommand: its name, what it does, the words of which one has to be given, under a name of theirs, and the others.
+/// A subcommand: its name, what it does, the names of the words of which one has to be given, under a name of theirs, and its words.
 struct Subcommand {
     name: &'static str,
     about: &'static str,
     group: &'static str,
-    one_of: &'static [Word],
-    others: &'static [Word],
-    /// Whether it takes the place of a variable font.
-    takes_place: bool,
+    one_of: &'static [&'static str],
+    words: &'static [&'static [Word]],
 }
 
 /// The face of a file, which each subcommand is about, and how long the runs of its glyphs may take.
@@ -79,212 +77,251 @@ const SUBCOMMANDS: &[Subcommand] = &[
         about: "What a face holds",
         group: "",
         one_of: &[],
-        others: &[Word::Flag("json", "Write JSON")],
-        takes_place: false,
+        words: &[FACE, &[Word::Flag("json", "Write JSON")]],
     },
     Subcommand {
         name: "glyph",
         about: "Glyphs: names, characters, advances, outlines",
         group: "which",
-        one_of: &[
-            Word::Number("gid", "The glyph of this number"),
-            Word::Text("char", "C", "The glyph of this character"),
-            Word::Text("name", "NAME", "The glyph of this name"),
-            Word::Flag("all", "Each glyph"),
+        one_of: &["gid", "char", "name", "all"],
+        words: &[
+            FACE,
+            PLACE,
+            &[
+                Word::Number("gid", "The glyph of this number"),
+                Word::Text("char", "C", "The glyph of this character"),
+                Word::Text("name", "NAME", "The glyph of this name"),
+                Word::Flag("all", "Each glyph"),
+                Word::Flag("json", "Write JSON"),
+            ],
         ],
-        others: &[Word::Flag("json", "Write JSON")],
-        takes_place: true,
     },
     Subcommand {
         name: "svg",
         about: "A glyph or a line of text as a picture",
         group: "what",
-        one_of: &[
-            Word::Text("text", "TEXT", "A line of text"),
-            Word::Number("gid", "The glyph of this number"),
+        one_of: &["text", "gid"],
+        words: &[
+            FACE,
+            PLACE,
+            &[
+                Word::Text("text", "TEXT", "A line of text"),
+                Word::Number("gid", "The glyph of this number"),
+                Word::Text(
+                    "missing",
+                    "draw",
+                    "With the word draw: characters that the face has no glyph for are drawn as .notdef",
+                ),
+                Word::Text(
+                    "animate",
+                    "AXIS",
+                    "A picture of a variable font that goes through this axis and back, as wght",
+                ),
+                Word::Out(false, "Where to write it, by default standard output"),
+            ],
         ],
-        others: &[
-            Word::Text(
-                "missing",
-                "draw",
-                "With the word draw: characters that the face has no glyph for are drawn as .notdef",
-            ),
-            Word::Text(
-                "animate",
-                "AXIS",
-                "A picture of a variable font that goes through this axis and back, as wght",
-            ),
-            Word::Out(false, "Where to write it, by default standard output"),
-        ],
-        takes_place: true,
     },
     Subcommand {
         name: "sheet",
         about: "A picture of the glyphs, each in a cell with its number and name",
         group: "",
         one_of: &[],
-        others: &[
-            Word::Given("from", "0", "The first glyph"),
-            Word::Given("count", "65535", "How many glyphs at most"),
-            Word::Out(false, "Where to write it, by default standard output"),
+        words: &[
+            FACE,
+            PLACE,
+            &[
+                Word::Given("from", "0", "The first glyph"),
+                Word::Given("count", "65535", "How many glyphs at most"),
+                Word::Out(false, "Where to write it, by default standard output"),
+            ],
         ],
-        takes_place: true,
     },
     Subcommand {
         name: "report",
         about: "A page to look at: what the face holds, and its glyphs, each operation of them",
         group: "",
         one_of: &[],
-        others: &[
-            Word::Given("from", "0", "The first glyph"),
-            Word::Given("count", "65535", "How many glyphs at most"),
-            Word::Out(
-                true,
-                "Where to write it; more than 10000 glyphs make further pages beside it",
-            ),
+        words: &[
+            FACE,
+            PLACE,
+            &[
+                Word::Given("from", "0", "The first glyph"),
+                Word::Given("count", "65535", "How many glyphs at most"),
+                Word::Out(
+                    true,
+                    "Where to write it; more than 10000 glyphs make further pages beside it",
+                ),
+            ],
         ],
-        takes_place: true,
     },
     Subcommand {
         name: "flat",
         about: "A file of the face whose char strings call no subroutines",
         group: "",
         one_of: &[],
-        others: &[Word::Out(true, "Where to write it")],
-        takes_place: true,
+        words: &[FACE, PLACE, &[Word::Out(true, "Where to write it")]],
     },
     Subcommand {
         name: "instance",
         about: "A static file of one place of a variable font, with its outlines in the table CFF",
         group: "place",
-        one_of: ONE_PLACE,
-        others: &[
-            Word::Flag("round", "Put each point at the nearest whole units"),
-            Word::Flag("quiet", "Do not tell what is left out"),
-            Word::Out(true, "Where to write it"),
+        one_of: &["variations", "instance"],
+        words: &[
+            FACE,
+            ONE_PLACE,
+            &[
+                Word::Flag("round", "Put each point at the nearest whole units"),
+                Word::Flag("quiet", "Do not tell what is left out"),
+                Word::Out(true, "Where to write it"),
+            ],
         ],
-        takes_place: false,
     },
     Subcommand {
         name: "subset",
         about: "A file of some glyphs: without kerning and ligatures, with the names that systems read",
         group: "kept",
-        one_of: &[
-            Word::Text("text", "TEXT", "The glyphs of these characters"),
-            Word::Text(
-                "gids",
-                "LIST",
-                "The glyphs of these numbers, as 1,7-12, and their characters",
-            ),
-            Word::Text(
-                "unicodes",
-                "LIST",
-                "The glyphs of these characters, as 41,U+42,61-7a",
-            ),
+        one_of: &["text", "gids", "unicodes"],
+        words: &[
+            FACE,
+            PLACE,
+            &[
+                Word::Text("text", "TEXT", "The glyphs of these characters"),
+                Word::Text(
+                    "gids",
+                    "LIST",
+                    "The glyphs of these numbers, as 1,7-12, and their characters",
+                ),
+                Word::Text(
+                    "unicodes",
+                    "LIST",
+                    "The glyphs of these characters, as 41,U+42,61-7a",
+                ),
+                Word::Flag(
+                    "retain-gids",
+                    "Keep the numbers of glyphs; others are empty",
+                ),
+                Word::Flag(
+                    "keep-names",
+                    "Keep copyright, trademark and licence in the table name too",
+                ),
+                Word::Flag("quiet", "Do not tell what is left out or comes along"),
+                Word::Out(true, "Where to write it"),
+            ],
         ],
-        others: &[
-            Word::Flag(
-                "retain-gids",
-                "Keep the numbers of glyphs; others are empty",
-            ),
-            Word::Flag(
-                "keep-names",
-                "Keep copyright, trademark and licence in the table name too",
-            ),
-            Word::Flag("quiet", "Do not tell what is left out or comes along"),
-            Word::Out(true, "Where to write it"),
-        ],
-        takes_place: true,
     },
 ];
 
-/// A word with a number.
-fn number<'a>(alloc: Global, name: &'a str, help: &'a str) -> Arg<'a> {
-    Arg::new(alloc, name)
-        .long(name)
-        .value_name("N")
-        .value_parser(value_parser!(u16))
-        .help(help)
-}
-
 /// A word as an argument.
-fn arg<'a>(alloc: Global, word: Word) -> Arg<'a> {
-    match word {
-        Word::File(name, help) => Arg::new(alloc, name).required(true).help(help),
-        Word::Flag(name, help) => Arg::new(alloc, name)
-            .long(name)
-            .action(ArgAction::SetTrue)
-            .help(help),
-        Word::Text(name, value, help) => Arg::new(alloc, name)
-            .long(name)
-            .value_name(value)
-            .help(help),
+fn arg<'a>(alloc: Global, word: &Word) -> Arg<'a> {
+    match *word {
+        Word::File(name, help) => plain(alloc, name, help).required(true),
+        Word::Flag(name, help) => named(alloc, name, help).action(ArgAction::SetTrue),
+        Word::Text(name, value, help) => named(alloc, name, help).value_name(value),
         Word::Number(name, help) => number(alloc, name, help),
         Word::Given(name, value, help) => number(alloc, name, help).default_value(value),
-        Word::Units(name, help) => Arg::new(alloc, name)
-            .long(name)
+        Word::Units(name, help) => named(alloc, name, help)
             .value_name("N")
-            .value_parser(value_parser!(u64))
-            .help(help),
-        Word::Out(is_required, help) => Arg::new(alloc, "out")
+            .value_parser(value_parser!(u64)),
+        Word::Out(is_required, help) => plain(alloc, "out", help)
             .short('o')
             .value_name("OUT")
-            .required(is_required)
-            .help(help),
+            .required(is_required),
     }
 }
 
-/// A command with more words.
-fn with_words<'a>(
-    alloc: Global,
-    command: Command<'a>,
-    words: &[Word],
-) -> Result<Command<'a>, AllocError> {
-    let mut command = command;
-    for word in words {
-        command = command.arg(arg(alloc, *word))?;
-    }
-    Ok(command)
+/// An argument of a name, and what it asks for.
+fn plain<'a>(alloc: Global, name: &'a str, help: &'a str) -> Arg<'a> {
+    Arg::new(alloc, name).help(help)
 }
 
-/// A command with words of which one has to be given.
-fn with_one_of<'a>(
-    alloc: Global,
-    command: Command<'a>,
-    group: &'a str,
-    words: &[Word],
-) -> Result<Command<'a>, AllocError> {
-    let mut command = command;
-    for word in words {
-        command = command.arg(arg(alloc, *word).group(group)?)?;
+/// The same behind two hyphens and its name.
+fn named<'a>(alloc: Global, name: &'a str, help: &'a str) -> Arg<'a> {
+    plain(alloc, name, help).long(name)
+}
+
+/// The same with a number.
+fn number<'a>(alloc: Global, name: &'a str, help: &'a str) -> Arg<'a> {
+    named(alloc, name, help)
+        .value_name("N")
+        .value_parser(value_parser!(u16))
+}
+
+/// Adds a value to a list, or drops it.
+fn put<T: Drop>(list: &mut Vec<T>, value: T) -> Result<(), AllocError> {
+    match list.push(value) {
+        Ok(()) => Ok(()),
+        Err(_) => Err(AllocError),
     }
-    command.group(ArgGroup::new(alloc, group).required(true))
+}
+
+/// Adds words as arguments.
+fn put_words<'a>(alloc: Global, args: &mut Vec<Arg<'a>>, words: &[Word]) -> Result<(), AllocError> {
+    for word in words {
+        put(args, arg(alloc, word))?;
+    }
+    Ok(())
+}
+
+/// Adds the words of a subcommand as arguments.
+fn put_all<'a>(
+    alloc: Global,
+    args: &mut Vec<Arg<'a>>,
+    lists: &[&[Word]],
+) -> Result<(), AllocError> {
+    for words in lists {
+        put_words(alloc, args, words)?;
+    }
+    Ok(())
+}
+
+/// A subcommand without its words. One of its group has to be given.
+fn without_words<'a>(alloc: Global, one: &Subcommand) -> Result<Command<'a>, AllocError> {
+    let command = Command::new(alloc, one.name).about(one.about);
+    if one.one_of.is_empty() {
+        return Ok(command);
+    }
+    let group = ArgGroup::new(alloc, one.group).required(true);
+    command.group(group.args(one.one_of)?)
 }
 
 /// A subcommand as a command.
 fn command_of<'a>(alloc: Global, one: &Subcommand) -> Result<Command<'a>, AllocError> {
-    let plain = Command::new(alloc, one.name).about(one.about);
-    let mut command = with_words(alloc, plain, FACE)?;
-    if one.takes_place {
-        command = with_words(alloc, command, PLACE)?;
-    }
-    if one.one_of.is_empty() {
-        return with_words(alloc, command, one.others);
-    }
-    let command = with_one_of(alloc, command, one.group, one.one_of)?;
-    with_words(alloc, command, one.others)
+    let mut args = Vec::new(alloc);
+    put_all(alloc, &mut args, one.words)?;
+    without_words(alloc, one)?.args(args)
 }
 
-/// The program's command.
-pub fn psotf<'a>(alloc: Global) -> Result<Command<'a>, AllocError> {
-    let mut command = Command::new(alloc, "psotf")
+/// Adds a subcommand as a command.
+fn put_command<'a>(
+    alloc: Global,
+    commands: &mut Vec<Command<'a>>,
+    one: &Subcommand,
+) -> Result<(), AllocError> {
+    let command = command_of(alloc, one)?;
+    put(commands, command)
+}
+
+/// Adds all subcommands as commands.
+fn put_commands<'a>(alloc: Global, commands: &mut Vec<Command<'a>>) -> Result<(), AllocError> {
+    for one in SUBCOMMANDS {
+        put_command(alloc, commands, one)?;
+    }
+    Ok(())
+}
+
+/// The program's command without its subcommands, of which one has to be given.
+fn without_subcommands<'a>(alloc: Global) -> Command<'a> {
+    Command::new(alloc, "psotf")
         .version("0.2.0")
         .about("Fonts with a table CFF or CFF2 in OpenType files")
         .after_help(EXAMPLES)
         .subcommand_required(true)
-        .arg_required_else_help(true);
-    for one in SUBCOMMANDS {
-        command = command.subcommand(command_of(alloc, one)?)?;
-    }
-    Ok(command)
+        .arg_required_else_help(true)
+}
+
+/// The program's command.
+pub fn psotf<'a>(alloc: Global) -> Result<Command<'a>, AllocError> {
+    let mut commands = Vec::new(alloc);
+    put_commands(alloc, &mut commands)?;
+    without_subcommands(alloc).subcommands(commands)
 }

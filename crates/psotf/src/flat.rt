@@ -6,7 +6,7 @@ use crate::limit::Budget;
 use crate::saving;
 use clap::ArgMatches;
 use postscript_sfnt::FontFile;
-use postscript_sfnt_write::{Table, file_of};
+use postscript_sfnt_write::Table;
 use postscript_write::flat_font;
 use std::alloc::{AllocError, Global};
 use std::io::Write;
@@ -25,17 +25,8 @@ fn has(tables: &[Table<'_>], tag: u32) -> bool {
     tables.iter().any(|table| table.tag == tag)
 }
 
-/// The tables of a face, in the order of their tags, but for its signature, with another table `CFF `.
-fn with_font<'t>(
-    alloc: Global,
-    file: &FontFile<'t>,
-    font: &'t [u8],
-) -> Result<Vec<Table<'t>>, AllocError> {
-    let mut tables: Vec<Table<'t>> = Vec::new(alloc);
-    tables.push(Table {
-        tag: CFF,
-        bytes: font,
-    })?;
+/// Adds the tables of a face but for its signature, of each tag the first.
+fn put_others<'t>(tables: &mut Vec<Table<'t>>, file: &FontFile<'t>) -> Result<(), AllocError> {
     for i in 0..file.tables() {
         let tag = file.tag(i).unwrap_or(DSIG);
         if tag != DSIG && !has(tables.as_slice(), tag) {
@@ -44,8 +35,7 @@ fn with_font<'t>(
             }
         }
     }
-    tables.sort_by_key(|table: &Table<'_>| table.tag)?;
-    Ok(tables)
+    Ok(())
 }
 
 /// Whether tables overlap, so that those of the face have more bytes together than its file.
@@ -61,11 +51,16 @@ fn overlap(tables: &[Table<'_>], size: usize) -> bool {
 
 /// The file of a face with another table `CFF `. It is refused where tables overlap.
 fn file_with(alloc: Global, face: &Face<'_>, font: &[u8]) -> Result<Vec<u8>, Failure> {
-    let tables = with_font(alloc, &face.file, font)?;
+    let table = Table {
+        tag: CFF,
+        bytes: font,
+    };
+    let mut tables: Vec<Table<'_>> = Vec::from_slice(alloc, &[table])?;
+    put_others(&mut tables, &face.file)?;
     if overlap(&tables, face.size) {
         return Err(Failure::overlap());
     }
-    Ok(file_of(alloc, &tables)?)
+    saving::file(alloc, &mut tables)
 }
 
 /// The table `CFF ` of a face, written without subroutines.

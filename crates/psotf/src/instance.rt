@@ -11,15 +11,13 @@ mod values;
 
 use crate::failure::{Failure, Refusal};
 use crate::limit::Budget;
+use crate::made::Made;
 use crate::variable::{Chosen, VariableFace};
 use crate::{saving, telling};
 use clap::ArgMatches;
 use drawn::{Drawn, advances_at};
 use glyph_names::{Kept, names_of};
-use metrics::Tables;
-use positions::Positions;
 use postscript_instance::{Error, Naming, glyph, rounded_glyph, rounded_table, table};
-use postscript_sfnt_write::{Table, file_of};
 use std::alloc::Global;
 use std::io::Write;
 use style::Style;
@@ -78,11 +76,8 @@ fn font_of(
     names: &Kept<'_>,
 ) -> Result<Vec<u8>, Failure> {
     let naming = Naming {
-        font: style.postscript.as_bytes(),
-        glyphs: match names {
-            Kept::Names(names) => Some(names),
-            Kept::Untold | Kept::Lost(_) => None,
-        },
+        font: style.postscript.as_str().as_bytes(),
+        glyphs: names.names(),
     };
     let advances = advances_at(face, chosen);
     let written = if drawn.is_rounded {
@@ -96,44 +91,55 @@ fn font_of(
     }
 }
 
-/// The file of tables that were made, and of those of the face that stay as they are.
-fn file_with(
+/// Adds all tables that are made for a place of a style.
+fn put_all(
+    made: &mut Made,
     alloc: Global,
     face: &VariableFace<'_>,
-    font: &[u8],
-    others: &Tables,
-    positions: &Positions,
-) -> Result<Vec<u8>, Failure> {
-    let mut tables: Vec<Table<'_>> = Vec::new(alloc);
-    tables.push(Table {
-        tag: u32::from_be_bytes(*b"CFF "),
-        bytes: font,
-    })?;
-    for table in &others.tables {
-        tables.push(Table {
-            tag: table.tag,
-            bytes: table.bytes.as_slice(),
-        })?;
-    }
-    for (tag, table) in [(*b"GDEF", &positions.gdef), (*b"GPOS", &positions.gpos)] {
-        if let Some(table) = table {
-            tables.push(Table {
-                tag: u32::from_be_bytes(tag),
-                bytes: table.as_slice(),
-            })?;
-        }
-    }
-    kept::put(&mut tables, face)?;
-    tables.sort_by_key(|table: &Table<'_>| table.tag)?;
-    Ok(file_of(alloc, tables.as_slice())?)
+    chosen: &Chosen,
+    drawn: &Drawn,
+    style: &Style,
+    names: &Kept<'_>,
+) -> Result<(), Failure> {
+    made.put(*b"CFF ", font_of(alloc, face, chosen, drawn, style, names));
+    made.end()?;
+    metrics::put(made, alloc, face, chosen, drawn, style)?;
+    positions::put(made, alloc, face, chosen);
+    made.end()
 }
 
-/// A file of a place, what stays of its positions, and why names of glyphs are lost, where they are.
+/// The file of tables that were made, and of those of the face that stay as they are.
+fn file_with(alloc: Global, face: &VariableFace<'_>, made: &Made) -> Result<Vec<u8>, Failure> {
+    let mut tables = made.tables(alloc)?;
+    kept::put(&mut tables, face)?;
+    saving::file(alloc, &mut tables)
+}
+
+/// A file of a place, the tables that were made for it, and why names of glyphs are lost, where they are.
 #[derive(Drop)]
 struct StaticFile {
     file: Vec<u8>,
-    positions: Positions,
+    made: Made,
     lost: Option<&'static str>,
+}
+
+/// The file of a place whose glyphs are measured, of a style.
+fn styled(
+    alloc: Global,
+    face: &VariableFace<'_>,
+    chosen: &Chosen,
+    drawn: &Drawn,
+    style: &Style,
+) -> Result<StaticFile, Failure> {
+    let names = names_of(alloc, face)?;
+    let mut made = Made::new(alloc);
+    put_all(&mut made, alloc, face, chosen, drawn, style, &names)?;
+    let file = file_with(alloc, face, &made)?;
+    Ok(StaticFile {
+        file,
+        made,
+        lost: names.lost(),
+    })
 }
 
 /// A file of the place that words name, where the run of each glyph keeps to the limit; with each point at the nearest whole units, where
@@ -145,24 +151,10 @@ fn made(
     budget: &mut Budget,
     is_rounded: bool,
 ) -> Result<StaticFile, Failure> {
-    let alloc = rt.alloc();
     let chosen = Chosen::read(rt, face, words)?;
     let drawn = Drawn::of(rt, face, &chosen, budget, is_rounded)?;
-    let style = Style::of(alloc, face, &chosen)?;
-    let names = names_of(alloc, face)?;
-    let font = font_of(alloc, face, &chosen, &drawn, &style, &names)?;
-    let tables = Tables::of(alloc, face, &chosen, &drawn, &style)?;
-    let positions = Positions::of(alloc, face, &chosen)?;
-    let file = file_with(alloc, face, &font, &tables, &positions)?;
-    let lost = match names {
-        Kept::Lost(why) => Some(why),
-        Kept::Names(_) | Kept::Untold => None,
-    };
-    Ok(StaticFile {
-        file,
-        positions,
-        lost,
-    })
+    let style = Style::of(rt.alloc(), face, &chosen)?;
+    styled(rt.alloc(), face, &chosen, &drawn, &style)
 }
 
 /// Tells what is left out, in a line each: names of glyphs, and tables.
@@ -170,7 +162,7 @@ fn tell(rt: &HostRuntime, face: &VariableFace<'_>, made: &StaticFile) -> Result<
     if let Some(why) = made.lost {
         telling::tell(rt, format_args!("names of glyphs left out: {why}"))?;
     }
-    kept::tell(rt, face, &made.positions)
+    kept::tell(rt, face, &made.made)
 }
 
 /// A file of the place that words name, of which another is made. It tells what is left out, where it is to.

@@ -22,6 +22,7 @@ mod instance;
 mod labels;
 mod leaving;
 mod limit;
+mod made;
 mod naming;
 mod progress;
 mod readings;
@@ -198,13 +199,17 @@ fn names_file(word: &str) -> bool {
     !word.starts_with('-') && (word.contains('.') || word.contains('/'))
 }
 
-/// The words of the program. A file alone is one to inspect.
+/// The words of the program.
 fn words_of(rt: &HostRuntime) -> anyhow::Result<Vec<String>> {
-    let mut words: Vec<String> = env::args(rt)?.collect(rt.alloc())?;
+    Ok(env::args(rt)?.collect(rt.alloc())?)
+}
+
+/// Adds to a file that stands alone that it is to be inspected.
+fn complete(rt: &HostRuntime, words: &mut Vec<String>) -> anyhow::Result<()> {
     if words.len() == 2 && names_file(words[1].as_str()) {
         words.insert(1, String::from_str(rt.alloc(), "inspect")?)?;
     }
-    Ok(words)
+    Ok(())
 }
 
 /// Writes what the words come to in place of a subcommand: help, or what is wrong with them. A closed pipe is no failure.
@@ -218,17 +223,24 @@ fn told_by(rt: &HostRuntime, error: &clap::Error) -> io::Result<ExitCode> {
     }
 }
 
-fn main(rt: HostRuntime) -> anyhow::Result<ExitCode> {
-    let words = words_of(&rt)?;
-    let command = psotf(rt.alloc())?;
-    let matches = match command.try_get_matches_from(words.as_slice()) {
-        Ok(matches) => matches,
-        Err(error) => {
-            return Ok(told_by(&rt, &error)?);
-        }
-    };
+/// Answers the subcommand that words name.
+fn answer_to(rt: &HostRuntime, matches: &ArgMatches<'_>) -> io::Result<ExitCode> {
     match matches.subcommand() {
-        Some((name, words)) => Ok(start(&rt, name, words)?),
+        Some((name, words)) => start(rt, name, words),
         None => Ok(ExitCode::from(2)),
     }
+}
+
+/// Answers words.
+fn answered(rt: &HostRuntime, words: &[String]) -> io::Result<ExitCode> {
+    match psotf(rt.alloc())?.try_get_matches_from(words) {
+        Ok(matches) => answer_to(rt, &matches),
+        Err(error) => told_by(rt, &error),
+    }
+}
+
+fn main(rt: HostRuntime) -> anyhow::Result<ExitCode> {
+    let mut words = words_of(&rt)?;
+    complete(&rt, &mut words)?;
+    Ok(answered(&rt, words.as_slice())?)
 }

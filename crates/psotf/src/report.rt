@@ -35,7 +35,25 @@ pub use unread::write_refused;
 /// What a unit of a run may come to: it is drawn and told, looked at for hints, asked for its cost, and measured twice without calls.
 pub const RUNS: u64 = OBJECT + 4;
 
-/// Adds glyphs to a page, a row on a line each, and the end of the block of JSON. Those whose runs take longer than the limit are told of.
+/// Adds a glyph to a page as a row. One whose run takes longer than the limit is told of.
+fn put_row(
+    alloc: Global,
+    sheet: &mut Sheet,
+    face: &Face<'_>,
+    mapped: &[Mapped],
+    gid: u16,
+    budget: &mut Budget,
+    stopped: &mut Stopped<'_>,
+    page: &mut Vec<u8>,
+) -> Result<(), Failure> {
+    match row::put(alloc, sheet, face, mapped, gid, budget)? {
+        Some(refusal) if refusal.is_by_limit() => stopped.add(gid, &refusal)?,
+        _ => {}
+    }
+    Ok(sheet.end_in(page)?)
+}
+
+/// Adds glyphs to a page, a row on a line each, and the end of the block of JSON.
 fn put_glyphs(
     rt: &HostRuntime,
     face: &Face<'_>,
@@ -53,15 +71,19 @@ fn put_glyphs(
         if gid > from {
             page.extend_from_slice(b",\n")?;
         }
-        match row::put(rt.alloc(), &mut sheet, face, mapped, gid, budget)? {
-            Some(refusal) if refusal.is_by_limit() => stopped.add(gid, &refusal)?,
-            _ => {}
-        }
-        sheet.end_in(page)?;
+        put_row(
+            rt.alloc(),
+            &mut sheet,
+            face,
+            mapped,
+            gid,
+            budget,
+            stopped,
+            page,
+        )?;
     }
-    page.extend_from_slice(b"\n]}\n")?;
     progress.end();
-    Ok(())
+    Ok(page.extend_from_slice(b"\n]}\n")?)
 }
 
 /// What all pages have.

@@ -2,9 +2,17 @@
 use crate::failure::Failure;
 use crate::telling;
 use clap::ArgMatches;
+use postscript_sfnt_write::{Table, file_of};
+use std::alloc::Global;
 use std::fs::File;
 use std::io::Write;
 use std::{fs, io};
+
+/// The bytes of a file of tables, in the order of their tags.
+pub fn file(alloc: Global, tables: &mut Vec<Table<'_>>) -> Result<Vec<u8>, Failure> {
+    tables.sort_by_key(|table: &Table<'_>| table.tag)?;
+    Ok(file_of(alloc, tables.as_slice())?)
+}
 
 /// Writes bytes to a file that is new.
 fn write_beside(rt: &HostRuntime, path: &str, bytes: &[u8]) -> io::Result<()> {

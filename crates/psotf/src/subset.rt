@@ -1,13 +1,16 @@
 //! Files of some glyphs of a face.
+use crate::along::Kept;
 use crate::choice::Choice;
-use crate::face::{Face, needed};
+use crate::face::Face;
 use crate::failure::Failure;
 use crate::limit::Budget;
-use crate::{along, leaving, naming, saving};
+use crate::made::Made;
+use crate::{leaving, naming, saving};
 use clap::ArgMatches;
 use postscript_base::index::number::number_within;
+use postscript_sfnt::FontFile;
 use postscript_sfnt_write::{
-    Mapping, Metric, Table, cmap, file_of, hmtx, with_number_of_glyphs, with_number_of_metrics,
+    Mapping, Metric, Table, cmap, hmtx, with_number_of_glyphs, with_number_of_metrics,
     without_names,
 };
 use postscript_write::{kept_glyphs, subset, subset_keeping};
@@ -67,12 +70,15 @@ fn metrics_of(
     Ok(metrics)
 }
 
+/// A table of a face, empty where it has none.
+fn table<'l>(face: &Face<'l>, tag: [u8; 4]) -> &'l [u8] {
+    face.file.table(tag).unwrap_or(&[])
+}
+
 /// The table `hmtx` of some glyphs, with an advance for each.
 fn metrics(alloc: Global, face: &Face<'_>, glyphs: &[usize]) -> Result<Vec<u8>, Failure> {
-    let hhea = needed(&face.file, *b"hhea", "hhea")?;
-    let table = needed(&face.file, *b"hmtx", "hmtx")?;
-    let advances = number_within(hhea, 34, 2).unwrap_or(0);
-    let metrics = metrics_of(alloc, face, table, advances, glyphs)?;
+    let advances = number_within(table(face, *b"hhea"), 34, 2).unwrap_or(0);
+    let metrics = metrics_of(alloc, face, table(face, *b"hmtx"), advances, glyphs)?;
     Ok(hmtx(alloc, &metrics)?)
 }
 
@@ -85,43 +91,26 @@ fn all_metrics(alloc: Global, face: &Face<'_>, glyphs: usize) -> Result<Vec<u8>,
     metrics(alloc, face, &all)
 }
 
-/// The tables that tell how many glyphs there are, and `post`.
-#[derive(Drop)]
-struct Counts {
-    hhea: Vec<u8>,
-    maxp: Vec<u8>,
-    post: Vec<u8>,
+/// The table `cmap` of characters, with the new numbers of their glyphs.
+fn map_of(alloc: Global, chars: &[Mapping], kept: &[usize]) -> Result<Vec<u8>, Failure> {
+    let pairs = numbered(alloc, chars, kept)?;
+    Ok(cmap(alloc, &pairs)?)
 }
 
-/// The tables that are made of those of the face.
-#[derive(Drop)]
-struct Written {
-    font: Vec<u8>,
-    map: Vec<u8>,
-    hmtx: Vec<u8>,
-    counts: Counts,
-}
+/// The tables that stay as they are.
+const SAME: [[u8; 4]; 2] = [*b"OS/2", *b"head"];
 
-/// The tables that stay as they are: `OS/2` and `head`.
-const SAME: [u32; 2] = [0x4f532f32, 0x68656164];
-
-/// The table `name`.
-const NAME: u32 = 0x6e616d65;
-
-/// Those of a face, by their number of glyphs.
-fn counted(alloc: Global, face: &Face<'_>, glyphs: usize) -> Result<Counts, Failure> {
-    let hhea = needed(&face.file, *b"hhea", "hhea")?;
-    let maxp = needed(&face.file, *b"maxp", "maxp")?;
-    let post = match face.file.table(*b"post") {
-        Some(post) if post.len() >= 32 => post,
+/// Adds the tables that tell how many glyphs there are, and `post`.
+fn put_counts(made: &mut Made, alloc: Global, face: &Face<'_>, glyphs: usize) {
+    let count = u16::try_from(glyphs).unwrap_or(0);
+    let post = match table(face, *b"post") {
+        post if post.len() >= 32 => post,
         _ => &[0; 32],
     };
-    let count = u16::try_from(glyphs).unwrap_or(0);
-    Ok(Counts {
-        hhea: with_number_of_metrics(alloc, hhea, count)?,
-        maxp: with_number_of_glyphs(alloc, maxp, count)?,
-        post: without_names(alloc, post)?,
-    })
+    let (hhea, maxp) = (table(face, *b"hhea"), table(face, *b"maxp"));
+    made.put(*b"hhea", with_number_of_metrics(alloc, hhea, count));
+    made.put(*b"maxp", with_number_of_glyphs(alloc, maxp, count));
+    made.put(*b"post", without_names(alloc, post));
 }
 
 /// The glyphs of which a font is made: those that are named, and those that they are drawn with.
@@ -129,54 +118,27 @@ fn kept_of(alloc: Global, face: &Face<'_>, glyphs: &[usize]) -> Result<Vec<usize
     Ok(kept_glyphs(alloc, face.cff, glyphs)?)
 }
 
-/// The table `CFF ` of the glyphs that are kept.
-fn font_of(alloc: Global, face: &Face<'_>, glyphs: &[usize]) -> Result<Vec<u8>, Failure> {
-    Ok(subset(alloc, face.cff, glyphs)?)
-}
-
-/// The same with all glyphs, where those that are not kept are empty.
-fn font_keeping(alloc: Global, face: &Face<'_>, glyphs: &[usize]) -> Result<Vec<u8>, Failure> {
-    Ok(subset_keeping(alloc, face.cff, glyphs)?)
-}
-
-/// The tables of the glyphs that are kept with new numbers, in their order.
-fn renumbered(
+/// Adds the tables of the glyphs that are kept with new numbers, in their order.
+fn put_renumbered(
+    made: &mut Made,
     alloc: Global,
     face: &Face<'_>,
     choice: &Choice,
     kept: &[usize],
-) -> Result<Written, Failure> {
-    let font = font_of(alloc, face, &choice.glyphs)?;
-    let map = cmap(alloc, &numbered(alloc, &choice.pairs, kept)?)?;
-    let hmtx = metrics(alloc, face, kept)?;
-    let counts = counted(alloc, face, kept.len())?;
-    Ok(Written {
-        font,
-        map,
-        hmtx,
-        counts,
-    })
+) {
+    made.put(*b"CFF ", subset(alloc, face.cff, &choice.glyphs));
+    made.put(*b"cmap", map_of(alloc, &choice.pairs, kept));
+    made.put(*b"hmtx", metrics(alloc, face, kept));
+    put_counts(made, alloc, face, kept.len());
 }
 
-/// The tables of all glyphs with their numbers, where those that are not kept are empty.
-fn keeping(alloc: Global, face: &Face<'_>, choice: &Choice) -> Result<Written, Failure> {
-    let font = font_keeping(alloc, face, &choice.glyphs)?;
-    let map = cmap(alloc, &choice.pairs)?;
+/// Adds the tables of all glyphs with their numbers, where those that are not kept are empty.
+fn put_keeping(made: &mut Made, alloc: Global, face: &Face<'_>, choice: &Choice) {
     let glyphs = face.font.char_strings.len();
-    let hmtx = all_metrics(alloc, face, glyphs)?;
-    let counts = counted(alloc, face, glyphs)?;
-    Ok(Written {
-        font,
-        map,
-        hmtx,
-        counts,
-    })
-}
-
-/// A table of the face as it is, if there is one.
-fn own<'t>(face: &Face<'t>, tag: u32) -> Option<Table<'t>> {
-    let bytes = face.file.table(tag.to_be_bytes())?;
-    Some(Table { tag, bytes })
+    made.put(*b"CFF ", subset_keeping(alloc, face.cff, &choice.glyphs));
+    made.put(*b"cmap", cmap(alloc, &choice.pairs));
+    made.put(*b"hmtx", all_metrics(alloc, face, glyphs));
+    put_counts(made, alloc, face, glyphs);
 }
 
 /// The table `name` with what a subset keeps of it, as it is where it is of another form; or none where the face has none.
@@ -185,7 +147,7 @@ fn names_of(
     face: &Face<'_>,
     words: &ArgMatches<'_>,
 ) -> Result<Option<Vec<u8>>, AllocError> {
-    let Some(table) = face.file.table(NAME.to_be_bytes()) else {
+    let Some(table) = face.file.table(*b"name") else {
         return Ok(None);
     };
     match naming::trimmed(alloc, table, words.get_flag("keep-names"))? {
@@ -194,55 +156,40 @@ fn names_of(
     }
 }
 
-/// The file of tables that were made, of the names, and of those that stay as they are.
-fn file_with(
-    alloc: Global,
-    face: &Face<'_>,
-    made: &Written,
-    names: &Option<Vec<u8>>,
-) -> Result<Vec<u8>, Failure> {
-    let mut tables: Vec<Table<'_>> = Vec::new(alloc);
-    for (tag, bytes) in [
-        (0x43464620, &made.font),
-        (0x636d6170, &made.map),
-        (0x68686561, &made.counts.hhea),
-        (0x686d7478, &made.hmtx),
-        (0x6d617870, &made.counts.maxp),
-        (0x706f7374, &made.counts.post),
-    ] {
-        tables.push(Table {
-            tag,
-            bytes: bytes.as_slice(),
-        })?;
-    }
-    if let Some(names) = names {
-        tables.push(Table {
-            tag: NAME,
-            bytes: names.as_slice(),
-        })?;
-    }
-    for tag in SAME {
-        if let Some(table) = own(face, tag) {
-            tables.push(table)?;
-        }
-    }
-    tables.sort_by_key(|table: &Table<'_>| table.tag)?;
-    Ok(file_of(alloc, tables.as_slice())?)
-}
-
-/// The tables that are made for a choice.
-fn made_for(
+/// Adds the tables that are made for a choice.
+fn put_made(
+    made: &mut Made,
     alloc: Global,
     face: &Face<'_>,
     words: &ArgMatches<'_>,
     choice: &Choice,
-) -> Result<Written, Failure> {
+) -> Result<(), Failure> {
     let kept = kept_of(alloc, face, &choice.glyphs)?;
     if words.get_flag("retain-gids") {
-        keeping(alloc, face, choice)
+        put_keeping(made, alloc, face, choice);
     } else {
-        renumbered(alloc, face, choice, &kept)
+        put_renumbered(made, alloc, face, choice, &kept);
     }
+    made.put_if(*b"name", names_of(alloc, face, words));
+    made.end()
+}
+
+/// Adds the tables that stay as they are.
+fn put_same<'t>(tables: &mut Vec<Table<'t>>, file: &FontFile<'t>) -> Result<(), AllocError> {
+    for tag in SAME {
+        if let Some(bytes) = file.table(tag) {
+            let tag = u32::from_be_bytes(tag);
+            tables.push(Table { tag, bytes })?;
+        }
+    }
+    Ok(())
+}
+
+/// The file of tables that were made, and of those that stay as they are.
+fn file_with(alloc: Global, face: &Face<'_>, made: &Made) -> Result<Vec<u8>, Failure> {
+    let mut tables = made.tables(alloc)?;
+    put_same(&mut tables, &face.file)?;
+    saving::file(alloc, &mut tables)
 }
 
 /// The file of a choice.
@@ -252,9 +199,33 @@ fn file_of_choice(
     words: &ArgMatches<'_>,
     choice: &Choice,
 ) -> Result<Vec<u8>, Failure> {
-    let made = made_for(alloc, face, words, choice)?;
-    let names = names_of(alloc, face, words)?;
-    file_with(alloc, face, &made, &names)
+    let mut made = Made::new(alloc);
+    put_made(&mut made, alloc, face, words, choice)?;
+    file_with(alloc, face, &made)
+}
+
+/// Tells of the glyphs that come along, and of the tables that are left out.
+fn tell(rt: &HostRuntime, face: &Face<'_>, kept: &Kept) -> Result<(), Failure> {
+    kept.tell(rt)?;
+    leaving::tell(rt, &face.file)
+}
+
+/// Writes a file of a choice and of the glyphs that it is drawn with.
+fn write_choice<W: Write>(
+    rt: &HostRuntime,
+    face: &Face<'_>,
+    words: &ArgMatches<'_>,
+    choice: &Choice,
+    budget: &mut Budget,
+    out: &mut W,
+) -> Result<(), Failure> {
+    let mut kept = Kept::new(rt.alloc());
+    kept.ask(rt.alloc(), &face.font, &choice.glyphs, budget)?;
+    let file = file_of_choice(rt.alloc(), face, words, choice)?;
+    if !words.get_flag("quiet") {
+        tell(rt, face, &kept)?;
+    }
+    saving::put(rt, words, &file, out)
 }
 
 /// Writes a file of the glyphs that words name and of those that these are drawn with, where the run of each keeps to the limit. It
@@ -267,11 +238,5 @@ pub fn write<W: Write>(
     out: &mut W,
 ) -> Result<(), Failure> {
     let choice = Choice::read(rt.alloc(), face, words)?;
-    let components = along::asked(rt.alloc(), &face.font, &choice.glyphs, budget)?;
-    let file = file_of_choice(rt.alloc(), face, words, &choice)?;
-    if !words.get_flag("quiet") {
-        along::tell(rt, &components)?;
-        leaving::tell(rt, &face.file)?;
-    }
-    saving::put(rt, words, &file, out)
+    write_choice(rt, face, words, &choice, budget, out)
 }

@@ -99,6 +99,29 @@ fn nearest_segment(segment: Segment) -> Segment {
     }
 }
 
+/// Draws a glyph into a list, within its share.
+fn draw_into(
+    alloc: Global,
+    face: &VariableFace<'_>,
+    gid: u16,
+    chosen: &Chosen,
+    budget: &mut Budget,
+    segments: &mut Vec<Segment>,
+) -> Result<(), Refusal> {
+    let share = budget.share();
+    let mut left = share;
+    let glyph = usize::from(gid);
+    let drawn = draw_glyph(alloc, &face.font, glyph, &chosen.place, &mut left, segments);
+    let taken = share.saturating_sub(left);
+    budget.spend_whole(taken);
+    let most = budget.limit / HELD;
+    match drawn {
+        Err(error) => Err(refusal_of(error, face, share, budget)),
+        Ok(()) if taken > most => Err(Refusal::Held(most)),
+        Ok(()) => Ok(()),
+    }
+}
+
 /// Round what a glyph draws, within its share. None where it draws nothing.
 fn frame_of(
     alloc: Global,
@@ -108,27 +131,8 @@ fn frame_of(
     budget: &mut Budget,
     is_rounded: bool,
 ) -> Result<Option<Frame>, Failure> {
-    let share = budget.share();
-    let mut left = share;
     let mut segments = Vec::new(alloc);
-    let glyph = usize::from(gid);
-    let drawn = draw_glyph(
-        alloc,
-        &face.font,
-        glyph,
-        &chosen.place,
-        &mut left,
-        &mut segments,
-    );
-    let taken = share.saturating_sub(left);
-    budget.spend_whole(taken);
-    if let Err(error) = drawn {
-        let refusal = refusal_of(error, face, share, budget);
-        return Err(Failure::glyph(gid, &refusal));
-    }
-    let most = budget.limit / HELD;
-    if taken > most {
-        let refusal = Refusal::Held(most);
+    if let Err(refusal) = draw_into(alloc, face, gid, chosen, budget, &mut segments) {
         return Err(Failure::glyph(gid, &refusal));
     }
     if is_rounded {
@@ -200,8 +204,31 @@ impl Drawn {
         Ok(())
     }
 
+    /// Draws each of so many glyphs, and measures it. The first one is refused that takes more than its share, or whose run is refused.
+    fn put_each(
+        &mut self,
+        rt: &HostRuntime,
+        face: &VariableFace<'_>,
+        chosen: &Chosen,
+        budget: &mut Budget,
+        glyphs: u16,
+    ) -> Result<(), Failure> {
+        let mut progress = Progress::new(rt, glyphs);
+        for gid in 0..glyphs {
+            progress.at(gid);
+            let width = self
+                .widths
+                .get(usize::from(gid))
+                .map_or(0, |width: &Operand| whole(*width));
+            let frame = frame_of(rt.alloc(), face, gid, chosen, budget, self.is_rounded)?;
+            self.put(width, frame)?;
+        }
+        progress.end();
+        Ok(())
+    }
+
     /// Draws each glyph at a place, where it is asked for with each point at the nearest whole units, and measures it. The first one is
-    /// refused whose advance a charstring has no room for; then the first one that takes more than its share, or whose run is refused.
+    /// refused whose advance a charstring has no room for; then the first one whose run is refused.
     pub fn of(
         rt: &HostRuntime,
         face: &VariableFace<'_>,
@@ -210,7 +237,6 @@ impl Drawn {
         is_rounded: bool,
     ) -> Result<Drawn, Failure> {
         let glyphs = u16::try_from(face.font.char_strings.len()).unwrap_or(u16::MAX);
-        let mut progress = Progress::new(rt, glyphs);
         let mut drawn = Drawn {
             metrics: Vec::new(rt.alloc()),
             widths: widths_of(rt.alloc(), face, chosen)?,
@@ -218,16 +244,7 @@ impl Drawn {
             least_right: 32767,
             is_rounded,
         };
-        for gid in 0..glyphs {
-            progress.at(gid);
-            let width = drawn
-                .widths
-                .get(usize::from(gid))
-                .map_or(0, |width: &Operand| whole(*width));
-            let frame = frame_of(rt.alloc(), face, gid, chosen, budget, is_rounded)?;
-            drawn.put(width, frame)?;
-        }
-        progress.end();
+        drawn.put_each(rt, face, chosen, budget, glyphs)?;
         Ok(drawn)
     }
 }

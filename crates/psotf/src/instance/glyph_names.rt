@@ -15,6 +15,24 @@ pub enum Kept<'l> {
     Lost(&'static str),
 }
 
+impl<'l> Kept<'l> {
+    /// Those that are kept.
+    pub fn names(&self) -> Option<&[&'l [u8]]> {
+        match self {
+            Kept::Names(names) => Some(names.as_slice()),
+            Kept::Untold | Kept::Lost(_) => None,
+        }
+    }
+
+    /// Why names are lost, where they are.
+    pub fn lost(&self) -> Option<&'static str> {
+        match self {
+            Kept::Lost(why) => Some(*why),
+            Kept::Names(_) | Kept::Untold => None,
+        }
+    }
+}
+
 /// Whether a name is one of PostScript (Technical Note 5176, "Name INDEX"): of up to 127 signs of ASCII, without space or delimiters.
 fn is_fit(name: &[u8]) -> bool {
     if name.is_empty() || name.len() > 127 {

@@ -1,8 +1,8 @@
 //! Which tables a file of one place keeps of the face.
-use super::positions::Positions;
 use super::values::word;
 use crate::failure::Failure;
 use crate::leaving::put_tag;
+use crate::made::Made;
 use crate::telling;
 use crate::variable::VariableFace;
 use postscript_base::index::number::number_within;
@@ -41,11 +41,6 @@ const SAME: [([u8; 4], Where); 15] = [
     (*b"kern", Where::Always),
     (*b"meta", Where::Always),
     (*b"vmtx", Where::Upright),
-];
-
-/// The tags of tables that are made for the place.
-const MADE: [[u8; 4]; 7] = [
-    *b"OS/2", *b"head", *b"hhea", *b"hmtx", *b"maxp", *b"name", *b"post",
 ];
 
 /// The tags of tables that tell how a font varies, and of the signature of the file.
@@ -103,33 +98,19 @@ pub fn put<'l>(tables: &mut Vec<Table<'l>>, face: &VariableFace<'l>) -> Result<(
     Ok(())
 }
 
-/// Whether a table of a tag is made for the place.
-fn is_made(file: &FontFile<'_>, positions: &Positions, tag: [u8; 4]) -> bool {
-    if tag == *b"vhea" {
-        return file.table(*b"VVAR").is_none();
-    }
-    MADE.contains(&tag)
-        || (tag == *b"GDEF" && positions.gdef.is_some())
-        || (tag == *b"GPOS" && positions.gpos.is_some())
-}
-
 /// Whether a table of a tag is left out, and is to be told of.
-fn is_left_out(file: &FontFile<'_>, positions: &Positions, tag: [u8; 4]) -> bool {
-    if GONE.contains(&tag) || is_made(file, positions, tag) {
+fn is_left_out(file: &FontFile<'_>, made: &Made, tag: [u8; 4]) -> bool {
+    if GONE.contains(&tag) || made.has(tag) {
         return false;
     }
     !SAME.iter().any(|(same, condition)| *same == tag && kept(file, tag, *condition).is_some())
 }
 
 /// Adds the tags of the tables that are left out, each behind a space.
-fn put_tags(
-    text: &mut String,
-    file: &FontFile<'_>,
-    positions: &Positions,
-) -> Result<(), AllocError> {
+fn put_tags(text: &mut String, file: &FontFile<'_>, made: &Made) -> Result<(), AllocError> {
     for i in 0..file.tables() {
         let tag = file.tag(i).unwrap_or(0).to_be_bytes();
-        if is_left_out(file, positions, tag) {
+        if is_left_out(file, made, tag) {
             text.push(' ')?;
             put_tag(text, &tag)?;
         }
@@ -138,10 +119,10 @@ fn put_tags(
 }
 
 /// What is lost with the tables that are left out.
-fn lost(alloc: Global, file: &FontFile<'_>, positions: &Positions) -> Result<String, AllocError> {
+fn lost(alloc: Global, file: &FontFile<'_>, made: &Made) -> Result<String, AllocError> {
     let mut text = String::new(alloc);
     for (tag, what) in LOST {
-        if file.table(tag).is_some() && is_left_out(file, positions, tag) {
+        if file.table(tag).is_some() && is_left_out(file, made, tag) {
             text.push_str(if text.is_empty() { "; lost are " } else { ", " })?;
             text.push_str(what)?;
         }
@@ -150,16 +131,12 @@ fn lost(alloc: Global, file: &FontFile<'_>, positions: &Positions) -> Result<Str
 }
 
 /// Tells on standard error, in one line, which tables are left out, and what is lost with them.
-pub fn tell(
-    rt: &HostRuntime,
-    face: &VariableFace<'_>,
-    positions: &Positions,
-) -> Result<(), Failure> {
+pub fn tell(rt: &HostRuntime, face: &VariableFace<'_>, made: &Made) -> Result<(), Failure> {
     let mut tags = String::new(rt.alloc());
-    put_tags(&mut tags, &face.file, positions)?;
+    put_tags(&mut tags, &face.file, made)?;
     if tags.is_empty() {
         return Ok(());
     }
-    let lost = lost(rt.alloc(), &face.file, positions)?;
+    let lost = lost(rt.alloc(), &face.file, made)?;
     telling::tell(rt, format_args!("tables left out:{tags}{lost}"))
 }

@@ -3,8 +3,8 @@ use super::drawn::{Drawn, Frame};
 use super::records::names_of;
 use super::style::Style;
 use super::values::{Entry, HHEA, OS2, POST, VHEA, set_signed, set_unsigned, set_word, vary, word};
-use crate::face::needed;
 use crate::failure::Failure;
+use crate::made::Made;
 use crate::variable::{Chosen, VariableFace, read_as};
 use postscript_sfnt_write::{
     Metric, hmtx, with_number_of_glyphs, with_number_of_metrics, without_names,
@@ -17,40 +17,6 @@ const MAXP: [u8; 6] = [0, 0, 0x50, 0, 0, 0];
 
 /// From which widths on, in quarters of a percent, the next width class is nearer.
 const WIDTHS: [i64; 8] = [225, 275, 325, 375, 425, 475, 550, 700];
-
-/// A table that each face of one place has.
-#[derive(Clone, Copy)]
-enum Needed {
-    Head,
-    Hhea,
-    Hmtx,
-    Maxp,
-    Name,
-    Post,
-}
-
-/// Their tags.
-const NEEDED: [([u8; 4], Needed); 6] = [
-    (*b"head", Needed::Head),
-    (*b"hhea", Needed::Hhea),
-    (*b"hmtx", Needed::Hmtx),
-    (*b"maxp", Needed::Maxp),
-    (*b"name", Needed::Name),
-    (*b"post", Needed::Post),
-];
-
-/// A table that was made.
-#[derive(Drop)]
-pub struct MadeTable {
-    pub tag: u32,
-    pub bytes: Vec<u8>,
-}
-
-/// The tables that were made, but for the outlines.
-#[derive(Drop)]
-pub struct Tables {
-    pub tables: Vec<MadeTable>,
-}
 
 /// Where the place stands along the axis of a tag, in 65536ths. None where the face has no such axis.
 fn value_along(face: &VariableFace<'_>, chosen: &Chosen, tag: [u8; 4]) -> Option<i64> {
@@ -112,6 +78,11 @@ struct Maker<'m, 'l> {
 }
 
 impl<'m, 'l> Maker<'m, 'l> {
+    /// A table of the face, empty where it has none.
+    fn old(&self, tag: [u8; 4]) -> &'l [u8] {
+        self.face.file.table(tag).unwrap_or(&[])
+    }
+
     /// A copy of a table, with what its numbers vary by.
     fn varied(&self, table: &[u8], entries: &[Entry]) -> Result<Vec<u8>, AllocError> {
         let mut new = Vec::from_slice(self.alloc, table)?;
@@ -125,8 +96,8 @@ impl<'m, 'l> Maker<'m, 'l> {
     }
 
     /// The table `head`: the box round all glyphs, and whether the style is bold or italic.
-    fn head(&self) -> Result<Vec<u8>, Failure> {
-        let mut head = self.varied(needed(&self.face.file, *b"head", "head")?, &[])?;
+    fn head(&self) -> Result<Vec<u8>, AllocError> {
+        let mut head = self.varied(self.old(*b"head"), &[])?;
         let frame = self.drawn.frame.unwrap_or(Frame::NONE);
         set_signed(&mut head, 36, frame.left);
         set_signed(&mut head, 38, frame.bottom);
@@ -137,21 +108,24 @@ impl<'m, 'l> Maker<'m, 'l> {
         Ok(head)
     }
 
+    /// How many glyphs there are.
+    fn count(&self) -> u16 {
+        u16::try_from(self.drawn.metrics.len()).unwrap_or(u16::MAX)
+    }
+
     /// The table `hhea`, with the extremes of the metrics of glyphs.
     fn hhea(&self) -> Result<Vec<u8>, Failure> {
-        let old = needed(&self.face.file, *b"hhea", "hhea")?;
-        let mut hhea = self.varied(old, &HHEA)?;
+        let mut hhea = self.varied(self.old(*b"hhea"), &HHEA)?;
         let frame = self.drawn.frame.unwrap_or(Frame::NONE);
         set_word(&mut hhea, 10, widest(&self.drawn.metrics));
         set_signed(&mut hhea, 12, frame.left);
         set_signed(&mut hhea, 14, self.drawn.least_right);
         set_signed(&mut hhea, 16, frame.right);
-        let count = u16::try_from(self.drawn.metrics.len()).unwrap_or(u16::MAX);
-        Ok(with_number_of_metrics(self.alloc, &hhea, count)?)
+        Ok(with_number_of_metrics(self.alloc, &hhea, self.count())?)
     }
 
     /// The table `OS/2`: the weight, the width, and whether the style is bold, italic or regular.
-    fn os2(&self, old: &[u8]) -> Result<Vec<u8>, Failure> {
+    fn os2(&self, old: &[u8]) -> Result<Vec<u8>, AllocError> {
         let mut table = self.varied(old, &OS2)?;
         if let Some(weight) = value_along(self.face, self.chosen, *b"wght") {
             let weight = weight.saturating_add(32768).div_euclid(65536);
@@ -170,8 +144,8 @@ impl<'m, 'l> Maker<'m, 'l> {
 
     /// The table `post` without names of glyphs: the slant, and the line below.
     fn post(&self) -> Result<Vec<u8>, Failure> {
-        let old = match self.face.file.table(*b"post") {
-            Some(post) if post.len() >= 32 => post,
+        let old = match self.old(*b"post") {
+            old if old.len() >= 32 => old,
             _ => &[0; 32],
         };
         let mut post = self.varied(old, &POST)?;
@@ -183,78 +157,53 @@ impl<'m, 'l> Maker<'m, 'l> {
         Ok(without_names(self.alloc, &post)?)
     }
 
-    /// The table `maxp`.
-    fn maxp(&self) -> Result<Vec<u8>, Failure> {
-        let count = u16::try_from(self.drawn.metrics.len()).unwrap_or(u16::MAX);
-        Ok(with_number_of_glyphs(self.alloc, &MAXP, count)?)
+    /// Adds the tables that each face has.
+    fn put_needed(&self, made: &mut Made) {
+        made.put(*b"head", self.head());
+        made.put(*b"hhea", self.hhea());
+        made.put(*b"hmtx", hmtx(self.alloc, &self.drawn.metrics));
+        made.put(
+            *b"maxp",
+            with_number_of_glyphs(self.alloc, &MAXP, self.count()),
+        );
+        made.put(*b"name", names_of(self.alloc, self.face, self.style));
+        made.put(*b"post", self.post());
     }
 
-    /// A table that each face has.
-    fn needed(&self, table: Needed) -> Result<Vec<u8>, Failure> {
-        match table {
-            Needed::Head => self.head(),
-            Needed::Hhea => self.hhea(),
-            Needed::Hmtx => Ok(hmtx(self.alloc, &self.drawn.metrics)?),
-            Needed::Maxp => self.maxp(),
-            Needed::Name => names_of(self.alloc, self.face, self.style),
-            Needed::Post => self.post(),
+    /// Adds those that a face need not have.
+    fn put_others(&self, made: &mut Made) {
+        let file = self.face.file;
+        if let Some(table) = file.table(*b"OS/2") {
+            made.put(*b"OS/2", self.os2(table));
+        }
+        if let (Some(table), None) = (file.table(*b"vhea"), file.table(*b"VVAR")) {
+            made.put(*b"vhea", self.varied(table, &VHEA));
         }
     }
 }
 
-impl Tables {
-    /// Adds a table.
-    fn put(&mut self, tag: [u8; 4], bytes: Vec<u8>) -> Result<(), AllocError> {
-        let tag = u32::from_be_bytes(tag);
-        self.tables.push(MadeTable { tag, bytes })?;
-        Ok(())
-    }
-
-    /// Adds those that each face has.
-    fn put_needed(&mut self, maker: &Maker<'_, '_>) -> Result<(), Failure> {
-        for (tag, table) in NEEDED {
-            self.put(tag, maker.needed(table)?)?;
-        }
-        Ok(())
-    }
-
-    /// Adds those that a face need not have.
-    fn put_others(&mut self, maker: &Maker<'_, '_>) -> Result<(), Failure> {
-        let file = maker.face.file;
-        if let Some(table) = file.table(*b"OS/2") {
-            self.put(*b"OS/2", maker.os2(table)?)?;
-        }
-        if let (Some(table), None) = (file.table(*b"vhea"), file.table(*b"VVAR")) {
-            self.put(*b"vhea", maker.varied(table, &VHEA)?)?;
-        }
-        Ok(())
-    }
-
-    /// The tables of a place.
-    pub fn of(
-        alloc: Global,
-        face: &VariableFace<'_>,
-        chosen: &Chosen,
-        drawn: &Drawn,
-        style: &Style,
-    ) -> Result<Tables, Failure> {
-        let metrics = match face.file.table(*b"MVAR") {
-            Some(mvar) => Some(read_as("MVAR", MetricVariations::read(mvar))?),
-            None => None,
-        };
-        let maker = Maker {
-            alloc,
-            face,
-            chosen,
-            drawn,
-            style,
-            metrics,
-        };
-        let mut made = Tables {
-            tables: Vec::new(alloc),
-        };
-        made.put_needed(&maker)?;
-        made.put_others(&maker)?;
-        Ok(made)
-    }
+/// Adds the tables of a place, but for the outlines.
+pub fn put(
+    made: &mut Made,
+    alloc: Global,
+    face: &VariableFace<'_>,
+    chosen: &Chosen,
+    drawn: &Drawn,
+    style: &Style,
+) -> Result<(), Failure> {
+    let metrics = match face.file.table(*b"MVAR") {
+        Some(mvar) => Some(read_as("MVAR", MetricVariations::read(mvar))?),
+        None => None,
+    };
+    let maker = Maker {
+        alloc,
+        face,
+        chosen,
+        drawn,
+        style,
+        metrics,
+    };
+    maker.put_needed(made);
+    maker.put_others(made);
+    made.end()
 }

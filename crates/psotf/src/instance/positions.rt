@@ -3,6 +3,7 @@
 //! known, no byte moves.
 use super::gaps::Gaps;
 use super::values::{set_signed, set_word, word};
+use crate::made::Made;
 use crate::variable::{Chosen, VariableFace};
 use postscript_base::index::number::number_within;
 use postscript_variation::{Store, in_whole};
@@ -430,13 +431,6 @@ impl<'v> Varied<'v> {
     }
 }
 
-/// The tables `GDEF` and `GPOS` of a place, as far as they were made.
-#[derive(Drop)]
-pub struct Positions {
-    pub gdef: Option<Vec<u8>>,
-    pub gpos: Option<Vec<u8>>,
-}
-
 /// The store that a table `GDEF` names. None where it names none.
 fn store_of(table: &[u8]) -> Option<Store<'_>> {
     if number_within(table, 2, 2).unwrap_or(0) < 3 {
@@ -465,35 +459,44 @@ fn begun<'v>(
     })
 }
 
-impl Positions {
-    /// Those that vary by the store of `GDEF`: none where there is no store, or where one cannot be made; nor `GPOS`, where its features
-    /// vary.
-    pub fn of(
-        alloc: Global,
-        face: &VariableFace<'_>,
-        chosen: &Chosen,
-    ) -> Result<Positions, AllocError> {
-        let mut made = Positions {
-            gdef: None,
-            gpos: None,
-        };
-        let table = face.file.table(*b"GDEF").unwrap_or(&[]);
-        let Some(store) = store_of(table) else {
-            return Ok(made);
-        };
-        let coordinates = chosen.coordinates.as_slice();
-        let mut gdef = begun(alloc, table, store, coordinates)?;
-        gdef.definitions();
-        made.gdef = gdef.end(alloc)?;
-        let table = face.file.table(*b"GPOS").unwrap_or(&[]);
-        let minor = number_within(table, 2, 2).unwrap_or(1);
-        if minor == 0 || number_within(table, 10, 4).unwrap_or(1) == 0 {
-            let mut gpos = begun(alloc, table, store, coordinates)?;
-            gpos.scripts();
-            gpos.features();
-            gpos.lookups();
-            made.gpos = gpos.end(alloc)?;
-        }
-        Ok(made)
+/// The table `GDEF` of a place. None where it cannot be made.
+fn gdef_of(
+    alloc: Global,
+    table: &[u8],
+    store: Store<'_>,
+    coordinates: &[i16],
+) -> Result<Option<Vec<u8>>, AllocError> {
+    let mut gdef = begun(alloc, table, store, coordinates)?;
+    gdef.definitions();
+    gdef.end(alloc)
+}
+
+/// The table `GPOS` of a place. None where it cannot be made.
+fn gpos_of(
+    alloc: Global,
+    table: &[u8],
+    store: Store<'_>,
+    coordinates: &[i16],
+) -> Result<Option<Vec<u8>>, AllocError> {
+    let mut gpos = begun(alloc, table, store, coordinates)?;
+    gpos.scripts();
+    gpos.features();
+    gpos.lookups();
+    gpos.end(alloc)
+}
+
+/// Adds those that vary by the store of `GDEF`: none where there is no store, or where one cannot be made; nor `GPOS`, where its features
+/// vary.
+pub fn put(made: &mut Made, alloc: Global, face: &VariableFace<'_>, chosen: &Chosen) {
+    let table = face.file.table(*b"GDEF").unwrap_or(&[]);
+    let Some(store) = store_of(table) else {
+        return;
+    };
+    let coordinates = chosen.coordinates.as_slice();
+    made.put_if(*b"GDEF", gdef_of(alloc, table, store, coordinates));
+    let table = face.file.table(*b"GPOS").unwrap_or(&[]);
+    let minor = number_within(table, 2, 2).unwrap_or(1);
+    if minor == 0 || number_within(table, 10, 4).unwrap_or(1) == 0 {
+        made.put_if(*b"GPOS", gpos_of(alloc, table, store, coordinates));
     }
 }

@@ -14,11 +14,11 @@ const ANEW: [usize; 12] = [1, 2, 3, 4, 6, 16, 17, 18, 20, 21, 22, 25];
 /// The first identifier of a text of the font's own.
 const OWN: usize = 256;
 
-/// A text that is written, and its identifier.
+/// A text that is written, in UTF-16, and its identifier.
 #[derive(Drop)]
 struct Text {
     identifier: usize,
-    text: String,
+    bytes: Vec<u8>,
 }
 
 /// Whether axes or instances are called by the name of an identifier.
@@ -111,24 +111,6 @@ fn text_by(
     }
 }
 
-/// The texts of a style.
-fn texts(alloc: Global, face: &VariableFace<'_>, style: &Style) -> Result<Vec<Text>, AllocError> {
-    let identifiers: &[usize] = if style.is_linked() {
-        &LINKED
-    } else {
-        &NOT_LINKED
-    };
-    let mut texts = Vec::new(alloc);
-    for identifier in identifiers {
-        let text = text_by(alloc, face, style, *identifier)?;
-        texts.push(Text {
-            identifier: *identifier,
-            text,
-        })?;
-    }
-    Ok(texts)
-}
-
 /// A text in UTF-16, the high byte of each unit first.
 fn utf16(alloc: Global, text: &str) -> Result<Vec<u8>, AllocError> {
     let mut bytes = Vec::new(alloc);
@@ -146,6 +128,38 @@ fn utf16(alloc: Global, text: &str) -> Result<Vec<u8>, AllocError> {
         }
     }
     Ok(bytes)
+}
+
+/// Adds the text of an identifier.
+fn put_text(
+    texts: &mut Vec<Text>,
+    alloc: Global,
+    face: &VariableFace<'_>,
+    style: &Style,
+    identifier: usize,
+) -> Result<(), AllocError> {
+    let text = text_by(alloc, face, style, identifier)?;
+    let bytes = utf16(alloc, text.as_str())?;
+    texts.push(Text { identifier, bytes })?;
+    Ok(())
+}
+
+/// Adds the texts of a style.
+fn put_texts(
+    texts: &mut Vec<Text>,
+    alloc: Global,
+    face: &VariableFace<'_>,
+    style: &Style,
+) -> Result<(), AllocError> {
+    let identifiers: &[usize] = if style.is_linked() {
+        &LINKED
+    } else {
+        &NOT_LINKED
+    };
+    for identifier in identifiers {
+        put_text(texts, alloc, face, style, *identifier)?;
+    }
+    Ok(())
 }
 
 /// The order of records in the table.
@@ -179,12 +193,39 @@ fn put_old<'l>(
     Ok(())
 }
 
-/// The table of records, in their order.
-fn table_of(alloc: Global, records: &[Record<'_>]) -> Result<Vec<u8>, Failure> {
-    let mut kept = Kept::new(alloc);
+/// Adds the records of texts, which stand one behind the other from a place on.
+fn put_new<'l>(
+    records: &mut Vec<Record<'l>>,
+    texts: &'l [Text],
+    start: usize,
+) -> Result<(), AllocError> {
+    let mut place = start;
+    for text in texts {
+        records.push(Record {
+            platform: 3,
+            encoding: 1,
+            language: 0x409,
+            identifier: text.identifier,
+            start: place,
+            text: text.bytes.as_slice(),
+        })?;
+        place = place.saturating_add(1);
+    }
+    Ok(())
+}
+
+/// Adds records to those that are kept.
+fn keep(kept: &mut Kept, records: &[Record<'_>]) -> Result<(), AllocError> {
     for record in records {
         kept.put(record)?;
     }
+    Ok(())
+}
+
+/// The table of records, in their order.
+fn table_of(alloc: Global, records: &[Record<'_>]) -> Result<Vec<u8>, Failure> {
+    let mut kept = Kept::new(alloc);
+    keep(&mut kept, records)?;
     match kept.table(alloc)? {
         Some(table) => Ok(table),
         None => Err(Failure::no_part("room for more names in its table name")),
@@ -194,25 +235,11 @@ fn table_of(alloc: Global, records: &[Record<'_>]) -> Result<Vec<u8>, Failure> {
 /// The table `name` of a style: what is called by it in the English of the United States, for Windows, and what stays of the face.
 pub fn names_of(alloc: Global, face: &VariableFace<'_>, style: &Style) -> Result<Vec<u8>, Failure> {
     let table = face.file.table(*b"name").unwrap_or(&[]);
-    let mut bytes = Vec::new(alloc);
-    let texts = texts(alloc, face, style)?;
-    for text in &texts {
-        bytes.push(utf16(alloc, text.text.as_str())?)?;
-    }
+    let mut texts = Vec::new(alloc);
+    put_texts(&mut texts, alloc, face, style)?;
     let mut records = Vec::new(alloc);
     put_old(&mut records, face, table)?;
-    for i in 0..texts.len() {
-        if let (Some(text), Some(bytes)) = (texts.get(i), bytes.get(i)) {
-            records.push(Record {
-                platform: 3,
-                encoding: 1,
-                language: 0x409,
-                identifier: text.identifier,
-                start: table.len().saturating_add(i),
-                text: bytes.as_slice(),
-            })?;
-        }
-    }
+    put_new(&mut records, &texts, table.len())?;
     records.sort_by_key(|record: &Record<'_>| order(record))?;
     table_of(alloc, &records)
 }

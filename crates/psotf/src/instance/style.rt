@@ -2,7 +2,8 @@
 use super::values::word;
 use crate::decimal::put_bits;
 use crate::text::Text;
-use crate::variable::{Chosen, VariableFace, name_of, text_of};
+use crate::variable::{Chosen, VariableFace, name_of};
+use postscript_sfnt::Name;
 use postscript_variation::{Axes, Axis};
 use std::alloc::{AllocError, Global};
 
@@ -13,11 +14,11 @@ const MOST: usize = 63;
 #[derive(Drop)]
 pub struct Style {
     /// The typographic family.
-    pub family: String,
+    pub family: Text,
     /// The style but for its slope: `Regular`, `Bold` or another one.
-    pub weight: String,
+    pub weight: Text,
     pub is_italic: bool,
-    pub postscript: String,
+    pub postscript: Text,
 }
 
 /// A style but for its slope, and whether it is italic.
@@ -33,33 +34,40 @@ fn split(style: &str) -> (&str, bool) {
     }
 }
 
-/// Adds the letters and digits of ASCII of a text, and where asked for its hyphens, points and lines, up to the most of a name.
-fn put_letters(name: &mut String, text: &str, with_signs: bool) -> Result<(), AllocError> {
-    for char in text.chars() {
-        let is_sign = char == '-' || char == '.' || char == '_';
-        let is_plain = char.is_ascii_alphanumeric() || (with_signs && is_sign);
-        if is_plain && name.len() < MOST {
-            name.push(char)?;
-        }
+/// Adds a letter or digit of ASCII, and where asked for a hyphen, point or line, up to the most of a name.
+fn put_letter(name: &mut Text, char: char, with_signs: bool) {
+    let is_sign = char == '-' || char == '.' || char == '_';
+    let is_plain = char.is_ascii_alphanumeric() || (with_signs && is_sign);
+    if is_plain && name.as_str().len() < MOST {
+        name.push(char);
     }
-    Ok(())
 }
 
-/// What PostScript names begin with: the prefix of variations (name 25), or else the family.
-fn prefix(alloc: Global, face: &VariableFace<'_>, family: &str) -> Result<String, AllocError> {
-    let mut name = String::new(alloc);
-    put_letters(
-        &mut name,
-        text_of(alloc, name_of(face, 25))?.as_str(),
-        false,
-    )?;
+/// Adds those of a text.
+fn put_letters(name: &mut Text, text: &str, with_signs: bool) {
+    for char in text.chars() {
+        put_letter(name, char, with_signs);
+    }
+}
+
+/// Adds those of a name of the face, if there is one.
+fn put_told(name: &mut Text, told: Option<Name<'_>>, with_signs: bool) {
+    if let Some(told) = told {
+        for char in told.chars() {
+            put_letter(name, char, with_signs);
+        }
+    }
+}
+
+/// Adds what PostScript names begin with: the prefix of variations (name 25), or else the family.
+fn put_prefix(name: &mut Text, face: &VariableFace<'_>, family: &str) {
+    put_told(name, name_of(face, 25), false);
     if name.is_empty() {
-        put_letters(&mut name, family, false)?;
+        put_letters(name, family, false);
     }
     if name.is_empty() {
-        name.push_str("Font")?;
+        name.push_str("Font");
     }
-    Ok(name)
 }
 
 /// Whether a place stands where an instance does.
@@ -97,61 +105,39 @@ fn put_value(text: &mut Text, axis: &Axis, value: i32) {
     }
 }
 
-/// Where a place stands along the axes on which it is not at the default, with words between.
-fn values(
-    alloc: Global,
-    axes: &Axes<'_>,
-    chosen: &Chosen,
-    between: char,
-) -> Result<String, AllocError> {
-    let mut text = Text::new(alloc);
+/// Adds where a place stands along the axes on which it is not at the default, with a character between.
+fn put_values(text: &mut Text, axes: &Axes<'_>, chosen: &Chosen, between: char) {
+    let mut is_first = true;
     for i in 0..axes.len() {
         if let Some(axis) = axes.get(i) {
             let value = chosen.value(&axis);
             if value != axis.default {
-                if !text.is_empty() {
+                if !is_first {
                     text.push(between);
                 }
-                put_value(&mut text, &axis, value);
+                put_value(text, &axis, value);
+                is_first = false;
             }
         }
     }
-    text.end()
-}
-
-/// The PostScript name that the face tells of an instance; empty where it tells none.
-fn told(
-    alloc: Global,
-    face: &VariableFace<'_>,
-    axes: &Axes<'_>,
-    instance: usize,
-) -> Result<String, AllocError> {
-    let mut name = String::new(alloc);
-    let identifier = match axes.instance(instance) {
-        Some(instance) => instance.postscript_name,
-        None => None,
-    };
-    if let Some(identifier) = identifier {
-        let text = text_of(alloc, name_of(face, identifier))?;
-        put_letters(&mut name, text.as_str(), true)?;
-    }
-    Ok(name)
 }
 
 /// The family of a face.
-fn family_of(alloc: Global, face: &VariableFace<'_>) -> Result<String, AllocError> {
-    match face.common.names {
-        Some(names) => text_of(alloc, names.family()),
-        None => Ok(String::new(alloc)),
+fn family_of(alloc: Global, face: &VariableFace<'_>) -> Text {
+    let mut family = Text::new(alloc);
+    if let Some(names) = face.common.names {
+        family.put_name(names.family());
     }
+    family
 }
 
 /// The style that a face tells of itself.
-fn own(alloc: Global, face: &VariableFace<'_>) -> Result<String, AllocError> {
-    match face.common.names {
-        Some(names) => text_of(alloc, names.style()),
-        None => Ok(String::new(alloc)),
+fn own(alloc: Global, face: &VariableFace<'_>) -> Text {
+    let mut own = Text::new(alloc);
+    if let Some(names) = face.common.names {
+        own.put_name(names.style());
     }
+    own
 }
 
 /// Whether a face tells that it is italic.
@@ -163,74 +149,99 @@ fn is_italic(face: &VariableFace<'_>) -> bool {
 }
 
 impl Style {
-    /// A style of a name, by its PostScript name or else by one made of both.
-    fn named(
-        alloc: Global,
-        face: &VariableFace<'_>,
-        name: &str,
-        told: String,
-    ) -> Result<Style, AllocError> {
-        let family = family_of(alloc, face)?;
-        let (weight, is_italic) = split(name);
-        let mut postscript = told;
-        if postscript.is_empty() {
-            postscript = prefix(alloc, face, family.as_str())?;
-            postscript.push('-')?;
-            put_letters(&mut postscript, name, false)?;
+    /// Takes a name, and its PostScript name is that of the family and of the name, unless another one is told.
+    fn call(&mut self, face: &VariableFace<'_>, name: &Text) {
+        let (weight, is_italic) = split(name.as_str());
+        self.weight.push_str(weight);
+        self.is_italic = is_italic;
+        if self.postscript.is_empty() {
+            put_prefix(&mut self.postscript, face, self.family.as_str());
+            self.postscript.push('-');
+            put_letters(&mut self.postscript, name.as_str(), false);
         }
-        Ok(Style {
-            family,
-            weight: String::from_str(alloc, weight)?,
-            is_italic,
-            postscript,
-        })
+        if name.has_failed() {
+            self.weight.fail();
+        }
     }
 
-    /// The style of a place at which no instance stands, by its values along the axes.
-    fn between(
+    /// Takes the name of an instance, and the PostScript name that the face tells of it.
+    fn call_instance(
+        &mut self,
+        alloc: Global,
+        face: &VariableFace<'_>,
+        axes: &Axes<'_>,
+        instance: usize,
+    ) {
+        let (identifier, postscript) = match axes.instance(instance) {
+            Some(instance) => (instance.name, instance.postscript_name),
+            None => (0, None),
+        };
+        if let Some(postscript) = postscript {
+            put_told(&mut self.postscript, name_of(face, postscript), true);
+        }
+        let mut name = Text::new(alloc);
+        name.put_name(name_of(face, identifier));
+        self.call(face, &name);
+    }
+
+    /// Takes the names of a place at which no instance stands, by its values along the axes.
+    fn call_between(
+        &mut self,
         alloc: Global,
         face: &VariableFace<'_>,
         axes: &Axes<'_>,
         chosen: &Chosen,
-    ) -> Result<Style, AllocError> {
-        let weight = values(alloc, axes, chosen, ' ')?;
-        if weight.is_empty() {
-            let own = own(alloc, face)?;
-            return Style::named(alloc, face, own.as_str(), String::new(alloc));
+    ) {
+        put_values(&mut self.weight, axes, chosen, ' ');
+        if self.weight.is_empty() {
+            return self.call(face, &own(alloc, face));
         }
-        let family = family_of(alloc, face)?;
-        let mut postscript = prefix(alloc, face, family.as_str())?;
-        postscript.push('_')?;
-        let values = values(alloc, axes, chosen, '_')?;
-        put_letters(&mut postscript, values.as_str(), true)?;
-        Ok(Style {
-            family,
-            weight,
-            is_italic: is_italic(face),
-            postscript,
-        })
+        self.is_italic = is_italic(face);
+        put_prefix(&mut self.postscript, face, self.family.as_str());
+        self.postscript.push('_');
+        let mut values = Text::new(alloc);
+        put_values(&mut values, axes, chosen, '_');
+        put_letters(&mut self.postscript, values.as_str(), true);
+        if values.has_failed() {
+            self.postscript.fail();
+        }
     }
 
-    /// The style of a place: that of the instance that is asked for or that stands there; else by its values along the axes on which
-    /// it is not at the default, as 650wght; or that of the face, where there are none.
+    /// Takes the names of a place: of the instance that is asked for or that stands there; else by its values along the axes on which
+    /// it is not at the default, as 650wght; or those of the face, where there are none.
+    fn call_place(&mut self, alloc: Global, face: &VariableFace<'_>, chosen: &Chosen) {
+        let Some(axes) = face.axes else {
+            return self.call(face, &own(alloc, face));
+        };
+        match instance_at(&axes, chosen) {
+            Some(instance) => self.call_instance(alloc, face, &axes, instance),
+            None => self.call_between(alloc, face, &axes, chosen),
+        }
+    }
+
+    /// The style of a place.
     pub fn of(
         alloc: Global,
         face: &VariableFace<'_>,
         chosen: &Chosen,
     ) -> Result<Style, AllocError> {
-        let Some(axes) = face.axes else {
-            let own = own(alloc, face)?;
-            return Style::named(alloc, face, own.as_str(), String::new(alloc));
+        let mut style = Style {
+            family: family_of(alloc, face),
+            weight: Text::new(alloc),
+            is_italic: false,
+            postscript: Text::new(alloc),
         };
-        let Some(i) = instance_at(&axes, chosen) else {
-            return Style::between(alloc, face, &axes, chosen);
-        };
-        let identifier = match axes.instance(i) {
-            Some(instance) => instance.name,
-            None => 0,
-        };
-        let name = text_of(alloc, name_of(face, identifier))?;
-        Style::named(alloc, face, name.as_str(), told(alloc, face, &axes, i)?)
+        style.call_place(alloc, face, chosen);
+        if style.has_failed() {
+            Err(AllocError)
+        } else {
+            Ok(style)
+        }
+    }
+
+    /// Whether memory failed.
+    fn has_failed(&self) -> bool {
+        self.family.has_failed() || self.weight.has_failed() || self.postscript.has_failed()
     }
 
     /// Whether the style is one of the four that a family links: regular, bold, and both italic.

@@ -1,0 +1,86 @@
+//! Tables that are made for a file.
+use crate::failure::Failure;
+use postscript_sfnt_write::Table;
+use std::alloc::{AllocError, Global};
+
+/// A table that was made.
+#[derive(Drop)]
+struct MadeTable {
+    tag: u32,
+    bytes: Vec<u8>,
+}
+
+/// Tables that are made. Where one fails they keep why, and tell it at their end.
+#[derive(Drop)]
+pub struct Made {
+    tables: Vec<MadeTable>,
+    failure: Option<Failure>,
+}
+
+impl Made {
+    /// None.
+    pub fn new(alloc: Global) -> Made {
+        Made {
+            tables: Vec::new(alloc),
+            failure: None,
+        }
+    }
+
+    /// Keeps a failure, if it is the first one.
+    fn fail(&mut self, failure: Failure) {
+        if self.failure.is_none() {
+            self.failure = Some(failure);
+        }
+    }
+
+    /// Adds a table that was made.
+    fn add(&mut self, tag: [u8; 4], bytes: Vec<u8>) {
+        let tag = u32::from_be_bytes(tag);
+        if self.tables.push(MadeTable { tag, bytes }).is_err() {
+            self.fail(Failure::from(AllocError));
+        }
+    }
+
+    /// Adds a table, or keeps why it failed.
+    pub fn put<E: Into<Failure>>(&mut self, tag: [u8; 4], table: Result<Vec<u8>, E>) {
+        match table {
+            Ok(bytes) => self.add(tag, bytes),
+            Err(error) => self.fail(error.into()),
+        }
+    }
+
+    /// The same of one that need not be there.
+    pub fn put_if(&mut self, tag: [u8; 4], table: Result<Option<Vec<u8>>, AllocError>) {
+        match table {
+            Ok(Some(bytes)) => self.add(tag, bytes),
+            Ok(None) => {}
+            Err(error) => self.fail(Failure::from(error)),
+        }
+    }
+
+    /// Whether there is a table of a tag.
+    pub fn has(&self, tag: [u8; 4]) -> bool {
+        let tag = u32::from_be_bytes(tag);
+        self.tables.iter().any(|table| table.tag == tag)
+    }
+
+    /// The tables, to be written.
+    pub fn tables(&self, alloc: Global) -> Result<Vec<Table<'_>>, AllocError> {
+        let mut tables = Vec::new(alloc);
+        for table in &self.tables {
+            tables.push(Table {
+                tag: table.tag,
+                bytes: table.bytes.as_slice(),
+            })?;
+        }
+        Ok(tables)
+    }
+
+    /// Why the first one failed that did.
+    pub fn end(&mut self) -> Result<(), Failure> {
+        match self.failure.take() {
+            Some(failure) => Err(failure),
+            None => Ok(()),
+        }
+    }
+}
