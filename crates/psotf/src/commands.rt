@@ -301,12 +301,13 @@ fn put_command<'a>(
     put(commands, command)
 }
 
-/// Adds all subcommands as commands.
-fn put_commands<'a>(alloc: Global, commands: &mut Vec<Command<'a>>) -> Result<(), AllocError> {
+/// The subcommands as commands.
+fn commands<'a>(alloc: Global) -> Result<Vec<Command<'a>>, AllocError> {
+    let mut commands = Vec::new(alloc);
     for one in SUBCOMMANDS {
-        put_command(alloc, commands, one)?;
+        put_command(alloc, &mut commands, one)?;
     }
-    Ok(())
+    Ok(commands)
 }
 
 /// The program's command without its subcommands, of which one has to be given.
@@ -321,7 +322,6 @@ fn without_subcommands<'a>(alloc: Global) -> Command<'a> {
 
 /// The program's command.
 pub fn psotf<'a>(alloc: Global) -> Result<Command<'a>, AllocError> {
-    let mut commands = Vec::new(alloc);
-    put_commands(alloc, &mut commands)?;
+    let commands = commands(alloc)?;
     without_subcommands(alloc).subcommands(commands)
 }

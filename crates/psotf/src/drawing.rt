@@ -4,7 +4,7 @@ use crate::failure::Refusal;
 use crate::limit::Budget;
 use postscript_drawing::{Accent, Error as Undrawn, draw_components, draw_program};
 use postscript_outline::{Outline, Point, Segment};
-use postscript_type2::Operand;
+use postscript_type2::{Operand, Program};
 use postscript_view::{Advance, Glyph};
 use std::alloc::Global;
 
@@ -33,17 +33,16 @@ fn refusal_of(error: Undrawn, glyph: &Glyph<'_, '_>, share: u64, budget: &mut Bu
     }
 }
 
-/// Draws a glyph into a list, an accented one with its components, while its share lasts; and its width.
+/// Draws a program into a list, of an accented glyph the components too, while its share lasts; and its width.
 fn draw_into(
     alloc: Global,
     face: &Face<'_>,
-    glyph: &Glyph<'_, '_>,
+    program: &mut Program<'_>,
     share: &mut u64,
     budget: &mut Budget,
     segments: &mut Vec<Segment>,
 ) -> Result<Option<Operand>, Undrawn> {
-    let mut program = glyph.program(alloc);
-    let width = draw_program(&mut program, Point::ORIGIN, share, segments)?;
+    let width = draw_program(program, Point::ORIGIN, share, segments)?;
     if let Some(accent) = Accent::named_by(program.operands_at_end())? {
         budget.search(&face.font);
         draw_components(alloc, &face.font, &accent, share, segments)?;
@@ -64,7 +63,14 @@ pub fn draw<'f, 'l>(
     let share = budget.share();
     let mut left = share;
     let mut segments = Vec::new(alloc);
-    let drawn = draw_into(alloc, face, &glyph, &mut left, budget, &mut segments);
+    let drawn = draw_into(
+        alloc,
+        face,
+        &mut glyph.program(alloc),
+        &mut left,
+        budget,
+        &mut segments,
+    );
     budget.spend(share.saturating_sub(left));
     budget.spend((segments.len() as u64).saturating_mul(SEGMENT));
     match drawn {

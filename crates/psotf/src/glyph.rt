@@ -9,7 +9,7 @@ use crate::sheet::Sheet;
 use crate::text::Text;
 use clap::ArgMatches;
 use postscript_outline::Outline;
-use postscript_type2::{Operand, Operator};
+use postscript_type2::{Operand, Operator, Program};
 use postscript_view::Glyph;
 use std::alloc::Global;
 use std::io::Write;
@@ -70,14 +70,12 @@ fn operation(sheet: &mut Sheet, operator: Operator, operands: &[Operand], budget
     sheet.operation(operator.name(), operands);
 }
 
-/// Writes the operations of a glyph that was drawn, each as a text.
+/// Writes the operations of a program, each as a text.
 fn operations(
-    alloc: Global,
     sheet: &mut Sheet,
-    glyph: &Glyph<'_, '_>,
+    program: &mut Program<'_>,
     budget: &mut Budget,
 ) -> Result<(), Failure> {
-    let mut program = glyph.program(alloc);
     sheet.begin_list("operations");
     for _ in 0..u64::MAX {
         let Some((operator, operands)) = program.next()? else {
@@ -100,7 +98,7 @@ fn drawing(
     match draw(alloc, face, gid, budget) {
         Ok((glyph, outline)) => {
             drawn(sheet, &glyph, &outline);
-            operations(alloc, sheet, &glyph, budget)?;
+            operations(sheet, &mut glyph.program(alloc), budget)?;
             Ok(true)
         }
         Err(refusal) => {

@@ -5,7 +5,7 @@ use crate::failure::Failure;
 use crate::limit::Budget;
 use crate::sheet::Sheet;
 use crate::text::Text;
-use postscript_type2::{Hints, Operand, Operator, Told};
+use postscript_type2::{Hints, Operand, Operator, Program, Told};
 use postscript_view::Glyph;
 use std::alloc::Global;
 
@@ -83,6 +83,19 @@ fn price(operands: usize, hints: Hints<'_>) -> u64 {
         .saturating_mul(OPERAND)
 }
 
+/// Adds the operations of a program.
+fn put_all(text: &mut Text, program: &mut Program<'_>, budget: &mut Budget) -> Result<(), Failure> {
+    let mut left = u64::MAX;
+    for _ in 0..u64::MAX {
+        let Told::Operation(operator, operands, hints, _) = program.tell_within(&mut left)? else {
+            break;
+        };
+        budget.spend(price(operands.len(), hints));
+        put_operation(text, operator, operands, hints);
+    }
+    Ok(())
+}
+
 /// Writes the operations of a glyph that was drawn as one text.
 pub fn put(
     alloc: Global,
@@ -90,16 +103,8 @@ pub fn put(
     glyph: &Glyph<'_, '_>,
     budget: &mut Budget,
 ) -> Result<(), Failure> {
-    let mut program = glyph.program(alloc);
-    let mut left = u64::MAX;
     let mut text = Text::new(alloc);
-    for _ in 0..u64::MAX {
-        let Told::Operation(operator, operands, hints, _) = program.tell_within(&mut left)? else {
-            break;
-        };
-        budget.spend(price(operands.len(), hints));
-        put_operation(&mut text, operator, operands, hints);
-    }
+    put_all(&mut text, &mut glyph.program(alloc), budget)?;
     sheet.put(&text);
     Ok(())
 }

@@ -102,51 +102,64 @@ impl Frame {
         self.width = self.width.saturating_add(advance);
         Ok(())
     }
+
+    /// Adds glyphs side by side at a place.
+    fn put_all(
+        &mut self,
+        alloc: Global,
+        face: &VariableFace<'_>,
+        gids: &[u16],
+        chosen: &Chosen,
+        budget: &mut Budget,
+    ) -> Result<(), Failure> {
+        for gid in gids {
+            match outline_of(alloc, face, *gid, chosen, budget) {
+                Ok(outline) => self.put(alloc, &outline, advance_of(face, *gid, chosen))?,
+                Err(refusal) => return Err(Failure::glyph(*gid, &refusal)),
+            }
+        }
+        Ok(())
+    }
 }
 
-/// Glyphs side by side at a place.
-fn frame_of(
+/// Adds the glyphs at a value along the axis.
+fn put_frame(
     alloc: Global,
     face: &VariableFace<'_>,
+    along: Setting,
     gids: &[u16],
     chosen: &Chosen,
     budget: &mut Budget,
-) -> Result<Frame, Failure> {
+    frames: &mut Vec<Frame>,
+) -> Result<(), Failure> {
+    let place = chosen.at(alloc, face, along)?;
     let mut frame = Frame {
         paths: Vec::new(alloc),
         starts: Vec::new(alloc),
         width: 0,
     };
-    for gid in gids {
-        match outline_of(alloc, face, *gid, chosen, budget) {
-            Ok(outline) => frame.put(alloc, &outline, advance_of(face, *gid, chosen))?,
-            Err(refusal) => return Err(Failure::glyph(*gid, &refusal)),
-        }
-    }
-    Ok(frame)
+    frame.put_all(alloc, face, gids, &place, budget)?;
+    Ok(frames.push(frame)?)
 }
 
-/// The glyphs at each stop of the axis.
-fn frames_of(
+/// Adds the glyphs at each stop of the axis.
+fn put_frames(
     alloc: Global,
     face: &VariableFace<'_>,
     axis: &Axis,
     gids: &[u16],
     chosen: &Chosen,
     budget: &mut Budget,
-) -> Result<Vec<Frame>, Failure> {
-    let mut frames = Vec::new(alloc);
+    frames: &mut Vec<Frame>,
+) -> Result<(), Failure> {
     for number in -STEPS..=STEPS {
         if let Some(value) = stop(axis, number) {
-            let along = Setting {
-                tag: axis.tag,
-                value,
-            };
-            let place = chosen.at(alloc, face, along)?;
-            frames.push(frame_of(alloc, face, gids, &place, budget)?)?;
+            let tag = axis.tag;
+            let along = Setting { tag, value };
+            put_frame(alloc, face, along, gids, chosen, budget, frames)?;
         }
     }
-    Ok(frames)
+    Ok(())
 }
 
 /// How many frames are shown there and back.
@@ -240,7 +253,8 @@ fn moving(
     chosen: &Chosen,
     budget: &mut Budget,
 ) -> Result<String, Failure> {
-    let frames = frames_of(alloc, face, axis, gids, chosen, budget)?;
+    let mut frames = Vec::new(alloc);
+    put_frames(alloc, face, axis, gids, chosen, budget, &mut frames)?;
     let paths = elements(alloc, &frames, gids.len());
     Ok(framed(alloc, face.common.units, width_of(&frames), paths)?)
 }
