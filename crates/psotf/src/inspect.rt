@@ -17,7 +17,7 @@ use std::io::Write;
 
 /// The family and the style.
 fn names<'l>(face: &Face<'l>) -> (Option<Name<'l>>, Option<Name<'l>>) {
-    match face.names {
+    match &face.names {
         Some(names) => (names.family(), names.style()),
         None => (None, None),
     }
@@ -25,7 +25,7 @@ fn names<'l>(face: &Face<'l>) -> (Option<Name<'l>>, Option<Name<'l>>) {
 
 /// The version as the font tells it (name 5).
 fn version<'l>(face: &Face<'l>) -> Option<Name<'l>> {
-    match face.names {
+    match &face.names {
         Some(names) => names.get(5),
         None => None,
     }

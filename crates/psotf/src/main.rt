@@ -70,15 +70,18 @@ fn weight_of(name: &str, words: &ArgMatches<'_>) -> u64
 /// The most bytes that room is asked for at once.
 const MOST: u64 = 1 << 30;
 
-/// The bytes of a file. Room for them is asked for once, with one byte more, at which the end is met, as far as the system tells how
-/// many they are: room that grows as they are read takes up to three times as much for a while.
+/// Room for the bytes of a file, with one byte more, at which the end is met, as far as the system tells how many they are.
+fn room_for(file: &File) -> usize {
+    match file.metadata() {
+        Ok(metadata) => (metadata.len().min(MOST) as usize).saturating_add(1),
+        Err(_) => 1,
+    }
+}
+
+/// The bytes of a file. Room for them is asked for once: room that grows as they are read takes up to three times as much for a while.
 fn bytes_of(rt: &HostRuntime, path: &str) -> Result<Vec<u8>, Failure> {
     let mut file = File::open(rt, path)?;
-    let size = match file.metadata() {
-        Ok(metadata) => metadata.len().min(MOST),
-        Err(_) => 0,
-    };
-    let mut bytes = Vec::with_capacity(rt.alloc(), (size as usize).saturating_add(1))?;
+    let mut bytes = Vec::with_capacity(rt.alloc(), room_for(&file))?;
     file.read_to_end(&mut bytes)?;
     Ok(bytes)
 }

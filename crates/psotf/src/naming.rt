@@ -152,6 +152,15 @@ impl Kept {
         Ok(())
     }
 
+    /// Adds the table, whose texts begin at a place.
+    fn put_into(&self, table: &mut Vec<u8>, begin: usize) -> Result<(), AllocError> {
+        for number in [0, self.count, begin] {
+            table.extend_from_slice(&word_of(number).to_be_bytes())?;
+        }
+        table.extend_from_slice(&self.records)?;
+        table.extend_from_slice(&self.texts)
+    }
+
     /// The table. None where places have no room in two bytes.
     pub fn table(&self, alloc: Global) -> Result<Option<Vec<u8>>, AllocError> {
         let begin = self.records.len().saturating_add(6);
@@ -159,11 +168,7 @@ impl Kept {
             return Ok(None);
         }
         let mut table = Vec::new(alloc);
-        for number in [0, self.count, begin] {
-            table.extend_from_slice(&word_of(number).to_be_bytes())?;
-        }
-        table.extend_from_slice(&self.records)?;
-        table.extend_from_slice(&self.texts)?;
+        self.put_into(&mut table, begin)?;
         Ok(Some(table))
     }
 }

@@ -3,7 +3,7 @@ use std::io::IsTerminal;
 use std::time::Instant;
 
 /// How far a work over glyphs is, told on standard error once a second, where that is a terminal.
-#[derive(Drop)]
+#[derive(Clone, Copy)]
 pub struct Progress<'r> {
     rt: &'r HostRuntime,
     /// Behind the last glyph.

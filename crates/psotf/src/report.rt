@@ -35,24 +35,6 @@ pub use unread::write_refused;
 /// What a unit of a run may come to: it is drawn and told, looked at for hints, asked for its cost, and measured twice without calls.
 pub const RUNS: u64 = OBJECT + 4;
 
-/// Adds a glyph to a page as a row. One whose run takes longer than the limit is told of.
-fn put_row(
-    alloc: Global,
-    sheet: &mut Sheet,
-    face: &Face<'_>,
-    mapped: &[Mapped],
-    gid: u16,
-    budget: &mut Budget,
-    stopped: &mut Stopped<'_>,
-    page: &mut Vec<u8>,
-) -> Result<(), Failure> {
-    match row::put(alloc, sheet, face, mapped, gid, budget)? {
-        Some(refusal) if refusal.is_by_limit() => stopped.add(gid, &refusal)?,
-        _ => {}
-    }
-    Ok(sheet.end_in(page)?)
-}
-
 /// Adds glyphs to a page, a row on a line each, and the end of the block of JSON.
 fn put_glyphs(
     rt: &HostRuntime,
@@ -71,16 +53,8 @@ fn put_glyphs(
         if gid > from {
             page.extend_from_slice(b",\n")?;
         }
-        put_row(
-            rt.alloc(),
-            &mut sheet,
-            face,
-            mapped,
-            gid,
-            budget,
-            stopped,
-            page,
-        )?;
+        row::put(rt.alloc(), &mut sheet, face, mapped, gid, budget, stopped)?;
+        sheet.end_in(page)?;
     }
     progress.end();
     Ok(page.extend_from_slice(b"\n]}\n")?)
@@ -105,18 +79,20 @@ fn put_data(
     stopped: &mut Stopped<'_>,
     page: &mut Vec<u8>,
 ) -> Result<(), Failure> {
-    let Common {
-        face,
-        words,
-        pages,
-        mapped,
-        hinted,
-    } = *common;
     let mut sheet = Sheet::new(rt.alloc());
-    head::put(rt.alloc(), &mut sheet, face, words, &pages, first, hinted);
+    head::put(
+        rt.alloc(),
+        &mut sheet,
+        common.face,
+        common.words,
+        &common.pages,
+        first,
+        common.hinted,
+    );
     sheet.end_in(page)?;
     page.extend_from_slice(b",\n\"glyphs\":[\n")?;
-    put_glyphs(rt, face, mapped, pages.glyphs(first), budget, stopped, page)
+    let gids = common.pages.glyphs(first);
+    put_glyphs(rt, common.face, common.mapped, gids, budget, stopped, page)
 }
 
 /// Adds what stands before the head of the block of JSON.

@@ -3,7 +3,7 @@ use crate::failure::{Failure, Refusal};
 use crate::telling::tell;
 
 /// The glyphs of a command whose runs take longer than the limit: they are told on standard error, and counted.
-#[derive(Drop)]
+#[derive(Clone, Copy)]
 pub struct Stopped<'r> {
     rt: &'r HostRuntime,
     count: u64,

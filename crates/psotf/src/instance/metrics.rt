@@ -20,7 +20,7 @@ const WIDTHS: [i64; 8] = [225, 275, 325, 375, 425, 475, 550, 700];
 
 /// Where the place stands along the axis of a tag, in 65536ths. None where the face has no such axis.
 fn value_along(face: &VariableFace<'_>, chosen: &Chosen, tag: [u8; 4]) -> Option<i64> {
-    let axes = face.axes?;
+    let axes = face.axes.as_ref()?;
     for i in 0..axes.len() {
         if let Some(axis) = axes.get(i) {
             if axis.tag == u32::from_be_bytes(tag) {

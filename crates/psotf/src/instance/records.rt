@@ -21,8 +21,8 @@ struct Text {
     bytes: Vec<u8>,
 }
 
-/// Whether axes or instances are called by the name of an identifier.
-fn is_of_axes(axes: &Axes<'_>, identifier: usize) -> bool {
+/// Whether an axis is called by the name of an identifier.
+fn names_axis(axes: &Axes<'_>, identifier: usize) -> bool {
     for i in 0..axes.len() {
         if let Some(axis) = axes.get(i) {
             if usize::from(axis.name) == identifier {
@@ -30,6 +30,11 @@ fn is_of_axes(axes: &Axes<'_>, identifier: usize) -> bool {
             }
         }
     }
+    false
+}
+
+/// Whether an instance is.
+fn names_instance(axes: &Axes<'_>, identifier: usize) -> bool {
     for i in 0..axes.instances() {
         if let Some(instance) = axes.instance(i) {
             let postscript = usize::from(instance.postscript_name.unwrap_or(0));
@@ -47,9 +52,12 @@ fn stays(face: &VariableFace<'_>, record: &Record<'_>) -> bool {
     if record.language >= 0x8000 || ANEW.contains(&record.identifier) {
         return false;
     }
-    match face.axes {
-        Some(axes) => record.identifier < OWN || !is_of_axes(&axes, record.identifier),
-        None => true,
+    let identifier = record.identifier;
+    match &face.axes {
+        Some(axes) if identifier >= OWN => {
+            !names_axis(axes, identifier) && !names_instance(axes, identifier)
+        }
+        _ => true,
     }
 }
 

@@ -125,7 +125,7 @@ fn put_values(text: &mut Text, axes: &Axes<'_>, chosen: &Chosen, between: char) 
 /// The family of a face.
 fn family_of(alloc: Global, face: &VariableFace<'_>) -> Text {
     let mut family = Text::new(alloc);
-    if let Some(names) = face.common.names {
+    if let Some(names) = &face.common.names {
         family.put_name(names.family());
     }
     family
@@ -134,7 +134,7 @@ fn family_of(alloc: Global, face: &VariableFace<'_>) -> Text {
 /// The style that a face tells of itself.
 fn own(alloc: Global, face: &VariableFace<'_>) -> Text {
     let mut own = Text::new(alloc);
-    if let Some(names) = face.common.names {
+    if let Some(names) = &face.common.names {
         own.put_name(names.style());
     }
     own
@@ -210,12 +210,12 @@ impl Style {
     /// Takes the names of a place: of the instance that is asked for or that stands there; else by its values along the axes on which
     /// it is not at the default, as 650wght; or those of the face, where there are none.
     fn call_place(&mut self, alloc: Global, face: &VariableFace<'_>, chosen: &Chosen) {
-        let Some(axes) = face.axes else {
+        let Some(axes) = &face.axes else {
             return self.call(face, &own(alloc, face));
         };
-        match instance_at(&axes, chosen) {
-            Some(instance) => self.call_instance(alloc, face, &axes, instance),
-            None => self.call_between(alloc, face, &axes, chosen),
+        match instance_at(axes, chosen) {
+            Some(instance) => self.call_instance(alloc, face, axes, instance),
+            None => self.call_between(alloc, face, axes, chosen),
         }
     }
 

@@ -6,6 +6,7 @@ use crate::face::Face;
 use crate::failure::{Failure, Refusal};
 use crate::limit::Budget;
 use crate::sheet::Sheet;
+use crate::stopped::Stopped;
 use crate::text::Text;
 use postscript_drawing::Accent;
 use postscript_outline::Outline;
@@ -109,7 +110,21 @@ fn drawn(
     Ok(())
 }
 
-/// Writes a glyph as a row; why it is refused, if it is.
+/// Writes why a glyph is refused.
+fn refused(
+    sheet: &mut Sheet,
+    gid: u16,
+    refusal: &Refusal,
+    stopped: &mut Stopped<'_>,
+) -> Result<(), Failure> {
+    sheet.shown(refusal);
+    if refusal.is_by_limit() {
+        stopped.add(gid, refusal)?;
+    }
+    Ok(())
+}
+
+/// Writes a glyph as a row: what it draws, or why it is refused. One whose run takes longer than the limit is told of.
 pub fn put(
     alloc: Global,
     sheet: &mut Sheet,
@@ -117,22 +132,17 @@ pub fn put(
     mapped: &[Mapped],
     gid: u16,
     budget: &mut Budget,
-) -> Result<Option<Refusal>, Failure> {
+    stopped: &mut Stopped<'_>,
+) -> Result<(), Failure> {
     sheet.begin_array();
     name(sheet, face, gid);
     chars(sheet, of_glyph(mapped, gid));
     sheet.u64(u64::from(face.advances.of(gid)));
     part(sheet, face, gid);
-    let refusal = match draw(alloc, face, gid, budget) {
-        Ok((glyph, outline)) => {
-            drawn(alloc, sheet, &glyph, &outline, budget)?;
-            None
-        }
-        Err(refusal) => {
-            sheet.shown(&refusal);
-            Some(refusal)
-        }
-    };
+    match draw(alloc, face, gid, budget) {
+        Ok((glyph, outline)) => drawn(alloc, sheet, &glyph, &outline, budget)?,
+        Err(refusal) => refused(sheet, gid, &refusal, stopped)?,
+    }
     sheet.end_array();
-    Ok(refusal)
+    Ok(())
 }

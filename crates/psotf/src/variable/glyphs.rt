@@ -29,7 +29,7 @@ pub fn count(face: &VariableFace<'_>) -> u16 {
 /// The advance of a glyph at a place: that of `hmtx`, and what `HVAR` adds, to the nearest unit.
 pub fn advance_of(face: &VariableFace<'_>, gid: u16, chosen: &Chosen) -> i64 {
     let advance = i64::from(face.common.advances.of(gid));
-    let Some(variations) = face.advances else {
+    let Some(variations) = &face.advances else {
         return advance;
     };
     match variations.variation(usize::from(gid), chosen.coordinates.as_slice()) {

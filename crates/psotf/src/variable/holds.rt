@@ -13,7 +13,7 @@ use std::io::Write;
 
 /// The family and the style.
 fn names<'l>(face: &VariableFace<'l>) -> (Option<Name<'l>>, Option<Name<'l>>) {
-    match face.common.names {
+    match &face.common.names {
         Some(names) => (names.family(), names.style()),
         None => (None, None),
     }
@@ -21,7 +21,7 @@ fn names<'l>(face: &VariableFace<'l>) -> (Option<Name<'l>>, Option<Name<'l>>) {
 
 /// What is counted, under its name, with the number of characters.
 fn counts(face: &VariableFace<'_>, characters: u64) -> [(&'static str, u64); 7] {
-    let data = match face.font.store {
+    let data = match &face.font.store {
         Some(store) => store.len(),
         None => 0,
     };
@@ -76,7 +76,7 @@ fn instance(sheet: &mut Sheet, face: &VariableFace<'_>, axes: &Axes<'_>, i: usiz
 /// Writes the axes.
 fn axes(sheet: &mut Sheet, face: &VariableFace<'_>) {
     sheet.begin_list("axes");
-    if let Some(axes) = face.axes {
+    if let Some(axes) = &face.axes {
         for i in 0..axes.len() {
             if let Some(found) = axes.get(i) {
                 axis(sheet, face, &found);
@@ -89,9 +89,9 @@ fn axes(sheet: &mut Sheet, face: &VariableFace<'_>) {
 /// Writes the instances.
 fn instances(sheet: &mut Sheet, face: &VariableFace<'_>) {
     sheet.begin_list("instances");
-    if let Some(axes) = face.axes {
+    if let Some(axes) = &face.axes {
         for i in 0..axes.instances() {
-            instance(sheet, face, &axes, i);
+            instance(sheet, face, axes, i);
         }
     }
     sheet.end_array();
@@ -187,9 +187,9 @@ fn instance_lines(lines: &mut Text, face: &VariableFace<'_>, axes: &Axes<'_>) {
 fn lines<W: Write>(alloc: Global, face: &VariableFace<'_>, out: &mut W) -> Result<(), Failure> {
     let mut lines = Text::new(alloc);
     head_lines(alloc, &mut lines, face);
-    if let Some(axes) = face.axes {
-        axis_lines(alloc, &mut lines, face, &axes);
-        instance_lines(&mut lines, face, &axes);
+    if let Some(axes) = &face.axes {
+        axis_lines(alloc, &mut lines, face, axes);
+        instance_lines(&mut lines, face, axes);
     }
     lines.end_in(out)
 }

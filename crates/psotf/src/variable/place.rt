@@ -53,7 +53,7 @@ fn axis_of(axes: &Axes<'_>, tag: u32) -> Option<Axis> {
 pub fn axis_named(alloc: Global, face: &VariableFace<'_>, name: &str) -> Result<Axis, Failure> {
     let axes = axes_of(face)?;
     if let Some(tag) = tag_of(name) {
-        if let Some(axis) = axis_of(&axes, tag) {
+        if let Some(axis) = axis_of(axes, tag) {
             return Ok(axis);
         }
     }
@@ -61,8 +61,8 @@ pub fn axis_named(alloc: Global, face: &VariableFace<'_>, name: &str) -> Result<
 }
 
 /// The axes of a face.
-fn axes_of<'l>(face: &VariableFace<'l>) -> Result<Axes<'l>, Failure> {
-    match face.axes {
+fn axes_of<'f, 'l>(face: &'f VariableFace<'l>) -> Result<&'f Axes<'l>, Failure> {
+    match &face.axes {
         Some(axes) => Ok(axes),
         None => Err(Failure::no_table("fvar")),
     }
@@ -110,7 +110,7 @@ pub fn text_of(alloc: Global, name: Option<Name<'_>>) -> Result<String, AllocErr
 
 /// The name of an identifier.
 pub fn name_of<'l>(face: &VariableFace<'l>, identifier: u16) -> Option<Name<'l>> {
-    match face.common.names {
+    match &face.common.names {
         Some(names) => names.get(identifier),
         None => None,
     }
@@ -159,12 +159,12 @@ fn asked(
 ) -> Result<(Vec<Setting>, Option<usize>), Failure> {
     if let Some(name) = words.get_str("instance") {
         let axes = axes_of(face)?;
-        let instance = instance_of(rt.alloc(), face, &axes, name)?;
-        let settings = settings_of_instance(rt.alloc(), &axes, instance)?;
+        let instance = instance_of(rt.alloc(), face, axes, name)?;
+        let settings = settings_of_instance(rt.alloc(), axes, instance)?;
         return Ok((settings, Some(instance)));
     }
     match words.get_str("variations") {
-        Some(list) => Ok((settings_of(rt, &axes_of(face)?, list)?, None)),
+        Some(list) => Ok((settings_of(rt, axes_of(face)?, list)?, None)),
         None => Ok((Vec::new(rt.alloc()), None)),
     }
 }
@@ -178,7 +178,7 @@ impl Chosen {
         instance: Option<usize>,
     ) -> Result<Chosen, Failure> {
         let mut coordinates: Vec<i16> = Vec::new(alloc);
-        if let Some(axes) = face.axes {
+        if let Some(axes) = &face.axes {
             coordinates.resize(axes.len(), 0)?;
             axes.normalize(face.maps, settings.as_slice(), &mut coordinates);
         }

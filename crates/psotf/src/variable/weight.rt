@@ -45,10 +45,10 @@ fn reads_too_much(face: &VariableFace<'_>, glyphs: u64) -> bool {
 }
 
 /// Whether a place has too many scalars, or takes too many steps.
-fn varies_too_much(store: Option<Store<'_>>, axes: u64) -> bool {
+fn varies_too_much(store: &Option<Store<'_>>, axes: u64) -> bool {
     match store {
         Some(store) => {
-            let (sum, _most) = regions_of(&store);
+            let (sum, _most) = regions_of(store);
             sum > SCALARS || sum.saturating_mul(axes) > STEPS
         }
         None => false,
@@ -70,7 +70,7 @@ fn advances_too_much(face: &VariableFace<'_>, axes: u64, glyphs: u64) -> bool {
 
 /// The first table that makes more work than is done here. None where none does.
 pub fn heavy_table(face: &VariableFace<'_>) -> Option<&'static str> {
-    let (axes, instances) = match face.axes {
+    let (axes, instances) = match &face.axes {
         Some(axes) => (axes.len(), axes.instances()),
         None => (0, 0),
     };
@@ -78,7 +78,7 @@ pub fn heavy_table(face: &VariableFace<'_>) -> Option<&'static str> {
     let along = (axes as u64).saturating_add(1);
     if axes > MOST || instances > MOST {
         Some("fvar")
-    } else if reads_too_much(face, glyphs) || varies_too_much(face.font.store, along) {
+    } else if reads_too_much(face, glyphs) || varies_too_much(&face.font.store, along) {
         Some("CFF2")
     } else if face.advances.is_some() && advances_too_much(face, along, glyphs) {
         Some("HVAR")
