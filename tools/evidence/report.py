@@ -14,9 +14,9 @@ many points then as `psotf glyph --json` tells of, and that it says of each read
 masks of glyphs, all of them or some 500, are compared with those that fontTools meets when it runs the glyphs, how often each subroutine
 is called with the sum of these, and the parts of the table CFF with its size: together they cover it without a gap. Where a report has
 several pages, each is opened, they hold each glyph once, and a character of another page is found there by the link. A screenshot of each
-first page at 1280 and 400 pixels goes into FOLDER. Needs Debian's chromium,
-chromium-driver, python3-selenium and python3-fonttools. A line is printed for each report: bytes of the font, of the first page and of
-all, seconds of psotf, and seconds until the first page is loaded. The status is 1 where something is otherwise.
+first page at 1280 and 400 pixels goes into FOLDER. Needs Debian's chromium, chromium-driver, python3-selenium and python3-fonttools. A
+line is printed for each report: bytes of the font, of the first page and of all, seconds of psotf, and seconds until the first page is
+loaded. The status is 1 where something is otherwise.
 """
 
 import argparse
