@@ -7,6 +7,8 @@ use Rattle.postscript_instance.specs.Advances.{AreAdvancesAt, IsOperand}
 use Rattle.postscript_instance.specs.declared.advances.AdvancesAt.{AdvancesAt}
 use Rattle.postscript_instance.specs.Naming.{IsCalled}
 use Rattle.postscript_instance.specs.declared.naming.Naming.{Naming}
+use Rattle.postscript_cff2.specs.declared.font.Font.{Font}
+use Rattle.postscript_instance.specs.Dictionaries.{KeepDictionaries}
 use Rattle.postscript_instance.specs.Glyphs.{AreCodes}
 use Rattle.postscript_instance.specs.Tables.{AreItems, IsPlainFont, IsTable}
 
@@ -76,10 +78,10 @@ same-code : (codes : List (Vec ℕ Global)) (i : ℕ) (a b : Vec ℕ Global) →
 same-code codes i a b h k = let both : Some a ≡ Some b = sym h ∙ k in cc
 
 -- the table of codes that do what they are to do
-pub table-of : (does : (glyph : ℕ) → (advance : ℤ) → (code : List ℕ) → Type 0) (naming : Naming) (advances : List ℤ) (bytes : List ℕ) (codes : List (Vec ℕ Global)) (view : View) →
+pub table-of : (does : (glyph : ℕ) → (advance : ℤ) → (code : List ℕ) → Type 0) (font : Font) (naming : Naming) (advances : List ℤ) (bytes : List ℕ) (codes : List (Vec ℕ Global)) (view : View) →
     AreCodes does advances (length advances) codes → IsLaidOut bytes 0 view → IsPlainFont view codes → IsCalled naming bytes view →
-    IsTable does naming advances bytes
-table-of does naming advances bytes codes view are stands plain called =
+    KeepDictionaries font bytes view (length codes) → IsTable does font naming advances bytes
+table-of does font naming advances bytes codes view are stands plain called keep =
     let many = are.counted in
     let all = plain.items.counted in record {
       view = view;
@@ -93,4 +95,5 @@ table-of does naming advances bytes codes view are stands plain called =
       none = plain.none;
       widths = plain.widths;
       called = called;
+      dictionaries = λ glyph less. keep glyph (omega (arith, less, many));
     }

@@ -7,6 +7,7 @@ pub mod Runs
 pub mod Shortest
 pub mod Operations
 pub mod Codes
+pub mod Dictionaries
 pub mod Nearest
 pub mod Units
 pub mod Rounds

@@ -18,6 +18,7 @@ use Rattle.postscript_instance.specs.declared.error.Error.TheVariants as errors
 use Rattle.postscript_instance.specs.Far.{NotRounded}
 use Rattle.postscript_instance.specs.Placed.{IsPlaceIn, LacksPlace}
 use Rattle.postscript_instance.specs.Refusals.{IsLate, NotWritten}
+use Rattle.postscript_instance.specs.Rooms.{IsTooLarge}
 use Rattle.postscript_instance.specs.Rounded.{IsRoundedOf}
 use Rattle.postscript_instance.specs.Statics.{IsStaticOf}
 
@@ -95,16 +96,21 @@ pub record HasNoCode (numbers : Numbers) (font : Font) (place : Place) (widths :
   pub are_codes : AreCodes (DoesIn numbers font place) widths glyph before
   pub refused : NoCodeIn numbers font place glyph width e
 
--- there is one; or what is written is too large or not read back, or memory runs out
+-- there is one; or what is written is not read back, or memory runs out
 abbrev pub LacksCode : Numbers → Font → Place → (widths : List ℤ) → Error → Type 0
 LacksCode numbers font place widths e = IsLate e ⊎ HasNoCode numbers font place widths e
 
--- There are no widths, or no place, or a glyph has no code there with its width, or what is written is too large or not read back; or
--- memory runs out.
+-- each glyph has a code, and with these the table is too large
+abbrev pub HasNoRoom : Numbers → Font → Naming → Place → (widths : List ℤ) → Error → Type 0
+HasNoRoom numbers font naming place widths e = (e ≡ errors.TooLarge) × ((codes : List (Vec ℕ Global)) ×
+    AreCodes (DoesIn numbers font place) widths (length widths) codes × IsTooLarge font naming codes)
+
+-- There are no widths, or no place, or a glyph has no code there with its width, or the table is too large or not read back; or memory
+-- runs out.
 abbrev pub LacksTable : Numbers → Font → Naming → AdvancesAt → Error → Type 0
 LacksTable numbers font naming advances e = LacksWidths font naming advances e ⊎ LacksPlace font.store e
     ⊎ ((place : Place) × (widths : List ℤ) × IsPlaceIn font.store advances.coordinates.now place × AreWidthsOf font advances widths
-    × LacksCode numbers font place widths e)
+    × (LacksCode numbers font place widths e ⊎ HasNoRoom numbers font naming place widths e))
 
 abbrev pub NoTable : Font → Naming → AdvancesAt → Error → Type 0
 NoTable font naming advances e = LacksTable numbers.Exact font naming advances e

@@ -7,8 +7,10 @@ pub mod Refusals
 pub mod Rounded
 pub mod Far
 pub mod Laws
+pub mod Rooms
 pub mod Glyphs
 pub mod Naming
+pub mod Dictionaries
 pub mod Tables
 pub mod Advances
 pub mod Axes

@@ -41,6 +41,5 @@ NotWritten charstring width e = ⊥
 -- of laying out what is written, and of reading it back
 abbrev pub IsLate : Error → Type 0
 IsLate (errors.Font e) = e ≡ causes.Memory
-IsLate errors.TooLarge = Unit {0}
 IsLate errors.NotReadBack = Unit {0}
 IsLate e = ⊥

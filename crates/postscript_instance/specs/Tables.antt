@@ -8,6 +8,7 @@ use Rattle.postscript_cff2.specs.declared.font.Font.{Font}
 use Rattle.postscript_variable_font.specs.declared.place.Place.{Place}
 use Rattle.postscript_view.specs.Layout.{IsLaidOut}
 use Rattle.postscript_view.specs.Order.{PrivateDict, View}
+use Rattle.postscript_instance.specs.Dictionaries.{KeepDictionaries}
 use Rattle.postscript_instance.specs.Glyphs.{AreWidthsOf, DoesAt, DoesRoundedAt}
 use Rattle.postscript_instance.specs.Naming.{IsCalled}
 use Rattle.postscript_instance.specs.Placed.{IsPlaceIn}
@@ -35,9 +36,9 @@ pub record IsPlainFont (view : View) (codes : List (Vec ℕ Global)) : Type 0 wh
   pub widths : HaveNoWidths view.parts
 
 -- A font stands in the bytes (Technical Note 5176, "CFF Data Layout"), which has no subroutines that its glyphs share. Each of its glyphs
--- has a code that does what it is to do, with its advance as its width, and nothing is added to that. The font and its glyphs are called
--- as they are to be.
-pub record IsTable (does : (glyph : ℕ) → (advance : ℤ) → (code : List ℕ) → Type 0) (naming : Naming) (advances : List ℤ)
+-- has a code that does what it is to do, with its advance as its width, and nothing is added to that; and it has the Font DICT of the
+-- number that it has in another font. The font and its glyphs are called as they are to be.
+pub record IsTable (does : (glyph : ℕ) → (advance : ℤ) → (code : List ℕ) → Type 0) (font : Font) (naming : Naming) (advances : List ℤ)
     (bytes : List ℕ) : Type 0 where
   pub view : View
   pub stands : IsLaidOut bytes 0 view
@@ -48,6 +49,7 @@ pub record IsTable (does : (glyph : ℕ) → (advance : ℤ) → (code : List �
   pub none : view.tables.subroutines ≡ []
   pub widths : HaveNoWidths view.parts
   pub called : IsCalled naming bytes view
+  pub dictionaries : KeepDictionaries font bytes view (length advances)
 
 -- The table of a font at the place of the coordinates of its advances: each code does what it is to do there, with the glyph's advance
 -- there as its width.
@@ -57,7 +59,7 @@ pub record IsTableAt (does : Font → Place → (glyph : ℕ) → (advance : ℤ
   pub is_place : IsPlaceIn font.store advances.coordinates.now place
   pub widths : List ℤ
   pub are_widths : AreWidthsOf font advances widths
-  pub is_table : IsTable (does font place) naming widths bytes
+  pub is_table : IsTable (does font place) font naming widths bytes
 
 -- the table of a place: each code does what the glyph does there
 abbrev pub IsTableOf : Font → Naming → AdvancesAt → List ℕ → Type 0

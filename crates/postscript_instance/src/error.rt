@@ -43,7 +43,7 @@ pub enum Error {
     /// Names of glyphs are given, and the font has not one Font DICT: a font whose glyphs have names has one Private DICT.
     #[error("glyphs with names have one font dictionary, and this font has not one")]
     NotOneDictionary,
-    /// What is to be written is too large for the format.
+    /// What is to be written is too large: glyphs, names, Font DICTs or bytes are too many.
     #[error("the font is too large")]
     TooLarge,
     /// What was written is not read back as the font that it is to be.

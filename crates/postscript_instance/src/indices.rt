@@ -1,4 +1,5 @@
-//! Numbers, offsets and INDEXes of a table `CFF `, appended (Technical Note 5176, "Data Types", "DICT Data", "INDEX Data").
+//! Numbers, offsets and INDEXes of a table `CFF `, appended (Technical Note 5176, "Data Types", "DICT Data", "INDEX Data"). Refused with
+//! `NotReadBack`, running out of memory aside: what has no room is told before anything is written.
 ghost use Rattle.std.specs.Prelude.{◌≤◌, IfErr};
 ghost use Rattle.postscript_instance.specs.Refusals.{IsLate};
 
@@ -10,7 +11,7 @@ pub(crate) fn put_short(out: &mut Vec<u8>, number: usize) -> Result<()>
     ensures late { IfErr result (λ e. IsLate e) }
 {
     let Ok(number) = u16::try_from(number) else {
-        return Err(Error::TooLarge);
+        return Err(Error::NotReadBack);
     };
     out.extend_from_slice(&number.to_be_bytes())?;
     Ok(())
@@ -21,7 +22,7 @@ fn four(number: usize) -> Result<[u8; 4]>
     ensures late { IfErr result (λ e. IsLate e) }
 {
     let Ok(number) = u32::try_from(number) else {
-        return Err(Error::TooLarge);
+        return Err(Error::NotReadBack);
     };
     Ok(number.to_be_bytes())
 }
@@ -103,7 +104,7 @@ pub(crate) fn put_integer(out: &mut Vec<u8>, number: usize) -> Result<()>
     ensures late { IfErr result (λ e. IsLate e) }
 {
     if number > 0x7fff_ffff {
-        return Err(Error::TooLarge);
+        return Err(Error::NotReadBack);
     }
     out.push(0x1d)?;
     out.extend_from_slice(&four(number)?)?;

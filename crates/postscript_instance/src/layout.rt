@@ -113,7 +113,7 @@ fn select(alloc: Global, font: &Font<'_>, glyphs: usize) -> Result<Vec<u8>>
             return Err(Error::NotReadBack);
         };
         let Ok(number) = u8::try_from(number) else {
-            return Err(Error::TooLarge);
+            return Err(Error::NotReadBack);
         };
         select.push(number)?;
     }

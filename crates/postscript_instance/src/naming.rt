@@ -94,7 +94,7 @@ fn in_ranges(alloc: Global, ranges: &[Range]) -> Result<Vec<u8>>
 }
 
 impl Identifiers {
-    /// Adds a name.
+    /// Adds a name. Of too many nothing is written.
     fn put(&mut self, alloc: Global, name: &[u8]) -> Result<()>
         ensures late { IfErr result (λ e. IsLate e) }
     {
@@ -103,11 +103,11 @@ impl Identifiers {
             return Ok(());
         }
         let Ok(place) = u16::try_from(self.strings.len()) else {
-            return Err(Error::TooLarge);
+            return Err(Error::NotReadBack);
         };
         // the last identifier is 64999
         if place >= 65000 - STANDARD {
-            return Err(Error::TooLarge);
+            return Err(Error::NotReadBack);
         }
         self.strings.push(Vec::from_slice(alloc, name)?)?;
         self.numbers.push(STANDARD.saturating_add(place))?;

@@ -1,8 +1,9 @@
 //! The table `CFF ` of a place.
-ghost use Rattle.std.specs.Prelude.{◌≡◌, Some, length, slice_get, IsTrue, IfOk, IfErr, OnOk};
+ghost use Rattle.std.specs.Prelude.{◌≡◌, ◌⊎◌, Some, length, slice_get, IsTrue, IfOk, IfErr, OnOk};
 ghost use Rattle.postscript_cff2.specs.Shown.{view_shown as varying_shown};
 ghost use Rattle.postscript_instance.specs.Advances.{AreAdvancesAt};
-ghost use Rattle.postscript_instance.specs.Glyphs.{AreCodes, DoesIn, IsMiscounted, IsStaticGlyph, LacksCode, LacksTable, LacksWidths, NoCodeIn, NoRoundedTable, NoStaticGlyph, NoTable};
+ghost use Rattle.postscript_instance.specs.Dictionaries.{KeepDictionaries, KeepsDictionary};
+ghost use Rattle.postscript_instance.specs.Glyphs.{AreCodes, DoesIn, HasNoRoom, IsMiscounted, IsStaticGlyph, LacksCode, LacksTable, LacksWidths, NoCodeIn, NoRoundedTable, NoStaticGlyph, NoTable};
 ghost use Rattle.postscript_instance.specs.Naming.{IsCalled};
 ghost use Rattle.postscript_instance.specs.Placed.{IsPlaceIn, LacksPlace};
 ghost use Rattle.postscript_instance.specs.Refusals.{IsLate};
@@ -10,12 +11,13 @@ ghost use Rattle.postscript_instance.specs.Tables.{AreItems, HasNoWidths, HaveNo
 ghost use Rattle.postscript_base.specs.Index.Lent.{items_of};
 ghost use Rattle.postscript_view.specs.Layout.{IsLaidOut};
 ghost use Rattle.postscript_view.specs.Order.{View};
-ghost use Rattle.postscript_view.specs.Value.{part_shown, parts_shown};
+ghost use Rattle.postscript_view.specs.Value.{part_shown, parts_shown, view_shown};
 
 use crate::advances::AdvancesAt;
 use crate::error::{Error, Result};
 use crate::layout::laid_out;
 use crate::naming::{Naming, called_back};
+use crate::rooms::is_too_large;
 use crate::statics::charstring;
 use crate::whole::rounded_glyph;
 use postscript_base::Error as Cause;
@@ -135,10 +137,39 @@ fn have_no_widths(parts: &[PrivateDict<'_>]) -> bool
     true
 }
 
-/// Reads back what was written. Refused: `NotReadBack` where it is not the font of these codes, called so; `Font` with `Memory`.
-fn read_back(alloc: Global, bytes: &[u8], codes: &[Vec<u8>], naming: &Naming<'_>) -> Result<()>
+/// Whether a glyph has the Font DICT of one number in both fonts.
+fn keeps_dictionary(old: &Font<'_>, new: &FontView<'_>, glyph: usize) -> bool
+    ensures { IsTrue result → KeepsDictionary old.now new.now.bytes.now (view_shown new.now) glyph }
+{
+    match (old.number(glyph), new.part_of(glyph)) {
+        (Some(was), Some(is)) => was == is,
+        _ => false,
+    }
+}
+
+/// Whether each of so many glyphs has the Font DICT of one number in both fonts.
+fn keep_dictionaries(old: &Font<'_>, new: &FontView<'_>, glyphs: usize) -> bool
+    ensures { IsTrue result → KeepDictionaries old.now new.now.bytes.now (view_shown new.now) glyphs }
+{
+    for glyph in 0..glyphs {
+        if !keeps_dictionary(old, new, glyph) {
+            return false;
+        }
+    }
+    true
+}
+
+/// Reads back what was written. Refused: `NotReadBack` where it is not the font of these codes, called so, or where glyphs have other
+/// Font DICTs than in the old font; `Font` with `Memory`.
+fn read_back(
+    alloc: Global,
+    old: &Font<'_>,
+    bytes: &[u8],
+    codes: &[Vec<u8>],
+    naming: &Naming<'_>,
+) -> Result<()>
     ensures font { OnOk result ((view : View) × IsLaidOut bytes.now 0 view × IsPlainFont view codes.now
-        × IsCalled naming.now bytes.now view) }
+        × IsCalled naming.now bytes.now view × KeepDictionaries old.now bytes.now view (length codes.now)) }
     ensures late { IfErr result (λ e. IsLate e) }
 {
     let font = match FontView::read(alloc, bytes) {
@@ -149,7 +180,7 @@ fn read_back(alloc: Global, bytes: &[u8], codes: &[Vec<u8>], naming: &Naming<'_>
     if font.global_subroutines.len() != 0 || !have_no_widths(&font.parts) {
         return Err(Error::NotReadBack);
     }
-    if !are_codes(&font.char_strings, codes) {
+    if !are_codes(&font.char_strings, codes) || !keep_dictionaries(old, &font, codes.len()) {
         return Err(Error::NotReadBack);
     }
     called_back(&font, naming)?;
@@ -200,12 +231,16 @@ fn table_of(
     widths: &[Operand],
     numbers: Numbers,
 ) -> Result<Vec<u8>>
-    ensures written { IfOk result (λ bytes. IsTable (DoesIn numbers font.now place.now) naming.now widths.now bytes.items) }
-    ensures refused { IfErr result (λ e. LacksCode numbers font.now place.now widths.now e) }
+    ensures written { IfOk result (λ bytes. IsTable (DoesIn numbers font.now place.now) font.now naming.now widths.now bytes.items) }
+    ensures refused { IfErr result (λ e. LacksCode numbers font.now place.now widths.now e
+        ⊎ HasNoRoom numbers font.now naming.now place.now widths.now e) }
 {
     let codes = codes_of(alloc, font, place, widths, numbers)?;
+    if is_too_large(font, naming, &codes) {
+        return Err(Error::TooLarge);
+    }
     let bytes = laid_out(alloc, font, place, naming, &codes)?;
-    read_back(alloc, &bytes, &codes, naming)?;
+    read_back(alloc, font, &bytes, &codes, naming)?;
     Ok(bytes)
 }
 
@@ -256,13 +291,14 @@ fn table_at(
 /// The Private DICTs have the hints of those of CFF2: zones, widths of stems, and what goes with them. Those that are blended are at the
 /// nearest whole units, halves up: of a zone or a list of widths each edge is. A hint whose blends have other numbers than whole ones, or
 /// that have no room in 16 bits, is left out. What is written is read back: the contract says that it is read, what its glyphs, their
-/// widths and its nominal widths are, and what they are called. FontMatrix, FDSelect and the hints are tested (`src/tests.rt`), and have no
-/// clause.
+/// widths, its nominal widths and their Font DICTs are, and what they are called. FontMatrix and the hints are tested (`src/tests.rt`), and have
+/// no clause.
 ///
 /// Refused: `OtherNames` where there are not as many names as glyphs; `NotOneDictionary` where there are names, and not one Font DICT;
 /// as `AdvancesAt::operands` is; `NoData` for the first item variation data that do not stand; as `glyph` is, for the first glyph that
-/// is; `TooLarge` where there are more than 65,535 glyphs, 64,609 names that are no standard strings, or 256 Font DICTs, or offsets
-/// that 31 bits do not hold; `NotReadBack` where what was written is not read as the font that it is to be.
+/// is; `TooLarge` where there are more than 65,535 glyphs, more than 64,609 names or, without names, more than 256 Font DICTs, or where
+/// the charstrings and the names of the font and its glyphs are 2,000,000,000 bytes or more together; `NotReadBack` where what was written
+/// is not read as the font that it is to be.
 pub fn table(
     alloc: Global,
     font: &Font<'_>,

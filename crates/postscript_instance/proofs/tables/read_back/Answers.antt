@@ -1,6 +1,7 @@
-use Rattle.std.proofs.Common.{◌∙◌, sym, subst}
+use Rattle.std.proofs.Common.{◌∙◌, length, sym, subst}
 use Rattle.postscript_base.specs.Index.Lent.{items_of}
 use Rattle.postscript_view.specs.Value.{parts_shown, view_shown}
+use Rattle.postscript_instance.specs.Dictionaries.{KeepDictionaries}
 use Rattle.postscript_instance.specs.Naming.{IsCalled}
 use Rattle.postscript_instance.specs.Tables.{HaveNoWidths}
 use Rattle.postscript_instance.proofs.Rests.{no-items, is-true}
@@ -16,4 +17,5 @@ returns-clause-font c = (
     widths = subst (λ parts. HaveNoWidths (parts_shown parts)) c.deref.ensures.value (c.have_no_widths.ensures (is-true c.have_no_widths.result c.if-not-have_no_widths.false));
   },
   subst (λ bytes. IsCalled c.args.naming.now bytes (view_shown c.in-Ok.font)) c.in-Ok.ensures.bytes c.in_ok-called_back.ensures.called,
+  subst (λ bytes. KeepDictionaries c.args.old.now bytes (view_shown c.in-Ok.font) (length c.args.codes.now)) c.in-Ok.ensures.bytes (c.keep_dictionaries.ensures (is-true c.keep_dictionaries.result c.if-not-keep_dictionaries.false)),
 )

@@ -1,0 +1,87 @@
+//! What a table `CFF ` has room for.
+ghost use Rattle.std.specs.Prelude.{◌≡◌, ◌+◌, ◌<◌, ◌≤◌, length, IfNone, IfSome, MatchBool};
+ghost use Rattle.postscript_instance.specs.Rooms.{IsCrowded, IsTooLarge, codes_size, glyphs_size, names_size};
+
+use crate::naming::Naming;
+use postscript_cff2::Font;
+
+/// So many bytes and more, where they are fewer than 2,000,000,000 together.
+fn added(sum: usize, more: usize) -> Option<usize>
+    requires { sum < 2000000000 }
+    ensures some { IfSome result (λ all. (all ≡ sum + more) × (all < 2000000000)) }
+    ensures none { IfNone result (2000000000 ≤ sum + more) }
+{
+    if more < 2_000_000_000 - sum {
+        Some(sum + more)
+    } else {
+        None
+    }
+}
+
+/// So many bytes and those of names, where they are fewer than 2,000,000,000 together.
+fn with_names(sum: usize, names: &[&[u8]]) -> Option<usize>
+    requires { sum < 2000000000 }
+    ensures some { IfSome result (λ all. (all ≡ sum + names_size names.now) × (all < 2000000000)) }
+    ensures none { IfNone result (2000000000 ≤ sum + names_size names.now) }
+{
+    let mut all = sum;
+    for i in 0..names.len() {
+        all = added(all, names[i].len())?;
+    }
+    Some(all)
+}
+
+/// So many bytes and those of the names of glyphs, if any are given, where they are fewer than 2,000,000,000 together.
+fn with_glyphs(sum: usize, naming: &Naming<'_>) -> Option<usize>
+    requires { sum < 2000000000 }
+    ensures some { IfSome result (λ all. (all ≡ sum + glyphs_size naming.now.glyphs) × (all < 2000000000)) }
+    ensures none { IfNone result (2000000000 ≤ sum + glyphs_size naming.now.glyphs) }
+{
+    match naming.glyphs {
+        Some(names) => with_names(sum, names),
+        None => Some(sum),
+    }
+}
+
+/// So many bytes and those of codes, where they are fewer than 2,000,000,000 together.
+fn with_codes(sum: usize, codes: &[Vec<u8>]) -> Option<usize>
+    requires { sum < 2000000000 }
+    ensures some { IfSome result (λ all. (all ≡ sum + codes_size codes.now) × (all < 2000000000)) }
+    ensures none { IfNone result (2000000000 ≤ sum + codes_size codes.now) }
+{
+    let mut all = sum;
+    for i in 0..codes.len() {
+        all = added(all, codes[i].len())?;
+    }
+    Some(all)
+}
+
+/// The bytes of the names and the codes together, where they are fewer than 2,000,000,000.
+fn counted(naming: &Naming<'_>, codes: &[Vec<u8>]) -> Option<usize>
+    ensures none { IfNone result
+        (2000000000 ≤ length naming.now.font.now + glyphs_size naming.now.glyphs + codes_size codes.now) }
+    ensures some { IfSome result
+        (λ all. all ≡ length naming.now.font.now + glyphs_size naming.now.glyphs + codes_size codes.now) }
+    ensures few { IfSome result (λ all. all < 2000000000) }
+{
+    let font = added(0, naming.font.len())?;
+    let names = with_glyphs(font, naming)?;
+    with_codes(names, codes)
+}
+
+/// Whether there are more names than identifiers, or more Font DICTs than FDSelect can name.
+fn is_crowded(font: &Font<'_>, naming: &Naming<'_>) -> bool
+    ensures { MatchBool result (IsCrowded font.now naming.now) (IsCrowded font.now naming.now → ⊥) }
+{
+    match naming.glyphs {
+        Some(names) => names.len() > 64_609,
+        None => font.font_dictionaries.len() > 256,
+    }
+}
+
+/// Whether a table of these codes is too large.
+pub(crate) fn is_too_large(font: &Font<'_>, naming: &Naming<'_>, codes: &[Vec<u8>]) -> bool
+    ensures { MatchBool result (IsTooLarge font.now naming.now codes.now) (IsTooLarge font.now naming.now codes.now → ⊥) }
+{
+    codes.len() > 0xffff || is_crowded(font, naming) || counted(naming, codes).is_none()
+}
