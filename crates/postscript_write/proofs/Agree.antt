@@ -36,6 +36,14 @@ text_at [] i item e text is h = absurd (omega arith)
 text_at (code ∷ codes) zero item e text is h = is ∙ ap (λ (v : Vec ℕ Global). v.items) e
 text_at (code ∷ codes) (suc i) item e text is h = text_at codes i item e text is (omega arith)
 
+-- Lists of items differ where items in one place do.
+pub differ : (xs ys : List (List ℕ)) (i : ℕ) (x y : List ℕ) (b : Bool) → x ≡ get_or xs i x → y ≡ get_or ys i y → i < length xs → b ≡ not (pointwise eqb x y) → b ≡ true → ys ≡ xs → ⊥
+differ xs ys i x y b ex ey less e t same =
+    let one : x ≡ y = ex ∙ sym (ap (λ zs. get_or zs i x) same) ∙ get_or_default ys i x y (subst (λ zs. i < length zs) (sym same) less) ∙ sym ey in
+    let equal : pointwise eqb x y ≡ true = (bytes_eq-Decides x y).1 one in
+    let g : true ≡ false = sym t ∙ e ∙ ap not equal in
+    absurd (cc)
+
 pub nothing : {A : Type 0} (xs : List A) → length xs ≡ 0 → xs ≡ []
 nothing [] e = refl
 nothing (x ∷ xs) e = absurd (omega arith)

@@ -5,6 +5,9 @@ pub mod Agree
 pub mod Locality
 pub mod OperationsStand
 pub mod WholeEnd
+pub mod Moving
+pub mod Without
+pub mod Placing
 pub mod Shown
 pub mod Likeness
 pub mod Encoded
@@ -20,6 +23,7 @@ pub mod Places
 pub mod Reaching
 pub mod Drawings
 pub mod Successive
+pub mod Sums
 pub mod Ranges
 pub mod Told
 pub mod Operators

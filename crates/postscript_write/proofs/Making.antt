@@ -21,6 +21,7 @@ use Rattle.postscript_write.specs.Fonts.{IsMade}
 use Rattle.postscript_write.specs.Glyphs.{AreCodesOf, AreNumbersOf, HasPart, HasPartFor, IsCodeFor, Sources, run_in}
 use Rattle.postscript_write.specs.Parts.{SameParts}
 use Rattle.postscript_write.specs.Refusals.{AreSound, FontRefusedBy, IsFaultless, IsRefusedBy}
+use Rattle.postscript_write.specs.Sizes.{IsLarge}
 use Rattle.postscript_write.specs.Steps.{IsLate, IsNotOpened, RefusedBy, RefusedFor}
 use Rattle.postscript_write.specs.declared.error.Error.{Error}
 use Rattle.postscript_write.specs.declared.error.Error.TheVariants.{Refused, Glyph, SeveralFonts, MissingGlyph, MissingPart, MissingName, NoGlyphs, TooLarge, NotReadBack}
@@ -119,8 +120,15 @@ late_refused bytes font sources numbers flats e are codes h = by e h
     by (MissingPart glyph) h = absurd h
     by (MissingName glyph) h = absurd h
     by NoGlyphs h = absurd h
-    by TooLarge h = sound
+    by TooLarge h = absurd h
     by NotReadBack h = sound
+
+-- the font is too large with the codes
+pub too_large : (bytes : List ℕ) (font : View) (sources : Sources) (numbers : List ℕ) (flats : List (List ℕ)) → AreNumbersOf bytes font sources numbers → AreCodesOf font sources numbers flats → IsLarge bytes font flats → FontRefusedBy bytes font sources TooLarge
+too_large bytes font sources numbers flats are codes large = (
+  (numbers, are, λ i less. faultless_for font (slice_index_or sources i None) (slice_index_or numbers i 0) (slice_index_or flats i []) (codes.each i less)),
+  record { numbers = numbers; codes = flats; are_numbers = are; are_codes = codes; large = large },
+)
 
 pub memory_font : (bytes : List ℕ) (font : View) (sources : Sources) (e : Error) → e ≡ Refused causes.Memory → FontRefusedBy bytes font sources e
 memory_font bytes font sources e is = subst (FontRefusedBy bytes font sources) (sym is) (λ n. absurd (n refl))

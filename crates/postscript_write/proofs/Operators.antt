@@ -14,6 +14,14 @@ at (other ∷ others) (suc k) operator less is = inr (at others k operator (omeg
 pub among : (operators : List Operator) (operator : Operator) → Contains operators operator → IsAmong operator operators
 among operators operator has = at operators has.0 operator has.1 has.2
 
+pub contains : (operators : List Operator) (operator : Operator) → IsAmong operator operators → Contains operators operator
+contains [] operator none = absurd none
+contains (other ∷ others) operator (inl same) = (0, omega arith, sym same)
+contains (other ∷ others) operator (inr later) =
+    let at = contains others operator later in
+    let less = at.1 in
+    (suc at.0, omega (arith, less), at.2)
+
 -- ROS names no place and no string of the font's dictionary
 pub ros-stays : IsAmong ROS (placing ++ naming) → ⊥
 ros-stays (inl e) = cc

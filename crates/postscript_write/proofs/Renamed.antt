@@ -1,5 +1,5 @@
 -- Strings that are named alike.
-use Rattle.std.proofs.Common.{◌≡◌, refl, sym, ap, subst, ◌∙◌, ℕ, ◌-◌, ◌<◌, List, Bool, true, false, slice_get, arith}
+use Rattle.std.proofs.Common.{◌≡◌, refl, sym, ap, subst, ◌∙◌, ℕ, ◌-◌, ◌<◌, List, Bool, true, false, slice_get, get_or, arith}
 use Rattle.std.specs.Prelude.{Option, Some, None, nat_lt, if◌then◌else◌}
 use Rattle.std.proofs.lemmas.Bool.Decides.{nat_tests}
 use Rattle.postscript_compact1.specs.StandardStrings.{standard_string}
@@ -7,7 +7,8 @@ use Rattle.postscript_view.specs.Naming.{Names}
 use Rattle.postscript_view.specs.Strings.{string_of}
 use Rattle.postscript_view.specs.declared.char_set.CharSetView.{CharSetView}
 use Rattle.postscript_view.proofs.Naming.{named_once}
-use Rattle.postscript_write.specs.Strings.{own_string, SameString, SameText}
+use Rattle.postscript_write.specs.Glyphs.{Sources}
+use Rattle.postscript_write.specs.Strings.{own_string, AreNamedAs, IsNamedAs, SameString, SameText, SameTexts}
 
 standard : (strings : List (List ℕ)) (identifier : ℕ) → nat_lt identifier 391 ≡ true → string_of strings identifier ≡ standard_string identifier
 unfolding string_of
@@ -30,6 +31,17 @@ own_none : (strings : List (List ℕ)) (identifier : ℕ) → identifier < 391 �
 unfolding own_string
 own_none strings identifier less = grind (arith, nat_tests)
 
+pub named_by : (old new : CharSetView) (old_strings new_strings : List (List ℕ)) (source : Option ℕ) (glyph i was is : ℕ) → source ≡ Some glyph → Names old glyph was → Names new i is → SameString old_strings was new_strings is →
+    IsNamedAs old old_strings source new new_strings i
+named_by old new old_strings new_strings source glyph i was is e names_old names_new same =
+    subst (λ s. IsNamedAs old old_strings s new new_strings i) (sym e) (was, is, names_old, names_new, same)
+
+pub named_back : (old new : CharSetView) (old_strings new_strings : List (List ℕ)) (source : Option ℕ) (glyph i was is : ℕ) → source ≡ Some glyph → Names old glyph was → Names new i is →
+    IsNamedAs old old_strings source new new_strings i → SameString old_strings was new_strings is
+named_back old new old_strings new_strings source glyph i was is e names_old names_new named =
+    let h = subst (λ s. IsNamedAs old old_strings s new new_strings i) e named in
+    subst (λ n. SameString old_strings n new_strings is) (named_once old glyph h.0 was h.2 names_old) (subst (λ n. SameString old_strings h.0 new_strings n) (named_once new i h.1 is h.3 names_new) h.4)
+
 -- where identifiers name the same string, glyphs have the same name
 pub same_text_by : (old new : CharSetView) (old_strings new_strings : List (List ℕ)) (source : Option ℕ) (glyph i was is : ℕ) → source ≡ Some glyph → Names old glyph was → Names new i is → SameString old_strings was new_strings is →
     SameText old old_strings source new new_strings i
@@ -51,3 +63,11 @@ same_text_by old new old_strings new_strings source glyph i was is e names_old n
             subst (λ n. Names old glyph n) (sym one ∙ sym at) names_old),
       );
     })
+
+-- so all have the same names
+pub texts_of : (old new : CharSetView) (old_strings new_strings : List (List ℕ)) (sources : Sources) → AreNamedAs old old_strings sources new new_strings → SameTexts old old_strings sources new new_strings
+texts_of old new old_strings new_strings sources are i less = by (get_or sources i None) refl (are i less)
+  where
+    by : (source : Option ℕ) → get_or sources i None ≡ source → IsNamedAs old old_strings source new new_strings i → SameText old old_strings source new new_strings i
+    by None e named = tt
+    by (Some glyph) e named = same_text_by old new old_strings new_strings (Some glyph) glyph i named.0 named.1 refl named.2 named.3 named.4

@@ -1,13 +1,18 @@
 -- Operations of dictionaries as they are written: integers in five bytes, and an operator of one byte or of two (Technical Note
 -- 5176, "DICT Data").
-use Rattle.std.specs.Prelude.{◌≡◌, ◌≢◌, ℕ, pos, ◌+◌, ◌^◌, ◌<◌, List, [], ◌∷◌, ◌++◌, length, map, Option, Some, None}
+use Rattle.std.specs.Prelude.{◌≡◌, ◌≢◌, ◌⊎◌, ℕ, pos, ◌+◌, ◌^◌, ◌<◌, List, [], ◌∷◌, ◌++◌, length, map, Option, Some, None}
+use Rattle.std.specs.List.{Contains}
+use Rattle.std.specs.Option.{option_or}
 use Rattle.postscript_base.specs.Compact1.Decimal.{Decimal}
-use Rattle.postscript_base.specs.Compact1.Dictionary.{dictionary_of}
-use Rattle.postscript_base.specs.Compact1.DictionaryLaw.{IsDictionary, OperationsAt}
+use Rattle.postscript_base.specs.Compact1.Defaults.{look}
+use Rattle.postscript_base.specs.Compact1.Dictionary.{Dictionary, dictionary_of}
+use Rattle.postscript_base.specs.Compact1.DictionaryLaw.{IsDictionary, OperationsAt, UnfinishedAt, last_of}
 use Rattle.postscript_base.specs.Compact1.Number.{whole}
 use Rattle.postscript_base.specs.Compact1.Operation.{Operation}
 use Rattle.postscript_base.specs.Compact1.Operators.{operator_of}
 use Rattle.postscript_base.specs.declared.compact1.operator.Operator.{Operator}
+use Rattle.postscript_base.specs.declared.compact1.operator.Operator.TheVariants.{BaseFontName, CharSet, CharStrings, Copyright, Encoding, FDArray, FDSelect, FamilyName, FontName, FullName, Notice, PostScript, Private, Subrs, Version, Weight}
+use Rattle.postscript_write.specs.Parts.{IsAmong}
 use Rattle.postscript_write.specs.Texts.{number_text}
 use Rattle.postscript_write.specs.declared.dictionaries.Place.{Place}
 
@@ -44,6 +49,16 @@ pub record IsEscaped (second : ℕ) (operator : Operator) : Type 0 where
   pub low : second < 256
   pub names : operator_of (0x0c00 + second) ≡ Some operator
 
+-- the operators that are written: those of one byte that name places or a string, and those of two
+abbrev pub short : List Operator
+short = Version ∷ Notice ∷ FullName ∷ FamilyName ∷ Weight ∷ CharSet ∷ Encoding ∷ CharStrings ∷ Private ∷ Subrs ∷ []
+
+abbrev pub escaped : List Operator
+escaped = Copyright ∷ PostScript ∷ BaseFontName ∷ FDArray ∷ FDSelect ∷ FontName ∷ []
+
+abbrev pub IsWritable : Operator → Type 0
+IsWritable operator = IsAmong operator short ⊎ IsAmong operator escaped
+
 -- the operation of a place: its offset, and before it a size, where there is one
 abbrev pub numbers_of : Option ℕ → (offset : ℕ) → List ℕ
 numbers_of None offset = offset ∷ []
@@ -51,6 +66,28 @@ numbers_of (Some size) offset = size ∷ offset ∷ []
 
 abbrev pub operation_of : Place → Operation
 operation_of place = (place.operator, operands_of (numbers_of place.size place.offset))
+
+-- it can be written
+abbrev pub IsHeld : Place → Type 0
+IsHeld place = IsWritable place.operator × AreHeld (numbers_of place.size place.offset)
+
+-- A dictionary names these places, each in the place of what another one has for its operator, and says else what that one says.
+abbrev pub IsPlaced : Dictionary → List Place → Dictionary → Type 0
+IsPlaced old places new =
+    (operator : Operator) → look new operator ≡ option_or (last_of (map operation_of places) operator) (look old operator)
+
+-- The operations of a dictionary but those of some operators, in their order.
+pub data AreLeft (left_out : List Operator) : (all left : List Operation) → Type 0 where
+  none : AreLeft left_out [] []
+  kept : (operation : Operation) (all left : List Operation) → (Contains left_out operation.0 → ⊥) → AreLeft left_out all left →
+      AreLeft left_out (operation ∷ all) (operation ∷ left)
+  gone : (operation : Operation) (all left : List Operation) → Contains left_out operation.0 → AreLeft left_out all left →
+      AreLeft left_out (operation ∷ all) left
+
+-- Bytes are the whole operations of a dictionary but those of some operators.
+abbrev pub IsWithout : List ℕ → List Operator → (out : List ℕ) → Type 0
+IsWithout text left_out out = (all : List Operation) × (left : List Operation) × (end : ℕ) × OperationsAt text 0 all end
+    × UnfinishedAt text end × AreLeft left_out all left × OperationsAt out 0 left (length out)
 
 -- Laws: an operation that is written behind operations is one more of them; and whole operations are a dictionary, in
 -- which the last of each operator counts.

@@ -1,9 +1,9 @@
 pub mod Texts
 pub mod Index
 pub mod Local
-pub mod Dictionaries
 pub mod Glyphs
 pub mod Parts
+pub mod Dictionaries
 pub mod Naming
 pub mod Strings
 pub mod Fonts
@@ -14,5 +14,6 @@ pub mod Closure
 pub mod Kept
 pub mod Drawings
 pub mod Readings
+pub mod Sizes
 pub mod Refusals
 pub mod Steps

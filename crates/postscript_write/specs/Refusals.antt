@@ -12,7 +12,8 @@ use Rattle.postscript_view.specs.Order.{View, PrivateDict, fonts, view}
 use Rattle.postscript_view.specs.declared.char_set.CharSetView.{CharSetView}
 use Rattle.postscript_view.specs.declared.encoding.EncodingView.{EncodingView}
 use Rattle.postscript_write.specs.Components.{AreClosed}
-use Rattle.postscript_write.specs.Glyphs.{AreNumbersOf, HasPart, Sources, run_in}
+use Rattle.postscript_write.specs.Glyphs.{AreCodesOf, AreNumbersOf, HasPart, Sources, run_in}
+use Rattle.postscript_write.specs.Sizes.{IsLarge}
 use Rattle.postscript_write.specs.declared.error.Error.{Error}
 use Rattle.postscript_write.specs.declared.error.Error.TheVariants.{Refused, Glyph, SeveralFonts, MissingGlyph, MissingPart, MissingName, NoGlyphs, TooLarge, NotReadBack}
 
@@ -78,13 +79,21 @@ AreSound bytes font sources =
     (numbers : List ℕ) × AreNumbersOf bytes font sources numbers
     × ((i : ℕ) → i < length sources → IsFaultless font (slice_index_or sources i None) (slice_index_or numbers i 0))
 
+-- With the codes of these glyphs the font is too large to be written.
+pub record IsTooLarge (bytes : List ℕ) (font : View) (sources : Sources) : Type 0 where
+  pub numbers : List ℕ
+  pub codes : List (List ℕ)
+  pub are_numbers : AreNumbersOf bytes font sources numbers
+  pub are_codes : AreCodesOf font sources numbers codes
+  pub large : IsLarge bytes font codes
+
 -- What a refusal says of the font that glyphs are taken from. `TooLarge` and `NotReadBack` come only where nothing is wrong with it.
 abbrev pub FontRefusedBy : List ℕ → View → Sources → Error → Type 0
 FontRefusedBy bytes font sources (Glyph glyph cause) = IsFirst bytes font sources glyph cause
 FontRefusedBy bytes font sources (Refused cause) = cause ≢ Memory → (HasSet bytes font → ⊥) ⊎ (HasEncoding bytes font → ⊥)
 FontRefusedBy bytes font sources (MissingPart glyph) = IsPartless bytes font sources glyph
 FontRefusedBy bytes font sources (MissingName glyph) = IsNameless bytes font sources glyph
-FontRefusedBy bytes font sources TooLarge = AreSound bytes font sources
+FontRefusedBy bytes font sources TooLarge = AreSound bytes font sources × IsTooLarge bytes font sources
 FontRefusedBy bytes font sources NotReadBack = AreSound bytes font sources
 FontRefusedBy bytes font sources SeveralFonts = ⊥
 FontRefusedBy bytes font sources (MissingGlyph glyph) = ⊥

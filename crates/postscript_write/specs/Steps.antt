@@ -8,7 +8,7 @@ use Rattle.postscript_view.specs.declared.char_set.CharSetView.{CharSetView}
 use Rattle.postscript_view.specs.declared.font.FontView.{FontView}
 use Rattle.postscript_write.specs.Refusals.{HasOtherFonts, IsFirstPast, IsFirstRefused, IsRefusedAs, IsRunRefused}
 use Rattle.postscript_write.specs.declared.error.Error.{Error}
-use Rattle.postscript_write.specs.declared.error.Error.TheVariants.{Refused, Glyph, SeveralFonts, MissingGlyph, TooLarge, NotReadBack}
+use Rattle.postscript_write.specs.declared.error.Error.TheVariants.{Refused, Glyph, SeveralFonts, MissingGlyph, NotReadBack}
 
 -- of opening the only font of a set
 abbrev pub IsNotOpened : List ℕ → Error → Type 0
@@ -43,6 +43,5 @@ RefusedBy font sources numbers _ = ⊥
 -- of writing and reading back, when the codes are there
 abbrev pub IsLate : Error → Type 0
 IsLate (Refused cause) = cause ≡ Memory
-IsLate TooLarge = Unit {0}
 IsLate NotReadBack = Unit {0}
 IsLate _ = ⊥

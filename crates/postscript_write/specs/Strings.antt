@@ -57,6 +57,16 @@ abbrev pub SameTexts : CharSetView → List (List ℕ) → Sources → CharSetVi
 SameTexts old old_strings sources new new_strings = (i : ℕ) → i < length sources →
     SameText old old_strings (slice_index_or sources i None) new new_strings i
 
+-- so it has, where identifiers of both name the same string
+abbrev pub IsNamedAs : CharSetView → List (List ℕ) → Option ℕ → CharSetView → List (List ℕ) → (i : ℕ) → Type 0
+IsNamedAs old old_strings None new new_strings i = Unit {0}
+IsNamedAs old old_strings (Some glyph) new new_strings i =
+    (was : ℕ) × (is : ℕ) × Names old glyph was × Names new i is × SameString old_strings was new_strings is
+
+abbrev pub AreNamedAs : CharSetView → List (List ℕ) → Sources → CharSetView → List (List ℕ) → Type 0
+AreNamedAs old old_strings sources new new_strings = (i : ℕ) → i < length sources →
+    IsNamedAs old old_strings (slice_index_or sources i None) new new_strings i
+
 -- An operator of the dictionary names the string of a number, or it names a glyph.
 abbrev pub IsNeeded : View → CharSetView → (number : ℕ) → Type 0
 IsNeeded font set number =

@@ -1,5 +1,5 @@
 //! Parts, names and codes of a font that is read back, compared with those that it was made of.
-ghost use Rattle.std.specs.Prelude.{◌≡◌, ◌<◌, ℕ, IsTrue, Some, length, slice_index_or};
+ghost use Rattle.std.specs.Prelude.{◌≡◌, ◌↔◌, ◌<◌, ◌≤◌, ℕ, IsTrue, Some, length, slice_index_or};
 ghost use Rattle.postscript_base.specs.Index.Lent.{items_of};
 ghost use Rattle.postscript_view.specs.Value.{part_shown, parts_shown, view_shown};
 ghost use Rattle.postscript_write.specs.Glyphs.{HasPart};
@@ -13,7 +13,7 @@ use postscript_view::{CharSetView, Codes, EncodingView, FontView, PrivateDict};
 
 /// Whether both have a font dictionary that says the same, or neither has one.
 fn same_font(old: &Option<Operations>, new: &Option<Operations>) -> bool
-    ensures { IsTrue result → SameFont old.now new.now }
+    ensures { IsTrue result ↔ SameFont old.now new.now }
 {
     match (old, new) {
         (None, None) => true,
@@ -24,7 +24,7 @@ fn same_font(old: &Option<Operations>, new: &Option<Operations>) -> bool
 
 /// Whether a part has no subroutines, and says what another one says.
 fn same_part(old: &PrivateDict<'_>, new: &PrivateDict<'_>) -> bool
-    ensures { IsTrue result → SamePart (part_shown old.now) (part_shown new.now) }
+    ensures { IsTrue result ↔ SamePart (part_shown old.now) (part_shown new.now) }
 {
     let (a, b) = (&old.dictionary, &new.dictionary);
     if !same_look(Operator::DefaultWidthX, a, b) || !same_look(Operator::NominalWidthX, a, b) {
@@ -38,7 +38,7 @@ fn same_part(old: &PrivateDict<'_>, new: &PrivateDict<'_>) -> bool
 
 /// Whether there are as many parts, each of which says what the one in its place says.
 pub(crate) fn same_parts(old: &[PrivateDict<'_>], new: &[PrivateDict<'_>]) -> bool
-    ensures { IsTrue result → SameParts (parts_shown old.now) (parts_shown new.now) }
+    ensures { IsTrue result ↔ SameParts (parts_shown old.now) (parts_shown new.now) }
 {
     if old.len() != new.len() {
         return false;
@@ -53,7 +53,8 @@ pub(crate) fn same_parts(old: &[PrivateDict<'_>], new: &[PrivateDict<'_>]) -> bo
 
 /// Whether a glyph has the part of a number.
 fn has_number(number: usize, new: &FontView<'_>, i: usize) -> bool
-    ensures { IsTrue result → HasPart new.now.bytes.now (view_shown new.now) i number }
+    ensures has { IsTrue result → HasPart new.now.bytes.now (view_shown new.now) i number }
+    ensures only { i < length (items_of new.now.char_strings) → HasPart new.now.bytes.now (view_shown new.now) i number → IsTrue result }
 {
     match new.part_of(i) {
         Some(found) => found == number,
@@ -63,8 +64,10 @@ fn has_number(number: usize, new: &FontView<'_>, i: usize) -> bool
 
 /// Whether each glyph has the part of its number.
 pub(crate) fn same_numbers(numbers: &[usize], new: &FontView<'_>) -> bool
-    ensures { IsTrue result → (i : ℕ) → i < length numbers.now →
+    ensures have { IsTrue result → (i : ℕ) → i < length numbers.now →
         HasPart new.now.bytes.now (view_shown new.now) i (slice_index_or numbers.now i 0) }
+    ensures only { length numbers.now ≤ length (items_of new.now.char_strings) → ((i : ℕ) → i < length numbers.now →
+        HasPart new.now.bytes.now (view_shown new.now) i (slice_index_or numbers.now i 0)) → IsTrue result }
 {
     for i in 0..numbers.len() {
         if !has_number(numbers[i], new, i) {
@@ -76,7 +79,7 @@ pub(crate) fn same_numbers(numbers: &[usize], new: &FontView<'_>) -> bool
 
 /// Whether the same identifier names glyphs of two fonts.
 fn same_identifier(old: &CharSetView<'_>, glyph: usize, new: &CharSetView<'_>, i: usize) -> bool
-    ensures { IsTrue result → SameName old.now (Some glyph) new.now i }
+    ensures { IsTrue result ↔ SameName old.now (Some glyph) new.now i }
 {
     match (old.identifier(glyph), new.identifier(i)) {
         (Some(was), Some(is)) => was == is,
@@ -87,7 +90,7 @@ fn same_identifier(old: &CharSetView<'_>, glyph: usize, new: &CharSetView<'_>, i
 
 /// Whether the same identifier names a glyph and the one that it is made of; an empty one and the one in its place.
 fn same_name(old: &CharSetView<'_>, source: Option<usize>, new: &CharSetView<'_>, i: usize) -> bool
-    ensures { IsTrue result → SameName old.now source new.now i }
+    ensures { IsTrue result ↔ SameName old.now source new.now i }
 {
     match source {
         Some(glyph) => same_identifier(old, glyph, new, i),
@@ -101,7 +104,7 @@ pub(crate) fn same_names(
     sources: &[Option<usize>],
     new: &CharSetView<'_>,
 ) -> bool
-    ensures { IsTrue result → SameNames old.now sources.now new.now }
+    ensures { IsTrue result ↔ SameNames old.now sources.now new.now }
 {
     for i in 0..sources.len() {
         if !same_name(old, sources[i], new, i) {
@@ -113,7 +116,7 @@ pub(crate) fn same_names(
 
 /// Whether codes are told in the same way.
 fn same_codes(old: &Codes<'_>, new: &Codes<'_>) -> bool
-    ensures { IsTrue result → SameCodes old.now new.now }
+    ensures { IsTrue result ↔ SameCodes old.now new.now }
 {
     match (old, new) {
         (Codes::Predefined(old), Codes::Predefined(new)) => *new == *old,
@@ -125,7 +128,7 @@ fn same_codes(old: &Codes<'_>, new: &Codes<'_>) -> bool
 
 /// Whether codes are those that take the place of others where glyphs get new numbers.
 pub(crate) fn give_way(old: &Codes<'_>, new: &Codes<'_>) -> bool
-    ensures { IsTrue result → new.now ≡ codes_for old.now }
+    ensures { IsTrue result ↔ new.now ≡ codes_for old.now }
 {
     match (old, new) {
         (Codes::Predefined(old), Codes::Predefined(new)) => *new == *old,
@@ -137,7 +140,7 @@ pub(crate) fn give_way(old: &Codes<'_>, new: &Codes<'_>) -> bool
 
 /// Whether encodings say the same.
 pub(crate) fn same_encoding(old: &EncodingView<'_>, new: &EncodingView<'_>) -> bool
-    ensures { IsTrue result → SameEncoding old.now new.now }
+    ensures { IsTrue result ↔ SameEncoding old.now new.now }
 {
     same_codes(&old.codes, &new.codes) && new.supplements == old.supplements
 }

@@ -1,38 +1,60 @@
 //! Dictionaries, written (Technical Note 5176, "DICT Data").
-ghost use Rattle.std.specs.Prelude.{◌≡◌, ◌≤◌, ◌<◌, ◌^◌, ◌++◌, List, [], ◌∷◌, length, IfOk, IfSome, OnOk, fold, map};
+ghost use Rattle.std.specs.Prelude.{All, ◌≡◌, ◌≢◌, ◌⊎◌, None, ◌≤◌, ◌<◌, ◌^◌, ◌++◌, List, [], ◌∷◌, length, IfErr, IfOk, IfSome, OnOk, fold, map};
+ghost use Rattle.std.specs.List.{Contains};
+ghost use Rattle.postscript_base.specs.Tape.Outcome.{Got, RefusedAs};
+ghost use Rattle.postscript_base.specs.Compact1.Decimal.{Decimal};
 ghost use Rattle.postscript_base.specs.Compact1.Dictionary.{Dictionary, put};
 ghost use Rattle.postscript_base.specs.Compact1.DictionaryLaw.{IsDictionary, OperationsAt, UnfinishedAt};
-ghost use Rattle.postscript_base.specs.Compact1.Operation.{Operation};
-ghost use Rattle.postscript_write.specs.Dictionaries.{integer_text, integers_text, operands_of, AreHeld, IsCode, IsEscaped, operation_of};
+ghost use Rattle.postscript_base.specs.Compact1.Operation.{Operation, operation};
+ghost use Rattle.postscript_base.specs.declared.error.Error.TheVariants as errors;
+ghost use Rattle.postscript_write.specs.Parts.{IsAmong};
+ghost use Rattle.postscript_write.specs.Dictionaries.{integer_text, integers_text, operands_of, AreHeld, IsCode, IsEscaped, IsHeld, IsPlaced, IsWithout, IsWritable, escaped, operation_of, short};
 
 use crate::number::put_number;
+use crate::same::is_among;
 use postscript_base::compact1::{Operation, Operator};
 use postscript_base::{Error, Result, Value};
 use std::alloc::Global;
 use std::io::Cursor;
+
+/// The operator of the next operation. None where the end cuts it.
+fn next_operator(alloc: Global, tape: &mut Cursor<&[u8]>) -> Result<Option<Operator>>
+    ensures found { IfOk result (λ found. IfSome found (λ operator. (operands : List Decimal)
+        × (operation tape.old.inner.now tape.old.pos ≡ Got (operator, operands) tape.new.pos))) }
+    ensures onward { IfOk result (λ found. IfSome found
+        (λ _. (tape.old.pos < tape.new.pos) × (tape.new.pos ≤ length tape.old.inner.now))) }
+    ensures cut { IfOk result (λ found. found ≡ None → UnfinishedAt tape.old.inner.now tape.old.pos) }
+    ensures kept { OnOk result (tape.new.inner.now ≡ tape.old.inner.now) }
+    ensures refused { IfErr result (λ e. e ≢ errors.Memory →
+        RefusedAs e (operation tape.old.inner.now tape.old.pos) × (e ≢ errors.UnexpectedEof)) }
+{
+    match Operation::read(alloc, tape) {
+        Ok((operator, _operands)) => Ok(Some(operator)),
+        Err(Error::UnexpectedEof) => Ok(None),
+        Err(error) => Err(error),
+    }
+}
 
 /// The place behind the last whole operation.
 pub(crate) fn whole_end(alloc: Global, text: &[u8]) -> Result<usize>
     ensures within { IfOk result (λ end. end ≤ length text.now) }
     ensures whole { IfOk result (λ end. (operations : List Operation) × OperationsAt text.now 0 operations end
         × UnfinishedAt text.now end) }
+    ensures refused { IfErr result (λ e. e ≢ errors.Memory → (dictionary : Dictionary) → IsDictionary text.now 0 dictionary → ⊥) }
 {
-    let mut cursor = Cursor::new(text);
-    let mut place = 0u64;
-    for _ in 0..=text.len() {
-        match Operation::read(alloc, &mut cursor) {
-            Ok(_) => place = cursor.position(),
-            Err(Error::UnexpectedEof) => return Ok(place as usize),
-            Err(error) => return Err(error),
-        }
+    let mut tape = Cursor::new(text);
+    let mut place = 0usize;
+    'operations: while let Some(_) = next_operator(alloc, &mut tape)? {
+        place = tape.position() as usize;
     }
-    Err(Error::TapeStuck)
+    Ok(place)
 }
 
 /// Appends an integer of five bytes.
 fn put_integer(out: &mut Vec<u8>, number: usize) -> Result<()>
     ensures ok { OnOk result (out.new.items ≡ out.old.items ++ integer_text number) }
     ensures held { OnOk result (number < 2 ^ 31) }
+    ensures refused { IfErr result (λ e. e ≢ errors.Memory → 2 ^ 31 ≤ number) }
 {
     if number > 0x7fff_ffff {
         return Err(Error::OutOfRangeOffset);
@@ -46,6 +68,7 @@ fn put_integer(out: &mut Vec<u8>, number: usize) -> Result<()>
 fn put_integers(out: &mut Vec<u8>, numbers: &[usize]) -> Result<()>
     ensures ok { OnOk result (out.new.items ≡ out.old.items ++ integers_text numbers.now) }
     ensures held { OnOk result (AreHeld numbers.now) }
+    ensures refused { IfErr result (λ e. e ≢ errors.Memory → AreHeld numbers.now → ⊥) }
 {
     for number in numbers {
         put_integer(out, *number)?;
@@ -56,7 +79,8 @@ fn put_integers(out: &mut Vec<u8>, numbers: &[usize]) -> Result<()>
 /// The code of one byte of an operator that names places or a string.
 #[tactic(auto, unfolding(postscript_base::specs::Compact1::Operators::operator_of))]
 fn code_of(operator: Operator) -> Option<u8>
-    ensures { IfSome result (λ code. IsCode code operator) }
+    ensures code { IfSome result (λ code. IsCode code operator) }
+    ensures none { result ≡ None → IsAmong operator short → ⊥ }
 {
     match operator {
         Operator::Version => Some(0x00),
@@ -76,7 +100,8 @@ fn code_of(operator: Operator) -> Option<u8>
 /// The second byte of the code of another operator that names places or a string.
 #[tactic(auto, unfolding(postscript_base::specs::Compact1::Operators::operator_of))]
 fn second_of(operator: Operator) -> Option<u8>
-    ensures { IfSome result (λ second. IsEscaped second operator) }
+    ensures code { IfSome result (λ second. IsEscaped second operator) }
+    ensures none { result ≡ None → IsAmong operator escaped → ⊥ }
 {
     match operator {
         Operator::Copyright => Some(0x00),
@@ -92,7 +117,8 @@ fn second_of(operator: Operator) -> Option<u8>
 /// Appends an operation of an operator of one byte.
 fn put_short(out: &mut Vec<u8>, numbers: &[usize], operator: Operator, code: u8) -> Result<()>
     requires { IsCode code operator }
-    ensures { OnOk result ((operations : List Operation) → OperationsAt out.old.items 0 operations (length out.old.items) →
+    ensures refused { IfErr result (λ e. e ≢ errors.Memory → AreHeld numbers.now → ⊥) }
+    ensures one_more { OnOk result ((operations : List Operation) → OperationsAt out.old.items 0 operations (length out.old.items) →
         OperationsAt out.new.items 0 (operations ++ (operator, operands_of numbers.now) ∷ []) (length out.new.items)) }
 {
     put_integers(out, numbers)?;
@@ -103,7 +129,8 @@ fn put_short(out: &mut Vec<u8>, numbers: &[usize], operator: Operator, code: u8)
 /// Appends an operation of an operator of two bytes.
 fn put_escaped(out: &mut Vec<u8>, numbers: &[usize], operator: Operator, second: u8) -> Result<()>
     requires { IsEscaped second operator }
-    ensures { OnOk result ((operations : List Operation) → OperationsAt out.old.items 0 operations (length out.old.items) →
+    ensures refused { IfErr result (λ e. e ≢ errors.Memory → AreHeld numbers.now → ⊥) }
+    ensures one_more { OnOk result ((operations : List Operation) → OperationsAt out.old.items 0 operations (length out.old.items) →
         OperationsAt out.new.items 0 (operations ++ (operator, operands_of numbers.now) ∷ []) (length out.new.items)) }
 {
     put_integers(out, numbers)?;
@@ -116,7 +143,8 @@ fn put_escaped(out: &mut Vec<u8>, numbers: &[usize], operator: Operator, second:
 ///
 /// Refused: `MissingOperation` for another operator; `OutOfRangeOffset` for a number of more than 31 bits; `Memory`.
 pub fn put_operation(out: &mut Vec<u8>, numbers: &[usize], operator: Operator) -> Result<()>
-    ensures { OnOk result ((operations : List Operation) → OperationsAt out.old.items 0 operations (length out.old.items) →
+    ensures refused { IfErr result (λ e. e ≢ errors.Memory → IsWritable operator → AreHeld numbers.now → ⊥) }
+    ensures one_more { OnOk result ((operations : List Operation) → OperationsAt out.old.items 0 operations (length out.old.items) →
         OperationsAt out.new.items 0 (operations ++ (operator, operands_of numbers.now) ∷ []) (length out.new.items)) }
 {
     match (code_of(operator), second_of(operator)) {
@@ -136,7 +164,8 @@ pub(crate) struct Place {
 
 /// Appends the operation of a place.
 fn put_place(out: &mut Vec<u8>, place: &Place) -> Result<()>
-    ensures { OnOk result ((operations : List Operation) → OperationsAt out.old.items 0 operations (length out.old.items) →
+    ensures refused { IfErr result (λ e. e ≢ errors.Memory → IsHeld place.now → ⊥) }
+    ensures one_more { OnOk result ((operations : List Operation) → OperationsAt out.old.items 0 operations (length out.old.items) →
         OperationsAt out.new.items 0 (operations ++ operation_of place.now ∷ []) (length out.new.items)) }
 {
     match place.size {
@@ -147,7 +176,8 @@ fn put_place(out: &mut Vec<u8>, place: &Place) -> Result<()>
 
 /// Appends the operations of places to those that the bytes are.
 fn put_places(out: &mut Vec<u8>, places: &[Place]) -> Result<()>
-    ensures { OnOk result ((operations : List Operation) → OperationsAt out.old.items 0 operations (length out.old.items) →
+    ensures refused { IfErr result (λ e. e ≢ errors.Memory → All IsHeld places.now → ⊥) }
+    ensures more { OnOk result ((operations : List Operation) → OperationsAt out.old.items 0 operations (length out.old.items) →
         OperationsAt out.new.items 0 (operations ++ map operation_of places.now) (length out.new.items)) }
 {
     for place in places {
@@ -158,41 +188,80 @@ fn put_places(out: &mut Vec<u8>, places: &[Place]) -> Result<()>
 
 /// The bytes, copied.
 fn copied(alloc: Global, bytes: &[u8]) -> Result<Vec<u8>>
-    ensures { IfOk result (λ out. out.items ≡ bytes.now) }
+    ensures bytes { IfOk result (λ out. out.items ≡ bytes.now) }
+    ensures memory { IfErr result (λ e. e ≡ errors.Memory) }
 {
     let mut out = Vec::new(alloc);
     out.extend_from_slice(bytes)?;
     Ok(out)
 }
 
-/// The whole operations that bytes are, as they are spelled, without those of some operators.
-pub(crate) fn without(alloc: Global, text: &[u8], left_out: &[Operator]) -> Result<Vec<u8>> {
-    let mut out = Vec::new(alloc);
-    let mut cursor = Cursor::new(text);
-    let mut place = 0usize;
-    for _ in 0..=text.len() {
-        match Operation::read(alloc, &mut cursor) {
-            Ok((operator, _operands)) => {
-                let next = cursor.position() as usize;
-                if !left_out.contains(&operator) {
-                    out.extend_from_slice(text.get(place..next).unwrap_or(&[]))?;
-                }
-                place = next;
-            }
-            Err(Error::UnexpectedEof) => return Ok(out),
-            Err(error) => return Err(error),
-        }
+/// Appends an operation, where its operator is none of these.
+fn put_unless(
+    out: &mut Vec<u8>,
+    operation: &[u8],
+    operator: Operator,
+    left_out: &[Operator],
+) -> Result<()>
+    ensures either { OnOk result ((Contains left_out.now operator × (out.new.items ≡ out.old.items))
+        ⊎ ((Contains left_out.now operator → ⊥) × (out.new.items ≡ out.old.items ++ operation.now))) }
+    ensures memory { IfErr result (λ e. e ≡ errors.Memory) }
+{
+    if !is_among(operator, left_out) {
+        out.extend_from_slice(operation)?;
     }
-    Err(Error::TapeStuck)
+    Ok(())
+}
+
+/// The whole operations that bytes are, as they are spelled, without those of some operators.
+pub(crate) fn without(alloc: Global, text: &[u8], left_out: &[Operator]) -> Result<Vec<u8>>
+    ensures left { IfOk result (λ out. IsWithout text.now left_out.now out.items) }
+    ensures refused { IfErr result (λ e. e ≢ errors.Memory → (dictionary : Dictionary) → IsDictionary text.now 0 dictionary → ⊥) }
+{
+    let mut out = Vec::new(alloc);
+    let mut tape = Cursor::new(text);
+    let mut place = 0usize;
+    'operations: while let Some(operator) = next_operator(alloc, &mut tape)? {
+        let next = tape.position() as usize;
+        put_unless(&mut out, &text[place..next], operator, left_out)?;
+        place = next;
+    }
+    Ok(out)
 }
 
 /// The dictionary that bytes are, with the operations of places in the place of earlier ones of their operators.
-pub(crate) fn replaced(alloc: Global, text: &[u8], places: &[Place]) -> Result<Vec<u8>>
-    ensures { IfOk result (λ out. (dictionary : Dictionary) → IsDictionary text.now 0 dictionary →
+fn replaced(alloc: Global, text: &[u8], places: &[Place]) -> Result<Vec<u8>>
+    ensures refused { IfErr result (λ e. e ≢ errors.Memory → All IsHeld places.now → (dictionary : Dictionary) →
+        IsDictionary text.now 0 dictionary → ⊥) }
+    ensures put { IfOk result (λ out. (dictionary : Dictionary) → IsDictionary text.now 0 dictionary →
         IsDictionary out.items 0 (fold put dictionary (map operation_of places.now))) }
 {
     let end = whole_end(alloc, text)?;
     let mut out = copied(alloc, &text[..end])?;
     put_places(&mut out, places)?;
     Ok(out)
+}
+
+/// The operators of places.
+fn operators_of(alloc: Global, places: &[Place]) -> Result<Vec<Operator>>
+    ensures are { IfOk result (λ operators. operators.items ≡ map (λ place. place.operator) places.now) }
+    ensures memory { IfErr result (λ e. e ≡ errors.Memory) }
+{
+    let mut operators = Vec::new(alloc);
+    for place in places {
+        operators.push(place.operator)?;
+    }
+    Ok(operators)
+}
+
+/// A dictionary with places in the place of those that it names by the same operators.
+pub(crate) fn with_places(alloc: Global, text: &[u8], places: &[Place]) -> Result<Vec<u8>>
+    ensures placed { IfOk result (λ out. (old : Dictionary) → IsDictionary text.now 0 old →
+        (new : Dictionary) × IsDictionary out.items 0 new × IsPlaced old places.now new) }
+    ensures refused { IfErr result (λ e. e ≢ errors.Memory → All IsHeld places.now → (old : Dictionary) →
+        IsDictionary text.now 0 old → ⊥) }
+{
+    let operators = operators_of(alloc, places)?;
+    let rest = without(alloc, text, &operators)?;
+    replaced(alloc, &rest, places)
 }

@@ -35,7 +35,8 @@ pub enum Error {
     /// No glyphs are named.
     #[error("no glyphs are named")]
     NoGlyphs,
-    /// What is to be written is too large: an INDEX has more than 65,535 items or 32 bits of bytes, or a place more than 31 bits.
+    /// What is to be written is too large: the codes, names and strings, and four times the bytes that the font is read from, are
+    /// 2,000,000,000 bytes or more together.
     #[error("the font is too large to be written")]
     TooLarge,
     /// What was written is not read back as the font that was to be written. No contract says that this never comes.
@@ -70,18 +71,7 @@ impl<T: Drop> From<AllocFailed<T>> for Error {
     }
 }
 
-/// The refusal where writing is refused: `TooLarge`, running out of memory aside.
-pub(crate) fn unwritten(fault: Cause) -> Error
-    ensures { IsLate result }
-{
-    match fault {
-        Cause::Memory => Error::Refused(Cause::Memory),
-        Cause::OutOfRangeOffset => Error::TooLarge,
-        _ => Error::NotReadBack,
-    }
-}
-
-/// The refusal where a font that was written is refused: `NotReadBack`, running out of memory aside.
+/// The refusal where writing is refused, or a font that was written: `NotReadBack`, running out of memory aside.
 pub(crate) fn not_back(fault: Cause) -> Error
     ensures { IsLate result }
 {

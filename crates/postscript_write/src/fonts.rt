@@ -7,6 +7,7 @@ ghost use Rattle.postscript_write.specs.Components.{AreKept, IsSubset};
 ghost use Rattle.postscript_write.specs.Drawings.{DrawsKept, KeepsDrawings};
 ghost use Rattle.postscript_write.specs.Readings.{HasLenientFont};
 ghost use Rattle.postscript_write.specs.Refusals.{IsChoiceRefusedBy, IsRefusedBy, IsSubsetRefusedBy};
+ghost use Rattle.postscript_write.specs.Sizes.{IsSmall};
 ghost use Rattle.postscript_write.specs.Sources.{AreThere, IsWritten, chosen as the_chosen, every as the_every, keeping as the_keeping};
 ghost use Rattle.postscript_write.specs.Steps.{IsNotOpened};
 ghost use Rattle.postscript_write.specs.Whole.{IsWhole};
@@ -39,11 +40,13 @@ fn only_font<'l>(alloc: Global, bytes: &'l [u8]) -> Result<FontView<'l>>
 ///
 /// Refused: `Glyph` with the first glyph whose run is refused, and why; `Refused` where the font, its char set or its encoding is
 /// refused, or where memory is; `MissingPart` where FDSelect gives a glyph no font dictionary; `SeveralFonts` where there is
-/// not one font; `TooLarge` where what is written is too large; `NotReadBack` where it is not read back as this font.
+/// not one font; `TooLarge` where the new codes, the names and the strings, and four times the bytes that the font is read from, are
+/// 2,000,000,000 bytes or more together; `NotReadBack` where it is not read back as this font.
 pub fn flat_font(alloc: Global, bytes: &[u8]) -> Result<Vec<u8>>
     ensures drawn { IfOk result (λ flat. KeepsDrawings the_every bytes.now flat.items) }
     ensures written { IfOk result (λ flat. IsWritten true the_every bytes.now flat.items) }
     ensures whole { IfOk result (λ flat. IsWhole flat.items) }
+    ensures small { IfOk result (λ flat. IsSmall bytes.now flat.items) }
     ensures lenient { IfOk result (λ flat. HasLenientFont bytes.now → HasLenientFont flat.items) }
     ensures one { OnOk result (the_fonts bytes.now 0 ≡ Got 1 0) }
     ensures refused { IfErr result (λ e. IsRefusedBy the_every bytes.now e) }
@@ -88,6 +91,7 @@ pub fn subset(alloc: Global, bytes: &[u8], named: &[usize]) -> Result<Vec<u8>>
     ensures drawn { IfOk result (λ flat. DrawsKept the_chosen named.now bytes.now flat.items) }
     ensures written { IfOk result (λ flat. IsSubset false the_chosen named.now bytes.now flat.items) }
     ensures whole { IfOk result (λ flat. IsWhole flat.items) }
+    ensures small { IfOk result (λ flat. IsSmall bytes.now flat.items) }
     ensures lenient { IfOk result (λ flat. HasLenientFont bytes.now → HasLenientFont flat.items) }
     ensures one { OnOk result (the_fonts bytes.now 0 ≡ Got 1 0) }
     ensures refused { IfErr result (λ e. IsSubsetRefusedBy named.now the_chosen bytes.now e) }
@@ -112,6 +116,7 @@ pub fn subset_keeping(alloc: Global, bytes: &[u8], named: &[usize]) -> Result<Ve
     ensures drawn { IfOk result (λ flat. DrawsKept the_keeping named.now bytes.now flat.items) }
     ensures written { IfOk result (λ flat. IsSubset true the_keeping named.now bytes.now flat.items) }
     ensures whole { IfOk result (λ flat. IsWhole flat.items) }
+    ensures small { IfOk result (λ flat. IsSmall bytes.now flat.items) }
     ensures lenient { IfOk result (λ flat. HasLenientFont bytes.now → HasLenientFont flat.items) }
     ensures one { OnOk result (the_fonts bytes.now 0 ≡ Got 1 0) }
     ensures refused { IfErr result (λ e. IsSubsetRefusedBy named.now the_keeping bytes.now e) }

@@ -1,5 +1,5 @@
 //! The parts of a font, and where they stand (Technical Note 5176, "CFF Data Layout").
-use crate::dictionaries::{Place, replaced, without};
+use crate::dictionaries::{Place, with_places, without};
 use crate::indices::put_index;
 use crate::kept::SID_OPERATORS;
 use crate::naming::identifier_in;
@@ -225,16 +225,6 @@ fn places_from(alloc: Global, start: usize, parts: &Parts<'_>) -> Result<Vec<Pla
     let end = behind.saturating_add(parts.dictionaries);
     placed(&mut places, end, Operator::CharSet, &parts.glyphs.char_set)?;
     Ok(places)
-}
-
-/// A dictionary with places in the place of those that it names by the same operators.
-fn with_places(alloc: Global, text: &[u8], places: &[Place]) -> Result<Vec<u8>> {
-    let mut operators = Vec::new(alloc);
-    for place in places {
-        operators.push(place.operator)?;
-    }
-    let rest = without(alloc, text, operators.as_slice())?;
-    replaced(alloc, rest.as_slice(), places)
 }
 
 /// A font dictionary with its private dictionary at a place.

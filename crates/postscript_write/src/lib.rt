@@ -19,6 +19,7 @@ mod number;
 mod numbering;
 mod readings;
 mod same;
+mod sizes;
 mod sources;
 mod spans;
 mod strings;

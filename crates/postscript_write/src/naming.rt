@@ -1,8 +1,8 @@
 //! Strings of a font, and what names them (Technical Note 5176, sections 9, 10 and 13).
-ghost use Rattle.std.specs.Prelude.{◌≡◌, IsTrue, option_map};
+ghost use Rattle.std.specs.Prelude.{◌≡◌, ◌↔◌, IsTrue, option_map};
 ghost use Rattle.postscript_base.specs.Index.Lent.{items_of};
 ghost use Rattle.postscript_view.specs.Value.{view_shown};
-ghost use Rattle.postscript_write.specs.Strings.{identifier_in as the_identifier, own_named as the_own_named, own_string as the_own_string, NameSame, NamesSame, SameString, SameText, SameTexts};
+ghost use Rattle.postscript_write.specs.Strings.{identifier_in as the_identifier, own_named as the_own_named, own_string as the_own_string, AreNamedAs, IsNamedAs, NameSame, NamesSame, SameString};
 
 use crate::kept::SID_OPERATORS;
 use crate::same::{same_bytes, same_look};
@@ -41,7 +41,7 @@ fn own_named<'l>(font: &FontView<'l>, operator: Operator) -> Option<&'l [u8]>
 
 /// Whether an operator names the same string of the font's own, or has the same operands and names none.
 fn names_same(operator: Operator, old: &FontView<'_>, new: &FontView<'_>) -> bool
-    ensures { IsTrue result → NamesSame (view_shown old.now).tables (view_shown new.now).tables operator }
+    ensures { IsTrue result ↔ NamesSame (view_shown old.now).tables (view_shown new.now).tables operator }
 {
     match (own_named(old, operator), own_named(new, operator)) {
         (None, None) => same_look(operator, &old.dictionary, &new.dictionary),
@@ -52,7 +52,7 @@ fn names_same(operator: Operator, old: &FontView<'_>, new: &FontView<'_>) -> boo
 
 /// Whether each operator that names strings names the same one.
 pub(crate) fn name_same(old: &FontView<'_>, new: &FontView<'_>) -> bool
-    ensures { IsTrue result → NameSame (view_shown old.now).tables (view_shown new.now).tables }
+    ensures { IsTrue result ↔ NameSame (view_shown old.now).tables (view_shown new.now).tables }
 {
     for operator in &SID_OPERATORS {
         if !names_same(*operator, old, new) {
@@ -64,7 +64,7 @@ pub(crate) fn name_same(old: &FontView<'_>, new: &FontView<'_>) -> bool
 
 /// Whether identifiers of two fonts name the same string of the font's own, or are the same and name none.
 fn same_string(old: &FontView<'_>, was: StringID, new: &FontView<'_>, is: StringID) -> bool
-    ensures { IsTrue result → SameString (items_of old.now.strings) was (items_of new.now.strings) is }
+    ensures { IsTrue result ↔ SameString (items_of old.now.strings) was (items_of new.now.strings) is }
 {
     match (own_string(old, was), own_string(new, is)) {
         (None, None) => was == is,
@@ -82,7 +82,7 @@ fn same_text(
     new_set: &CharSetView<'_>,
     i: usize,
 ) -> bool
-    ensures { IsTrue result → SameText old_set.now (items_of old.now.strings) source new_set.now (items_of new.now.strings) i }
+    ensures { IsTrue result ↔ IsNamedAs old_set.now (items_of old.now.strings) source new_set.now (items_of new.now.strings) i }
 {
     let Some(glyph) = source else {
         return true;
@@ -101,7 +101,7 @@ pub(crate) fn same_texts(
     new: &FontView<'_>,
     new_set: &CharSetView<'_>,
 ) -> bool
-    ensures { IsTrue result → SameTexts old_set.now (items_of old.now.strings) sources.now new_set.now (items_of new.now.strings) }
+    ensures { IsTrue result ↔ AreNamedAs old_set.now (items_of old.now.strings) sources.now new_set.now (items_of new.now.strings) }
 {
     for i in 0..sources.len() {
         if !same_text(old, old_set, sources[i], new, new_set, i) {

@@ -8,7 +8,7 @@ ghost use Rattle.postscript_write.specs.Refusals.{FontRefusedBy};
 ghost use Rattle.postscript_write.specs.Steps.{IsLate};
 ghost use Rattle.postscript_write.specs.declared.error.Error.TheVariants as errors;
 
-use crate::error::{Error, Result, unwritten};
+use crate::error::{Error, Result, not_back};
 use crate::layout::{Glyphs, own_char_set, own_encoding};
 use crate::number::put_number;
 use crate::strings::Strings;
@@ -27,7 +27,7 @@ fn copied(alloc: Global, bytes: postscript_base::Result<Option<&[u8]>>) -> Resul
             Ok(Some(out))
         }
         Ok(None) => Ok(None),
-        Err(fault) => Err(unwritten(fault)),
+        Err(fault) => Err(not_back(fault)),
     }
 }
 
@@ -92,7 +92,7 @@ fn strings_of(
     };
     match strings {
         Ok(strings) => Ok(strings),
-        Err(fault) => Err(unwritten(fault)),
+        Err(fault) => Err(not_back(fault)),
     }
 }
 

@@ -11,6 +11,7 @@ ghost use Rattle.postscript_write.specs.Fonts.{IsFontOf, Repeats};
 ghost use Rattle.postscript_write.specs.Glyphs.{AreCodesOf, AreNumbersOf};
 ghost use Rattle.postscript_write.specs.Readings.{HasLenientFont};
 ghost use Rattle.postscript_write.specs.Refusals.{FontRefusedBy};
+ghost use Rattle.postscript_write.specs.Sizes.{IsLarge};
 ghost use Rattle.postscript_write.specs.Steps.{IsLate};
 ghost use Rattle.postscript_write.specs.Naming.{GivesWay, KeepsCodes, SameEncoding, SameNames, codes_for};
 ghost use Rattle.postscript_write.specs.Whole.{IsWhole};
@@ -18,7 +19,7 @@ ghost use Rattle.postscript_write.specs.Strings.{keeps_strings, CutsStrings, Kee
 
 use crate::alike::{give_way, same_encoding, same_names, same_numbers, same_parts};
 use crate::ends::has_no_byte_beside;
-use crate::error::{Error, Result, not_back, unwritten};
+use crate::error::{Error, Result, not_back};
 use crate::glyphs::{codes_of, numbers_of};
 use crate::kept::{CHANGED, SID_OPERATORS};
 use crate::layout::written;
@@ -27,6 +28,7 @@ use crate::needed::are_needed;
 use crate::numbering::{identifiers_of, numbered};
 use crate::readings::stays_read;
 use crate::same::{are_codes, are_none, has_header, same_at, same_but, same_items};
+use crate::sizes::is_large;
 use postscript_base::compact1::StringID;
 use postscript_view::{CharSetView, EncodingView, FontView};
 use std::alloc::Global;
@@ -215,6 +217,7 @@ fn read_back(alloc: Global, from: &Making<'_, '_>, flat: &[u8]) -> Result<()>
     ensures font { OnOk result ((new : View) × (the_view flat.now 0 ≡ Got new 0)
         × IsFontOf from.now.retain_gids from.now.sources.now from.now.font.now.bytes.now (view_shown from.now.font.now) flat.now new) }
     ensures whole { OnOk result (IsWhole flat.now) }
+    ensures codes { OnOk result ((new : View) → the_view flat.now 0 ≡ Got new 0 → new.char_strings ≡ texts from.now.codes.now) }
     ensures late { IfErr result (λ e. IsLate e) }
 {
     let again = match FontView::read_font(alloc, flat, 0) {
@@ -262,13 +265,14 @@ fn put_together(
     ensures font { IfOk result (λ flat. (new : View) × (the_view flat.items 0 ≡ Got new 0)
         × IsFontOf from.now.retain_gids from.now.sources.now from.now.font.now.bytes.now (view_shown from.now.font.now) flat.items new) }
     ensures whole { IfOk result (λ flat. IsWhole flat.items) }
+    ensures codes { IfOk result (λ flat. (new : View) → the_view flat.items 0 ≡ Got new 0 → new.char_strings ≡ texts from.now.codes.now) }
     ensures lenient { IfOk result (λ flat. HasLenientFont from.now.font.now.bytes.now → HasLenientFont flat.items) }
     ensures late { IfErr result (λ e. IsLate e) }
 {
     let glyphs = numbered(alloc, from.font, from.numbers, identifiers)?;
     let flat = match written(alloc, from.font, &glyphs, from.codes) {
         Ok(flat) => flat,
-        Err(fault) => return Err(unwritten(fault)),
+        Err(fault) => return Err(not_back(fault)),
     };
     read_back(alloc, from, &flat)?;
     stays_read(alloc, from.font.bytes, &flat)?;
@@ -302,6 +306,8 @@ pub(crate) fn font_of(
     ensures font { IfOk result (λ flat. (new : View) × (the_view flat.items 0 ≡ Got new 0)
         × IsFontOf retain_gids sources.now font.now.bytes.now (view_shown font.now) flat.items new) }
     ensures whole { IfOk result (λ flat. IsWhole flat.items) }
+    ensures small { IfOk result (λ flat. (new : View) → the_view flat.items 0 ≡ Got new 0 →
+        IsLarge font.now.bytes.now (view_shown font.now) new.char_strings → ⊥) }
     ensures lenient { IfOk result (λ flat. HasLenientFont font.now.bytes.now → HasLenientFont flat.items) }
     ensures refused { IfErr result (λ e. FontRefusedBy font.now.bytes.now (view_shown font.now) sources.now e) }
 {
@@ -309,6 +315,9 @@ pub(crate) fn font_of(
     let encoding = font.encoding()?;
     let numbers = numbers_of(alloc, font, sources)?;
     let codes = codes_of(alloc, font, sources, &numbers)?;
+    if is_large(font, &codes) {
+        return Err(Error::TooLarge);
+    }
     let listed = list_of(alloc, font, &set, sources, retain_gids)?;
     let from = Making {
         font,

@@ -24,20 +24,20 @@ returns-clause-font c =
     let codes = texts c.args.from.now.codes.now in
     let same : again.bytes.now ≡ flat = c.in-Ok.ensures.bytes in
     let repeats = c.says_same.ensures c.if-not-says_same.false in
-    let are : new.char_strings ≡ codes = c.are_codes.ensures c.if-not-are_codes.false in
+    let are : new.char_strings ≡ codes = c.are_codes.ensures.0 c.if-not-are_codes.false in
     let numbered : length numbers ≡ length sources = c.requires.numbers.many in
     let many : length codes ≡ length sources = c.requires.codes.many in (
       new,
       c.in-Ok.ensures.exact,
       record {
-        header = c.has_header.ensures c.if-not-has_header.false;
+        header = c.has_header.ensures.0 c.if-not-has_header.false;
         repeats = repeats;
         many = ap length are ∙ many;
         glyphs = λ i less.
             let code = slice_index_or codes i [] in
             let there : slice_get new.char_strings i ≡ Some code = subst (λ (cs : List (List ℕ)). slice_get cs i ≡ Some code) (sym are) (slice_get-get_or codes i [] (omega (arith, less, many))) in
             made bytes flat old new (slice_index_or sources i None) i (slice_index_or numbers i 0) code repeats.parts there (c.requires.numbers.each i less) (c.requires.codes.each i less)
-            (subst (λ (bs : List ℕ). HasPart bs new i (slice_index_or numbers i 0)) same (c.same_numbers.ensures c.if-not-same_numbers.false i (omega (arith, less, numbered))));
+            (subst (λ (bs : List ℕ). HasPart bs new i (slice_index_or numbers i 0)) same (c.same_numbers.ensures.have c.if-not-same_numbers.false i (omega (arith, less, numbered))));
         naming = record {
           old_set = c.args.from.now.set.now;
           new_set = c.in_ok-new.new;

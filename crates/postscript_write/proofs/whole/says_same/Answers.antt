@@ -6,9 +6,9 @@ use Rattle.postscript_write.proofs.whole.says_same.Goals as goal
 
 pub returns : goal.returns
 returns c = λ h. record {
-  names = c.same_items.ensures c.if-not-same_items.false;
-  no_global = c.are_none.ensures c.if-not-are_none.false;
-  dictionary = c.same_but.ensures c.if-not-same_but.false;
+  names = c.same_items.ensures.0 c.if-not-same_items.false;
+  no_global = c.are_none.ensures.0 c.if-not-are_none.false;
+  dictionary = c.same_but.ensures.0 c.if-not-same_but.false;
   parts = subst (λ (ps : List PrivateDict). SameParts (parts_shown ps) (parts_shown c.args.new.now.parts.items)) c.deref.ensures.value
-      (subst (λ (ps : List PrivateDict). SameParts (parts_shown c.deref.result.now) (parts_shown ps)) c.deref-2.ensures.value (c.same_parts.ensures h));
+      (subst (λ (ps : List PrivateDict). SameParts (parts_shown c.deref.result.now) (parts_shown ps)) c.deref-2.ensures.value (c.same_parts.ensures.0 h));
 }

@@ -1,0 +1,42 @@
+use Rattle.std.proofs.Common.{length, ◌≡◌, refl, sym, ap, subst, ◌∙◌, [], arith}
+use Rattle.std.proofs.lemmas.Result.{err_from_is_err_and}
+use Rattle.postscript_base.specs.Tape.Outcome.{Got, RefusedAs}
+use Rattle.postscript_base.specs.Compact1.Operation.{Operation, operation}
+use Rattle.postscript_write.specs.Dictionaries.AreLeft.{none}
+use Rattle.postscript_write.proofs.Without.{no_dictionary, one_more_so}
+use Rattle.postscript_write.proofs.dictionaries.without.Goals as goal
+
+pub operations-init : goal.operations-init
+operations-init c = record {
+  inner = ap (λ x. x.now) c.new-tape.ensures.inner;
+  position = c.new-tape.ensures.position;
+  within = omega arith;
+  so_far = record { all = []; left = []; are = refl; among = none; stand = ap length c.new-out.ensures.items };
+}
+
+pub returns-in_err-operator-clause-refused : goal.returns-in_err-operator-clause-refused
+returns-in_err-operator-clause-refused c =
+    let error = err_from_is_err_and c.from_residual.result c.from_residual.ensures.1 in
+    let so_far = c.operations.invariant in
+    rw (error.1, error.2) (λ other map is.
+    let refused = c.in_err-operator.ensures.refused other in
+    no_dictionary c.args.text.now c.operations.place so_far.so_far.all _ so_far.so_far.are
+    (subst (λ p. RefusedAs c.in_err-operator.field-0.0 (operation c.args.text.now p)) so_far.position (subst (λ bs. RefusedAs c.in_err-operator.field-0.0 (operation bs c.operations.tape.pos)) so_far.inner refused.0)) refused.1 map is)
+
+pub operations-preserved : goal.operations-preserved
+operations-preserved c =
+    let so_far = c.operations.invariant in
+    let found = rw c.in-Some.is at c.in_ok-operator.ensures.found in
+    let onward = rw c.in-Some.is at c.in_ok-operator.ensures.onward in
+    let text = c.args.text.now in
+    let end = c.next_operator.new.tape.pos in
+    let one : Operation = (c.in-Some.operator, found.0) in
+    let next : end ≡ c.position-next.result = sym c.position-next.ensures in
+    let got : operation text c.operations.place ≡ Got one c.position-next.result =
+    subst (λ p. operation text p ≡ Got one end) so_far.position (subst (λ bs. operation bs c.operations.tape.pos ≡ Got one end) so_far.inner found.1) ∙ ap (λ n. Got one n) next in
+    record {
+      inner = c.in_ok-operator.ensures.kept ∙ so_far.inner;
+      position = next;
+      within = let past = onward.1 in let same = ap length so_far.inner in omega (arith, past, same, next);
+      so_far = one_more_so text c.operations.out.items c.put_unless.new.out.items c.args.left_out.now c.operations.place c.position-next.result one got c.in_ok-put_unless.ensures.either so_far.so_far;
+    }

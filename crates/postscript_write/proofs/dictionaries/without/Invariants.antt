@@ -1,0 +1,14 @@
+use Rattle.std.proofs.Common.{◌≡◌, ◌≤◌, ◌-◌, length}
+use Rattle.postscript_write.proofs.Without.{IsSoFar}
+use Rattle.postscript_write.proofs.dictionaries.without.Given as goal
+
+abbrev pub invariant-operations : goal.invariant-operations
+invariant-operations l = record {
+  inner : l.tape.inner.now ≡ l.text;
+  position : l.tape.pos ≡ l.place;
+  within : l.place ≤ length l.text;
+  so_far : IsSoFar l.text l.left_out l.place l.out.items;
+}
+
+abbrev pub decreases-operations : goal.decreases-operations
+decreases-operations l = length l.text - l.place

@@ -1,0 +1,23 @@
+-- How many bytes a font may have that is written (Technical Note 5176, sections 3 and 5: its offsets have at most four bytes).
+use Rattle.std.specs.Prelude.{◌≡◌, ℕ, ◌+◌, ◌*◌, ◌≤◌, List, Vec, length}
+use Rattle.std.specs.List.{sum_by}
+use Rattle.std.specs.declared.alloc.Global.{Global}
+use Rattle.postscript_base.specs.Tape.Outcome.{Got}
+use Rattle.postscript_view.specs.Order.{View, view}
+
+-- the bytes of items together
+abbrev pub bytes_in : List (List ℕ) → ℕ
+bytes_in items = sum_by length items
+
+abbrev pub codes_size : List (Vec ℕ Global) → ℕ
+codes_size codes = sum_by (λ code. length code.items) codes
+
+-- A font is too large with these codes: they, its names and its strings, and four times the bytes that it is read from, are
+-- 2,000,000,000 bytes or more together.
+abbrev pub IsLarge : (bytes : List ℕ) → View → (codes : List (List ℕ)) → Type 0
+IsLarge bytes font codes =
+    2000000000 ≤ 4 * length bytes + bytes_in font.tables.names + bytes_in font.tables.strings + bytes_in codes
+
+-- with the codes of the new font the old one is not too large
+abbrev pub IsSmall : (bytes flat : List ℕ) → Type 0
+IsSmall bytes flat = (old new : View) → view bytes 0 ≡ Got old 0 → view flat 0 ≡ Got new 0 → IsLarge bytes old new.char_strings → ⊥
