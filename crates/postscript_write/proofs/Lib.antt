@@ -8,6 +8,8 @@ pub mod WholeEnd
 pub mod Moving
 pub mod Without
 pub mod Placing
+pub mod Privates
+pub mod Heads
 pub mod Shown
 pub mod Likeness
 pub mod Encoded

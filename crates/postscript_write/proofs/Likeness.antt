@@ -34,7 +34,7 @@ pub same_advance : (old new : Dictionary) → look new DefaultWidthX ≡ look ol
 same_advance old new e f None = ap (λ o. option_map Default (first_of o)) e
 same_advance old new e f (Some difference) = ap (λ o. option_map (λ nominal. Nominal nominal difference) (first_of o)) f
 
-shown_at : (parts : List PrivateDict) (i : ℕ) (part : PrivateDict) → i < length parts → part ≡ get_or parts i part → slice_get (parts_shown parts) i ≡ Some (part_shown part)
+pub shown_at : (parts : List PrivateDict) (i : ℕ) (part : PrivateDict) → i < length parts → part ≡ get_or parts i part → slice_get (parts_shown parts) i ≡ Some (part_shown part)
 shown_at parts i part less is = slice_get-map part_shown parts i ∙ ap (option_map part_shown) (slice_get_read parts (length parts) i part refl less is)
 
 -- what is found at a place of the parts is what is shown of it

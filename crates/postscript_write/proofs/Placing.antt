@@ -16,7 +16,7 @@ use Rattle.postscript_base.specs.Compact1.Operators.{operator_cmp}
 use Rattle.postscript_base.specs.declared.compact1.operator.Operator.{Operator}
 use Rattle.postscript_base.proofs.DictionaryIs.{get_last}
 use Rattle.postscript_base.proofs.DictionaryMaps.{exact, operators_total}
-use Rattle.postscript_write.specs.Dictionaries.{AreLeft, IsPlaced, IsWithout, operation_of}
+use Rattle.postscript_write.specs.Dictionaries.{AreLeft, IsLess, IsPlaced, IsWithout, operation_of}
 use Rattle.postscript_write.specs.Dictionaries.AreLeft.{none, kept, gone}
 use Rattle.postscript_write.specs.declared.dictionaries.Place.{Place}
 use Rattle.postscript_write.proofs.OperationsStand.{writes_operations}
@@ -48,6 +48,27 @@ left_last left_out _ _ q (gone o all left is h) out = left_last left_out all lef
     by : (b : Bool) → eq_by_cmp operator_cmp q o.0 ≡ b → last_of all q ≡ option_or (last_of all q) (if b then Some o.1 else None)
     by true e = absurd (out (subst (λ x. Contains left_out x) (sym (same_operator q o.0 e)) is))
     by false e = grind arith
+
+-- and of one of these nothing
+left_none : (left_out : List Operator) (all left : List Operation) (q : Operator) → AreLeft left_out all left → Contains left_out q → last_of left q ≡ None
+left_none left_out _ _ q none is = refl
+left_none left_out _ _ q (kept o all left other h) is = ap (λ x. option_or x (if eq_by_cmp operator_cmp q o.0 then Some o.1 else None)) (left_none left_out all left q h is) ∙ by (eq_by_cmp operator_cmp q o.0) refl
+  where
+    by : (b : Bool) → eq_by_cmp operator_cmp q o.0 ≡ b → (if b then Some o.1 else None) ≡ None
+    by true e = absurd (other (subst (λ x. Contains left_out x) (same_operator q o.0 e) is))
+    by false e = refl
+left_none left_out _ _ q (gone o all left was h) is = left_none left_out all left q h is
+
+-- what is left of a dictionary is one that says less
+pub less : (text out : List ℕ) (left_out : List Operator) (old : Dictionary) → IsWithout text left_out out → IsDictionary text 0 old → (new : Dictionary) × IsDictionary out 0 new × IsLess left_out old new
+less text out left_out old w is = (
+  dictionary_of w.1,
+  writes_operations.all out w.1 w.6,
+  record {
+    gone = λ q has. get_last w.1 q ∙ left_none left_out w.0 w.1 q w.5 has;
+    stays = λ q other. get_last w.1 q ∙ left_last left_out w.0 w.1 q w.5 other ∙ sym (ap (λ d. get d q) (one_map text old w.0 w.2 is w.3 w.4) ∙ get_last w.0 q);
+  },
+)
 
 -- an operator of a place has operands
 some_last : (places : List Place) (q : Operator) → Contains (map (λ place. place.operator) places) q → last_of (map operation_of places) q ≡ None → ⊥

@@ -2,6 +2,7 @@
 -- 5176, "DICT Data").
 use Rattle.std.specs.Prelude.{◌≡◌, ◌≢◌, ◌⊎◌, ℕ, pos, ◌+◌, ◌^◌, ◌<◌, List, [], ◌∷◌, ◌++◌, length, map, Option, Some, None}
 use Rattle.std.specs.List.{Contains}
+use Rattle.std.specs.FinMap.{get}
 use Rattle.std.specs.Option.{option_or}
 use Rattle.postscript_base.specs.Compact1.Decimal.{Decimal}
 use Rattle.postscript_base.specs.Compact1.Defaults.{look}
@@ -88,6 +89,11 @@ pub data AreLeft (left_out : List Operator) : (all left : List Operation) → Ty
 abbrev pub IsWithout : List ℕ → List Operator → (out : List ℕ) → Type 0
 IsWithout text left_out out = (all : List Operation) × (left : List Operation) × (end : ℕ) × OperationsAt text 0 all end
     × UnfinishedAt text end × AreLeft left_out all left × OperationsAt out 0 left (length out)
+
+-- A dictionary says nothing of some operators, and of all others what another one says.
+pub record IsLess (left_out : List Operator) (old new : Dictionary) : Type 0 where
+  pub gone : (operator : Operator) → Contains left_out operator → get new operator ≡ None
+  pub stays : (operator : Operator) → (Contains left_out operator → ⊥) → get new operator ≡ get old operator
 
 -- Laws: an operation that is written behind operations is one more of them; and whole operations are a dictionary, in
 -- which the last of each operator counts.

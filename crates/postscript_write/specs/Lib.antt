@@ -4,6 +4,7 @@ pub mod Local
 pub mod Glyphs
 pub mod Parts
 pub mod Dictionaries
+pub mod Privates
 pub mod Naming
 pub mod Strings
 pub mod Fonts

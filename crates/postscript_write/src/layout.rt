@@ -1,4 +1,16 @@
 //! The parts of a font, and where they stand (Technical Note 5176, "CFF Data Layout").
+ghost use Rattle.std.specs.Prelude.{◌≡◌, ◌≢◌, ◌≤◌, length, All, Option, IfErr, IfOk};
+ghost use Rattle.std.specs.Option.{unwrap_or};
+ghost use Rattle.postscript_base.specs.Compact1.Dictionary.{Dictionary};
+ghost use Rattle.postscript_base.specs.Compact1.DictionaryLaw.{IsDictionary};
+ghost use Rattle.postscript_base.specs.declared.error.Error.TheVariants as errors;
+ghost use Rattle.postscript_base.specs.Index.{number_at};
+ghost use Rattle.postscript_view.specs.Layout.{AreParts, AreTables, IsPart};
+ghost use Rattle.postscript_view.specs.Order.{PrivateDict as Part, Tables};
+ghost use Rattle.postscript_view.specs.Value.{parts_shown};
+ghost use Rattle.postscript_write.specs.Dictionaries.{IsHeld, IsPlaced};
+ghost use Rattle.postscript_write.specs.Privates.{AreOwnPrivates, IsOwnPrivate, place_of_private};
+
 use crate::dictionaries::{Place, with_places, without};
 use crate::indices::put_index;
 use crate::kept::SID_OPERATORS;
@@ -9,8 +21,9 @@ use postscript_base::compact1::{Operations, Operator};
 use postscript_base::index::IndexView;
 use postscript_base::index::number::number_within;
 use postscript_base::{Error, Result};
-use postscript_view::FontView;
+use postscript_compact1::font_set::operands::bounds;
 use postscript_view::tables::slice_at;
+use postscript_view::{FontView, PrivateDict};
 use std::alloc::Global;
 
 /// The items, copied.
@@ -34,11 +47,18 @@ fn place_of(dictionary: &Operations, operator: Operator) -> Result<usize> {
 }
 
 /// The bytes of the first dictionary.
-fn first_dictionary(bytes: &[u8]) -> Result<&[u8]> {
+fn first_dictionary(bytes: &[u8]) -> Result<&[u8]>
+    ensures is { IfOk result (λ item. (tables : Tables) → AreTables bytes.now (number_at bytes.now 2 1) 0 tables →
+        IsDictionary item.now 0 tables.dictionary) }
+    ensures refused { IfErr result (λ e. (tables : Tables) → 3 ≤ length bytes.now → AreTables bytes.now (number_at bytes.now 2 1) 0 tables → ⊥) }
+{
     let start = number_within(bytes, 2, 1)?;
     let (_names, next) = IndexView::open(bytes, start)?;
     let (dictionaries, _next) = IndexView::open(bytes, next)?;
-    dictionaries.get(0).ok_or(Error::UnexpectedEof)
+    match dictionaries.get(0) {
+        Some(item) => Ok(item),
+        None => Err(Error::UnexpectedEof),
+    }
 }
 
 /// The bytes from one place to another, where they stand.
@@ -81,29 +101,41 @@ struct Private {
 }
 
 /// The private dictionary that a dictionary names, where it names one.
-fn own_private(alloc: Global, bytes: &[u8], dictionary: &Operations) -> Result<Option<Private>> {
-    let Some((size, place)) = dictionary.get_double(Operator::Private) else {
+fn own_private(alloc: Global, bytes: &[u8], dictionary: &Operations) -> Result<Option<Private>>
+    ensures own { IfOk result (λ private. (font : Option Dictionary) (part : Part) →
+        IsPart bytes.now dictionary.now font part → IsOwnPrivate part private) }
+    ensures refused { IfErr result (λ e. e ≢ errors.Memory → (font : Option Dictionary) (part : Part) →
+        IsPart bytes.now dictionary.now font part → ⊥) }
+{
+    if dictionary.get_double(Operator::Private).is_none() {
         return Ok(None);
-    };
-    let (Some(size), Some(place)) = (size.to_i32(), place.to_i32()) else {
-        return Err(Error::MalformedOperation(Operator::Private));
-    };
-    if size < 0 || place < 0 {
-        return Err(Error::OutOfRangeOffset);
     }
-    let source = slice_at(bytes, place as u64, size as usize)?;
+    let (size, _offset, place) = bounds(0, dictionary)?;
+    let source = slice_at(bytes, place, size)?;
     let text = without(alloc, source, &[Operator::Subrs])?;
     Ok(Some(Private { text }))
 }
 
+/// The dictionary that names the private dictionary of a part: its font dictionary, or that of the font.
+fn naming_dictionary<'d>(part: &'d PrivateDict<'_>, font: &'d Operations) -> &'d Operations
+    ensures { result.now ≡ unwrap_or part.now.font_dictionary font.now }
+{
+    match &part.font_dictionary {
+        Some(own) => own,
+        None => font,
+    }
+}
+
 /// The private dictionaries of the parts of a font.
-fn own_privates(alloc: Global, font: &FontView<'_>) -> Result<Vec<Option<Private>>> {
+fn own_privates(alloc: Global, font: &FontView<'_>) -> Result<Vec<Option<Private>>>
+    ensures own { IfOk result (λ privates. AreParts font.now.bytes.now font.now.dictionary (parts_shown font.now.parts.items) →
+        AreOwnPrivates (parts_shown font.now.parts.items) privates.items) }
+    ensures refused { IfErr result (λ e. e ≢ errors.Memory →
+        AreParts font.now.bytes.now font.now.dictionary (parts_shown font.now.parts.items) → ⊥) }
+{
     let mut privates = Vec::new(alloc);
-    for part in &font.parts {
-        let dictionary = match &part.font_dictionary {
-            Some(own) => own,
-            None => &font.dictionary,
-        };
+    for i in 0..font.parts.len() {
+        let dictionary = naming_dictionary(&font.parts[i], &font.dictionary);
         let private = own_private(alloc, font.bytes, dictionary)?;
         privates.push(private)?;
     }
@@ -233,7 +265,12 @@ fn font_dictionary(
     text: &[u8],
     private: &Option<Private>,
     offset: usize,
-) -> Result<Vec<u8>> {
+) -> Result<Vec<u8>>
+    ensures placed { IfOk result (λ out. (old : Dictionary) → IsDictionary text.now 0 old →
+        (new : Dictionary) × IsDictionary out.items 0 new × IsPlaced old (place_of_private private.now offset) new) }
+    ensures refused { IfErr result (λ e. e ≢ errors.Memory → All IsHeld (place_of_private private.now offset) → (old : Dictionary) →
+        IsDictionary text.now 0 old → ⊥) }
+{
     match private {
         Some(private) => with_places(
             alloc,

@@ -1,0 +1,40 @@
+use Rattle.std.proofs.Common.{◌≡◌, rules, false, [], ◌∷◌}
+use Rattle.std.specs.Option.{is_none}
+use Rattle.std.proofs.lemmas.Result.{err_from_is_err_and}
+use Rattle.postscript_base.specs.Compact1.Defaults.{look, first_two_of}
+use Rattle.postscript_base.specs.declared.compact1.operator.Operator.TheVariants as operators
+use Rattle.postscript_write.proofs.Placing.{less}
+use Rattle.postscript_write.proofs.Privates.{no_bounds, no_source, own, source_is}
+use Rattle.postscript_write.proofs.layout.own_private.Goals as goal
+
+pub returns-in_err-size-clause-refused : goal.returns-in_err-size-clause-refused
+returns-in_err-size-clause-refused c =
+    let error = err_from_is_err_and c.from_residual.result c.from_residual.ensures.1 in
+    let some : is_none (first_two_of (look c.args.dictionary.now operators.Private)) ≡ false = search rules in
+    rw (error.1, error.2) (λ other font part is.
+    let has = own c.args.bytes.now c.args.dictionary.now font part is some in
+    no_bounds c.args.bytes.now c.args.dictionary.now part.dictionary has.0 _ has.1 (c.in_err-size.ensures.exact c.args.bytes.now 0 other))
+
+pub returns-in_err-source-clause-refused : goal.returns-in_err-source-clause-refused
+returns-in_err-source-clause-refused c =
+    let error = err_from_is_err_and c.from_residual-in_err-source.result c.from_residual-in_err-source.ensures.1 in
+    let some : is_none (first_two_of (look c.args.dictionary.now operators.Private)) ≡ false = search rules in
+    rw (error.1, error.2) (λ other font part is.
+    let has = own c.args.bytes.now c.args.dictionary.now font part is some in
+    no_source c.args.bytes.now c.args.dictionary.now part.dictionary has.0 _ _ _ _ has.1 (c.in_ok-size.ensures.exact c.args.bytes.now 0) (c.in_err-source.ensures.exact 0 other))
+
+pub returns-in_err-text-clause-refused : goal.returns-in_err-text-clause-refused
+returns-in_err-text-clause-refused c =
+    let error = err_from_is_err_and c.from_residual-in_err-text.result c.from_residual-in_err-text.ensures.1 in
+    let some : is_none (first_two_of (look c.args.dictionary.now operators.Private)) ≡ false = search rules in
+    rw (error.1, error.2) (λ other font part is.
+    let has = own c.args.bytes.now c.args.dictionary.now font part is some in
+    c.in_err-text.ensures.refused other part.dictionary
+    (source_is c.args.bytes.now c.args.dictionary.now part.dictionary has.0 _ _ _ c.in_ok-source.source.now has.1 (c.in_ok-size.ensures.exact c.args.bytes.now 0) (c.in_ok-source.ensures.exact 0)))
+
+pub returns-clause-own : goal.returns-clause-own
+returns-clause-own c = λ font part is.
+    let some : is_none (first_two_of (look c.args.dictionary.now operators.Private)) ≡ false = search rules in
+    let has = own c.args.bytes.now c.args.dictionary.now font part is some in
+    less c.in_ok-source.source.now c.in_ok-text.text.items (operators.Subrs ∷ []) part.dictionary c.in_ok-text.ensures.left
+    (source_is c.args.bytes.now c.args.dictionary.now part.dictionary has.0 _ _ _ c.in_ok-source.source.now has.1 (c.in_ok-size.ensures.exact c.args.bytes.now 0) (c.in_ok-source.ensures.exact 0))
