@@ -399,16 +399,31 @@ def _(folder):
         assert said.startswith(f"psotf: the table {tag}: "), said
 
 
-@case("instance: where the disk is full the old file stays")
-def _(folder):
-    path, out = varied(folder), folder / "out.otf"
+def without_room(words, out):
+    """Runs these words where a file may have 1,000 bytes, and looks whether the old file stays."""
     out.write_bytes(b"old")
     done = subprocess.run(
-        [str(PSOTF), "instance", str(path), "--instance", "Bold", "-o", str(out)], capture_output=True, check=False, restore_signals=False,
+        [str(PSOTF), *map(str, words), "-o", str(out)], capture_output=True, check=False, restore_signals=False,
         preexec_fn=lambda: resource.setrlimit(resource.RLIMIT_FSIZE, (1000, 1000)),
     )  # fmt: skip
-    assert done.returncode == 1 and b"writing" in done.stderr, done.stderr
-    assert out.read_bytes() == b"old" and not out.with_name("out.otf.part").exists()
+    assert done.returncode == 1 and b"writing" in done.stderr, (words[0], done.returncode, done.stderr)
+    assert out.read_bytes() == b"old" and not out.with_name(out.name + ".part").exists(), words[0]
+
+
+@case("instance, subset, flat and report: where a file cannot be written the old one stays")
+def _(folder):
+    without_room(["instance", varied(folder), "--instance", "Bold"], folder / "out.otf")
+    without_room(["subset", FONT, "--text", "Hello"], folder / "out.otf")
+    without_room(["flat", FONT], folder / "out.otf")
+    without_room(["report", FONT], folder / "out.html")
+
+
+@case("words: where the disk is full the status is 1, and it is said")
+def _(folder):
+    for words in (["inspect", FONT], ["glyph", FONT, "--gid", "1"], ["svg", FONT, "--text", "A"], ["flat", FONT], ["subset", FONT, "--text", "A"]):
+        with open("/dev/full", "wb") as full:
+            done = subprocess.run([str(PSOTF), *words], stdout=full, stderr=subprocess.PIPE, check=False)
+        assert done.returncode == 1 and b"psotf: " in done.stderr, (words[0], done.returncode, done.stderr)
 
 
 @case("instance: what is left out is said once, and not with --quiet")
