@@ -5,7 +5,7 @@ use crate::failure::Failure;
 use crate::limit::Budget;
 use postscript_drawing::Accent;
 use postscript_type2::Program;
-use postscript_view::{FontView, Glyph};
+use postscript_view::FontView;
 use std::alloc::Global;
 
 /// What a program comes to within its share.
@@ -19,23 +19,16 @@ enum Answer {
     Stopped,
 }
 
-/// What a program comes to that is known to come to its end, or to be refused.
-fn end_of(program: &mut Program<'_>) -> Answer {
+/// What the program of a glyph comes to within a share, of which the rest is left.
+fn answer_of(program: &mut Program<'_>, share: &mut u64) -> Result<Answer, Failure> {
+    if !program.fits(share)? {
+        return Ok(Answer::Stopped);
+    }
     if program.next().is_err() {
-        return Answer::Refused;
+        return Ok(Answer::Refused);
     }
     let accent = Accent::named_by(program.operands_at_end());
-    Answer::End(accent.unwrap_or(None))
-}
-
-/// What the program of a glyph comes to within a share, of which the rest is left.
-fn answer_of(alloc: Global, glyph: &Glyph<'_, '_>, share: &mut u64) -> Result<Answer, Failure> {
-    let mut program = glyph.program(alloc);
-    match program.fits(share) {
-        Ok(true) => Ok(end_of(&mut program)),
-        Ok(false) => Ok(Answer::Stopped),
-        Err(error) => Err(Failure::from(error)),
-    }
+    Ok(Answer::End(accent.unwrap_or(None)))
 }
 
 /// Asks whether a glyph comes to its end, or is refused, within its share; what it names where it is accented. One that takes
@@ -53,7 +46,7 @@ pub fn ask(
     };
     let share = budget.share();
     let mut left = share;
-    let answer = answer_of(alloc, &found, &mut left)?;
+    let answer = answer_of(&mut found.program(alloc), &mut left)?;
     budget.spend_whole(share.saturating_sub(left));
     match answer {
         Answer::End(accent) => Ok(accent),

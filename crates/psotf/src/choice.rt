@@ -1,5 +1,5 @@
 //! Which glyphs of a face are kept, and which of its characters.
-use crate::characters::{Mapped, all_of, by_glyph, glyph_of, missing, of_glyph};
+use crate::characters::{Mapped, all_of, by_glyph, glyph_of, of_glyph, refuse_missing};
 use crate::face::Face;
 use crate::failure::Failure;
 use clap::ArgMatches;
@@ -34,7 +34,7 @@ impl Choice {
 
     /// Adds the characters of a text. Those without a glyph are told together.
     fn put_text(&mut self, alloc: Global, face: &Face<'_>, text: &str) -> Result<(), Failure> {
-        refuse_missing(alloc, face, text)?;
+        refuse_missing(alloc, &face.map, text)?;
         for char in text.chars() {
             self.put_char(face, u32::from(char))?;
         }
@@ -184,16 +184,6 @@ fn put_chars_of(pairs: &mut Vec<Mapping>, all: &[Mapped], glyph: usize) -> Resul
         })?;
     }
     Ok(())
-}
-
-/// Refuses a text with characters that have no glyph: they are told together.
-fn refuse_missing(alloc: Global, face: &Face<'_>, text: &str) -> Result<(), Failure> {
-    let missing = missing(alloc, &face.map, text)?;
-    if missing.is_empty() {
-        Ok(())
-    } else {
-        Err(Failure::no_chars(missing))
-    }
 }
 
 /// A character by its number in hex. None where the word is no such number.

@@ -36,13 +36,26 @@ enum Word {
     Out(bool, &'static str),
 }
 
-/// A subcommand: its name, what it does, the names of the words of which one has to be given, under a name of theirs, and its words.
+/// A subcommand: its name, what it does, the names of the words of which one has to be given, under a name of theirs, and its words behind
+/// those of the face and of the place.
 struct Subcommand {
     name: &'static str,
     about: &'static str,
     group: &'static str,
     one_of: &'static [&'static str],
-    words: &'static [&'static [Word]],
+    place: Place,
+    words: &'static [Word],
+}
+
+/// Which place of a variable font a subcommand is about.
+#[derive(Clone, Copy)]
+enum Place {
+    /// None that words name.
+    None,
+    /// One that words may name.
+    Any,
+    /// The one that the file is of.
+    One,
 }
 
 /// The face of a file, which each subcommand is about, and how long the runs of its glyphs may take.
@@ -77,23 +90,21 @@ const SUBCOMMANDS: &[Subcommand] = &[
         about: "What a face holds",
         group: "",
         one_of: &[],
-        words: &[FACE, &[Word::Flag("json", "Write JSON")]],
+        place: Place::None,
+        words: &[Word::Flag("json", "Write JSON")],
     },
     Subcommand {
         name: "glyph",
         about: "Glyphs: names, characters, advances, outlines",
         group: "which",
         one_of: &["gid", "char", "name", "all"],
+        place: Place::Any,
         words: &[
-            FACE,
-            PLACE,
-            &[
-                Word::Number("gid", "The glyph of this number"),
-                Word::Text("char", "C", "The glyph of this character"),
-                Word::Text("name", "NAME", "The glyph of this name"),
-                Word::Flag("all", "Each glyph"),
-                Word::Flag("json", "Write JSON"),
-            ],
+            Word::Number("gid", "The glyph of this number"),
+            Word::Text("char", "C", "The glyph of this character"),
+            Word::Text("name", "NAME", "The glyph of this name"),
+            Word::Flag("all", "Each glyph"),
+            Word::Flag("json", "Write JSON"),
         ],
     },
     Subcommand {
@@ -101,24 +112,21 @@ const SUBCOMMANDS: &[Subcommand] = &[
         about: "A glyph or a line of text as a picture",
         group: "what",
         one_of: &["text", "gid"],
+        place: Place::Any,
         words: &[
-            FACE,
-            PLACE,
-            &[
-                Word::Text("text", "TEXT", "A line of text"),
-                Word::Number("gid", "The glyph of this number"),
-                Word::Text(
-                    "missing",
-                    "draw",
-                    "With the word draw: characters that the face has no glyph for are drawn as .notdef",
-                ),
-                Word::Text(
-                    "animate",
-                    "AXIS",
-                    "A picture of a variable font that goes through this axis and back, as wght",
-                ),
-                Word::Out(false, "Where to write it, by default standard output"),
-            ],
+            Word::Text("text", "TEXT", "A line of text"),
+            Word::Number("gid", "The glyph of this number"),
+            Word::Text(
+                "missing",
+                "draw",
+                "With the word draw: characters that the face has no glyph for are drawn as .notdef",
+            ),
+            Word::Text(
+                "animate",
+                "AXIS",
+                "A picture of a variable font that goes through this axis and back, as wght",
+            ),
+            Word::Out(false, "Where to write it, by default standard output"),
         ],
     },
     Subcommand {
@@ -126,14 +134,11 @@ const SUBCOMMANDS: &[Subcommand] = &[
         about: "A picture of the glyphs, each in a cell with its number and name",
         group: "",
         one_of: &[],
+        place: Place::Any,
         words: &[
-            FACE,
-            PLACE,
-            &[
-                Word::Given("from", "0", "The first glyph"),
-                Word::Given("count", "65535", "How many glyphs at most"),
-                Word::Out(false, "Where to write it, by default standard output"),
-            ],
+            Word::Given("from", "0", "The first glyph"),
+            Word::Given("count", "65535", "How many glyphs at most"),
+            Word::Out(false, "Where to write it, by default standard output"),
         ],
     },
     Subcommand {
@@ -141,17 +146,14 @@ const SUBCOMMANDS: &[Subcommand] = &[
         about: "A page to look at: what the face holds, and its glyphs, each operation of them",
         group: "",
         one_of: &[],
+        place: Place::Any,
         words: &[
-            FACE,
-            PLACE,
-            &[
-                Word::Given("from", "0", "The first glyph"),
-                Word::Given("count", "65535", "How many glyphs at most"),
-                Word::Out(
-                    true,
-                    "Where to write it; more than 10000 glyphs make further pages beside it",
-                ),
-            ],
+            Word::Given("from", "0", "The first glyph"),
+            Word::Given("count", "65535", "How many glyphs at most"),
+            Word::Out(
+                true,
+                "Where to write it; more than 10000 glyphs make further pages beside it",
+            ),
         ],
     },
     Subcommand {
@@ -159,21 +161,19 @@ const SUBCOMMANDS: &[Subcommand] = &[
         about: "A file of the face whose char strings call no subroutines",
         group: "",
         one_of: &[],
-        words: &[FACE, PLACE, &[Word::Out(true, "Where to write it")]],
+        place: Place::Any,
+        words: &[Word::Out(true, "Where to write it")],
     },
     Subcommand {
         name: "instance",
         about: "A static file of one place of a variable font, with its outlines in the table CFF",
         group: "place",
         one_of: &["variations", "instance"],
+        place: Place::One,
         words: &[
-            FACE,
-            ONE_PLACE,
-            &[
-                Word::Flag("round", "Put each point at the nearest whole units"),
-                Word::Flag("quiet", "Do not tell what is left out"),
-                Word::Out(true, "Where to write it"),
-            ],
+            Word::Flag("round", "Put each point at the nearest whole units"),
+            Word::Flag("quiet", "Do not tell what is left out"),
+            Word::Out(true, "Where to write it"),
         ],
     },
     Subcommand {
@@ -181,32 +181,29 @@ const SUBCOMMANDS: &[Subcommand] = &[
         about: "A file of some glyphs: without kerning and ligatures, with the names that systems read",
         group: "kept",
         one_of: &["text", "gids", "unicodes"],
+        place: Place::Any,
         words: &[
-            FACE,
-            PLACE,
-            &[
-                Word::Text("text", "TEXT", "The glyphs of these characters"),
-                Word::Text(
-                    "gids",
-                    "LIST",
-                    "The glyphs of these numbers, as 1,7-12, and their characters",
-                ),
-                Word::Text(
-                    "unicodes",
-                    "LIST",
-                    "The glyphs of these characters, as 41,U+42,61-7a",
-                ),
-                Word::Flag(
-                    "retain-gids",
-                    "Keep the numbers of glyphs; others are empty",
-                ),
-                Word::Flag(
-                    "keep-names",
-                    "Keep copyright, trademark and licence in the table name too",
-                ),
-                Word::Flag("quiet", "Do not tell what is left out or comes along"),
-                Word::Out(true, "Where to write it"),
-            ],
+            Word::Text("text", "TEXT", "The glyphs of these characters"),
+            Word::Text(
+                "gids",
+                "LIST",
+                "The glyphs of these numbers, as 1,7-12, and their characters",
+            ),
+            Word::Text(
+                "unicodes",
+                "LIST",
+                "The glyphs of these characters, as 41,U+42,61-7a",
+            ),
+            Word::Flag(
+                "retain-gids",
+                "Keep the numbers of glyphs; others are empty",
+            ),
+            Word::Flag(
+                "keep-names",
+                "Keep copyright, trademark and licence in the table name too",
+            ),
+            Word::Flag("quiet", "Do not tell what is left out or comes along"),
+            Word::Out(true, "Where to write it"),
         ],
     },
 ];
@@ -262,16 +259,20 @@ fn put_words<'a>(alloc: Global, args: &mut Vec<Arg<'a>>, words: &[Word]) -> Resu
     Ok(())
 }
 
-/// Adds the words of a subcommand as arguments.
-fn put_all<'a>(
-    alloc: Global,
-    args: &mut Vec<Arg<'a>>,
-    lists: &[&[Word]],
-) -> Result<(), AllocError> {
-    for words in lists {
-        put_words(alloc, args, words)?;
+/// The words that name a place.
+fn words_of(place: Place) -> &'static [Word] {
+    match place {
+        Place::None => &[],
+        Place::Any => PLACE,
+        Place::One => ONE_PLACE,
     }
-    Ok(())
+}
+
+/// Adds the words of a subcommand as arguments.
+fn put_all<'a>(alloc: Global, args: &mut Vec<Arg<'a>>, one: &Subcommand) -> Result<(), AllocError> {
+    put_words(alloc, args, FACE)?;
+    put_words(alloc, args, words_of(one.place))?;
+    put_words(alloc, args, one.words)
 }
 
 /// A subcommand without its words. One of its group has to be given.
@@ -287,7 +288,7 @@ fn without_words<'a>(alloc: Global, one: &Subcommand) -> Result<Command<'a>, All
 /// A subcommand as a command.
 fn command_of<'a>(alloc: Global, one: &Subcommand) -> Result<Command<'a>, AllocError> {
     let mut args = Vec::new(alloc);
-    put_all(alloc, &mut args, one.words)?;
+    put_all(alloc, &mut args, one)?;
     without_words(alloc, one)?.args(args)
 }
 

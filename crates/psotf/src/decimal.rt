@@ -7,7 +7,7 @@ const MOST: u32 = 30;
 
 /// Adds a whole number with so many zeros behind it.
 fn put_whole(text: &mut Text, number: i64, zeros: u32) {
-    write!(text, "{number}");
+    text.write_fmt(number);
     for _ in 0..zeros {
         text.push('0');
     }
@@ -18,7 +18,7 @@ pub fn put(text: &mut Text, value: &Operand) {
     let (mantissa, exponent) = (value.mantissa(), value.exponent());
     let size = exponent.unsigned_abs();
     if size > MOST {
-        write!(text, "{value}");
+        text.write_fmt(value);
     } else if exponent < 0 {
         if mantissa < 0 {
             text.push('-');
@@ -37,7 +37,8 @@ fn put_fraction(text: &mut Text, number: u64, places: u32) {
     }
     let number = u128::from(number);
     let whole = number.checked_div(unit).unwrap_or(0);
-    write!(text, "{whole}.");
+    text.write_fmt(whole);
+    text.push('.');
     put_digits(
         text,
         number.wrapping_sub(whole.wrapping_mul(unit)),
@@ -64,7 +65,7 @@ pub fn put_bits(text: &mut Text, bits: i64) {
     }
     let size = bits.unsigned_abs();
     let whole = size / 65536;
-    write!(text, "{whole}");
+    text.put_number(whole);
     let mut part = size % 65536;
     if part > 0 {
         text.push('.');

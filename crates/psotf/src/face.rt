@@ -3,7 +3,7 @@ use crate::failure::Failure;
 use crate::refused::{Spot, spot_of};
 use crate::weight::is_too_much;
 use postscript_base::Error;
-use postscript_sfnt::{Advances, CharacterMap, FontFile, Names, faces, glyphs, units_per_em};
+use postscript_sfnt::{Advances, CharacterMap, FontFile, Name, Names, faces, glyphs, units_per_em};
 use postscript_view::{CharSetView, FontView};
 use std::alloc::Global;
 
@@ -33,6 +33,14 @@ pub struct Face<'l> {
     pub cff: &'l [u8],
     pub font: FontView<'l>,
     pub set: Option<CharSetView<'l>>,
+}
+
+/// The family and the style that names tell.
+pub fn called<'l>(names: &Option<Names<'l>>) -> (Option<Name<'l>>, Option<Name<'l>>) {
+    match names {
+        Some(names) => (names.family(), names.style()),
+        None => (None, None),
+    }
 }
 
 /// A table that is needed.

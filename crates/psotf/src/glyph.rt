@@ -129,13 +129,15 @@ fn object(
 
 /// Adds the number of a glyph, its name or CID, and its advance.
 fn put_head(alloc: Global, line: &mut Text, face: &Face<'_>, gid: u16) {
-    write!(line, "{gid} ");
+    line.put_number(u64::from(gid));
+    line.push(' ');
     match face.cid(gid) {
         Some(cid) => write!(line, "cid{cid:05}"),
         None => line.put_made(String::from_utf8_lossy(alloc, face.name(gid).unwrap_or(b"-"))),
     }
-    let advance = face.advances.of(gid);
-    write!(line, " {advance} ");
+    line.push(' ');
+    line.put_number(u64::from(face.advances.of(gid)));
+    line.push(' ');
 }
 
 /// Adds a glyph as a line: its number, its name or CID, its advance and its path; and tells whether it is drawn.
@@ -149,11 +151,14 @@ fn put_line(
     put_head(alloc, line, face, gid);
     match draw(alloc, face, gid, budget) {
         Ok((_, outline)) => {
-            writeln!(line, "{outline}");
+            line.write_fmt(&outline);
+            line.push('\n');
             true
         }
         Err(refusal) => {
-            writeln!(line, "refused: {refusal}");
+            line.push_str("refused: ");
+            line.write_fmt(&refusal);
+            line.push('\n');
             false
         }
     }
@@ -202,6 +207,15 @@ fn objects<W: Write>(
     Ok(refused)
 }
 
+/// The character that words name.
+pub fn char_of(words: &ArgMatches<'_>) -> Result<u32, Failure> {
+    let mut chars = words.get_str("char").unwrap_or("").chars();
+    match (chars.next(), chars.next()) {
+        (Some(char), None) => Ok(u32::from(char)),
+        _ => Err(Failure::usage("--char takes one character")),
+    }
+}
+
 /// The glyph that words name.
 fn asked(face: &Face<'_>, words: &ArgMatches<'_>) -> Result<u16, Failure> {
     if let Some(gid) = words.get_one::<u16>("gid") {
@@ -213,14 +227,11 @@ fn asked(face: &Face<'_>, words: &ArgMatches<'_>) -> Result<u16, Failure> {
             None => Err(Failure::no_part("glyph of this name")),
         };
     }
-    let mut chars = words.get_str("char").unwrap_or("").chars();
-    let (Some(char), None) = (chars.next(), chars.next()) else {
-        return Err(Failure::usage("--char takes one character"));
-    };
+    let char = char_of(words)?;
     let Some(map) = &face.map else {
         return Err(Failure::no_part("character map"));
     };
-    match map.glyph_of(u32::from(char)) {
+    match map.glyph_of(char) {
         0 => Err(Failure::no_part("glyph of this character")),
         gid => Ok(gid),
     }

@@ -1,7 +1,7 @@
 //! What a face holds.
 use crate::characters::count;
-use crate::dictionaries::{self, CID_TOP, PRIVATE, TOP};
-use crate::face::Face;
+use crate::dictionaries::{self, Kind};
+use crate::face::{Face, called};
 use crate::failure::Failure;
 use crate::hints::hinted;
 use crate::limit::Budget;
@@ -14,14 +14,6 @@ use postscript_sfnt::Name;
 use postscript_view::Identifiers;
 use std::alloc::Global;
 use std::io::Write;
-
-/// The family and the style.
-fn names<'l>(face: &Face<'l>) -> (Option<Name<'l>>, Option<Name<'l>>) {
-    match &face.names {
-        Some(names) => (names.family(), names.style()),
-        None => (None, None),
-    }
-}
 
 /// The version as the font tells it (name 5).
 fn version<'l>(face: &Face<'l>) -> Option<Name<'l>> {
@@ -61,12 +53,12 @@ fn name_of(identifiers: &Identifiers<'_>) -> &'static str {
     }
 }
 
-/// The operators that the font's dictionary may have.
-fn top_codes(face: &Face<'_>) -> &'static [u16] {
+/// Which dictionary the font's is.
+fn top(face: &Face<'_>) -> Kind {
     if face.font.is_cid_keyed() {
-        CID_TOP.as_slice()
+        Kind::CidTop
     } else {
-        TOP.as_slice()
+        Kind::Top
     }
 }
 
@@ -81,7 +73,7 @@ fn parts(sheet: &mut Sheet, face: &Face<'_>) {
         privates(sheet, face);
     } else if let Some(part) = face.font.parts.get(0) {
         sheet.key("private");
-        dictionaries::write(sheet, &part.dictionary, &PRIVATE);
+        dictionaries::write(sheet, &part.dictionary, Kind::Private);
     }
 }
 
@@ -89,7 +81,7 @@ fn parts(sheet: &mut Sheet, face: &Face<'_>) {
 fn privates(sheet: &mut Sheet, face: &Face<'_>) {
     sheet.begin_list("privates");
     for part in &face.font.parts {
-        dictionaries::write(sheet, &part.dictionary, &PRIVATE);
+        dictionaries::write(sheet, &part.dictionary, Kind::Private);
     }
     sheet.end_array();
 }
@@ -105,19 +97,12 @@ fn dictionary_count(face: &Face<'_>) -> u64 {
 
 /// Writes numbers of what the table `CFF ` holds.
 fn counts(sheet: &mut Sheet, face: &Face<'_>, hinted: u64) {
-    let counts = [
-        ("fds", dictionary_count(face)),
-        ("glyphs", face.font.char_strings.len() as u64),
-        ("hinted", hinted),
-        ("strings", face.font.strings.len() as u64),
-        (
-            "global_subroutines",
-            face.font.global_subroutines.len() as u64,
-        ),
-    ];
-    for (key, count) in &counts {
-        sheet.number(*key, *count);
-    }
+    sheet.number("fds", dictionary_count(face));
+    sheet.number("glyphs", face.font.char_strings.len() as u64);
+    sheet.number("hinted", hinted);
+    sheet.number("strings", face.font.strings.len() as u64);
+    let globals = face.font.global_subroutines.len();
+    sheet.number("global_subroutines", globals as u64);
 }
 
 /// Writes what the font is called, and by what its glyphs are.
@@ -139,7 +124,7 @@ fn font(alloc: Global, sheet: &mut Sheet, face: &Face<'_>, hinted: u64) {
     keys(sheet, face);
     counts(sheet, face, hinted);
     sheet.key("top");
-    dictionaries::write(sheet, &face.font.dictionary, top_codes(face));
+    dictionaries::write(sheet, &face.font.dictionary, top(face));
     parts(sheet, face);
     readings::put(alloc, sheet, face.cff);
     sheet.end_object();
@@ -147,7 +132,7 @@ fn font(alloc: Global, sheet: &mut Sheet, face: &Face<'_>, hinted: u64) {
 
 /// Writes the names and the numbers.
 fn head(alloc: Global, sheet: &mut Sheet, face: &Face<'_>) {
-    let (family, style) = names(face);
+    let (family, style) = called(&face.names);
     sheet.name("family", family);
     sheet.name("style", style);
     sheet.name("version", version(face));
@@ -180,7 +165,7 @@ fn object<W: Write>(
 
 /// Adds lines of the names.
 fn name_lines(alloc: Global, lines: &mut Text, face: &Face<'_>) {
-    let (family, style) = names(face);
+    let (family, style) = called(&face.names);
     lines.put_named("family", family);
     lines.put_named("style", style);
     lines.put_named("version", version(face));
@@ -191,37 +176,31 @@ fn name_lines(alloc: Global, lines: &mut Text, face: &Face<'_>) {
 
 /// Adds lines of the numbers.
 fn count_lines(lines: &mut Text, face: &Face<'_>, hinted: u64, characters: u64) {
-    let counts = [
-        ("faces", face.faces as u64),
-        ("units per em", u64::from(face.units)),
-        ("glyphs", u64::from(face.glyphs)),
-        ("glyphs with hints", hinted),
-        ("characters", characters),
-    ];
-    for (label, count) in &counts {
-        writeln!(lines, "{label}: {count}");
-    }
+    lines.put_count("faces", face.faces as u64);
+    lines.put_count("units per em", u64::from(face.units));
+    lines.put_count("glyphs", u64::from(face.glyphs));
+    lines.put_count("glyphs with hints", hinted);
+    lines.put_count("characters", characters);
 }
 
 /// Adds lines of what the table `CFF ` holds once.
 fn font_lines(lines: &mut Text, face: &Face<'_>) {
     if face.font.is_cid_keyed() {
         let fds = face.font.parts.len();
-        writeln!(lines, "CID-keyed, font dictionaries: {fds}");
+        lines.put_count("CID-keyed, font dictionaries", fds as u64);
     }
-    writeln!(lines, "encoding: {}", encoding(face));
-    writeln!(lines, "char set: {}", char_set(face).unwrap_or("refused"));
+    lines.put_word("encoding", encoding(face));
+    lines.put_word("char set", char_set(face).unwrap_or("refused"));
     let globals = face.font.global_subroutines.len();
-    writeln!(lines, "global subroutines: {globals}");
-    dictionaries::list(lines, "top", &face.font.dictionary, top_codes(face));
+    lines.put_count("global subroutines", globals as u64);
+    dictionaries::list(lines, "top", &face.font.dictionary, top(face));
 }
 
 /// Adds lines of each private dictionary and its subroutines.
 fn part_lines(lines: &mut Text, face: &Face<'_>) {
     for part in &face.font.parts {
-        let locals = part.subroutines.len();
-        writeln!(lines, "local subroutines: {locals}");
-        dictionaries::list(lines, "private", &part.dictionary, &PRIVATE);
+        lines.put_count("local subroutines", part.subroutines.len() as u64);
+        dictionaries::list(lines, "private", &part.dictionary, Kind::Private);
     }
 }
 

@@ -34,8 +34,9 @@ fn put_text(picture: &mut Text, text: &str) {
 impl<'p> Labels<'p> {
     /// A line begins.
     fn begin(&mut self) {
-        let y = self.y;
-        write!(self.picture, "<text y=\"{y}\">");
+        self.picture.push_str("<text y=\"");
+        self.picture.put_number(self.y);
+        self.picture.push_str("\">");
         self.y = self.y.saturating_add(self.size);
     }
 
@@ -47,7 +48,7 @@ impl<'p> Labels<'p> {
     /// Adds a number in a line.
     pub fn number(&mut self, number: u64) {
         self.begin();
-        write!(self.picture, "{number}");
+        self.picture.put_number(number);
         self.end();
     }
 

@@ -1,6 +1,7 @@
 //! What a subset leaves out.
 use crate::failure::Failure;
 use crate::telling;
+use crate::text::Text;
 use postscript_sfnt::FontFile;
 use std::alloc::{AllocError, Global};
 
@@ -12,29 +13,28 @@ const KEPT: [[u8; 4]; 9] = [
 /// The tags of tables of kerning and ligatures.
 const LAYOUT: [[u8; 4]; 3] = [*b"GPOS", *b"GSUB", *b"kern"];
 
-/// Adds a tag; a byte that is no letter, digit or sign of ASCII is a question mark.
-pub fn put_tag(text: &mut String, tag: &[u8; 4]) -> Result<(), AllocError> {
+/// Adds a tag behind a space; a byte that is no letter, digit or sign of ASCII is a question mark.
+pub fn put_tag(text: &mut Text, tag: &[u8; 4]) {
+    text.push(' ');
     for byte in tag {
         text.push(if byte.is_ascii_graphic() || *byte == b' ' {
             *byte as char
         } else {
             '?'
-        })?;
+        });
     }
-    Ok(())
 }
 
 /// The tags of the tables that are left out, each behind a space.
 fn tags(alloc: Global, file: &FontFile<'_>) -> Result<String, AllocError> {
-    let mut text = String::new(alloc);
+    let mut text = Text::new(alloc);
     for i in 0..file.tables() {
         let tag = file.tag(i).unwrap_or(0).to_be_bytes();
         if !KEPT.contains(&tag) {
-            text.push(' ')?;
-            put_tag(&mut text, &tag)?;
+            put_tag(&mut text, &tag);
         }
     }
-    Ok(text)
+    text.end()
 }
 
 /// Tells on standard error, in one line, which tables are left out, and what is lost with them.

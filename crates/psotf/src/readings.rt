@@ -28,18 +28,15 @@ struct Refused {
     spot: Spot,
 }
 
-/// Why the strict reading refuses a table, where it does. Nothing of the font is kept.
-fn strict(alloc: Global, cff: &[u8]) -> Option<Refused> {
+/// Why the strict reading refuses a table, or the lenient one, where it does. Nothing of the font is kept.
+fn refusal_by(alloc: Global, cff: &[u8], is_strict: bool) -> Option<Refused> {
     let mut tape = Cursor::new(cff);
-    let error = FontSet::check(alloc, &mut tape).err()?;
-    let spot = spot_by(alloc, cff, &error, tape.position());
-    Some(Refused { error, spot })
-}
-
-/// The same of the lenient reading.
-fn lenient(alloc: Global, cff: &[u8]) -> Option<Refused> {
-    let mut tape = Cursor::new(cff);
-    let error = FontSet::check_lenient(alloc, &mut tape).err()?;
+    let checked = if is_strict {
+        FontSet::check(alloc, &mut tape)
+    } else {
+        FontSet::check_lenient(alloc, &mut tape)
+    };
+    let error = checked.err()?;
     let spot = spot_by(alloc, cff, &error, tape.position());
     Some(Refused { error, spot })
 }
@@ -47,9 +44,9 @@ fn lenient(alloc: Global, cff: &[u8]) -> Option<Refused> {
 /// Why the strict reading and the lenient one refuse a table, where they do. What the strict reading takes the lenient one takes too,
 /// which asks for less, and it is not asked then.
 fn both(alloc: Global, cff: &[u8]) -> (Option<Refused>, Option<Refused>) {
-    match strict(alloc, cff) {
+    match refusal_by(alloc, cff, true) {
         None => (None, None),
-        refused => (refused, lenient(alloc, cff)),
+        refused => (refused, refusal_by(alloc, cff, false)),
     }
 }
 
@@ -88,18 +85,26 @@ pub fn put(alloc: Global, sheet: &mut Sheet, cff: &[u8]) {
 fn put_line(lines: &mut Text, reading: &str, refused: &Option<Refused>) {
     if let Some(Refused { error, spot }) = refused {
         let code = error.code();
-        write!(lines, "refused by the {reading} reading: {spot}: {error}");
-        writeln!(lines, " (refusal {code}): {}", rule_of(code));
+        lines.push_str("refused by the ");
+        lines.push_str(reading);
+        lines.push_str(" reading: ");
+        lines.write_fmt(spot);
+        lines.push_str(": ");
+        lines.write_fmt(error);
+        lines.push_str(" (refusal ");
+        lines.put_number(u64::from(code));
+        lines.push_str("): ");
+        lines.push_str(rule_of(code));
+        lines.push('\n');
     }
 }
 
 /// Adds a line for each reading that refuses a table; or that the readings are not asked.
 pub fn put_lines(alloc: Global, lines: &mut Text, cff: &[u8]) {
     if let Some(fonts) = too_many(cff) {
-        writeln!(
-            lines,
-            "not read strictly or leniently: it has {fonts} dictionaries"
-        );
+        lines.push_str("not read strictly or leniently: it has ");
+        lines.put_number(fonts);
+        lines.push_str(" dictionaries\n");
         return;
     }
     let (strict, lenient) = both(alloc, cff);

@@ -52,10 +52,10 @@ pub fn spot_of(alloc: Global, cff: &[u8]) -> Spot {
         return at("the header", 0);
     };
     let mut place = size;
-    for part in BEHIND_THE_HEADER {
+    for part in &BEHIND_THE_HEADER {
         match IndexView::open(cff, place) {
             Ok((_items, next)) => place = next,
-            Err(_) => return at(part, place as u64),
+            Err(_) => return at(*part, place as u64),
         }
     }
     in_dictionary(alloc, cff, size)
@@ -130,8 +130,8 @@ impl Last {
     /// The INDEXes behind the header begin, as far as they stand.
     fn see_indexes(&mut self, cff: &[u8]) {
         let mut place = header_size(cff).unwrap_or(0);
-        for part in BEHIND_THE_HEADER {
-            self.see(part, place as u64);
+        for part in &BEHIND_THE_HEADER {
+            self.see(*part, place as u64);
             let Ok((_items, next)) = IndexView::open(cff, place) else {
                 break;
             };
@@ -139,19 +139,20 @@ impl Last {
         }
     }
 
+    /// The part begins that an operator of a dictionary names.
+    fn see_one(&mut self, part: &'static str, dictionary: &Operations, operator: Operator) {
+        if let Ok(place) = place_at(0, 0, dictionary, operator) {
+            self.see(part, place);
+        }
+    }
+
     /// The parts begin that a dictionary names.
     fn see_named(&mut self, dictionary: &Operations) {
-        for (part, operator) in [
-            ("the char set", Operator::CharSet),
-            ("the encoding", Operator::Encoding),
-            ("the char strings", Operator::CharStrings),
-            ("FDSelect", Operator::FDSelect),
-            ("the font dictionaries", Operator::FDArray),
-        ] {
-            if let Ok(place) = place_at(0, 0, dictionary, operator) {
-                self.see(part, place);
-            }
-        }
+        self.see_one("the char set", dictionary, Operator::CharSet);
+        self.see_one("the encoding", dictionary, Operator::Encoding);
+        self.see_one("the char strings", dictionary, Operator::CharStrings);
+        self.see_one("FDSelect", dictionary, Operator::FDSelect);
+        self.see_one("the font dictionaries", dictionary, Operator::FDArray);
     }
 
     /// The private dictionary begins that a dictionary names, and its local subroutines.

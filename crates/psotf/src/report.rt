@@ -25,10 +25,10 @@ use crate::stopped::Stopped;
 use clap::ArgMatches;
 use page::{BEFORE_DATA, BEFORE_SCRIPT, BEFORE_SCRIPT_SUM, BEFORE_STYLE, BEFORE_STYLE_SUM, END};
 use pages::{PAGES, Pages};
-use script::SCRIPT;
+use script::script;
 use std::alloc::{AllocError, Global};
 use std::ops::Range;
-use style::STYLE;
+use style::style;
 use sum::put_sum;
 pub use unread::write_refused;
 
@@ -95,25 +95,28 @@ fn put_data(
     put_glyphs(rt, common.face, common.mapped, gids, budget, stopped, page)
 }
 
-/// Adds what stands before the head of the block of JSON.
-fn begin(alloc: Global, page: &mut Vec<u8>) -> Result<(), AllocError> {
-    page.extend_from_slice(BEFORE_SCRIPT_SUM.as_bytes())?;
-    put_sum(alloc, page, &SCRIPT)?;
-    page.extend_from_slice(BEFORE_STYLE_SUM.as_bytes())?;
-    put_sum(alloc, page, &[STYLE])?;
-    for text in [BEFORE_STYLE, STYLE, BEFORE_DATA, "{\"head\":"] {
+/// Adds texts, one behind another.
+fn put_texts(page: &mut Vec<u8>, texts: &[&str]) -> Result<(), AllocError> {
+    for text in texts {
         page.extend_from_slice(text.as_bytes())?;
     }
     Ok(())
 }
 
+/// Adds what stands before the head of the block of JSON.
+fn begin(alloc: Global, page: &mut Vec<u8>) -> Result<(), AllocError> {
+    put_texts(page, &[BEFORE_SCRIPT_SUM])?;
+    put_sum(alloc, page, &script())?;
+    put_texts(page, &[BEFORE_STYLE_SUM])?;
+    put_sum(alloc, page, &[style()])?;
+    put_texts(page, &[BEFORE_STYLE, style(), BEFORE_DATA, "{\"head\":"])
+}
+
 /// Adds what stands behind the block of JSON.
 fn end(page: &mut Vec<u8>) -> Result<(), AllocError> {
-    page.extend_from_slice(BEFORE_SCRIPT.as_bytes())?;
-    for part in SCRIPT {
-        page.extend_from_slice(part.as_bytes())?;
-    }
-    page.extend_from_slice(END.as_bytes())
+    put_texts(page, &[BEFORE_SCRIPT])?;
+    put_texts(page, &script())?;
+    put_texts(page, &[END])
 }
 
 /// The page that begins with a glyph.

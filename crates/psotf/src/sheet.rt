@@ -175,7 +175,7 @@ impl Sheet {
     /// A value as text.
     pub fn shown<T: Display>(&mut self, value: &T) {
         self.text.clear();
-        write!(self.text, "{value}");
+        self.text.write_fmt(value);
         self.put_own();
     }
 
@@ -237,7 +237,8 @@ impl Sheet {
         self.text.clear();
         self.text.push_str(name);
         for operand in operands {
-            write!(self.text, " {operand}");
+            self.text.push(' ');
+            self.text.write_fmt(operand);
         }
         self.put_own();
     }

@@ -34,13 +34,20 @@ fn name_of(alloc: Global, face: &Face<'_>, gid: u16) -> Result<String, AllocErro
     }
 }
 
+/// Adds a number behind a text.
+fn put_behind(picture: &mut Text, text: &str, number: u64) {
+    picture.push_str(text);
+    picture.put_number(number);
+}
+
 /// Adds the outline of a glyph in a cell of so many units to the em.
 fn put_outline(picture: &mut Text, units: u64, outline: &Outline) {
     let (left, base) = (units / 4, units.saturating_add(units / 2));
-    write!(
-        picture,
-        "<path transform=\"translate({left} {base}) scale(1 -1)\" d=\"{outline}\"/>"
-    );
+    put_behind(picture, "<path transform=\"translate(", left);
+    put_behind(picture, " ", base);
+    picture.push_str(") scale(1 -1)\" d=\"");
+    picture.write_fmt(outline);
+    picture.push_str("\"/>");
 }
 
 /// Adds the number and the name of a glyph.
@@ -92,7 +99,9 @@ fn put_cell(
     let units = u64::from(face.units);
     let x = (cell % COLUMNS).saturating_mul(units).saturating_mul(2);
     let y = (cell / COLUMNS).saturating_mul(units).saturating_mul(2);
-    write!(picture, "<g transform=\"translate({x} {y})\">");
+    put_behind(picture, "<g transform=\"translate(", x);
+    put_behind(picture, " ", y);
+    picture.push_str(")\">");
     let size = label_size(units);
     let mut labels = Labels {
         picture,
@@ -139,11 +148,14 @@ fn put_opening(face: &Face<'_>, cells: u64, picture: &mut Text) {
     let (width, height) = (side.saturating_mul(COLUMNS), side.saturating_mul(rows));
     let (wide, high) = (PIXELS.saturating_mul(COLUMNS), PIXELS.saturating_mul(rows));
     let size = label_size(units);
-    write!(
-        picture,
-        "<svg xmlns=\"{SVG}\" width=\"{wide}\" height=\"{high}\" viewBox=\"0 0 {width} {height}\""
-    );
-    writeln!(picture, " font-family=\"monospace\" font-size=\"{size}\">");
+    picture.push_str("<svg xmlns=\"");
+    picture.push_str(SVG);
+    put_behind(picture, "\" width=\"", wide);
+    put_behind(picture, "\" height=\"", high);
+    put_behind(picture, "\" viewBox=\"0 0 ", width);
+    put_behind(picture, " ", height);
+    put_behind(picture, "\" font-family=\"monospace\" font-size=\"", size);
+    picture.push_str("\">\n");
 }
 
 /// A picture of glyphs.

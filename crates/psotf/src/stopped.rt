@@ -24,17 +24,15 @@ impl<'r> Stopped<'r> {
     /// One more. Each has a line, but those for which nothing is left share one.
     pub fn add(&mut self, gid: u16, refusal: &Refusal) -> Result<(), Failure> {
         self.count = self.count.saturating_add(1);
-        match refusal {
-            Refusal::UsedUp(_) => if !self.is_over {
+        let others = match refusal {
+            Refusal::UsedUp(_) if self.is_over => return Ok(()),
+            Refusal::UsedUp(_) => {
                 self.is_over = true;
-                tell(
-                    self.rt,
-                    format_args!("glyph {gid} and those behind it: {refusal}"),
-                )?;
-            },
-            _ => tell(self.rt, format_args!("glyph {gid}: {refusal}"))?,
-        }
-        Ok(())
+                " and those behind it"
+            }
+            _ => "",
+        };
+        tell(self.rt, format_args!("glyph {gid}{others}: {refusal}"))
     }
 
     /// Refused where there are some, with how many.

@@ -176,9 +176,9 @@ fn put_made(
 
 /// Adds the tables that stay as they are.
 fn put_same<'t>(tables: &mut Vec<Table<'t>>, file: &FontFile<'t>) -> Result<(), AllocError> {
-    for tag in SAME {
-        if let Some(bytes) = file.table(tag) {
-            let tag = u32::from_be_bytes(tag);
+    for tag in &SAME {
+        if let Some(bytes) = file.table(*tag) {
+            let tag = u32::from_be_bytes(*tag);
             tables.push(Table { tag, bytes })?;
         }
     }

@@ -6,13 +6,24 @@ use crate::failure::Failure;
 use crate::limit::Budget;
 use crate::saving;
 use crate::telling::tell;
+use crate::text::Text;
 use clap::ArgMatches;
+use postscript_outline::Outline;
 use std::alloc::{AllocError, Global};
 use std::fmt::Display;
 use std::io::Write;
 
 /// The namespace of the elements of pictures.
 pub const SVG: &str = "http://www.w3.org/2000/svg";
+
+/// Adds the path of a glyph so far to the right.
+pub fn put_path<N: Display + Drop>(picture: &mut Text, x: N, outline: &Outline) {
+    picture.push_str("<path transform=\"translate(");
+    picture.write_fmt(x);
+    picture.push_str(" 0)\" d=\"");
+    picture.write_fmt(outline);
+    picture.push_str("\"/>\n");
+}
 
 /// Draws a glyph so far to the right.
 fn put(
@@ -21,51 +32,51 @@ fn put(
     gid: u16,
     x: u64,
     budget: &mut Budget,
-    picture: &mut String,
+    picture: &mut Text,
 ) -> Result<(), Failure> {
     if gid >= count(face) {
         return Err(Failure::no_glyph(u32::from(gid)));
     }
-    let outline = match draw(alloc, face, gid, budget) {
-        Ok((_, outline)) => outline,
-        Err(refusal) => return Err(Failure::glyph(gid, &refusal)),
-    };
-    writeln!(
-        picture,
-        "<path transform=\"translate({x} 0)\" d=\"{outline}\"/>"
-    )?;
-    Ok(())
+    match draw(alloc, face, gid, budget) {
+        Ok((_, outline)) => {
+            put_path(picture, x, &outline);
+            Ok(())
+        }
+        Err(refusal) => Err(Failure::glyph(gid, &refusal)),
+    }
 }
 
-/// The paths of a text, and its width.
-fn paths(
+/// Adds the paths of a text, and tells its width.
+fn put_text(
     alloc: Global,
     face: &Face<'_>,
     text: &str,
     budget: &mut Budget,
-) -> Result<(String, u64), Failure> {
+    picture: &mut Text,
+) -> Result<u64, Failure> {
     let Some(map) = &face.map else {
         return Err(Failure::no_part("character map"));
     };
-    let mut picture = String::new(alloc);
     let mut x = 0u64;
     for char in text.chars() {
+        if picture.has_failed() {
+            break;
+        }
         let gid = map.glyph_of(u32::from(char));
-        put(alloc, face, gid, x, budget, &mut picture)?;
+        put(alloc, face, gid, x, budget, picture)?;
         x = x.saturating_add(u64::from(face.advances.of(gid)));
     }
-    Ok((picture, x))
+    Ok(x)
 }
 
-/// The paths of a text, whose characters all have a glyph, unless words say that others are drawn as `.notdef`: these are told on
-/// standard error then.
-fn paths_of(
+/// Refuses a text of which a character has no glyph, unless words say that those are drawn as `.notdef`: these are told on standard error
+/// then.
+fn see_missing(
     rt: &HostRuntime,
     face: &Face<'_>,
     words: &ArgMatches<'_>,
-    budget: &mut Budget,
-) -> Result<(String, u64), Failure> {
-    let text = words.get_str("text").unwrap_or("");
+    text: &str,
+) -> Result<(), Failure> {
     let missing = missing(rt.alloc(), &face.map, text)?;
     if !missing.is_empty() {
         match words.get_str("missing") {
@@ -74,19 +85,24 @@ fn paths_of(
             None => return Err(Failure::no_chars(missing)),
         }
     }
-    paths(rt.alloc(), face, text, budget)
+    Ok(())
 }
 
-/// The path of one glyph, and its advance.
-fn path(
-    alloc: Global,
+/// Adds the path of the glyph or the paths of the text that words name, and tells the width.
+fn put_named(
+    rt: &HostRuntime,
     face: &Face<'_>,
-    gid: u16,
+    words: &ArgMatches<'_>,
     budget: &mut Budget,
-) -> Result<(String, u64), Failure> {
-    let mut picture = String::new(alloc);
-    put(alloc, face, gid, 0, budget, &mut picture)?;
-    Ok((picture, u64::from(face.advances.of(gid))))
+    picture: &mut Text,
+) -> Result<u64, Failure> {
+    if let Some(gid) = words.get_one::<u16>("gid") {
+        put(rt.alloc(), face, gid, 0, budget, picture)?;
+        return Ok(u64::from(face.advances.of(gid)));
+    }
+    let text = words.get_str("text").unwrap_or("");
+    see_missing(rt, face, words, text)?;
+    put_text(rt.alloc(), face, text, budget, picture)
 }
 
 /// A picture so wide of paths that stand on a line, in so many units to the em.
@@ -94,8 +110,9 @@ pub fn picture_of<N: Display>(
     alloc: Global,
     units: u16,
     width: &N,
-    paths: &str,
+    paths: Text,
 ) -> Result<String, AllocError> {
+    let paths = paths.end()?;
     let units = u64::from(units);
     let height = units.saturating_mul(2);
     format!(in alloc;
@@ -111,10 +128,8 @@ pub fn write<W: Write>(
     budget: &mut Budget,
     out: &mut W,
 ) -> Result<(), Failure> {
-    let (paths, width) = match words.get_one::<u16>("gid") {
-        Some(gid) => path(rt.alloc(), face, gid, budget)?,
-        None => paths_of(rt, face, words, budget)?,
-    };
-    let picture = picture_of(rt.alloc(), face.units, &width, paths.as_str())?;
+    let mut paths = Text::new(rt.alloc());
+    let width = put_named(rt, face, words, budget, &mut paths)?;
+    let picture = picture_of(rt.alloc(), face.units, &width, paths)?;
     saving::put(rt, words, picture.as_bytes(), out)
 }

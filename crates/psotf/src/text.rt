@@ -48,6 +48,27 @@ impl Text {
         }
     }
 
+    /// Adds a whole number.
+    pub fn put_number(&mut self, number: u64) {
+        self.write_fmt(number);
+    }
+
+    /// Adds a line of a number behind its label.
+    pub fn put_count(&mut self, label: &str, count: u64) {
+        self.push_str(label);
+        self.push_str(": ");
+        self.put_number(count);
+        self.push('\n');
+    }
+
+    /// Adds a line of a word behind its label.
+    pub fn put_word(&mut self, label: &str, word: &str) {
+        self.push_str(label);
+        self.push_str(": ");
+        self.push_str(word);
+        self.push('\n');
+    }
+
     /// Adds the characters of a name, if there is one.
     pub fn put_name(&mut self, name: Option<Name<'_>>) {
         if let Some(name) = name {

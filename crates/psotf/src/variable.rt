@@ -77,17 +77,20 @@ impl<'l> VariableFace<'l> {
     }
 }
 
+/// Whether words name a place, or an axis to go through.
+fn names_place(words: &ArgMatches<'_>) -> bool {
+    words.get_str("variations").is_some()
+        || words.get_str("instance").is_some()
+        || words.get_str("animate").is_some()
+}
+
 /// Refuses an instance, and words that name a place, where the face is of no variable font.
 pub fn refuse(name: &str, words: &ArgMatches<'_>) -> Result<(), Failure> {
     if name == "instance" {
         return Err(Failure::no_places());
     }
-    for word in ["variations", "instance", "animate"] {
-        if words.get_str(word).is_some() {
-            return Err(Failure::usage(
-                "--variations, --instance and --animate want a variable font",
-            ));
-        }
+    if names_place(words) {
+        return Err(Failure::usage("--variations, --instance and --animate want a variable font"));
     }
     Ok(())
 }

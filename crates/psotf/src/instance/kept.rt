@@ -4,6 +4,7 @@ use crate::failure::Failure;
 use crate::leaving::put_tag;
 use crate::made::Made;
 use crate::telling;
+use crate::text::Text;
 use crate::variable::VariableFace;
 use postscript_base::index::number::number_within;
 use postscript_sfnt::FontFile;
@@ -87,12 +88,10 @@ fn kept<'l>(file: &FontFile<'l>, tag: [u8; 4], condition: Where) -> Option<&'l [
 
 /// Adds the tables that stay as they are.
 pub fn put<'l>(tables: &mut Vec<Table<'l>>, face: &VariableFace<'l>) -> Result<(), AllocError> {
-    for (tag, condition) in SAME {
-        if let Some(bytes) = kept(&face.file, tag, condition) {
-            tables.push(Table {
-                tag: u32::from_be_bytes(tag),
-                bytes,
-            })?;
+    for (tag, condition) in &SAME {
+        if let Some(bytes) = kept(&face.file, *tag, *condition) {
+            let tag = u32::from_be_bytes(*tag);
+            tables.push(Table { tag, bytes })?;
         }
     }
     Ok(())
@@ -106,34 +105,33 @@ fn is_left_out(file: &FontFile<'_>, made: &Made, tag: [u8; 4]) -> bool {
     !SAME.iter().any(|(same, condition)| *same == tag && kept(file, tag, *condition).is_some())
 }
 
-/// Adds the tags of the tables that are left out, each behind a space.
-fn put_tags(text: &mut String, file: &FontFile<'_>, made: &Made) -> Result<(), AllocError> {
+/// The tags of the tables that are left out, each behind a space.
+fn tags(alloc: Global, file: &FontFile<'_>, made: &Made) -> Result<String, AllocError> {
+    let mut text = Text::new(alloc);
     for i in 0..file.tables() {
         let tag = file.tag(i).unwrap_or(0).to_be_bytes();
         if is_left_out(file, made, tag) {
-            text.push(' ')?;
-            put_tag(text, &tag)?;
+            put_tag(&mut text, &tag);
         }
     }
-    Ok(())
+    text.end()
 }
 
 /// What is lost with the tables that are left out.
 fn lost(alloc: Global, file: &FontFile<'_>, made: &Made) -> Result<String, AllocError> {
-    let mut text = String::new(alloc);
-    for (tag, what) in LOST {
-        if file.table(tag).is_some() && is_left_out(file, made, tag) {
-            text.push_str(if text.is_empty() { "; lost are " } else { ", " })?;
-            text.push_str(what)?;
+    let mut text = Text::new(alloc);
+    for (tag, what) in &LOST {
+        if file.table(*tag).is_some() && is_left_out(file, made, *tag) {
+            text.push_str(if text.is_empty() { "; lost are " } else { ", " });
+            text.push_str(what);
         }
     }
-    Ok(text)
+    text.end()
 }
 
 /// Tells on standard error, in one line, which tables are left out, and what is lost with them.
 pub fn tell(rt: &HostRuntime, face: &VariableFace<'_>, made: &Made) -> Result<(), Failure> {
-    let mut tags = String::new(rt.alloc());
-    put_tags(&mut tags, &face.file, made)?;
+    let tags = tags(rt.alloc(), &face.file, made)?;
     if tags.is_empty() {
         return Ok(());
     }

@@ -34,7 +34,7 @@ fn value_along(face: &VariableFace<'_>, chosen: &Chosen, tag: [u8; 4]) -> Option
 /// The width class of a width in 65536ths of a percent.
 fn width_class(width: i64) -> u16 {
     let mut class = 1u16;
-    for least in WIDTHS {
+    for least in &WIDTHS {
         if width.saturating_mul(4) >= least.saturating_mul(65536) {
             class = class.saturating_add(1);
         }

@@ -136,14 +136,14 @@ impl<'v> Varied<'v> {
     /// A value of a format.
     fn value(&mut self, parent: usize, place: usize, format: u16) {
         self.take(1);
-        for (bit, device) in PARTS {
-            if format & device != 0 {
-                let number = if format & bit != 0 {
-                    Some(behind(place, room(format, bit)))
+        for (bit, device) in &PARTS {
+            if format & *device != 0 {
+                let number = if format & *bit != 0 {
+                    Some(behind(place, room(format, *bit)))
                 } else {
                     None
                 };
-                self.vary(parent, number, behind(place, room(format, device)));
+                self.vary(parent, number, behind(place, room(format, *device)));
             }
         }
     }

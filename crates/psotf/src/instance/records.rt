@@ -122,18 +122,8 @@ fn text_by(
 /// A text in UTF-16, the high byte of each unit first.
 fn utf16(alloc: Global, text: &str) -> Result<Vec<u8>, AllocError> {
     let mut bytes = Vec::new(alloc);
-    for char in text.chars() {
-        let code = u32::from(char);
-        match u16::try_from(code) {
-            Ok(unit) => bytes.extend_from_slice(&unit.to_be_bytes())?,
-            Err(_) => {
-                let rest = code.saturating_sub(0x10000);
-                let high = 0xd800u16.saturating_add((rest / 1024 % 1024) as u16);
-                let low = 0xdc00u16.saturating_add((rest % 1024) as u16);
-                bytes.extend_from_slice(&high.to_be_bytes())?;
-                bytes.extend_from_slice(&low.to_be_bytes())?;
-            }
-        }
+    for unit in text.encode_utf16() {
+        bytes.extend_from_slice(&unit.to_be_bytes())?;
     }
     Ok(bytes)
 }

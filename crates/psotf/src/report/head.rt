@@ -1,7 +1,7 @@
 //! What a page tells of the file and of the face (docs/REPORT.md).
 use super::pages::{Pages, put_index};
 use super::parts;
-use crate::dictionaries::{self, CID_TOP};
+use crate::dictionaries::{self, Kind};
 use crate::face::Face;
 use crate::inspect;
 use crate::sheet::Sheet;
@@ -58,7 +58,7 @@ fn font_dictionaries(sheet: &mut Sheet, face: &Face<'_>) {
     sheet.begin_list("font_dictionaries");
     for part in &face.font.parts {
         if let Some(dictionary) = &part.font_dictionary {
-            dictionaries::write(sheet, dictionary, &CID_TOP);
+            dictionaries::write(sheet, dictionary, Kind::CidTop);
         }
     }
     sheet.end_array();

@@ -43,10 +43,11 @@ impl<'w> Pages<'w> {
         if first == self.first {
             return String::from_str(alloc, self.path);
         }
-        match self.path.strip_suffix(".html") {
-            Some(stem) => format!(in alloc; "{stem}-{first}.html"),
-            None => format!(in alloc; "{}-{first}", self.path),
-        }
+        let (stem, end) = match self.path.strip_suffix(".html") {
+            Some(stem) => (stem, ".html"),
+            None => (self.path, ""),
+        };
+        format!(in alloc; "{stem}-{first}{end}")
     }
 
     /// Writes of a page its name without the folder, its first glyph and the one behind its last.

@@ -41,7 +41,7 @@ pub fn first(sheet: &mut Sheet, cff: &[u8]) {
     let header = number_within(cff, 2, 1).unwrap_or(0);
     part(sheet, "header", 0, header);
     let mut place = header;
-    for name in BEHIND_THE_HEADER {
+    for name in &BEHIND_THE_HEADER {
         let end = index(sheet, cff, name, place);
         if end == place {
             break;
@@ -161,6 +161,13 @@ fn privates(sheet: &mut Sheet, face: &Face<'_>) {
     }
 }
 
+/// Writes the INDEX that an operator of the font's dictionary names.
+fn named(sheet: &mut Sheet, face: &Face<'_>, name: &str, operator: Operator) {
+    if let Some(place) = operand(&face.font.dictionary, operator, 0) {
+        let _ = index(sheet, face.cff, name, place);
+    }
+}
+
 /// Writes each part with its place and its size.
 pub fn put(sheet: &mut Sheet, face: &Face<'_>) {
     sheet.begin_list("parts");
@@ -168,14 +175,8 @@ pub fn put(sheet: &mut Sheet, face: &Face<'_>) {
     encoding(sheet, face);
     char_set(sheet, face);
     select(sheet, face);
-    for (name, operator) in [
-        ("CharStrings INDEX", Operator::CharStrings),
-        ("Font DICT INDEX", Operator::FDArray),
-    ] {
-        if let Some(place) = operand(&face.font.dictionary, operator, 0) {
-            let _ = index(sheet, face.cff, name, place);
-        }
-    }
+    named(sheet, face, "CharStrings INDEX", Operator::CharStrings);
+    named(sheet, face, "Font DICT INDEX", Operator::FDArray);
     privates(sheet, face);
     sheet.end_array();
 }

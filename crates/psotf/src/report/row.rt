@@ -10,7 +10,7 @@ use crate::stopped::Stopped;
 use crate::text::Text;
 use postscript_drawing::Accent;
 use postscript_outline::Outline;
-use postscript_type2::{Charstring, Subroutines};
+use postscript_type2::{Charstring, Program, Subroutines};
 use postscript_view::Glyph;
 use std::alloc::Global;
 
@@ -54,13 +54,11 @@ fn width(alloc: Global, sheet: &mut Sheet, glyph: &Glyph<'_, '_>, outline: &Outl
 
 /// How many units a run takes that comes to its end, and the base and the accent of an accented glyph.
 fn cost_of(
-    alloc: Global,
-    glyph: &Glyph<'_, '_>,
+    program: &mut Program<'_>,
     budget: &mut Budget,
 ) -> Result<(u64, Option<Accent>), Failure> {
     let share = budget.share();
     let mut left = share;
-    let mut program = glyph.program(alloc);
     let _ = program.fits(&mut left)?;
     let cost = share.saturating_sub(left);
     budget.spend(cost.saturating_mul(3));
@@ -75,7 +73,7 @@ fn costs(
     glyph: &Glyph<'_, '_>,
     budget: &mut Budget,
 ) -> Result<Option<Accent>, Failure> {
-    let (cost, accent) = cost_of(alloc, glyph, budget)?;
+    let (cost, accent) = cost_of(&mut glyph.program(alloc), budget)?;
     let subroutines = Subroutines::indexes(glyph.global_subroutines, glyph.part.subroutines);
     let code = glyph.code;
     let charstring = Charstring { code, subroutines };

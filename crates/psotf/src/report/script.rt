@@ -15,5 +15,8 @@ use grid::GRID;
 use page::PAGE;
 use walk::WALK;
 
-/// It makes all that is seen, from the block of JSON that stands in the page. Its parts are one script.
-pub const SCRIPT: [&str; 7] = [BLOCK, WALK, FONT, GRID, GLYPH, CALLS, PAGE];
+/// It makes all that is seen, from the block of JSON that stands in the page. Its parts are one script. A function that names these long
+/// texts has them in its proof, so that none other does.
+pub fn script() -> [&'static str; 7] {
+    [BLOCK, WALK, FONT, GRID, GLYPH, CALLS, PAGE]
+}

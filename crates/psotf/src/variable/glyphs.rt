@@ -1,22 +1,22 @@
 //! Glyphs of variable fonts, at a place.
 use super::place::Chosen;
 use super::{VariableFace, moving};
-use crate::characters::{Mapped, by_glyph, glyph_of, missing, of_glyph};
+use crate::characters::{Mapped, by_glyph, glyph_of, of_glyph, refuse_missing};
 use crate::drawing::SEGMENT;
 use crate::failure::{Failure, Refusal};
-use crate::glyph::{chars, shape};
+use crate::glyph::{char_of, chars, shape};
 use crate::limit::Budget;
 use crate::progress::Progress;
 use crate::saving;
 use crate::sheet::Sheet;
-use crate::svg::picture_of;
+use crate::svg::{picture_of, put_path};
 use crate::text::Text;
 use clap::ArgMatches;
 use postscript_drawing::Error as Undrawn;
 use postscript_outline::Outline;
 use postscript_variable_drawing::draw_glyph;
 use postscript_variation::in_whole;
-use std::alloc::{AllocError, Global};
+use std::alloc::Global;
 use std::io::Write;
 use std::ops::Range;
 
@@ -129,14 +129,20 @@ fn put_line(
     chosen: &Chosen,
     budget: &mut Budget,
 ) -> bool {
-    let advance = advance_of(face, gid, chosen);
+    line.put_number(u64::from(gid));
+    line.push(' ');
+    line.write_fmt(advance_of(face, gid, chosen));
+    line.push(' ');
     match outline_of(alloc, face, gid, chosen, budget) {
         Ok(outline) => {
-            writeln!(line, "{gid} {advance} {outline}");
+            line.write_fmt(&outline);
+            line.push('\n');
             true
         }
         Err(refusal) => {
-            writeln!(line, "{gid} {advance} refused: {refusal}");
+            line.push_str("refused: ");
+            line.write_fmt(&refusal);
+            line.push('\n');
             false
         }
     }
@@ -150,11 +156,7 @@ fn asked(face: &VariableFace<'_>, words: &ArgMatches<'_>) -> Result<u16, Failure
     if words.get_str("name").is_some() {
         return Err(Failure::no_part("names of glyphs: CFF2 has none"));
     }
-    let mut chars = words.get_str("char").unwrap_or("").chars();
-    let (Some(char), None) = (chars.next(), chars.next()) else {
-        return Err(Failure::usage("--char takes one character"));
-    };
-    match glyph_of(&face.common.map, u32::from(char)) {
+    match glyph_of(&face.common.map, char_of(words)?) {
         0 => Err(Failure::no_part("glyph of this character")),
         gid => Ok(gid),
     }
@@ -256,23 +258,10 @@ fn put(
     }
     match outline_of(alloc, face, gid, chosen, budget) {
         Ok(outline) => {
-            writeln!(
-                picture,
-                "<path transform=\"translate({x} 0)\" d=\"{outline}\"/>"
-            );
+            put_path(picture, x, &outline);
             Ok(advance_of(face, gid, chosen))
         }
         Err(refusal) => Err(Failure::glyph(gid, &refusal)),
-    }
-}
-
-/// Refuses a text of which a character has no glyph.
-pub fn has_all(alloc: Global, face: &VariableFace<'_>, text: &str) -> Result<(), Failure> {
-    let missing = missing(alloc, &face.common.map, text)?;
-    if missing.is_empty() {
-        Ok(())
-    } else {
-        Err(Failure::no_chars(missing))
     }
 }
 
@@ -285,7 +274,7 @@ fn put_text(
     budget: &mut Budget,
     picture: &mut Text,
 ) -> Result<i64, Failure> {
-    has_all(alloc, face, text)?;
+    refuse_missing(alloc, &face.common.map, text)?;
     let mut x = 0i64;
     for char in text.chars() {
         let gid = glyph_of(&face.common.map, u32::from(char));
@@ -312,12 +301,6 @@ fn put_named(
     }
 }
 
-/// A picture so wide of paths, in so many units to the em.
-pub fn framed(alloc: Global, units: u16, width: i64, paths: Text) -> Result<String, AllocError> {
-    let paths = paths.end()?;
-    picture_of(alloc, units, &width, paths.as_str())
-}
-
 /// Writes a picture of the glyph or the text that words name, at the place that they name.
 pub fn write_picture<W: Write>(
     rt: &HostRuntime,
@@ -332,6 +315,6 @@ pub fn write_picture<W: Write>(
     let chosen = Chosen::read(rt, face, words)?;
     let mut paths = Text::new(rt.alloc());
     let width = put_named(rt.alloc(), face, words, &chosen, budget, &mut paths)?;
-    let picture = framed(rt.alloc(), face.common.units, width, paths)?;
+    let picture = picture_of(rt.alloc(), face.common.units, &width, paths)?;
     saving::put(rt, words, picture.as_bytes(), out)
 }

@@ -3,21 +3,13 @@ use super::VariableFace;
 use super::place::name_of;
 use crate::characters::count;
 use crate::decimal::put_bits;
+use crate::face::called;
 use crate::failure::Failure;
 use crate::sheet::Sheet;
 use crate::text::Text;
-use postscript_sfnt::Name;
 use postscript_variation::{Axes, Axis};
 use std::alloc::Global;
 use std::io::Write;
-
-/// The family and the style.
-fn names<'l>(face: &VariableFace<'l>) -> (Option<Name<'l>>, Option<Name<'l>>) {
-    match &face.common.names {
-        Some(names) => (names.family(), names.style()),
-        None => (None, None),
-    }
-}
 
 /// What is counted, under its name, with the number of characters.
 fn counts(face: &VariableFace<'_>, characters: u64) -> [(&'static str, u64); 7] {
@@ -100,7 +92,7 @@ fn instances(sheet: &mut Sheet, face: &VariableFace<'_>) {
 /// Writes all that is told, as an object on a sheet.
 fn put(alloc: Global, sheet: &mut Sheet, face: &VariableFace<'_>) {
     sheet.begin_object();
-    let (family, style) = names(face);
+    let (family, style) = called(&face.common.names);
     sheet.name("family", family);
     sheet.name("style", style);
     let characters = sheet.found(count(alloc, &face.common.map));
@@ -157,13 +149,13 @@ fn instance_line(lines: &mut Text, face: &VariableFace<'_>, axes: &Axes<'_>, i: 
 
 /// Adds lines of the names and the numbers.
 fn head_lines(alloc: Global, lines: &mut Text, face: &VariableFace<'_>) {
-    let (family, style) = names(face);
+    let (family, style) = called(&face.common.names);
     lines.put_named("family", family);
     lines.put_named("style", style);
     lines.push_str("a variable font: its outlines stand in the table CFF2\n");
     let characters = lines.found(count(alloc, &face.common.map));
     for (key, count) in &counts(face, characters) {
-        writeln!(lines, "{key}: {count}");
+        lines.put_count(key, *count);
     }
 }
 

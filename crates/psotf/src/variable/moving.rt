@@ -1,11 +1,12 @@
 //! Pictures of a variable font that go through an axis.
 use super::VariableFace;
-use super::glyphs::{advance_of, count, framed, has_all, outline_of};
+use super::glyphs::{advance_of, count, outline_of};
 use super::place::{Chosen, axis_named};
-use crate::characters::glyph_of;
+use crate::characters::{glyph_of, refuse_missing};
 use crate::failure::Failure;
 use crate::limit::Budget;
 use crate::saving;
+use crate::svg::picture_of;
 use crate::text::Text;
 use clap::ArgMatches;
 use postscript_outline::Outline;
@@ -85,7 +86,7 @@ fn asked(
     let gid = words.get_one::<u16>("gid");
     let text = words.get_str("text").unwrap_or("");
     if gid.is_none() {
-        has_all(alloc, face, text)?;
+        refuse_missing(alloc, &face.common.map, text)?;
     }
     let gids = glyphs_of(alloc, face, gid, text)?;
     match beyond(face, &gids) {
@@ -179,12 +180,15 @@ fn frame_at(frames: &[Frame], number: usize) -> Option<&Frame> {
 
 /// Adds the element that moves the path of a glyph.
 fn put_shapes(picture: &mut Text, frames: &[Frame], glyph: usize) {
-    write!(picture, "<animate attributeName=\"d\" {TIME} values=\"");
+    picture.push_str("<animate attributeName=\"d\" ");
+    picture.push_str(TIME);
+    picture.push_str(" values=\"");
     let mut lead = "";
     for number in 0..shown(frames) {
         if let Some(frame) = frame_at(frames, number) {
             if let Some(path) = frame.paths.get(glyph) {
-                write!(picture, "{lead}{path}");
+                picture.push_str(lead);
+                picture.push_str(path.as_str());
                 lead = ";";
             }
         }
@@ -194,15 +198,16 @@ fn put_shapes(picture: &mut Text, frames: &[Frame], glyph: usize) {
 
 /// Adds the element that moves the place of a glyph.
 fn put_starts(picture: &mut Text, frames: &[Frame], glyph: usize) {
-    write!(
-        picture,
-        "<animateTransform attributeName=\"transform\" type=\"translate\" {TIME} values=\""
-    );
+    picture.push_str("<animateTransform attributeName=\"transform\" type=\"translate\" ");
+    picture.push_str(TIME);
+    picture.push_str(" values=\"");
     let mut lead = "";
     for number in 0..shown(frames) {
         if let Some(frame) = frame_at(frames, number) {
             if let Some(start) = frame.starts.get(glyph) {
-                write!(picture, "{lead}{start} 0");
+                picture.push_str(lead);
+                picture.write_fmt(start);
+                picture.push_str(" 0");
                 lead = ";";
             }
         }
@@ -216,10 +221,11 @@ fn put_glyph(picture: &mut Text, frames: &[Frame], glyph: usize) {
         return;
     };
     if let (Some(start), Some(path)) = (first.starts.get(glyph), first.paths.get(glyph)) {
-        writeln!(
-            picture,
-            "<path transform=\"translate({start} 0)\" d=\"{path}\">"
-        );
+        picture.push_str("<path transform=\"translate(");
+        picture.write_fmt(start);
+        picture.push_str(" 0)\" d=\"");
+        picture.push_str(path.as_str());
+        picture.push_str("\">\n");
         put_shapes(picture, frames, glyph);
         put_starts(picture, frames, glyph);
         picture.push_str("</path>\n");
@@ -256,7 +262,7 @@ fn moving(
     let mut frames = Vec::new(alloc);
     put_frames(alloc, face, axis, gids, chosen, budget, &mut frames)?;
     let paths = elements(alloc, &frames, gids.len());
-    Ok(framed(alloc, face.common.units, width_of(&frames), paths)?)
+    Ok(picture_of(alloc, face.common.units, &width_of(&frames), paths)?)
 }
 
 /// Writes a picture of the glyph or the text that words name, which goes through an axis and back.

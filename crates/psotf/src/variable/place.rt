@@ -3,6 +3,7 @@ use super::VariableFace;
 use super::fixed::fixed_of;
 use crate::failure::Failure;
 use crate::telling::tell;
+use crate::text::Text;
 use clap::ArgMatches;
 use postscript_sfnt::Name;
 use postscript_variable_font::Place;
@@ -99,13 +100,9 @@ fn settings_of(rt: &HostRuntime, axes: &Axes<'_>, list: &str) -> Result<Vec<Sett
 
 /// The characters of a name as text.
 pub fn text_of(alloc: Global, name: Option<Name<'_>>) -> Result<String, AllocError> {
-    let mut text = String::new(alloc);
-    if let Some(name) = name {
-        for char in name.chars() {
-            text.push(char)?;
-        }
-    }
-    Ok(text)
+    let mut text = Text::new(alloc);
+    text.put_name(name);
+    text.end()
 }
 
 /// The name of an identifier.
