@@ -12,9 +12,10 @@ size, that they are no wider than their cells, and why a glyph is refused, in it
 and the status; of no words the help, and of a file alone what it holds. Of characters that the font has no glyph for which they are, by
 `svg` and by `subset`. Of files of other kinds the line that says what each is. Of `inspect` the memory that it takes of Noto Sans CJK.
 Of `report` the pages of more glyphs than one holds. Of `instance` what is refused and how it is said: axes, instances
-and words, files that are not variable, runs past the limit, damaged tables, a disk that is full; which tables are left out, the names of a
-place and of its glyphs, and points in whole units. Needs Debian's python3-fonttools, fonts-ebgaramond and time, and, where it is there, takes
-fonts-noto-cjk. The status is 1 where something is otherwise.
+and words, files that are not variable, runs past the limit, damaged tables; which tables are left out, the names of a
+place and of its glyphs, and points in whole units. Of a full disk the status, what is said, and that an old file stays. Needs
+Debian's python3-fonttools, fonts-ebgaramond and time, and, where it is there, takes fonts-noto-cjk. The status is 1 where something is
+otherwise.
 """
 
 import functools
@@ -420,7 +421,7 @@ def _(folder):
 
 @case("words: where the disk is full the status is 1, and it is said")
 def _(folder):
-    for words in (["inspect", FONT], ["glyph", FONT, "--gid", "1"], ["svg", FONT, "--text", "A"], ["flat", FONT], ["subset", FONT, "--text", "A"]):
+    for words in (["inspect", FONT], ["glyph", FONT, "--gid", "1"], ["svg", FONT, "--text", "A"], ["sheet", FONT, "--count", "9"]):
         with open("/dev/full", "wb") as full:
             done = subprocess.run([str(PSOTF), *words], stdout=full, stderr=subprocess.PIPE, check=False)
         assert done.returncode == 1 and b"psotf: " in done.stderr, (words[0], done.returncode, done.stderr)
