@@ -1,6 +1,6 @@
 //! Numbers of one byte, eight bytes at a time.
 ghost use Rattle.std.specs.List.{prefix_len};
-ghost use Rattle.std.specs.Prelude.{◌≡◌, ◌≤◌, ◌+◌, ◌∷◌, ◌++◌, ◌&&◌, nat_lt, true, length, take, drop, map, IfOk, IfErr};
+ghost use Rattle.std.specs.Prelude.{◌≡◌, ◌≤◌, ◌+◌, ◌∷◌, ◌++◌, ◌&&◌, nat_lt, true, length, take, drop, map, IfOk, IfErr, OnOk};
 ghost use Rattle.postscript_type2.specs.declared.refused.Refused.TheVariants as cases;
 ghost use Rattle.postscript_type2.specs.Private.Alone.{alone as the_alone, is_alone as the_is_alone, PutsAlone};
 
@@ -9,7 +9,7 @@ use crate::refused::Result;
 use std::simd::prelude::*;
 
 /// How many bytes are looked at at once.
-const AT_ONCE: usize = 8;
+pub(super) const AT_ONCE: usize = 8;
 
 /// Whether a byte is a number by itself, as most are (Technical Note 5177, "Charstring Number Encoding"). Never refused.
 #[inline(always)]
@@ -62,10 +62,17 @@ fn all_alone(bytes: [u8; AT_ONCE]) -> [Operand; AT_ONCE]
     ]
 }
 
-/// Whether eight more operands need no more memory.
+/// Puts eight more operands onto the stack.
 #[inline(always)]
-fn has_room(stack: &Vec<Operand>) -> bool {
-    stack.capacity().wrapping_sub(stack.len()) >= AT_ONCE
+fn put_all(operands: [Operand; AT_ONCE], stack: &mut Vec<Operand>) -> Result<()>
+    ensures stack { OnOk result (stack.new.items ≡ stack.old.items ++ operands) }
+    ensures refused { IfErr result (λ e. e ≡ cases.Memory) }
+{
+    stack.resize(stack.len() + AT_ONCE, Operand::from_int(0))?;
+    if let Some(room) = stack.as_mut_slice().last_chunk_mut() {
+        *room = operands;
+    }
+    Ok(())
 }
 
 /// Puts the front of eight bytes onto the stack, as far as they are numbers by themselves, and answers how many.
@@ -76,7 +83,7 @@ fn put_front(bytes: u8x8, stack: &mut Vec<Operand>) -> Result<usize>
     ensures room { IfOk result (λ count. count ≤ 8) }
     ensures refused { IfErr result (λ e. e ≡ cases.Memory) }
 {
-    stack.extend_from_slice(&all_alone(bytes.to_array()))?;
+    put_all(all_alone(bytes.to_array()), stack)?;
     let count = alone_front(bytes);
     let behind = AT_ONCE - count;
     stack.truncate(stack.len() - behind);
@@ -92,8 +99,8 @@ fn rest_at(code: &[u8], place: usize) -> &[u8]
     &code[place..]
 }
 
-/// Puts numbers of one byte onto the stack, of which the first is at a place: those of the next eight bytes, where as many are left,
-/// the first three are such numbers, and eight operands need no more memory; and else that one. Answers the place behind them.
+/// Puts numbers of one byte onto the stack, of which the first is at a place: those of the next eight bytes, where as many are left
+/// and the second is such a number too; and else that one. Answers the place behind them.
 #[inline(always)]
 pub(super) fn put_alone(
     code: &[u8],
@@ -108,7 +115,7 @@ pub(super) fn put_alone(
     ensures refused { IfErr result (λ e. e ≡ cases.Memory) }
 {
     let rest = rest_at(code, place);
-    if rest.len() >= AT_ONCE && is_alone(rest[1]) && is_alone(rest[2]) && has_room(stack) {
+    if rest.len() >= AT_ONCE && is_alone(rest[1]) {
         let count = put_front(u8x8::from_slice(rest), stack)?;
         return Ok(place + count);
     }

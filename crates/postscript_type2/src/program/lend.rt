@@ -14,8 +14,8 @@ impl<'l> Program<'l> {
     /// The next operation, as `next` answers it, with its operands lent, the lowest first, until the program is used
     /// again; None at the end. Calls of `next` and of `step` may be mixed.
     ///
-    /// It asks for memory for the stack, once and for 48 operands, and more only where the stack grows beyond; and for
-    /// the callers of subroutines. It asks for none for the operands that it lends.
+    /// It asks for memory for the stack, once, and more only where more than 48 operands stand on it; and for the callers of
+    /// subroutines, where one calls another. It asks for none for the operands that it lends.
     ///
     /// Refused: as `next` is.
     ///
@@ -39,8 +39,8 @@ impl<'l> Program<'l> {
         match self.phase {
             Phase::Running => self.machine.empty(),
             Phase::Paused => self.phase = Phase::Running,
-            Phase::Ended => return Ok(None),
-            Phase::Failed => return Err(Error::AlreadyFailed),
+            over if over.has_failed() => return Err(Error::AlreadyFailed),
+            _ => return Ok(None),
         }
         match self.machine.stop() {
             Ok(Some((operator, count))) => Ok(Some((operator, self.machine.operands(count)))),

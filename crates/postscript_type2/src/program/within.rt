@@ -61,8 +61,8 @@ impl<'l> Program<'l> {
         match self.phase {
             Phase::Running => self.machine.empty(),
             Phase::Paused => self.phase = Phase::Running,
-            Phase::Ended => return Ok(Within::End),
-            Phase::Failed => return Err(Error::AlreadyFailed),
+            over if over.has_failed() => return Err(Error::AlreadyFailed),
+            _ => return Ok(Within::End),
         }
         match self.machine.stop_within(limit) {
             Ok(Stop::At(operator, count)) => Ok(Within::Operation(

@@ -1,4 +1,6 @@
-use Rattle.std.proofs.Common.{◌≡◌, Ok, arith, rules, refl, subst}
+use Rattle.std.proofs.Common.{◌≡◌, ◌≢◌, Ok, arith, rules, refl, subst}
+use Rattle.postscript_type2.specs.declared.program.Phase.{Phase}
+use Rattle.postscript_type2.specs.declared.program.Phase.TheVariants.{Running, Paused, Ended, Failed}
 use Rattle.postscript_type2.specs.Program.Limit.{Spends}
 use Rattle.postscript_type2.specs.Private.Limited.{StopsWithin}
 use Rattle.postscript_type2.specs.Private.Machines.{still_of, still_emptied}
@@ -7,13 +9,22 @@ use Rattle.postscript_type2.proofs.EndingLaws.{machine-ends}
 use Rattle.postscript_type2.proofs.Limit.{runs-out, stays-over, stays-refused}
 use Rattle.postscript_type2.proofs.program.Program.step_within.Goals as goal
 
-pub returns-in-Ended : goal.returns-in-Ended
-returns-in-Ended c =
-    ((refl, λ _. tt, stays-over c.self.inside.machine c.args.limit.now c.in-Ended.is c.self.view_is), record { steps = tt; head = search rules; listed = tt; ended = search rules; over = λ operands is. search rules; failed = search rules; suffices = search rules })
+-- a program that does not go on, and was not refused, was told its end
+is-ended : (phase : Phase) → phase ≢ Running → phase ≢ Paused → phase ≢ Failed → phase ≡ Ended
+is-ended Running a b c = absurd (a refl)
+is-ended Paused a b c = absurd (b refl)
+is-ended Ended a b c = refl
+is-ended Failed a b c = absurd (c refl)
 
-pub returns-in-Failed : goal.returns-in-Failed
-returns-in-Failed c =
-    ((refl, λ _. tt, stays-refused c.self.inside.machine c.args.limit.now c.in-Failed.is c.self.view_is), record { steps = tt; head = search rules; listed = search rules; ended = search rules; over = λ operands is. search rules; failed = search rules; suffices = search rules })
+pub returns-in_default-2 : goal.returns-in_default-2
+returns-in_default-2 c =
+    let is : c.self.inside.phase ≡ Ended = is-ended c.self.inside.phase (search rules) (search rules) (search rules) in
+    ((refl, λ _. tt, stays-over c.self.inside.machine c.args.limit.now is c.self.view_is), record { steps = tt; head = search rules; listed = tt; ended = search rules; over = λ operands is. search rules; failed = search rules; suffices = search rules })
+
+pub returns-in_default : goal.returns-in_default
+returns-in_default c =
+    let is : c.self.inside.phase ≡ Failed = search rules in
+    ((refl, λ _. tt, stays-refused c.self.inside.machine c.args.limit.now is c.self.view_is), record { steps = tt; head = search rules; listed = search rules; ended = search rules; over = λ operands is. search rules; failed = search rules; suffices = search rules })
 
 pub returns-in-Ok-At : goal.returns-in-Ok-At
 returns-in-Ok-At c =

@@ -5,8 +5,8 @@ use Rattle.postscript_type2.specs.Private.Alone.{is_alone, alone}
 use Rattle.postscript_type2.proofs.Alone.{some, within}
 use Rattle.postscript_type2.proofs.program.alone.put_alone.Goals as goal
 
-pub returns-then-has_room-clause-puts : goal.returns-then-has_room-clause-puts
-returns-then-has_room-clause-puts c =
+pub returns-then-is_alone-clause-puts : goal.returns-then-is_alone-clause-puts
+returns-then-is_alone-clause-puts c =
     let count = c.in_ok-count.ensures in
     let rest = drop c.args.place c.args.code.now in
     let bytes : c.rest_at-rest.result.now ≡ rest = c.rest_at-rest.ensures in

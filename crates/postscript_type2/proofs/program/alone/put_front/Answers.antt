@@ -7,6 +7,6 @@ use Rattle.postscript_type2.proofs.program.alone.put_front.Goals as goal
 pub returns-clause-stack : goal.returns-clause-stack
 returns-clause-stack c =
     let stack = c.args.stack.now.items in
-    let whole = ap length c.in_ok-extend_from_slice.ensures.items in
-    rw (c.truncate.ensures.items, c.in_ok-extend_from_slice.ensures.items, c.all_alone.ensures)
+    let whole = ap length c.in_ok-put_all.ensures.stack in
+    rw (c.truncate.ensures.items, c.in_ok-put_all.ensures.stack, c.all_alone.ensures)
     (kept stack c.args.bytes c.alone_front-count.result _ (omega (arith, c.len.ensures, whole, length-append stack c.all_alone.result, ap length c.all_alone.ensures, length-map c.args.bytes alone, c.alone_front-count.ensures.room)))
