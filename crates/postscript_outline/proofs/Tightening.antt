@@ -1,11 +1,10 @@
 -- Tight bounds grow by what one more segment draws.
-use Rattle.std.proofs.Common.{◌≡◌, ℕ, suc, ◌+◌, ◌*◌, ◌≤◌, ◌<◌, ℤ, pos, negsuc, ◌*ℤ◌, ◌≤ℤ◌, List, [], ◌∷◌, ◌++◌, length, get_or, take, Option, Some, None, fold, refl, sym, ap, ◌∙◌, subst, inl, inr, ◌⊎◌, arith, add-one, append_assoc, append-nil, length-append, mul-le-mul_right}
+use Rattle.std.proofs.Common.{◌≡◌, ℕ, suc, ◌+◌, ◌*◌, ◌≤◌, ℤ, pos, negsuc, ◌*ℤ◌, ◌≤ℤ◌, List, [], ◌∷◌, ◌++◌, Option, Some, None, sym, ap, ◌∙◌, subst, inl, inr, ◌⊎◌, arith, append_assoc, append-nil, length-append, mul-le-mul_right}
 use Rattle.std.proofs.lemmas.Int.{ints}
 use Rattle.std.proofs.lemmas.List.Elements.{All-append, All-nil, All-push}
 use Rattle.std.proofs.lemmas.List.Quantifiers.{Any-push}
 use Rattle.std.proofs.lemmas.List.{get_or_append_left}
 use Rattle.std.proofs.Math.IntN.{negsuc-*ℤ-pos}
-use Rattle.std.proofs.Math.Seq.{take-suc}
 use Rattle.std.specs.Prelude.{Any}
 use Rattle.postscript_outline.proofs.Bounding.{least, greatest, ≤ℤ_trans}
 use Rattle.postscript_outline.specs.declared.bounds.Bounds.{Bounds}
@@ -14,7 +13,9 @@ use Rattle.postscript_outline.specs.declared.point.Point.{Point}
 use Rattle.postscript_outline.specs.Arcs.{Reaches}
 use Rattle.postscript_outline.specs.Bounds.{lower, upper}
 use Rattle.postscript_outline.specs.Points.{point}
-use Rattle.postscript_outline.specs.Tight.{Arc, Contains, DipsTo, IsAbove, IsBelow, IsTightBoundsOf, RisesTo, Surrounds, TightlyBounded, after, arcs, arcs_of, both}
+use Rattle.postscript_outline.specs.Tight.{Arc, Contains, DipsTo, IsAbove, IsBelow, IsTightBoundsOf, RisesTo, Surrounds, TakesIn, TightlyBounded, after, arcs, arcs_of, both}
+use Rattle.postscript_outline.specs.Sinks.{Receives}
+use Rattle.postscript_outline.specs.declared.tight.TightBounds.{TightBounds}
 
 -- a sum so often
 times_mono : (a b : ℤ) (w : ℕ) → a ≤ℤ b → (a *ℤ pos w) ≤ℤ (b *ℤ pos w)
@@ -92,28 +93,12 @@ of-curve b a is = record {
   top = Any-push (RisesTo (λ p. p.y) b.high.y) [] a (record { near = is.upwards.rises; within = is.upwards.high_within });
 }
 
-arcs-more : (from : Point) (xs : List Segment) (s : Segment) → arcs from (xs ++ s ∷ []) ≡ arcs from xs ++ arcs_of (fold after from xs) s
-arcs-more from [] s = append-nil (arcs_of from s)
-arcs-more from (x ∷ xs) s = ap (λ v. arcs_of from x ++ v) (arcs-more (after from x) xs s) ∙ sym (append_assoc (arcs_of from x) (arcs (after from x) xs) (arcs_of (fold after (after from x) xs) s))
-
-ends-more : (from : Point) (xs : List Segment) (s : Segment) → fold after from (xs ++ s ∷ []) ≡ after (fold after from xs) s
-ends-more from [] s = refl
-ends-more from (x ∷ xs) s = ends-more (after from x) xs s
-
--- so many segments and one more
-more : (segments : List Segment) (i : ℕ) (d : Segment) → i < length segments → take (i + 1) segments ≡ take i segments ++ get_or segments i d ∷ []
-more segments i d lt = ap (λ n. take n segments) (add-one i) ∙ take-suc segments i d lt
-
-pub with-segment : (from : Point) (segments : List Segment) (i : ℕ) (d : Segment) (b c r : Option Bounds) (at : Point) → i < length segments → at ≡ fold after from (take i segments)
-    → IsTightBoundsOf b (arcs from (take i segments)) → IsTightBoundsOf c (arcs_of at (get_or segments i d)) → r ≡ both b c → IsTightBoundsOf r (arcs from (take (i + 1) segments))
-with-segment from segments i d b c r at lt here p q new =
-    let s = get_or segments i d in
-    let old = take i segments in
-    let q' = subst (λ v. IsTightBoundsOf c (arcs_of v s)) here q in
-    let all : IsTightBoundsOf (both b c) (arcs from (old ++ s ∷ [])) = subst (IsTightBoundsOf (both b c)) (sym (arcs-more from old s)) (tight-both b c (arcs from old) (arcs_of (fold after from old) s) p q') in
-    subst (λ v. IsTightBoundsOf v (arcs from (take (i + 1) segments))) (sym new) (subst (λ v. IsTightBoundsOf (both b c) (arcs from v)) (sym (more segments i d lt)) all)
-
-pub end-of : (from : Point) (segments : List Segment) (i : ℕ) (d : Segment) (at end : Point) → i < length segments → at ≡ fold after from (take i segments)
-    → end ≡ after at (get_or segments i d) → end ≡ fold after from (take (i + 1) segments)
-end-of from segments i d at end lt here is =
-    is ∙ (ap (λ v. after v (get_or segments i d)) here ∙ (sym (ends-more from (take i segments) (get_or segments i d)) ∙ sym (ap (fold after from) (more segments i d lt))))
+-- tight bounds that take in segments, one after another
+pub tight-taken : (segments : List Segment) (old new : TightBounds) (curves : List Arc) → IsTightBoundsOf old.bounds curves → Receives TakesIn old segments new → IsTightBoundsOf new.bounds (curves ++ arcs old.at segments)
+tight-taken [] old new curves h is = subst (IsTightBoundsOf new.bounds) (sym (append-nil curves)) (subst (λ v. IsTightBoundsOf v.bounds curves) (sym is) h)
+tight-taken (segment ∷ segments) old new curves h is =
+    let next = is.0 in
+    let step = is.1 in
+    let drawn = curves ++ arcs_of old.at segment in
+    let grown = subst (λ v. IsTightBoundsOf v drawn) (sym step.bounds_are) (tight-both old.bounds step.more curves (arcs_of old.at segment) h step.tight) in
+    subst (IsTightBoundsOf new.bounds) (ap (λ v. drawn ++ arcs v segments) step.stands ∙ append_assoc curves (arcs_of old.at segment) (arcs (after old.at segment) segments)) (tight-taken segments next new drawn grown is.2)

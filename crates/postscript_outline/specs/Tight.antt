@@ -6,6 +6,9 @@ use Rattle.postscript_outline.specs.declared.bounds.Bounds.{Bounds}
 use Rattle.postscript_outline.specs.declared.segment.Segment.{Segment}
 use Rattle.postscript_outline.specs.declared.segment.Segment.TheVariants.{MoveTo, LineTo, CurveTo, Close}
 use Rattle.postscript_outline.specs.declared.point.Point.{Point}
+use Rattle.postscript_outline.specs.declared.tight.TightBounds.{TightBounds}
+use Rattle.postscript_outline.specs.Points.{point}
+use Rattle.postscript_outline.specs.Sinks.{Receives}
 
 -- a curve: its first end, its control points, and its last end
 pub record Arc : Type 0 where
@@ -86,3 +89,19 @@ abbrev pub both : Option Bounds → Option Bounds → Option Bounds
 both None more = more
 both (Some b) None = Some b
 both (Some b) (Some c) = Some (record { low = lower b.low c.low; high = upper b.high c.high })
+
+-- no bounds, and the pen stands at the origin
+abbrev pub no_bounds : TightBounds
+no_bounds = record { bounds = None; at = point (pos 0) (pos 0) }
+
+-- The new bounds are the old ones with tight ones of what one more segment draws, and the pen stands behind it.
+pub record TakesIn (old : TightBounds) (segment : Segment) (new : TightBounds) : Type 0 where
+  pub more : Option Bounds
+  pub tight : IsTightBoundsOf more (arcs_of old.at segment)
+  pub bounds_are : new.bounds ≡ both old.bounds more
+  pub stands : new.at ≡ after old.at segment
+
+-- Tight bounds that take in segments, one after another, are those of all that these draw.
+abbrev pub TightBoundsTakeInCurves : Type 0
+TightBoundsTakeInCurves = (segments : List Segment) (new : TightBounds) → Receives TakesIn no_bounds segments new →
+    IsTightBoundsOf new.bounds (arcs (point (pos 0) (pos 0)) segments)

@@ -1,10 +1,11 @@
 //! Sinks, which are given the segments of outlines.
-ghost use Rattle.std.specs.Prelude.{◌≡◌, ◌∷◌, ◌++◌, [], OnOk, OnErr, fold};
+ghost use Rattle.std.specs.Prelude.{◌≡◌, ◌∷◌, ◌++◌, [], OnOk, OnErr};
 ghost use Rattle.postscript_base.specs.declared.error.Error.TheVariants as errors;
-ghost use Rattle.postscript_outline.specs.Sinks.{Took};
+ghost use Rattle.postscript_outline.specs.Sinks.{Receives, Took};
 
 use crate::bounds::Bounds;
 use crate::segment::Segment;
+use crate::tight::TightBounds;
 use postscript_base::Error;
 use std::alloc::{AllocError, AllocFailed};
 
@@ -15,7 +16,7 @@ pub struct Full;
 /// What a sink answers that is given a segment.
 pub type Given = std::result::Result<(), Full>;
 
-/// What is given the segments of an outline, one after another, and makes of them what it will: a list, or bounds.
+/// What is given the segments of an outline, one after another, and makes of them what it will: a list, bounds, or a text.
 pub trait Sink {
     ghost use Rattle.postscript_outline.specs.declared.segment.Segment.{Segment};
 
@@ -25,8 +26,8 @@ pub trait Sink {
     /// What it holds.
     ghost state: { Self → State };
 
-    /// What it holds after one more segment.
-    ghost after: { State → Segment → State };
+    /// What it may hold after one more segment.
+    ghost after: { State → Segment → State → Type 0 };
 
     /// Where it may take no more, by what it holds: everywhere, if it asks for memory.
     ghost refuses: { State → Type 0 };
@@ -35,21 +36,21 @@ pub trait Sink {
     ///
     /// Refused: where it takes no more. It holds what it held before.
     fn add(&mut self, segment: Segment) -> Given
-        ensures taken { OnOk result (state self.new ≡ after (state self.old) segment) }
+        ensures taken { OnOk result (after (state self.old) segment (state self.new)) }
         ensures full { OnErr result (state self.new ≡ state self.old) }
         ensures refuses { OnErr result (refuses (state self.old)) };
 }
 
 /// A list holds the segments that it has been given.
 impl Sink for Vec<Segment> {
-    ghost use Rattle.std.specs.Prelude.{◌++◌, ◌∷◌, [], List};
+    ghost use Rattle.std.specs.Prelude.{◌≡◌, ◌++◌, ◌∷◌, [], List};
     ghost use Rattle.postscript_outline.specs.declared.segment.Segment.{Segment};
 
     ghost State = { List Segment };
 
     ghost state = { λ segments. segments.items };
 
-    ghost after = { λ segments segment. segments ++ segment ∷ [] };
+    ghost after = { λ old segment new. new ≡ old ++ segment ∷ [] };
 
     ghost refuses = { λ _. Unit {0} };
 
@@ -62,7 +63,7 @@ impl Sink for Vec<Segment> {
 
 /// Bounds hold the points that they have been given, control points too. They are never full.
 impl Sink for Option<Bounds> {
-    ghost use Rattle.std.specs.Prelude.{Option};
+    ghost use Rattle.std.specs.Prelude.{◌≡◌, Option};
     ghost use Rattle.postscript_outline.specs.Bounds.{taking};
     ghost use Rattle.postscript_outline.specs.declared.bounds.Bounds.{Bounds};
 
@@ -70,7 +71,7 @@ impl Sink for Option<Bounds> {
 
     ghost state = { λ bounds. bounds };
 
-    ghost after = { taking };
+    ghost after = { λ old segment new. new ≡ taking old segment };
 
     ghost refuses = { λ _. ⊥ };
 
@@ -83,7 +84,7 @@ impl Sink for Option<Bounds> {
 
 /// A sink, and the bounds of what it is given beside it.
 impl<S: Sink> Sink for (S, Option<Bounds>) {
-    ghost use Rattle.std.specs.Prelude.{Option};
+    ghost use Rattle.std.specs.Prelude.{◌≡◌, Option};
     ghost use Rattle.postscript_outline.specs.Bounds.{taking};
     ghost use Rattle.postscript_outline.specs.declared.bounds.Bounds.{Bounds};
 
@@ -91,7 +92,7 @@ impl<S: Sink> Sink for (S, Option<Bounds>) {
 
     ghost state = { λ both. (S.state both.0, both.1) };
 
-    ghost after = { λ both segment. (S.after both.0 segment, taking both.1 segment) };
+    ghost after = { λ old segment new. S.after old.0 segment new.0 × (new.1 ≡ taking old.1 segment) };
 
     ghost refuses = { λ both. S.refuses both.0 };
 
@@ -103,11 +104,51 @@ impl<S: Sink> Sink for (S, Option<Bounds>) {
     }
 }
 
+/// Tight bounds hold the lines and curves that they have been given. They are never full.
+impl Sink for TightBounds {
+    ghost use Rattle.postscript_outline.specs.Tight.{TakesIn};
+    ghost use Rattle.postscript_outline.specs.declared.tight.TightBounds.{TightBounds};
+
+    ghost State = { TightBounds };
+
+    ghost state = { λ bounds. bounds };
+
+    ghost after = { TakesIn };
+
+    ghost refuses = { λ _. ⊥ };
+
+    #[inline(always)]
+    fn add(&mut self, segment: Segment) -> Given {
+        *self = self.taking(segment);
+        Ok(())
+    }
+}
+
+/// A text holds the path data of the segments that it has been given, behind what stood in it.
+impl Sink for String {
+    ghost use Rattle.std.specs.Prelude.{◌≡◌, ◌++◌, ℕ, List, string_bytes};
+    ghost use Rattle.postscript_outline.specs.Svg.{segment as path_data};
+
+    ghost State = { List ℕ };
+
+    ghost state = { λ text. string_bytes text };
+
+    ghost after = { λ old segment new. new ≡ old ++ path_data segment };
+
+    ghost refuses = { λ _. Unit {0} };
+
+    fn add(&mut self, segment: Segment) -> Given {
+        let text = segment.to_string(*self.allocator())?;
+        self.push_str(text.as_str())?;
+        Ok(())
+    }
+}
+
 /// Gives segments to a sink, in their order.
 ///
 /// Refused: where the sink takes no more.
 pub fn give<S: Sink>(segments: &[Segment], sink: &mut S) -> Given
-    ensures given { OnOk result (S.state sink.new ≡ fold S.after (S.state sink.old) segments.now) }
+    ensures given { OnOk result (Receives S.after (S.state sink.old) segments.now (S.state sink.new)) }
     ensures front { OnErr result (Took S.after (S.state sink.old) segments.now (S.state sink.new)) }
     ensures full { OnErr result (S.refuses (S.state sink.new)) }
 {

@@ -1,7 +1,7 @@
 //! The bounds of the curves of outlines.
 ghost use Rattle.std.specs.Prelude.{◌≡◌, Some, pos};
 ghost use Rattle.postscript_outline.specs.Points.{point};
-ghost use Rattle.postscript_outline.specs.Tight.{IsTightBoundsOf, Surrounds, after, arc, arcs, arcs_of, both};
+ghost use Rattle.postscript_outline.specs.Tight.{IsTightBoundsOf, Surrounds, TakesIn, after, arc, arcs, arcs_of, both, no_bounds};
 
 use crate::bounds::{Bounds, lower, upper};
 use crate::curve::extent;
@@ -15,13 +15,41 @@ impl Outline {
     pub fn tight_bounds(&self) -> Option<Bounds>
         ensures { IsTightBoundsOf result (arcs (point (pos 0) (pos 0)) self.now.segments.items) }
     {
-        let mut bounds = None;
-        let mut at = Point::ORIGIN;
+        let mut bounds = TightBounds::new();
         for segment in &self.segments {
-            bounds = joined(bounds, of_segment(at, *segment));
-            at = end(at, *segment);
+            bounds = bounds.taking(*segment);
         }
-        bounds
+        bounds.bounds
+    }
+}
+
+/// The bounds of lines and curves that come one after another, and where the pen stands behind them. As a sink it begins with `new`,
+/// and its bounds are tight as those of `Outline::tight_bounds` are (`laws::tight_bounds_take_in_curves`).
+#[derive(Clone, Copy, Debug, PartialEq, Eq)]
+pub struct TightBounds {
+    pub bounds: Option<Bounds>,
+    pub at: Point,
+}
+
+impl TightBounds {
+    /// No bounds, and the pen stands at the origin.
+    pub fn new() -> TightBounds
+        ensures { result ≡ no_bounds }
+    {
+        TightBounds {
+            bounds: None,
+            at: Point::ORIGIN,
+        }
+    }
+
+    /// The bounds with what one more segment draws. Never refused.
+    pub fn taking(self, segment: Segment) -> TightBounds
+        ensures { TakesIn self segment result }
+    {
+        TightBounds {
+            bounds: joined(self.bounds, of_segment(self.at, segment)),
+            at: end(self.at, segment),
+        }
     }
 }
 

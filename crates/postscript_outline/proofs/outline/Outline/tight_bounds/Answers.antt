@@ -1,13 +1,19 @@
-use Rattle.postscript_outline.proofs.Tightening.{end-of, with-segment}
+use Rattle.std.proofs.Common.{◌≡◌, [], refl, rules, take}
+use Rattle.std.proofs.lemmas.List.{take_all}
+use Rattle.postscript_outline.proofs.Receiving.{received-next}
+use Rattle.postscript_outline.proofs.Tightening.{tight-taken}
 use Rattle.postscript_outline.proofs.outline.Outline.tight_bounds.Goals as goal
+use Rattle.postscript_outline.specs.Tight.{no_bounds}
 
 pub loop-segment-preserved : goal.loop-segment-preserved
 loop-segment-preserved c =
     let same = c.deref-segment-items.ensures.value in
     let more = rw same at c.loop-segment-test.true in
-    let bounds = rw same at c.of_segment.ensures in
-    let end = rw same at c.end-at.ensures in
-    record {
-      bounds = with-segment _ c.args.self.now.segments.items _ _ _ _ _ _ more c.loop-segment.invariant.at c.loop-segment.invariant.bounds bounds c.joined-bounds.ensures;
-      at = end-of _ c.args.self.now.segments.items _ _ _ _ more c.loop-segment.invariant.at end;
-    }
+    let step = rw same at c.taking-bounds.ensures in
+    received-next _ _ _ _ c.args.self.now.segments.items _ _ more c.loop-segment.invariant step
+
+pub returns : goal.returns
+returns c =
+    let all = c.args.self.now.segments.items in
+    let whole : take c.loop-segment.segment-index all ≡ all = search (rules, take_all) in
+    tight-taken all no_bounds c.loop-segment.bounds [] refl (rw whole at c.loop-segment.invariant)

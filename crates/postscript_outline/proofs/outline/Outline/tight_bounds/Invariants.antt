@@ -1,11 +1,8 @@
-use Rattle.std.proofs.Common.{◌≡◌, fold, pos, take}
+use Rattle.std.proofs.Common.{take}
 use Rattle.postscript_outline.proofs.outline.Outline.tight_bounds.Given as goal
-use Rattle.postscript_outline.specs.Points.{point}
-use Rattle.postscript_outline.specs.Tight.{IsTightBoundsOf, after, arcs}
+use Rattle.postscript_outline.specs.Sinks.{Receives}
+use Rattle.postscript_outline.specs.Tight.{TakesIn, no_bounds}
 
--- the bounds of the segments so far, and where the pen stands behind them
+-- the segments so far are taken in
 abbrev pub invariant-loop-segment : goal.invariant-loop-segment
-invariant-loop-segment l = record {
-  bounds : IsTightBoundsOf l.bounds (arcs (point (pos 0) (pos 0)) (take l.segment-index l.self.segments.items));
-  at : l.at ≡ fold after (point (pos 0) (pos 0)) (take l.segment-index l.self.segments.items);
-}
+invariant-loop-segment l = Receives TakesIn no_bounds (take l.segment-index l.self.segments.items) l.bounds
