@@ -1,10 +1,12 @@
 -- How drawings into sinks follow one another.
 use Rattle.std.proofs.lemmas.List.{append_assoc, append-nil}
-use Rattle.std.proofs.Common.{◌≡◌, Bool, true, false, List, [], ◌∷◌, ◌++◌, fold, Result, Ok, Err, IfOk, OnErr, refl, sym, ap, subst, ◌∙◌}
+use Rattle.std.proofs.Common.{◌≡◌, Bool, true, false, List, [], ◌∷◌, ◌++◌, Result, Ok, Err, IfOk, OnErr, refl, sym, ap, subst, ◌∙◌}
 use Rattle.std.specs.Prelude.{IsErrAnd}
 use Rattle.postscript_base.specs.Refusal.{Refusal, overflow}
 use Rattle.postscript_outline.specs.declared.point.Point.{Point}
 use Rattle.postscript_outline.specs.declared.segment.Segment.{Segment}
+use Rattle.postscript_outline.specs.Sinks.{Receives}
+use Rattle.postscript_outline.proofs.Receiving.{received-both, received-more}
 use Rattle.postscript_outline.specs.declared.segment.Segment.TheVariants.{MoveTo, LineTo, CurveTo}
 use Rattle.postscript_drawing.specs.declared.pen.Pen.{Pen}
 use Rattle.postscript_drawing.specs.declared.stroke.Stroke.{Stroke}
@@ -16,12 +18,8 @@ use Rattle.postscript_drawing.specs.Bends.{IsDrawnBy, IsRefused}
 use Rattle.postscript_drawing.specs.Drawing.{Drawing, ◌>>=◌, DrawsInto, DrawsStrokes, IsFront, begun, closed, closing, drawing, drawn, held, opening, reached}
 use Rattle.postscript_drawing.proofs.GivenLaws.{drawing-append, drawing-behind, drawing-grows, front-of, front-through, front-under, mapped, prefixed}
 
-pub fold-append : {T : Type 0} (after : T → Segment → T) (t : T) (xs ys : List Segment) → fold after t (xs ++ ys) ≡ fold after (fold after t xs) ys
-fold-append after t [] ys = refl
-fold-append after t (x ∷ xs) ys = fold-append after (after t x) xs ys
-
 -- a refusal that is passed on
-pub passed-on : {T : Type 0} {after : T → Segment → T} {refuses : T → Type 0} {strokes : List Stroke} {pen pen' : Pen} {old new : T} (r : Result (Unit {0}) Undrawn) (e : Undrawn) → IsErrAnd r (λ x. x ≡ e) →
+pub passed-on : {T : Type 0} {after : T → Segment → T → Type 0} {refuses : T → Type 0} {strokes : List Stroke} {pen pen' : Pen} {old new : T} (r : Result (Unit {0}) Undrawn) (e : Undrawn) → IsErrAnd r (λ x. x ≡ e) →
     DrawsStrokes after refuses strokes pen old (Err e) pen' new → DrawsStrokes after refuses strokes pen old r pen' new
 passed-on (Ok x) e same draws = absurd same
 passed-on {T} {after} {refuses} {strokes} {pen} {pen'} {old} {new} (Err x) e same draws = subst (λ x. DrawsStrokes after refuses strokes pen old (Err x) pen' new) (sym same) draws
@@ -46,7 +44,7 @@ both-drawn : (these those : List Stroke) (pen mid : Pen) (given : List Segment) 
 both-drawn these those pen mid given first =
     drawing-append these those (held pen []) ∙ ap (λ r. r >>= drawing those) first ∙ drawing-behind those (held mid given)
 
-pub joined : {T : Type 0} {after : T → Segment → T} {refuses : T → Type 0} {these those : List Stroke} {pen mid pen' : Pen} {old between new : T} {done : Unit {0}} {r : Result (Unit {0}) Undrawn} →
+pub joined : {T : Type 0} {after : T → Segment → T → Type 0} {refuses : T → Type 0} {these those : List Stroke} {pen mid pen' : Pen} {old between new : T} {done : Unit {0}} {r : Result (Unit {0}) Undrawn} →
     DrawsStrokes after refuses these pen old (Ok done) mid between → DrawsStrokes after refuses those mid between r pen' new → DrawsStrokes after refuses (these ++ those) pen old r pen' new
 joined {T} {after} {refuses} {these} {those} {pen} {mid} {pen'} {old} {between} {new} {done} {r} first next =
     let whole = sym (both-drawn these those pen mid first.given first.draws.exact) in
@@ -57,7 +55,7 @@ joined {T} {after} {refuses} {these} {those} {pen} {mid} {pen'} {old} {between} 
         exact = subst (λ w. DrawsInto w r (held pen' (first.given ++ next.given))) whole (mapped-into first.given wanted r pen' next.given next.draws.exact);
         front = subst (λ w. OnErr r (IfOk w (λ d. IsFront (first.given ++ next.given) d.segments))) whole (mapped-front first.given wanted r next.given next.draws.front);
       };
-      taken = next.taken ∙ ap (λ t. fold after t next.given) first.taken ∙ sym (fold-append after old first.given next.given);
+      taken = received-both after old between new first.given next.given first.taken next.taken;
       full = next.full;
     }
 
@@ -66,7 +64,7 @@ first-into : (these those : List Stroke) (d new : Drawing) (e : Undrawn) → Dra
 first-into these those d new Full wanted = tt
 first-into these those d new Overflow wanted = drawing-append these those d ∙ ap (λ r. r >>= drawing those) wanted
 
-pub first-refused : {T : Type 0} {after : T → Segment → T} {refuses : T → Type 0} {these : List Stroke} (those : List Stroke) {pen pen' : Pen} {old new : T} {e : Undrawn} →
+pub first-refused : {T : Type 0} {after : T → Segment → T → Type 0} {refuses : T → Type 0} {these : List Stroke} (those : List Stroke) {pen pen' : Pen} {old new : T} {e : Undrawn} →
     DrawsStrokes after refuses these pen old (Err e) pen' new → DrawsStrokes after refuses (these ++ those) pen old (Err e) pen' new
 first-refused {T} {after} {refuses} {these} those {pen} {pen'} {old} {new} {e} draws =
     let Fronts : Result Drawing Refusal → Type 0 = λ w. IfOk w (λ d. IsFront draws.given d.segments) in
@@ -82,15 +80,15 @@ first-refused {T} {after} {refuses} {these} those {pen} {pen'} {old} {new} {e} d
     }
 
 -- Some of the strokes are drawn, and these are left.
-pub record SoFar {T : Type 0} (after : T → Segment → T) (refuses : T → Type 0) (all left : List Stroke) (pen : Pen) (old : T) (pen' : Pen) (new : T) : Type 0 where
+pub record SoFar {T : Type 0} (after : T → Segment → T → Type 0) (refuses : T → Type 0) (all left : List Stroke) (pen : Pen) (old : T) (pen' : Pen) (new : T) : Type 0 where
   pub done : List Stroke
   pub parts : all ≡ done ++ left
   pub draws : DrawsStrokes after refuses done pen old (Ok tt) pen' new
 
-pub at_first : {T : Type 0} {after : T → Segment → T} {refuses : T → Type 0} {all : List Stroke} {pen : Pen} {old : T} → SoFar after refuses all all pen old pen old
+pub at_first : {T : Type 0} {after : T → Segment → T → Type 0} {refuses : T → Type 0} {all : List Stroke} {pen : Pen} {old : T} → SoFar after refuses all all pen old pen old
 at_first = record { done = []; parts = refl; draws = record { given = []; draws = record { exact = refl; front = tt }; taken = refl; full = tt } }
 
-pub so_more : {T : Type 0} {after : T → Segment → T} {refuses : T → Type 0} {all left : List Stroke} (these rest : List Stroke) {pen mid pen' : Pen} {old between new : T} {done : Unit {0}} → left ≡ these ++ rest →
+pub so_more : {T : Type 0} {after : T → Segment → T → Type 0} {refuses : T → Type 0} {all left : List Stroke} (these rest : List Stroke) {pen mid pen' : Pen} {old between new : T} {done : Unit {0}} → left ≡ these ++ rest →
     SoFar after refuses all left pen old mid between → DrawsStrokes after refuses these mid between (Ok done) pen' new → SoFar after refuses all rest pen old pen' new
 so_more these rest parts far draws = record {
   done = far.done ++ these;
@@ -99,24 +97,24 @@ so_more these rest parts far draws = record {
 }
 
 -- those that are left are drawn to their end, or refused
-pub so_rest : {T : Type 0} {after : T → Segment → T} {refuses : T → Type 0} {all left : List Stroke} {pen mid pen' : Pen} {old between new : T} {r : Result (Unit {0}) Undrawn} →
+pub so_rest : {T : Type 0} {after : T → Segment → T → Type 0} {refuses : T → Type 0} {all left : List Stroke} {pen mid pen' : Pen} {old between new : T} {r : Result (Unit {0}) Undrawn} →
     SoFar after refuses all left pen old mid between → DrawsStrokes after refuses left mid between r pen' new → DrawsStrokes after refuses all pen old r pen' new
 so_rest {T} {after} {refuses} {all} {left} {pen} {mid} {pen'} {old} {between} {new} {r} far draws =
     subst (λ v. DrawsStrokes after refuses v pen old r pen' new) (sym far.parts) (joined far.draws draws)
 
-pub so_refused : {T : Type 0} {after : T → Segment → T} {refuses : T → Type 0} {all left : List Stroke} (these rest : List Stroke) {pen mid pen' : Pen} {old between new : T} {e : Undrawn} → left ≡ these ++ rest →
+pub so_refused : {T : Type 0} {after : T → Segment → T → Type 0} {refuses : T → Type 0} {all left : List Stroke} (these rest : List Stroke) {pen mid pen' : Pen} {old between new : T} {e : Undrawn} → left ≡ these ++ rest →
     SoFar after refuses all left pen old mid between → DrawsStrokes after refuses these mid between (Err e) pen' new → DrawsStrokes after refuses all pen old (Err e) pen' new
 so_refused {T} {after} {refuses} {all} {left} these rest {pen} {mid} {pen'} {old} {between} {new} {e} parts far draws =
     so_rest far (subst (λ v. DrawsStrokes after refuses v mid between (Err e) pen' new) (sym parts) (first-refused rest draws))
 
-pub so_all : {T : Type 0} {after : T → Segment → T} {refuses : T → Type 0} {all left : List Stroke} {pen pen' : Pen} {old new : T} → left ≡ [] → SoFar after refuses all left pen old pen' new → DrawsStrokes after refuses all pen old (Ok tt) pen' new
+pub so_all : {T : Type 0} {after : T → Segment → T → Type 0} {refuses : T → Type 0} {all left : List Stroke} {pen pen' : Pen} {old new : T} → left ≡ [] → SoFar after refuses all left pen old pen' new → DrawsStrokes after refuses all pen old (Ok tt) pen' new
 so_all {T} {after} {refuses} {all} {left} {pen} {pen'} {old} {new} none far =
     subst (λ v. DrawsStrokes after refuses v pen old (Ok tt) pen' new) (sym (far.parts ∙ ap (λ v. far.done ++ v) none ∙ append-nil far.done)) far.draws
 
 -- one stroke
 
 -- it leaves the range: nothing is given
-pub overflows : {T : Type 0} {after : T → Segment → T} {refuses : T → Type 0} (s : Stroke) (pen pen' : Pen) {old new : T} → drawn s (held pen []) ≡ Err overflow → new ≡ old → DrawsStrokes after refuses (s ∷ []) pen old (Err Overflow) pen' new
+pub overflows : {T : Type 0} {after : T → Segment → T → Type 0} {refuses : T → Type 0} (s : Stroke) (pen pen' : Pen) {old new : T} → drawn s (held pen []) ≡ Err overflow → new ≡ old → DrawsStrokes after refuses (s ∷ []) pen old (Err Overflow) pen' new
 overflows s pen pen' out same = record {
   given = [];
   draws = record { exact = ap (λ r. r >>= drawing []) out; front = by-refusal (drawing (s ∷ []) (held pen [])) (ap (λ r. r >>= drawing []) out) };
@@ -133,29 +131,29 @@ any-front : (w : Result Drawing Refusal) → IfOk w (λ d. IsFront [] d.segments
 any-front (Ok d) = refl
 any-front (Err e) = tt
 
-pub full_at_once : {T : Type 0} {after : T → Segment → T} {refuses : T → Type 0} (s : Stroke) (pen pen' : Pen) {old new : T} → new ≡ old → refuses new → DrawsStrokes after refuses (s ∷ []) pen old (Err Full) pen' new
+pub full_at_once : {T : Type 0} {after : T → Segment → T → Type 0} {refuses : T → Type 0} (s : Stroke) (pen pen' : Pen) {old new : T} → new ≡ old → refuses new → DrawsStrokes after refuses (s ∷ []) pen old (Err Full) pen' new
 full_at_once s pen pen' same full = record { given = []; draws = record { exact = tt; front = any-front (drawing (s ∷ []) (held pen [])) }; taken = same; full = full }
 
 -- the contour is ended, or begun, and the segment itself is not taken
-pub full_behind : {T : Type 0} {after : T → Segment → T} {refuses : T → Type 0} (s : Stroke) (pen pen' : Pen) (first : List Segment) (segment : Segment) (d : Drawing) {old mid new : T} →
-    drawn s (held pen []) ≡ Ok d → d.segments ≡ first ++ segment ∷ [] → mid ≡ fold after old first → new ≡ mid → refuses new → DrawsStrokes after refuses (s ∷ []) pen old (Err Full) pen' new
+pub full_behind : {T : Type 0} {after : T → Segment → T → Type 0} {refuses : T → Type 0} (s : Stroke) (pen pen' : Pen) (first : List Segment) (segment : Segment) (d : Drawing) {old mid new : T} →
+    drawn s (held pen []) ≡ Ok d → d.segments ≡ first ++ segment ∷ [] → Receives after old first mid → new ≡ mid → refuses new → DrawsStrokes after refuses (s ∷ []) pen old (Err Full) pen' new
 full_behind {T} {after} {refuses} s pen pen' first segment d {old} {mid} {new} is all begun same full = record {
   given = first;
   draws = record {
     exact = tt;
     front = subst (λ (w : Result Drawing Refusal). IfOk w (λ e. IsFront first e.segments)) (sym (ap (λ r. r >>= drawing []) is)) (subst (IsFront first) (sym all) (front-of first (segment ∷ [])));
   };
-  taken = same ∙ begun;
+  taken = subst (Receives after old first) (sym same) begun;
   full = full;
 }
 
 -- it is drawn
-pub stroke_drawn : {T : Type 0} {after : T → Segment → T} {refuses : T → Type 0} (s : Stroke) (pen pen' : Pen) (first : List Segment) (segment : Segment) (d : Drawing) {done : Unit {0}} {old mid new : T} →
-    drawn s (held pen []) ≡ Ok d → d ≡ held pen' (first ++ segment ∷ []) → mid ≡ fold after old first → new ≡ after mid segment → DrawsStrokes after refuses (s ∷ []) pen old (Ok done) pen' new
-stroke_drawn {T} {after} {refuses} s pen pen' first segment d {done} {old} {mid} {new} is all begun same = record {
+pub stroke_drawn : {T : Type 0} {after : T → Segment → T → Type 0} {refuses : T → Type 0} (s : Stroke) (pen pen' : Pen) (first : List Segment) (segment : Segment) (d : Drawing) {done : Unit {0}} {old new : T} (mid : T) →
+    drawn s (held pen []) ≡ Ok d → d ≡ held pen' (first ++ segment ∷ []) → Receives after old first mid → after mid segment new → DrawsStrokes after refuses (s ∷ []) pen old (Ok done) pen' new
+stroke_drawn {T} {after} {refuses} s pen pen' first segment d {done} {old} {new} mid is all begun same = record {
   given = first ++ segment ∷ [];
   draws = record { exact = ap (λ r. r >>= drawing []) is ∙ ap Ok all; front = tt };
-  taken = same ∙ ap (λ t. after t segment) begun ∙ sym (fold-append after old first (segment ∷ []));
+  taken = received-more after old mid new first segment begun same;
   full = tt;
 }
 

@@ -1,11 +1,13 @@
 -- What a glyph by itself gives: a plain glyph, a component, or an accented one.
-use Rattle.std.proofs.Common.{◌≡◌, ◌≢◌, ◌⊎◌, ℕ, ℤ, List, [], ◌++◌, length, fold, Option, Some, None, Result, Ok, Err, ap, inl, inr, refl, subst, sym, ◌∙◌}
+use Rattle.std.proofs.Common.{◌≡◌, ◌≢◌, ◌⊎◌, ℕ, ℤ, List, [], ◌++◌, length, Option, Some, None, Result, Ok, Err, ap, inl, inr, refl, subst, sym, ◌∙◌}
 use Rattle.std.proofs.lemmas.List.{append-nil}
 use Rattle.std.specs.Prelude.{IfErr, IfOk, IsErrAnd, MatchOption, OnErr, OnOk}
 use Rattle.postscript_base.specs.Index.Lent.{items_of}
 use Rattle.postscript_outline.specs.Points.{point}
 use Rattle.postscript_outline.specs.declared.point.Point.{Point}
 use Rattle.postscript_outline.specs.declared.segment.Segment.{Segment}
+use Rattle.postscript_outline.specs.Sinks.{Receives}
+use Rattle.postscript_outline.proofs.Receiving.{received-both}
 use Rattle.postscript_type2.specs.Program.Endings.{AreFourOrNone, IsRunsEnd}
 use Rattle.postscript_type2.specs.Program.Evaluation.{run_of}
 use Rattle.postscript_type2.specs.Program.Routines.{lent}
@@ -23,7 +25,6 @@ use Rattle.postscript_drawing.specs.Given.{GivesComponent, GivesComponents, Give
 use Rattle.postscript_drawing.specs.Outline.{drawing_of, finished, outlined_at}
 use Rattle.postscript_drawing.specs.Drawn.{DrawsAt, DrawsComponent, DrawsComponents, HasOwn, IsDrawnAs, Takes, zero_point}
 use Rattle.postscript_drawing.specs.Refused.{AreRefused, IsAccented, IsComponentRefused, IsGlyphRefused, IsNested, IsRefused, IsUnread}
-use Rattle.postscript_drawing.proofs.DrawsLaws.{fold-append}
 use Rattle.postscript_drawing.proofs.GivenLaws.{front-of}
 use Rattle.postscript_drawing.specs.declared.accent.Accent.{Accent}
 use Rattle.postscript_drawing.specs.declared.glyph.Own.{Own}
@@ -54,7 +55,7 @@ has-run font i glyph has same = record {
   runs = ap (λ global. run_of (lent global (items_of glyph.part.now.subroutines)) glyph.code.now) same;
 }
 
-pub own-so : {T : Type 0} (after : T → Segment → T) (old new : T) (r : Result Own Error) (font : FontView) (i : ℕ) (glyph : Glyph) (origin : Point) → HasRun font i glyph.part.now (run_by glyph) →
+pub own-so : {T : Type 0} (after : T → Segment → T → Type 0) (old new : T) (r : Result Own Error) (font : FontView) (i : ℕ) (glyph : Glyph) (origin : Point) → HasRun font i glyph.part.now (run_by glyph) →
     IfOk r (λ own. Takes after old new (DrawsAt origin (run_by glyph))) →
     IfOk r (λ own. own.width ≡ width_of (run_by glyph)) → IfOk r (λ own. IsTold own.accent (run_by glyph)) →
     IfOk r (λ own. Takes after old new (λ segments. HasOwn font i origin segments own.width own.accent))
@@ -118,20 +119,16 @@ draws-accented font glyph own more width accent has components = record {
   width_is = has.width_is;
 }
 
--- one thing taken behind another
-pub taken-both : {T : Type 0} (after : T → Segment → T) (old middle new : T) (first second : List Segment) → middle ≡ fold after old first → new ≡ fold after middle second → new ≡ fold after old (first ++ second)
-taken-both after old middle new first second begun done = done ∙ ap (λ t. fold after t second) begun ∙ sym (fold-append after old first second)
-
 -- a refusal that is passed on
 pub passed-on : {A : Type 0} → (r : Result A Error) (e : Error) (P : Error → Type 0) → IsErrAnd r (λ x. x ≡ e) → P e → IfErr r P
 passed-on (Ok x) e P same holds = tt
 passed-on (Err x) e P same holds = subst P (sym same) holds
 
 -- the base is drawn, and then the accent
-pub draws-both : {T : Type 0} (after : T → Segment → T) (old middle new : T) (r : Result (Unit {0}) Error) (font : FontView) (accent : Accent) → Takes after old middle (DrawsComponent font accent.base zero_point) →
+pub draws-both : {T : Type 0} (after : T → Segment → T → Type 0) (old middle new : T) (r : Result (Unit {0}) Error) (font : FontView) (accent : Accent) → Takes after old middle (DrawsComponent font accent.base zero_point) →
     OnOk r (Takes after middle new (DrawsComponent font accent.accent (point accent.dx accent.dy))) → OnOk r (Takes after old new (DrawsComponents font accent))
 draws-both after old middle new (Ok done) font accent base rest =
-    (base.0 ++ rest.0, record { base = base.0; above = rest.0; draws_base = base.1; draws_accent = rest.1; all = refl }, taken-both after old middle new base.0 rest.0 base.2 rest.2)
+    (base.0 ++ rest.0, record { base = base.0; above = rest.0; draws_base = base.1; draws_accent = rest.1; all = refl }, received-both after old middle new base.0 rest.0 base.2 rest.2)
 draws-both after old middle new (Err e) font accent base rest = tt
 
 -- the accent as a component is refused
@@ -157,7 +154,7 @@ component-undrawn left font code glyph origin e component (inr refused) = inr (i
 -- what is given of a drawing that is refused
 
 -- all that a run draws is a front of what its operations draw
-pub whole-front : {T : Type 0} {after : T → Segment → T} {old new : T} (origin : Point) (answers : List Answer) (end : End) (segments : List Segment) → outlined_at origin answers end ≡ Ok segments → new ≡ fold after old segments →
+pub whole-front : {T : Type 0} {after : T → Segment → T → Type 0} {old new : T} (origin : Point) (answers : List Answer) (end : End) (segments : List Segment) → outlined_at origin answers end ≡ Ok segments → Receives after old segments new →
     DrawsFront after origin old new answers
 whole-front {T} {after} {old} {new} origin answers end segments drawn taken = record { given = segments; front = by-drawing (drawing_of answers (blank_at origin)) end drawn; taken = taken }
   where
@@ -168,24 +165,24 @@ whole-front {T} {after} {old} {new} origin answers end segments drawn taken = re
     by-drawing (Ok d) (Returned st) is = let same : (closed d).segments ≡ segments = cc in subst (IsFront segments) (append-nil segments ∙ sym same) (front-of segments [])
     by-drawing (Ok d) (Finished taken width) is = let same : (closed d).segments ≡ segments = cc in subst (IsFront segments) (append-nil segments ∙ sym same) (front-of segments [])
 
-pub own-front : {A : Type 0} {T : Type 0} (after : T → Segment → T) (old new : T) (r : Result A Error) (font : FontView) (i : ℕ) (glyph : Glyph) (origin : Point) → HasRun font i glyph.part.now (run_by glyph) →
+pub own-front : {A : Type 0} {T : Type 0} (after : T → Segment → T → Type 0) (old new : T) (r : Result A Error) (font : FontView) (i : ℕ) (glyph : Glyph) (origin : Point) → HasRun font i glyph.part.now (run_by glyph) →
     OnErr r (DrawsFront after origin old new (run_by glyph).answers) → OnErr r (GivesOwn after origin old new font i)
 own-front after old new (Ok own) font i glyph origin has front = tt
 own-front after old new (Err e) font i glyph origin has front = inr (record { part = glyph.part.now; run = run_by glyph; has = has; front = front })
 
 -- of a glyph that is drawn by itself
-pub own-whole : {T : Type 0} {after : T → Segment → T} {old new : T} (font : FontView) (glyph : ℕ) (origin : Point) (segments : List Segment) (width : Option ℤ) (accent : Option Accent) →
-    HasOwn font glyph origin segments width accent → new ≡ fold after old segments → GivesOwnFront after origin old new font glyph
+pub own-whole : {T : Type 0} {after : T → Segment → T → Type 0} {old new : T} (font : FontView) (glyph : ℕ) (origin : Point) (segments : List Segment) (width : Option ℤ) (accent : Option Accent) →
+    HasOwn font glyph origin segments width accent → Receives after old segments new → GivesOwnFront after origin old new font glyph
 own-whole font glyph origin segments width accent own taken =
     record { part = own.part; run = own.run; has = own.has; front = whole-front origin own.run.answers own.run.end segments own.draws taken }
 
-pub component-front : {T : Type 0} {after : T → Segment → T} {old new : T} (font : FontView) (code glyph : ℕ) (origin : Point) → IsComponent font code glyph →
+pub component-front : {T : Type 0} {after : T → Segment → T → Type 0} {old new : T} (font : FontView) (code glyph : ℕ) (origin : Point) → IsComponent font code glyph →
     GivesOwn after origin old new font glyph → GivesComponent after origin old new font code
 component-front font code glyph origin component (inl none) = inl none
 component-front font code glyph origin component (inr front) = inr (glyph, component, front)
 
-pub accented-front : {T : Type 0} {after : T → Segment → T} {old between new : T} (font : FontView) (glyph : ℕ) (segments : List Segment) (width : Option ℤ) (accent : Accent) →
-    HasOwn font glyph zero_point segments width (Some accent) → between ≡ fold after old segments → GivesComponents after between new font accent → GivesGlyph after old new font glyph
+pub accented-front : {T : Type 0} {after : T → Segment → T → Type 0} {old between new : T} (font : FontView) (glyph : ℕ) (segments : List Segment) (width : Option ℤ) (accent : Accent) →
+    HasOwn font glyph zero_point segments width (Some accent) → Receives after old segments between → GivesComponents after between new font accent → GivesGlyph after old new font glyph
 accented-front {T} {after} {old} {between} font glyph segments width accent own taken some =
     inr (record { accent = accent; between = between; part = own.part; run = own.run; has = own.has; accented = own.told; own = (segments, own.draws, taken); some = some })
 
@@ -194,7 +191,7 @@ on-err (Ok x) holds = tt
 on-err (Err e) holds = holds
 
 -- the base is drawn, and some of the accent
-pub accent-front : {T : Type 0} (after : T → Segment → T) (old between new : T) (r : Result (Unit {0}) Error) (font : FontView) (accent : Accent) → Takes after old between (DrawsComponent font accent.base zero_point) →
+pub accent-front : {T : Type 0} (after : T → Segment → T → Type 0) (old between new : T) (r : Result (Unit {0}) Error) (font : FontView) (accent : Accent) → Takes after old between (DrawsComponent font accent.base zero_point) →
     OnErr r (GivesComponent after (point accent.dx accent.dy) between new font accent.accent) → OnErr r (GivesComponents after old new font accent)
 accent-front after old between new (Ok done) font accent base some = tt
 accent-front after old between new (Err e) font accent base some = inr (between, base, some)

@@ -1,12 +1,14 @@
 -- What the operations of a program draw, one after another, and its end.
 use Rattle.std.proofs.lemmas.List.{append-nil}
-use Rattle.std.proofs.Common.{◌≡◌, ◌⊎◌, inl, inr, ℕ, ℤ, Bool, true, false, List, [], ◌∷◌, ◌++◌, fold, Option, Result, Ok, Err, IfOk, IfErr, OnErr, refl, sym, ap, subst, ◌∙◌}
+use Rattle.std.proofs.Common.{◌≡◌, ◌⊎◌, inl, inr, ℕ, ℤ, Bool, true, false, List, [], ◌∷◌, ◌++◌, Option, Result, Ok, Err, IfOk, IfErr, OnErr, refl, sym, ap, subst, ◌∙◌}
 use Rattle.std.specs.Prelude.{IsErrAnd}
 use Rattle.postscript_base.specs.Refusal.{Refusal, refusal_of}
 use Rattle.postscript_base.specs.declared.error.Error.{Error as Cause}
 use Rattle.postscript_base.specs.declared.error.Error.TheVariants as causes
 use Rattle.postscript_outline.specs.declared.point.Point.{Point}
 use Rattle.postscript_outline.specs.declared.segment.Segment.{Segment}
+use Rattle.postscript_outline.specs.Sinks.{Receives}
+use Rattle.postscript_outline.proofs.Receiving.{received-both}
 use Rattle.postscript_outline.specs.declared.segment.Segment.TheVariants.{Close}
 use Rattle.postscript_drawing.specs.declared.error.Error.TheVariants as errors
 use Rattle.postscript_drawing.specs.declared.pen.Pen.{Pen}
@@ -18,7 +20,7 @@ use Rattle.postscript_drawing.specs.Drawing.{Drawing, ◌>>=◌, DrawsStrokes, I
 use Rattle.postscript_drawing.specs.Operators.{strokes}
 use Rattle.postscript_drawing.specs.Outline.{drawing_of, finished, outlined_at}
 use Rattle.postscript_drawing.specs.Undrawn.{error_of}
-use Rattle.postscript_drawing.proofs.DrawsLaws.{SoFar, fold-append, so_all}
+use Rattle.postscript_drawing.proofs.DrawsLaws.{SoFar, so_all}
 use Rattle.postscript_drawing.proofs.GivenLaws.{drawing-append, drawing-grows, front-of, front-through}
 use Rattle.postscript_type2.specs.declared.program.within.Within.{Within}
 use Rattle.postscript_type2.specs.declared.program.within.Within.TheVariants.{End as AtEnd}
@@ -70,15 +72,15 @@ finished-sound (Fault e) d sound = absurd (none sound)
     none sound = elim sound [ ]
 
 -- All is drawn, and the contour is ended.
-pub drawn-whole : {T : Type 0} {after : T → Segment → T} {refuses : T → Type 0} {origin : Point} {old now new : T} (pen : Pen) (answers left : List Answer) (end : End) → IsSound end → left ≡ [] →
-    SoFar after refuses (strokes_of answers) (strokes_of left) (pen_at origin) old pen now → new ≡ fold after now (closing pen) →
-    (segments : List Segment) × (outlined_at origin answers end ≡ Ok segments) × (new ≡ fold after old segments)
+pub drawn-whole : {T : Type 0} {after : T → Segment → T → Type 0} {refuses : T → Type 0} {origin : Point} {old now new : T} (pen : Pen) (answers left : List Answer) (end : End) → IsSound end → left ≡ [] →
+    SoFar after refuses (strokes_of answers) (strokes_of left) (pen_at origin) old pen now → Receives after now (closing pen) new →
+    (segments : List Segment) × (outlined_at origin answers end ≡ Ok segments) × Receives after old segments new
 drawn-whole {T} {after} {refuses} {origin} {old} {now} {new} pen answers left end sound none far ended =
     let draws = so_all (ap strokes_of none) far in
     let segments = draws.given ++ closing pen in (
       segments,
       outlined-so origin answers end ∙ ap (λ r. r >>= finished end) draws.draws.exact ∙ finished-sound end (held pen draws.given) sound ∙ ap Ok (closed-held pen.at pen.is_open draws.given),
-      ended ∙ ap (λ t. fold after t (closing pen)) draws.taken ∙ sym (fold-append after old draws.given (closing pen)),
+      received-both after old now new draws.given (closing pen) draws.taken ended,
     )
 
 -- a front of all that is drawn
@@ -93,22 +95,22 @@ front-of-all given origin answers front =
     subst (λ (r : Result (List Segment) Refusal). IfOk r (λ segments. IsFront given segments)) (sym (outlined-so origin answers UsedUp))
     (front-through (λ d. d.segments) (λ ss. ss) given (drawing (strokes_of answers) (held (pen_at origin) [])) (finished UsedUp) front (λ d. closed-grows d.place d.is_open d.segments))
 
-pub front-so-far : {T : Type 0} {after : T → Segment → T} {refuses : T → Type 0} {origin : Point} {old now new : T} {pen : Pen} (answers : List Answer) {left : List Stroke} → SoFar after refuses (strokes_of answers) left (pen_at origin) old pen now → new ≡ now →
+pub front-so-far : {T : Type 0} {after : T → Segment → T → Type 0} {refuses : T → Type 0} {origin : Point} {old now new : T} {pen : Pen} (answers : List Answer) {left : List Stroke} → SoFar after refuses (strokes_of answers) left (pen_at origin) old pen now → new ≡ now →
     DrawsFront after origin old new answers
 front-so-far {T} {after} {refuses} {origin} {old} {now} {new} {pen} answers {left} far same =
     let start = held (pen_at origin) [] in
     let given = far.draws.given in
     let all = ap (λ v. drawing v start) far.parts ∙ drawing-append far.done left start ∙ ap (λ r. r >>= drawing left) far.draws.draws.exact in
     let grows = subst (λ (r : Result Drawing Refusal). IfOk r (λ d. IsFront given d.segments)) (sym all) (drawing-grows left (held pen given)) in
-    record { given = given; front = front-of-all given origin answers grows; taken = same ∙ far.draws.taken }
+    record { given = given; front = front-of-all given origin answers grows; taken = subst (Receives after old given) (sym same) far.draws.taken }
 
-pub front-refused : {T : Type 0} {after : T → Segment → T} {refuses : T → Type 0} {origin : Point} {old new : T} {pen : Pen} {e : Undrawn} (answers : List Answer) → DrawsStrokes after refuses (strokes_of answers) (pen_at origin) old (Err e) pen new →
+pub front-refused : {T : Type 0} {after : T → Segment → T → Type 0} {refuses : T → Type 0} {origin : Point} {old new : T} {pen : Pen} {e : Undrawn} (answers : List Answer) → DrawsStrokes after refuses (strokes_of answers) (pen_at origin) old (Err e) pen new →
     DrawsFront after origin old new answers
 front-refused {T} {after} {refuses} {origin} answers draws = record { given = draws.given; front = front-of-all draws.given origin answers draws.draws.front; taken = draws.taken }
 
 -- why a program is not drawn
 
-pub at-fault : {T : Type 0} {after : T → Segment → T} {refuses : T → Type 0} {origin : Point} {old now : T} {pen : Pen} (answers left : List Answer) (end : End) (cause : Cause) → left ≡ [] → end ≡ Fault (refusal_of cause) →
+pub at-fault : {T : Type 0} {after : T → Segment → T → Type 0} {refuses : T → Type 0} {origin : Point} {old now : T} {pen : Pen} (answers left : List Answer) (end : End) (cause : Cause) → left ≡ [] → end ≡ Fault (refusal_of cause) →
     SoFar after refuses (strokes_of answers) (strokes_of left) (pen_at origin) old pen now → IsUndrawn origin (errors.Font cause) answers end
 at-fault {T} {after} {refuses} {origin} {old} {now} {pen} answers left end cause none fault far =
     let draws = so_all (ap strokes_of none) far in
@@ -118,7 +120,7 @@ at-fault {T} {after} {refuses} {origin} {old} {now} {pen} answers left end cause
       refused = outlined-so origin answers end ∙ ap (λ r. r >>= finished end) draws.draws.exact ∙ ap (λ v. finished v (held pen draws.given)) fault;
     }
 
-pub stroke-refused : {T : Type 0} {after : T → Segment → T} {refuses : T → Type 0} {origin : Point} {old new : T} {pen : Pen} (answers : List Answer) (end : End) (left : _) (e : Undrawn) → DrawsStrokes after refuses (strokes_of answers) (pen_at origin) old (Err e) pen new →
+pub stroke-refused : {T : Type 0} {after : T → Segment → T → Type 0} {refuses : T → Type 0} {origin : Point} {old new : T} {pen : Pen} (answers : List Answer) (end : End) (left : _) (e : Undrawn) → DrawsStrokes after refuses (strokes_of answers) (pen_at origin) old (Err e) pen new →
     IsWanting left (error_of e) ⊎ IsUndrawn origin (error_of e) answers end
 stroke-refused {T} {after} {refuses} {origin} answers end left Full draws = inl tt
 stroke-refused {T} {after} {refuses} {origin} answers end left Overflow draws =
@@ -137,7 +139,7 @@ at-end old new limit left is steps =
     let step = subst (λ (r : Result Within Cause). StepsWithin old limit r new left) is steps in (step.0.0, sound-end old.end old.width new.width step.0.1)
 
 -- where a step is refused so is the program
-pub step-refused : {T : Type 0} {after : T → Segment → T} {refuses : T → Type 0} {origin : Point} {old now : T} {pen : Pen} (answers : List Answer) (end : End) (wanting : ℕ) (program : Pending) (cause : Cause) {answer : Result Within Cause} →
+pub step-refused : {T : Type 0} {after : T → Segment → T → Type 0} {refuses : T → Type 0} {origin : Point} {old now : T} {pen : Pen} (answers : List Answer) (end : End) (wanting : ℕ) (program : Pending) (cause : Cause) {answer : Result Within Cause} →
     answer ≡ Err cause → IsHeadWithin program answer → program.end ≡ end → SoFar after refuses (strokes_of answers) (strokes_of program.answers) (pen_at origin) old pen now →
     IsWanting wanting (errors.Font cause) ⊎ IsUndrawn origin (errors.Font cause) answers end
 step-refused {T} {after} {refuses} {origin} {old} {now} {pen} answers end wanting program cause is head same far = by_head (subst (λ (r : Result Within Cause). IsHeadWithin program r) is head)

@@ -1,10 +1,11 @@
 -- A drawing in the making: what strokes add to it, by exact sums.
-use Rattle.std.specs.Prelude.{◌≡◌, ◌⊎◌, pos, ◌+ℤ◌, Bool, true, false, List, [], ◌∷◌, ◌++◌, length, take, Result, Ok, Err, IfOk, OnErr, fold, if◌then◌else◌}
+use Rattle.std.specs.Prelude.{◌≡◌, ◌⊎◌, pos, ◌+ℤ◌, Bool, true, false, List, [], ◌∷◌, ◌++◌, length, take, Result, Ok, Err, IfOk, OnErr, if◌then◌else◌}
 use Rattle.postscript_base.specs.declared.error.Error.{Error}
 use Rattle.postscript_base.specs.declared.error.Error.TheVariants as errors
 use Rattle.postscript_base.specs.Refusal.{Refusal, refusal_of, overflow}
 use Rattle.postscript_drawing.specs.declared.pen.Pen.{Pen}
 use Rattle.postscript_outline.specs.declared.segment.Segment.{Segment}
+use Rattle.postscript_outline.specs.Sinks.{Receives}
 use Rattle.postscript_outline.specs.declared.segment.Segment.TheVariants.{MoveTo, LineTo, CurveTo, Close}
 use Rattle.postscript_outline.specs.declared.point.Point.{Point}
 use Rattle.postscript_outline.specs.Points.{point}
@@ -108,11 +109,11 @@ IsFullWhere refuses (Err Full) new = refuses new
 IsFullWhere refuses answered new = Unit {0}
 
 -- A pen draws strokes from where it stands, and a sink has taken the segments, one after another.
-pub record DrawsStrokes {T : Type 0} (after : T → Segment → T) (refuses : T → Type 0) (strokes : List Stroke) (pen : Pen) (old : T)
+pub record DrawsStrokes {T : Type 0} (after : T → Segment → T → Type 0) (refuses : T → Type 0) (strokes : List Stroke) (pen : Pen) (old : T)
     (answered : Result (Unit {0}) Undrawn) (pen' : Pen) (new : T) : Type 0 where
   pub given : List Segment
   pub draws : DrawsTo (drawing strokes (held pen [])) answered (held pen' given)
-  pub taken : new ≡ fold after old given
+  pub taken : Receives after old given new
   pub full : IsFullWhere refuses answered new
 
 -- what ends an open contour, and what begins one where none is open

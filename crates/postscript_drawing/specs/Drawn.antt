@@ -1,10 +1,11 @@
 -- How a glyph is drawn: plain, or with a base and an accent (Technical Note 5177, Appendix C).
-use Rattle.std.specs.Prelude.{◌≡◌, ◌⊎◌, ℕ, ℤ, pos, List, ◌++◌, Option, Ok, fold}
+use Rattle.std.specs.Prelude.{◌≡◌, ◌⊎◌, ℕ, ℤ, pos, List, ◌++◌, Option, Ok}
 use Rattle.postscript_outline.specs.Contours.{AreContours}
 use Rattle.postscript_outline.specs.Points.{point}
 use Rattle.postscript_drawing.specs.Outline.{outlined_at}
 use Rattle.postscript_outline.specs.declared.point.Point.{Point}
 use Rattle.postscript_outline.specs.declared.segment.Segment.{Segment}
+use Rattle.postscript_outline.specs.Sinks.{Receives}
 use Rattle.postscript_type2.specs.Program.Runs.{Run, width_of}
 use Rattle.postscript_view.specs.Advances.{HasRun}
 use Rattle.postscript_view.specs.declared.font.FontView.{FontView}
@@ -17,8 +18,8 @@ abbrev pub zero_point : Point
 zero_point = point (pos 0) (pos 0)
 
 -- A sink has taken segments, one after another, of which this holds.
-abbrev pub Takes : {T : Type 0} (after : T → Segment → T) (old new : T) → (List Segment → Type 0) → Type 0
-Takes after old new Holds = (segments : List Segment) × Holds segments × (new ≡ fold after old segments)
+abbrev pub Takes : {T : Type 0} (after : T → Segment → T → Type 0) (old new : T) → (List Segment → Type 0) → Type 0
+Takes after old new Holds = (segments : List Segment) × Holds segments × Receives after old segments new
 
 -- The run draws these segments, where the origin of the glyph is put at a point.
 abbrev pub DrawsAt : Point → Run → List Segment → Type 0
@@ -76,7 +77,8 @@ pub record IsDrawnAs (font : FontView) (glyph : ℕ) (segments : List Segment) (
   pub width_is : width ≡ width_of run
 
 -- A glyph is drawn into a sink, and has this width.
-abbrev pub DrawsGlyph : {T : Type 0} (after : T → Segment → T) (old new : T) → (font : FontView) (glyph : ℕ) (width : Option ℤ) → Type 0
+abbrev pub DrawsGlyph : {T : Type 0} (after : T → Segment → T → Type 0) (old new : T) → (font : FontView) (glyph : ℕ)
+    (width : Option ℤ) → Type 0
 DrawsGlyph after old new font glyph width = Takes after old new (λ segments. IsDrawnAs font glyph segments width)
 
 -- A law of the definitions: what a glyph draws is contours.

@@ -1,5 +1,5 @@
 -- What a program that is drawn into a sink comes to.
-use Rattle.std.specs.Prelude.{◌≡◌, ◌⊎◌, ℕ, ℤ, List, [], Option, Result, Ok, Err, IfOk, fold}
+use Rattle.std.specs.Prelude.{◌≡◌, ◌⊎◌, ℕ, ℤ, List, [], Option, Result, Ok, Err, IfOk}
 use Rattle.postscript_base.specs.Refusal.{refusal_of}
 use Rattle.postscript_base.specs.declared.error.Error.{Error as Cause}
 use Rattle.postscript_base.specs.declared.error.Error.TheVariants as causes
@@ -9,24 +9,25 @@ use Rattle.postscript_drawing.specs.Drawing.{IsFront}
 use Rattle.postscript_drawing.specs.Outline.{outlined_at}
 use Rattle.postscript_outline.specs.declared.point.Point.{Point}
 use Rattle.postscript_outline.specs.declared.segment.Segment.{Segment}
+use Rattle.postscript_outline.specs.Sinks.{Receives}
 use Rattle.postscript_type2.specs.Program.Limit.{Spends}
 use Rattle.postscript_type2.specs.Program.Programs.{Pending}
 use Rattle.postscript_type2.specs.Program.Runs.{Answer, End, Phrase, UsedUp, width_by}
 
 -- All that a program still answers is drawn from a point: the sink has taken the segments, one after another, and this is the
 -- width.
-pub record DrawsProgram {T : Type 0} (after : T → Segment → T) (origin : Point) (old new : T) (width : Option ℤ)
+pub record DrawsProgram {T : Type 0} (after : T → Segment → T → Type 0) (origin : Point) (old new : T) (width : Option ℤ)
     (pending : Pending) : Type 0 where
   pub segments : List Segment
   pub drawn : outlined_at origin pending.answers pending.end ≡ Ok segments
-  pub taken : new ≡ fold after old segments
+  pub taken : Receives after old segments new
   pub width_is : width ≡ width_by pending.width pending.answers pending.end
 
 -- The sink has taken a front of what these operations draw, whatever end they come to.
-pub record DrawsFront {T : Type 0} (after : T → Segment → T) (origin : Point) (old new : T) (answers : List Answer) : Type 0 where
+pub record DrawsFront {T : Type 0} (after : T → Segment → T → Type 0) (origin : Point) (old new : T) (answers : List Answer) : Type 0 where
   pub given : List Segment
   pub front : IfOk (outlined_at origin answers UsedUp) (λ segments. IsFront given segments)
-  pub taken : new ≡ fold after old given
+  pub taken : Receives after old given new
 
 -- Memory runs out, the sink takes no more, or nothing is left of the limit.
 abbrev pub IsWanting : (left : ℕ) → Error → Type 0

@@ -14,30 +14,31 @@ use Rattle.postscript_drawing.specs.DrawnProgram.{DrawsFront}
 use Rattle.postscript_drawing.specs.declared.accent.Accent.{Accent}
 
 -- A front of what the operations of a glyph's own run draw.
-pub record GivesOwnFront {T : Type 0} (after : T → Segment → T) (origin : Point) (old new : T) (font : FontView) (glyph : ℕ) : Type 0 where
+pub record GivesOwnFront {T : Type 0} (after : T → Segment → T → Type 0) (origin : Point) (old new : T) (font : FontView)
+    (glyph : ℕ) : Type 0 where
   pub part : PrivateDict
   pub run : Run
   pub has : HasRun font glyph part run
   pub front : DrawsFront after origin old new run.answers
 
 -- of a glyph by itself: nothing, or such a front
-abbrev pub GivesOwn : {T : Type 0} (after : T → Segment → T) (origin : Point) (old new : T) → FontView → (glyph : ℕ) → Type 0
+abbrev pub GivesOwn : {T : Type 0} (after : T → Segment → T → Type 0) (origin : Point) (old new : T) → FontView → (glyph : ℕ) → Type 0
 GivesOwn after origin old new font glyph = (new ≡ old) ⊎ GivesOwnFront after origin old new font glyph
 
 -- of the glyph of a code: likewise
-abbrev pub GivesComponent : {T : Type 0} (after : T → Segment → T) (origin : Point) (old new : T) → FontView → (code : ℕ) → Type 0
+abbrev pub GivesComponent : {T : Type 0} (after : T → Segment → T → Type 0) (origin : Point) (old new : T) → FontView → (code : ℕ) → Type 0
 GivesComponent after origin old new font code =
     (new ≡ old) ⊎ ((glyph : ℕ) × IsComponent font code glyph × GivesOwnFront after origin old new font glyph)
 
 -- of a base and an accent: some of the base, or all of it and some of the accent
-abbrev pub GivesComponents : {T : Type 0} (after : T → Segment → T) (old new : T) → FontView → Accent → Type 0
+abbrev pub GivesComponents : {T : Type 0} (after : T → Segment → T → Type 0) (old new : T) → FontView → Accent → Type 0
 GivesComponents {T} after old new font accent =
     GivesComponent after zero_point old new font accent.base
     ⊎ ((between : T) × Takes after old between (DrawsComponent font accent.base zero_point)
     × GivesComponent after (point accent.dx accent.dy) between new font accent.accent)
 
 -- All of an accented glyph's own run, and some of its components.
-pub record GivesAccented {T : Type 0} (after : T → Segment → T) (old new : T) (font : FontView) (glyph : ℕ) : Type 0 where
+pub record GivesAccented {T : Type 0} (after : T → Segment → T → Type 0) (old new : T) (font : FontView) (glyph : ℕ) : Type 0 where
   pub accent : Accent
   pub between : T
   pub part : PrivateDict
@@ -48,5 +49,5 @@ pub record GivesAccented {T : Type 0} (after : T → Segment → T) (old new : T
   pub some : GivesComponents after between new font accent
 
 -- of a glyph: nothing, some of its own run, or all of that and some of its components
-abbrev pub GivesGlyph : {T : Type 0} (after : T → Segment → T) (old new : T) → FontView → (glyph : ℕ) → Type 0
+abbrev pub GivesGlyph : {T : Type 0} (after : T → Segment → T → Type 0) (old new : T) → FontView → (glyph : ℕ) → Type 0
 GivesGlyph after old new font glyph = GivesOwn after zero_point old new font glyph ⊎ GivesAccented after old new font glyph

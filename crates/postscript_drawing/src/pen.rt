@@ -1,11 +1,12 @@
 //! The pen, which turns strokes into segments.
-ghost use Rattle.std.specs.Prelude.{◌≡◌, ◌∷◌, OnOk, OnErr, IfErr, [], length, take, fold};
+ghost use Rattle.std.specs.Prelude.{◌≡◌, ◌∷◌, OnOk, OnErr, IfErr, [], length, take};
 ghost use Rattle.postscript_base.specs.declared.error.Error.TheVariants as errors;
 ghost use Rattle.postscript_base.specs.Error.{IsListed};
 ghost use Rattle.postscript_drawing.specs.Applying.{applied};
 ghost use Rattle.postscript_drawing.specs.Drawing.{Draws, DrawsStrokes, drawing, held, blank, closed, closing, opening};
 ghost use Rattle.postscript_drawing.specs.Left.{left};
 ghost use Rattle.postscript_drawing.specs.Operators.{strokes as the_strokes};
+ghost use Rattle.postscript_outline.specs.Sinks.{Receives};
 
 use crate::reach::{reach, reach_by_curve};
 use crate::stroke::{Stroke, Strokes, Vector};
@@ -52,7 +53,7 @@ impl Pen {
     /// Refused: where the sink takes no more. It holds what it held before.
     #[inline(always)]
     pub fn end<S: Sink>(&mut self, sink: &mut S) -> Given
-        ensures ended { OnOk result (S.state sink.new ≡ fold S.after (S.state sink.old) (closing self.old)) }
+        ensures ended { OnOk result (Receives S.after (S.state sink.old) (closing self.old) (S.state sink.new)) }
         ensures full { OnErr result (S.state sink.new ≡ S.state sink.old) }
         ensures refuses { OnErr result (S.refuses (S.state sink.new)) }
     {
@@ -66,7 +67,7 @@ impl Pen {
     /// Begins a contour here, if none is open.
     #[inline(always)]
     fn begin<S: Sink>(&mut self, sink: &mut S) -> Given
-        ensures begun { OnOk result (S.state sink.new ≡ fold S.after (S.state sink.old) (opening self.old)) }
+        ensures begun { OnOk result (Receives S.after (S.state sink.old) (opening self.old) (S.state sink.new)) }
         ensures full { OnErr result (S.state sink.new ≡ S.state sink.old) }
         ensures refuses { OnErr result (S.refuses (S.state sink.new)) }
         ensures stays { self.new.at ≡ self.old.at }

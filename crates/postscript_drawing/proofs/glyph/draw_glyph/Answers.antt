@@ -3,7 +3,8 @@ use Rattle.postscript_drawing.specs.Drawn.{HasOwn, zero_point}
 use Rattle.postscript_drawing.specs.Spending.{PaysOwn}
 use Rattle.postscript_drawing.specs.declared.accent.Accent.{Accent}
 use Rattle.postscript_drawing.proofs.GlyphSpending.{spends-both, spends-more}
-use Rattle.postscript_drawing.proofs.Owns.{accented-front, components-refused, draws-accented, draws-plain, on-err, passed-on, taken-both}
+use Rattle.postscript_drawing.proofs.Owns.{accented-front, components-refused, draws-accented, draws-plain, on-err, passed-on}
+use Rattle.postscript_outline.proofs.Receiving.{received-both}
 use Rattle.postscript_drawing.proofs.glyph.draw_glyph.Goals as goal
 
 pub returns-in_err-width-clause-spends : goal.returns-in_err-width-clause-spends
@@ -36,7 +37,7 @@ returns-in_ok-draw_components-in-Some-clause-drawn g c =
     let more = c.in_ok-draw_components-in-Some.ensures.drawn in
     let P : Option Accent → Type 0 = λ accent. HasOwn c.args.font.now c.args.glyph zero_point own.0 width accent in
     let has = subst P c.in-Some.is own.1 in
-    (own.0 ++ more.0, draws-accented c.args.font.now c.args.glyph own.0 more.0 width c.in-Some.accent has more.1, taken-both g.S.Sink.after (g.S.Sink.state c.args.sink.now) (g.S.Sink.state c.draw_own.new.sink) (g.S.Sink.state c.draw_components.new.sink) own.0 more.0 own.2 more.2)
+    (own.0 ++ more.0, draws-accented c.args.font.now c.args.glyph own.0 more.0 width c.in-Some.accent has more.1, received-both g.S.Sink.after _ _ _ own.0 more.0 own.2 more.2)
 
 pub returns-in_err-draw_components-in-Some-clause-why : goal.returns-in_err-draw_components-in-Some-clause-why
 returns-in_err-draw_components-in-Some-clause-why g c =

@@ -1,7 +1,7 @@
 use Rattle.std.proofs.Common.{◌≡◌, [], ◌++◌, ap, subst, sym, ◌∙◌, rules}
 use Rattle.postscript_drawing.specs.Drawn.{IsDrawnAs}
 use Rattle.postscript_drawing.proofs.GlyphSpending.{nothing-spent}
-use Rattle.postscript_drawing.proofs.ListLaws.{all-appended}
+use Rattle.postscript_outline.proofs.Receiving.{list-received}
 use Rattle.postscript_drawing.proofs.glyph.outlined.Goals as goal
 
 pub returns-in_err-segments-clause-spends : goal.returns-in_err-segments-clause-spends
@@ -11,5 +11,5 @@ pub returns-clause-found : goal.returns-clause-found
 returns-clause-found c =
     let drawn = c.in_ok-width.ensures.drawn in
     let empty : c.in_ok-segments.segments.items ≡ [] = search rules in
-    let same : c.draw_glyph.new.sink.items ≡ drawn.0 = drawn.2 ∙ all-appended _ drawn.0 ∙ ap (λ xs. xs ++ drawn.0) empty in
+    let same : c.draw_glyph.new.sink.items ≡ drawn.0 = list-received drawn.0 _ _ drawn.2 ∙ ap (λ xs. xs ++ drawn.0) empty in
     subst (λ xs. IsDrawnAs c.args.font.now c.args.glyph xs c.in_ok-width.width) (sym same) drawn.1

@@ -1,5 +1,5 @@
 use Rattle.std.proofs.lemmas.Result.{err_from_is_err_and}
-use Rattle.std.proofs.Common.{◌≡◌, [], ◌∷◌, Ok, ap, ◌∙◌, refl, rules, subst}
+use Rattle.std.proofs.Common.{◌≡◌, [], Ok, ap, ◌∙◌, refl, rules, subst}
 use Rattle.postscript_drawing.specs.Operators.{strokes}
 use Rattle.postscript_drawing.specs.Outline.{outlined_at}
 use Rattle.postscript_drawing.specs.Undrawn.{error_of}
