@@ -3,7 +3,7 @@ use crate::checks::{bytes_of, holds, is_text};
 use postscript::Result;
 use postscript::type2::{Operand, Operator, Program, run};
 use postscript_drawing::{Error, LIMIT, Pen, draw_program, outline_of_operations};
-use postscript_outline::{Bounds, Full, Given, Outline, Point, Segment, Sink, give};
+use postscript_outline::{Bounds, Full, Given, Outline, Point, Segment, Sink, TightBounds, give};
 use std::alloc::Global;
 use std::process::Abort;
 
@@ -322,12 +322,24 @@ fn tight_corners_of<R: Abort>(rt: &R, alloc: Global, digits: &str) -> Option<[i3
     Some([low.x, low.y, high.x, high.y])
 }
 
+/// The same of bounds that are given the segments.
+fn tight_corners_given<R: Abort>(rt: &R, alloc: Global, digits: &str) -> Option<[i32; 4]> {
+    let code = bytes_of(rt, alloc, digits);
+    let outline = outline_of(alloc, code.as_slice()).expect(rt, "an outline");
+    let mut tight = TightBounds::new();
+    give(outline.segments.as_slice(), &mut tight).expect(rt, "bounds are never full");
+    let Bounds { low, high } = tight.bounds?;
+    Some([low.x, low.y, high.x, high.y])
+}
+
 #[test]
 fn boxes_round_curves(rt: HostRuntime) {
     let alloc = rt.alloc();
     for (digits, corners) in TIGHT_ROWS {
         let found = tight_corners_of(&rt, alloc, digits);
         holds(&rt, found == Some(*corners), digits);
+        let given = tight_corners_given(&rt, alloc, digits);
+        holds(&rt, given == Some(*corners), digits);
     }
     let none = tight_corners_of(&rt, alloc, "0e");
     holds(&rt, none.is_none(), "nothing drawn");
@@ -413,14 +425,14 @@ struct Few {
 }
 
 impl Sink for Few {
-    ghost use Rattle.std.specs.Prelude.{◌++◌, ◌∷◌, [], List};
+    ghost use Rattle.std.specs.Prelude.{◌≡◌, ◌++◌, ◌∷◌, [], List};
     ghost use Rattle.postscript_outline.specs.declared.segment.Segment.{Segment};
 
     ghost State = { List Segment };
 
     ghost state = { λ few. few.segments.items };
 
-    ghost after = { λ segments segment. segments ++ segment ∷ [] };
+    ghost after = { λ old segment new. new ≡ old ++ segment ∷ [] };
 
     ghost refuses = { λ _. Unit {0} };
 
@@ -501,14 +513,14 @@ struct Last {
 }
 
 impl Sink for Last {
-    ghost use Rattle.std.specs.Prelude.{Option, Some};
+    ghost use Rattle.std.specs.Prelude.{◌≡◌, Option, Some};
     ghost use Rattle.postscript_outline.specs.declared.segment.Segment.{Segment};
 
     ghost State = { Option Segment };
 
     ghost state = { λ last. last.segment };
 
-    ghost after = { λ _ segment. Some segment };
+    ghost after = { λ _ segment new. new ≡ Some segment };
 
     ghost refuses = { λ _. ⊥ };
 
@@ -562,6 +574,22 @@ fn a_list_and_its_box(rt: HostRuntime) {
     let path = outline.to_string(alloc).expect(&rt, "memory");
     is_text(&rt, path.as_str(), "M1 2L4 2ZM8 2L8 7Z", "the list");
     holds(&rt, bounds == outline.bounds(), "its box");
+}
+
+#[test]
+fn a_path_with_no_list(rt: HostRuntime) {
+    let alloc = rt.alloc();
+    let first = bytes_of(&rt, alloc, "8c8d15 8e8f9091 05 0e");
+    let second = bytes_of(&rt, alloc, "8c8d15 8c8d8e8f1b 8c8d8e8f901b 0e");
+    let mut path = String::new(alloc);
+    drawn(alloc, first.as_slice(), &mut path).expect(&rt, "a glyph");
+    drawn(alloc, second.as_slice(), &mut path).expect(&rt, "a glyph");
+    is_text(
+        &rt,
+        path.as_str(),
+        "M1 2L4 6L9 12ZM1 2C2 2 4 5 8 5C10 6 13 10 18 10Z",
+        "both paths",
+    );
 }
 
 #[test]
