@@ -21,7 +21,7 @@ at-end old new limit left is steps =
     let step = subst (λ (r : Result Within Cause). StepsWithin old limit r new left) is steps in (step.0.0, subst IsSound (sym step.0.1) used_up)
 
 -- where a step is refused so is the program
-pub step-refused : {T : Type 0} {after : T → Segment → T} {refuses : T → Type 0} {origin : Point} {old now : T} {pen : Pen} (answers : List Answer) (end : End) (wanting : ℕ)
+pub step-refused : {T : Type 0} {after : T → Segment → T → Type 0} {refuses : T → Type 0} {origin : Point} {old now : T} {pen : Pen} (answers : List Answer) (end : End) (wanting : ℕ)
     (program : Pending) (cause : Cause) {answer : Result Within Cause} → answer ≡ Err cause → IsHeadWithin program answer → program.end ≡ end →
     SoFar after refuses (strokes_of answers) (strokes_of program.answers) (pen_at origin) old pen now →
     IsWanting wanting (errors.Font cause) ⊎ IsUndrawn origin (errors.Font cause) answers end

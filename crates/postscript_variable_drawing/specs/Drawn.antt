@@ -1,11 +1,12 @@
 -- What drawing a charstring of CFF2 comes to: as that of a Type 2 charstring of the same operations.
-use Rattle.std.specs.Prelude.{◌≡◌, ◌⊎◌, ℕ, pos, List, [], Result, Ok, Err, fold}
+use Rattle.std.specs.Prelude.{◌≡◌, ◌⊎◌, ℕ, pos, List, [], Result, Ok, Err}
 use Rattle.postscript_drawing.specs.DrawnProgram.{IsUndrawn, IsWanting}
 use Rattle.postscript_drawing.specs.Outline.{outlined_at}
 use Rattle.postscript_drawing.specs.declared.error.Error.{Error}
 use Rattle.postscript_outline.specs.Points.{point}
 use Rattle.postscript_outline.specs.declared.point.Point.{Point}
 use Rattle.postscript_outline.specs.declared.segment.Segment.{Segment}
+use Rattle.postscript_outline.specs.Sinks.{Receives}
 use Rattle.postscript_variable.specs.Limit.{Spends}
 use Rattle.postscript_variable.specs.Programs.{Pending}
 
@@ -28,7 +29,7 @@ IsSpent limit costs left (Ok drawn) = Spends limit costs left []
 IsSpent limit costs left (Err e) = (rest : List ℕ) × Spends limit costs left rest
 
 -- a sink has taken segments of which this holds, one after another
-pub record Gives {T : Type 0} (after : T → Segment → T) (old new : T) (are : List Segment → Type 0) : Type 0 where
+pub record Gives {T : Type 0} (after : T → Segment → T → Type 0) (old new : T) (are : List Segment → Type 0) : Type 0 where
   pub segments : List Segment
   pub drawn : are segments
-  pub taken : new ≡ fold after old segments
+  pub taken : Receives after old segments new

@@ -22,7 +22,7 @@ DrawsGlyph font glyph place segments =
     (charstring : Charstring) × IsCharstringOf font glyph place charstring × IsOutlineOf origin (begun (run_from charstring)) segments
 
 -- a sink has taken a front of what the charstring of a glyph draws, or nothing where it has none
-abbrev pub DrawsGlyphFront : {T : Type 0} → (after : T → Segment → T) → (old new : T) → fonts.Font → (glyph : ℕ) → Place → Type 0
+abbrev pub DrawsGlyphFront : {T : Type 0} → (after : T → Segment → T → Type 0) → (old new : T) → fonts.Font → (glyph : ℕ) → Place → Type 0
 DrawsGlyphFront after old new font glyph place =
     (((part : parts.PrivateDict) → HasPart font.bytes.now (view_shown font) glyph part → ⊥) × (new ≡ old)) ⊎
     ((charstring : Charstring) × IsCharstringOf font glyph place charstring × DrawsFront after origin old new (run_from charstring).answers)

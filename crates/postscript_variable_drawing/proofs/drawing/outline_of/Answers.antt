@@ -1,6 +1,6 @@
 use Rattle.std.proofs.lemmas.Result.{err_from_is_err_and}
 use Rattle.std.proofs.Common.{◌≡◌, [], ◌++◌, ap, subst, sym, ◌∙◌, rules}
-use Rattle.postscript_drawing.proofs.ListLaws.{all-appended}
+use Rattle.postscript_outline.proofs.Receiving.{list-received}
 use Rattle.postscript_variable.specs.Charstrings.{run_from}
 use Rattle.postscript_variable.specs.Limit.{nothing}
 use Rattle.postscript_variable.specs.Programs.{begun}
@@ -16,5 +16,5 @@ pub returns-in-Ok-clause-drawn : goal.returns-in-Ok-clause-drawn
 returns-in-Ok-clause-drawn c =
     let drawn = c.in-Ok.ensures.drawn in
     let empty : c.in_ok-segments.segments.items ≡ [] = search rules in
-    let same : c.draw.new.sink.items ≡ drawn.segments = drawn.taken ∙ all-appended _ drawn.segments ∙ ap (λ xs. xs ++ drawn.segments) empty in
+    let same : c.draw.new.sink.items ≡ drawn.segments = list-received drawn.segments _ _ drawn.taken ∙ ap (λ xs. xs ++ drawn.segments) empty in
     subst (λ xs. IsOutlineOf origin (begun (run_from c.args.charstring)) xs) (sym same) drawn.drawn
