@@ -1,5 +1,5 @@
 //! The pen, which turns strokes into segments.
-ghost use Rattle.std.specs.Prelude.{◌≡◌, ◌∷◌, OnOk, OnErr, IfErr, [], length, take};
+ghost use Rattle.std.specs.Prelude.{◌≡◌, ◌∷◌, OnOk, OnErr, IfErr, [], length, take, true};
 ghost use Rattle.postscript_base.specs.declared.error.Error.TheVariants as errors;
 ghost use Rattle.postscript_base.specs.Error.{IsListed};
 ghost use Rattle.postscript_drawing.specs.Applying.{applied};
@@ -71,6 +71,7 @@ impl Pen {
         ensures full { OnErr result (S.state sink.new ≡ S.state sink.old) }
         ensures refuses { OnErr result (S.refuses (S.state sink.new)) }
         ensures stays { self.new.at ≡ self.old.at }
+        ensures open { OnOk result (self.new.is_open ≡ true) }
     {
         if !self.is_open {
             sink.add(Segment::MoveTo(self.at))?;
@@ -89,7 +90,8 @@ impl Pen {
         };
         self.end(sink)?;
         sink.add(Segment::MoveTo(at))?;
-        *self = Pen { at, is_open: true };
+        self.at = at;
+        self.is_open = true;
         Ok(())
     }
 
@@ -103,7 +105,7 @@ impl Pen {
         };
         self.begin(sink)?;
         sink.add(Segment::LineTo(at))?;
-        *self = Pen { at, is_open: true };
+        self.at = at;
         Ok(())
     }
 
@@ -123,7 +125,7 @@ impl Pen {
         };
         self.begin(sink)?;
         sink.add(Segment::CurveTo(first, second, at))?;
-        *self = Pen { at, is_open: true };
+        self.at = at;
         Ok(())
     }
 
