@@ -1,5 +1,5 @@
 -- What is drawn of a glyph and of what it names.
-use Rattle.std.proofs.Common.{◌≡◌, ◌≢◌, ◌⊎◌, inl, inr, ℕ, ℤ, List, ◌++◌, length, fold, [], ◌∷◌, Option, Some, None, Result, Ok, Err, refl, sym, ap, subst, ◌∙◌}
+use Rattle.std.proofs.Common.{◌≡◌, ◌≢◌, ◌⊎◌, inl, inr, ℕ, ℤ, List, ◌++◌, length, [], Option, Some, None, Result, Ok, Err, refl, sym, ap, subst, ◌∙◌}
 use Rattle.std.specs.Prelude.{IfErr, IsErrAnd, MatchOption, OnOk, option_map}
 use denote.Ref.{Bor}
 use Rattle.postscript_base.specs.Tape.Outcome.{Got, after}
@@ -13,6 +13,7 @@ use Rattle.postscript_drawing.specs.declared.accent.Accent.{Accent}
 use Rattle.postscript_drawing.specs.Spending.{PaysComponents, SpendsOnRuns}
 use Rattle.postscript_drawing.specs.declared.error.Error.{Error}
 use Rattle.postscript_drawing.specs.declared.error.Error.TheVariants.{Font, Full, TooLong, NoSuchGlyph, NoCode, NoAccents, MissingComponent, NestedAccent}
+use Rattle.postscript_outline.proofs.Receiving.{received-both}
 use Rattle.postscript_outline.specs.declared.segment.Segment.{Segment}
 use Rattle.postscript_type2.specs.Program.Evaluation.{run_of}
 use Rattle.postscript_type2.specs.Program.Limit.{Spends}
@@ -21,17 +22,13 @@ use Rattle.postscript_type2.specs.Program.Routines.{lent}
 use Rattle.postscript_type2.specs.Program.Runs.{Phrase, taken_by}
 use Rattle.postscript_view.specs.declared.font.FontView.{FontView}
 
-pub fold-append : {T : Type 0} (after : T → Segment → T) (t : T) (xs ys : List Segment) → fold after t (xs ++ ys) ≡ fold after (fold after t xs) ys
-fold-append after t [] ys = refl
-fold-append after t (x ∷ xs) ys = fold-append after (after t x) xs ys
-
 -- a refusal that is passed on
 pub if-err : {A E : Type 0} (r : Result A E) (e : E) (P : E → Type 0) → IsErrAnd r (λ x. x ≡ e) → P e → IfErr r P
 if-err (Ok x) e P same holds = tt
 if-err (Err x) e P same holds = subst P (sym same) holds
 
 -- the base and the accent that are named
-pub named-drawn : {T : Type 0} (after : T → Segment → T) (old new : T) (r : Result (Unit {0}) Error) (bytes : List ℕ) (named : Option Accent) (accent : Accent) (font : FontView) → named ≡ Some accent → IsFirst bytes font →
+pub named-drawn : {T : Type 0} (after : T → Segment → T → Type 0) (old new : T) (r : Result (Unit {0}) Error) (bytes : List ℕ) (named : Option Accent) (accent : Accent) (font : FontView) → named ≡ Some accent → IsFirst bytes font →
     OnOk r (Takes after old new (DrawsComponents font accent)) → OnOk r (Takes after old new (AreNamed bytes named))
 named-drawn after old new (Ok done) bytes named accent font is first takes =
     (takes.0, subst (λ (a : Option Accent). AreNamed bytes a takes.0) (sym is) (font, first, takes.1), takes.2)
@@ -50,12 +47,12 @@ named-refused before left (Err e) bytes named accent font is first spends (inr w
     inr (subst (λ (a : Option Accent). IsNamedRefused bytes a e) (sym is) (inr (font, first, why)))
 
 -- a program and what its glyph names
-pub whole-drawn : {T : Type 0} (after : T → Segment → T) (old middle new : T) (bytes : List ℕ) (program : Pending) (width : Option ℤ) (named : Option Accent) (limit left behind : ℕ) → DrawsProgram after zero_point old middle width program →
+pub whole-drawn : {T : Type 0} (after : T → Segment → T → Type 0) (old middle new : T) (bytes : List ℕ) (program : Pending) (width : Option ℤ) (named : Option Accent) (limit left behind : ℕ) → DrawsProgram after zero_point old middle width program →
     IsNamedBy (taken_by program.end) named → Takes after middle new (AreNamed bytes named) → Spends limit program.trace left [] → ArePaid bytes named left behind → Takes after old new (λ segments. DrawsWhole limit bytes program segments width)
 whole-drawn after old middle new bytes program width named limit left behind own names more spends rest = (
   own.segments ++ more.0,
   record { accent = named; own = own.segments; more = more.0; names = names; draws_own = own.drawn; draws_more = more.1; all = refl; width_is = own.width_is; left = left; behind = behind; pays_own = spends; pays_more = rest },
-  more.2 ∙ ap (λ t. fold after t more.0) own.taken ∙ sym (fold-append after old own.segments more.0),
+  received-both after old middle new own.segments more.0 own.taken more.2,
 )
 
 own-wanting : (limit : ℕ) (left : ℕ) (bytes : List ℕ) (program : Pending) (e : Error) (rest : List Phrase) → Spends limit program.trace left rest → IsWanting left e → IsWantingIn limit bytes program e

@@ -20,6 +20,8 @@ use Rattle.postscript_outline.specs.declared.bounds.Bounds.{Bounds}
 use Rattle.postscript_outline.specs.Bounds.{IsBoundsOf, points}
 use Rattle.postscript_outline.specs.Points.{point}
 use Rattle.postscript_outline.specs.Tight.{IsTightBoundsOf, arcs}
+use Rattle.postscript_outline.specs.declared.segment.Segment.{Segment}
+use Rattle.postscript_outline.specs.declared.tight.TightBounds.{TightBounds}
 
 -- the numbers of refusals of drawings
 abbrev pub undrawn_code : Error → ℕ
@@ -105,6 +107,17 @@ sides_of told = if told.has_bounds == 0 then None else Some (record { low = poin
 -- bounds are 0 where there is no point
 abbrev pub AreZeros : PsfBounds → Type 0
 AreZeros told = told.has_bounds ≡ 0 → (told.left ≡ pos 0) × (told.bottom ≡ pos 0) × (told.right ≡ pos 0) × (told.top ≡ pos 0)
+
+-- tight bounds of what a glyph draws by a part
+abbrev pub IsTracedOver : (bytes : List ℕ) (font : PsfFont) (part : PsfPart) (glyph : ℕ) → Option Bounds → Type 0
+IsTracedOver bytes font part glyph bounds = (segments : List Segment) × ((width : Option ℤ) × IsDrawnOver bytes font part glyph segments width)
+    × IsTightBoundsOf bounds (arcs (point (pos 0) (pos 0)) segments)
+
+-- what is told of such bounds, of a refusal, and where there is no such glyph
+abbrev pub TellsTraced : Result (Option TightBounds) Error → (status : ℤ) → (old new : PsfBounds) → Type 0
+TellsTraced (Ok (Some tight)) status old new = (status ≡ pos 0) × (sides_of new ≡ tight.bounds) × AreZeros new
+TellsTraced (Ok None) status old new = (status ≡ pos 31) × (new ≡ old)
+TellsTraced (Err e) status old new = (status ≡ pos (undrawn_code e)) × (new ≡ old)
 
 -- What C is told of the bounds of an answer's lines and curves: a refusal by its number, and 31 where there is no such glyph.
 abbrev pub TellsBounds : Result (Option Glyph) Error → (status : ℤ) → (old new : PsfBounds) → Type 0

@@ -45,7 +45,7 @@ impl Segments {
 }
 
 impl Sink for Segments {
-    ghost use Rattle.std.specs.Prelude.{◌++◌, ◌∷◌, [], List, map};
+    ghost use Rattle.std.specs.Prelude.{◌≡◌, ◌++◌, ◌∷◌, [], List, map};
     ghost use Rattle.postscript_c.specs.Segments.{meant};
     ghost use Rattle.postscript_outline.specs.declared.segment.Segment.{Segment};
 
@@ -53,7 +53,7 @@ impl Sink for Segments {
 
     ghost state = { λ sketch. map meant sketch.segments.items };
 
-    ghost after = { λ segments segment. segments ++ segment ∷ [] };
+    ghost after = { λ old segment new. new ≡ old ++ segment ∷ [] };
 
     ghost refuses = { λ _. Unit {0} };
 

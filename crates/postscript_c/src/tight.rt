@@ -1,7 +1,7 @@
 //! The bounds of the lines and curves of a glyph.
-ghost use Rattle.std.specs.Prelude.{◌≡◌};
-ghost use Rattle.postscript_c.specs.Answers.{AreZeros, IsOf, TellsBounds, sides_of};
-ghost use Rattle.postscript_c.specs.Shown.{traced_shown};
+ghost use Rattle.std.specs.Prelude.{◌≡◌, IfErr, IfOk, MatchOption};
+ghost use Rattle.postscript_c.specs.Answers.{AreZeros, IsTracedOver, TellsTraced, sides_of};
+ghost use Rattle.postscript_c.specs.Drawn.{HasNone, IsUndrawnOver};
 
 use crate::drawn::draw_over;
 use crate::font::PsfFont;
@@ -9,35 +9,26 @@ use crate::part::PsfPart;
 use crate::status::NO_GLYPH;
 use crate::told::undrawn_status;
 use postscript_drawing::Result;
-use postscript_outline::{Bounds, Outline};
+use postscript_outline::laws::tight_bounds_take_in_curves;
+use postscript_outline::{Bounds, TightBounds};
 use std::alloc::Global;
 
-/// The outline of a glyph, and its part.
-#[derive(Drop)]
-pub(crate) struct OutlinedGlyph {
-    pub(crate) outline: Outline,
-    pub(crate) part: PsfPart,
-}
-
-/// The outline of a glyph by its part. None where there is no such glyph.
+/// The bounds of what a glyph draws by its part, drawn with no list of segments. None where there is no such glyph.
 pub(crate) fn traced_glyph(
     alloc: Global,
     bytes: &[u8],
     font: &PsfFont,
-    part: PsfPart,
+    part: &PsfPart,
     glyph: usize,
-) -> Result<Option<OutlinedGlyph>>
-    ensures { IsOf bytes.now font.now part glyph (traced_shown result) }
+) -> Result<Option<TightBounds>>
+    ensures found { IfOk result (λ found. MatchOption found (HasNone bytes.now font.now part.now glyph)
+        (λ tight. IsTracedOver bytes.now font.now part.now glyph tight.bounds)) }
+    ensures why { IfErr result (λ e. IsUndrawnOver bytes.now font.now part.now glyph e) }
 {
-    let mut segments = Vec::new(alloc);
-    match draw_over(alloc, bytes, font, &part, glyph, &mut segments)? {
-        Some(width) => Ok(Some(OutlinedGlyph {
-            outline: Outline {
-                segments,
-                width_difference: width,
-            },
-            part,
-        })),
+    let mut tight = TightBounds::new();
+    tight_bounds_take_in_curves();
+    match draw_over(alloc, bytes, font, part, glyph, &mut tight)? {
+        Some(_) => Ok(Some(tight)),
         None => Ok(None),
     }
 }
@@ -81,12 +72,12 @@ impl PsfBounds {
 }
 
 /// Tells the bounds of an answer.
-pub(crate) fn bound(answer: &Result<Option<OutlinedGlyph>>, bounds: &mut PsfBounds) -> i32
-    ensures { TellsBounds (traced_shown answer.now) result bounds.old bounds.new }
+pub(crate) fn bound(answer: &Result<Option<TightBounds>>, bounds: &mut PsfBounds) -> i32
+    ensures { TellsTraced answer.now result bounds.old bounds.new }
 {
     match answer {
-        Ok(Some(found)) => {
-            *bounds = PsfBounds::of(found.outline.tight_bounds());
+        Ok(Some(tight)) => {
+            *bounds = PsfBounds::of(tight.bounds);
             0
         }
         Ok(None) => NO_GLYPH,
