@@ -2,12 +2,11 @@
 use Rattle.std.proofs.Common.{◌≡◌, refl, sym, ap, ◌∙◌, ℕ, ◌+◌, ◌-◌, ◌≤◌, ℤ, pos, List, [], ◌∷◌, ◌++◌, length, map, take, drop, arith}
 use Rattle.std.proofs.lemmas.List.{append_assoc, append-nil, drop-append-le, drop_at, length-append, length-drop, length-map, map-append, take-append-le}
 use Rattle.std.proofs.Math.Seq.{take-append_seam}
-use Rattle.std.specs.Prelude.{Option, Some}
+use Rattle.std.specs.Prelude.{Some}
 use Rattle.postscript_c.specs.Operations.{Row, row_of, slice, answered, held}
 use Rattle.postscript_c.specs.declared.operations.PsfOperation.{PsfOperation}
 use Rattle.postscript_type2.specs.Operation.Operators.{operator_of}
 use Rattle.postscript_type2.specs.Program.Runs.{Answer}
-use Rattle.postscript_type2.specs.declared.operation.Operator.{Operator}
 
 -- its numbers are there
 abbrev pub AreTheirs : (numbers : List ℤ) → PsfOperation → Type 0
