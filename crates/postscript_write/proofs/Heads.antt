@@ -10,7 +10,7 @@ both_same : {A : Type 0} (x y : A) (n m : ℕ) → Got x n ≡ Got y m → (x �
 both_same x y n m e = (cc, cc)
 
 -- one INDEX stands at a place
-same_open : (bytes : List ℕ) (place : ℕ) (a b : List (List ℕ)) (n m : ℕ) → IsOpened bytes place a n → IsOpened bytes place b m → (a ≡ b) × (n ≡ m)
+pub same_open : (bytes : List ℕ) (place : ℕ) (a b : List (List ℕ)) (n m : ℕ) → IsOpened bytes place a n → IsOpened bytes place b m → (a ≡ b) × (n ≡ m)
 same_open bytes place a b n m x y = both_same a b n m (sym (opened_is bytes place a n x) ∙ opened_is bytes place b m y)
 
 -- the names end where they do

@@ -9,6 +9,9 @@ pub mod Moving
 pub mod Without
 pub mod Placing
 pub mod Privates
+pub mod Arranged
+pub mod Lengths
+pub mod TablesStand
 pub mod Heads
 pub mod Shown
 pub mod Likeness

@@ -69,6 +69,16 @@ escaped_is {bytes = bytes} {place = place} second q is s =
     ∙ ap (λ o. after o (λ second next. known (operator_of (0x0c00 + second)) bytes next)) (unsigned_is 1 second bytes (place + 1) (number_stands 1 second low there))
     ∙ rw is.names (ap (λ k. Got q k) two)
 
+pub integer_length : (n : ℕ) → length (integer_text n) ≡ 5
+integer_length n = omega (arith, length-append (number_text 1 0x1d) (number_text 4 n), length-number_text 1 0x1d, length-number_text 4 n)
+
+pub integers_length : (ns : List ℕ) → length (integers_text ns) ≡ 5 * length ns
+integers_length [] = refl
+integers_length (n ∷ ns) = omega (arith, length-append (integer_text n) (integers_text ns), integer_length n, integers_length ns)
+
+pub longer : (old new text : List ℕ) → new ≡ old ++ text → length new ≡ length old + length text
+longer old new text e = ap length e ∙ length-append old text
+
 pub one_more : (bytes : List ℕ) (place : ℕ) (os : List Operation) (at : ℕ) (o : Operation) (next : ℕ) → OperationsAt bytes place os at → OperationAt bytes at o next → OperationsAt bytes place (os ++ o ∷ []) next
 one_more bytes place [] at o next h one = (next, subst (λ p. OperationAt bytes p o next) h one, refl)
 one_more bytes place (x ∷ os) at o next h one = (h.0, h.1, one_more bytes h.0 os at o next h.2 one)

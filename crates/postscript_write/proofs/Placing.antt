@@ -1,8 +1,9 @@
 -- Places in a dictionary.
-use Rattle.std.proofs.Common.{◌≡◌, refl, sym, ap, subst, ◌∙◌, ℕ, zero, suc, ◌<◌, Bool, true, false, cond, List, [], ◌∷◌, length, map, fold, get_or, Option, Some, None, arith, if◌then◌else◌}
+use Rattle.std.proofs.Common.{◌≡◌, ◌++◌, refl, sym, ap, subst, ◌∙◌, ℕ, zero, suc, ◌<◌, Bool, true, false, cond, List, [], ◌∷◌, length, map, fold, get_or, Option, Some, None, arith, if◌then◌else◌}
 use Rattle.std.specs.List.{Contains}
 use Rattle.std.specs.Option.{option_or}
-use Rattle.std.specs.FinMap.{get, get-insert}
+use Rattle.std.specs.FinMap.{empty, get, get-insert}
+use Rattle.std.proofs.lemmas.List.Sums.{fold-append}
 use Rattle.std.specs.Ordering.{eq_by_cmp, is_eq}
 use Rattle.std.specs.Cmp.{eq_by_cmp_equiv}
 use Rattle.std.specs.declared.cmp.Ordering.{Ordering}
@@ -10,7 +11,7 @@ use Rattle.std.specs.declared.cmp.Ordering.TheVariants.{Equal}
 use Rattle.postscript_base.specs.Compact1.Decimal.{Decimal}
 use Rattle.postscript_base.specs.Compact1.Defaults.{default_of, look}
 use Rattle.postscript_base.specs.Compact1.Dictionary.{Dictionary, dictionary_of, put}
-use Rattle.postscript_base.specs.Compact1.DictionaryLaw.{IsDictionary, last_of}
+use Rattle.postscript_base.specs.Compact1.DictionaryLaw.{IsDictionary, OperationsAt, last_of}
 use Rattle.postscript_base.specs.Compact1.Operation.{Operation}
 use Rattle.postscript_base.specs.Compact1.Operators.{operator_cmp}
 use Rattle.postscript_base.specs.declared.compact1.operator.Operator.{Operator}
@@ -87,10 +88,10 @@ some_last (place ∷ places) q has e = by (λ later. some_last places q later bo
     by later (suc k) less is = later (k, omega (arith, less), is)
 
 -- places are put behind what is left
-pub placed : (text rest out : List ℕ) (places : List Place) (old : Dictionary) → IsWithout text (map (λ place. place.operator) places) rest →
-    ((d : Dictionary) → IsDictionary rest 0 d → IsDictionary out 0 (fold put d (map operation_of places))) → IsDictionary text 0 old →
+pub placed : (text rest out : List ℕ) (places : List Place) (old : Dictionary) (w : IsWithout text (map (λ place. place.operator) places) rest) →
+    OperationsAt out 0 (w.1 ++ map operation_of places) (length out) → IsDictionary text 0 old →
     (new : Dictionary) × IsDictionary out 0 new × IsPlaced old places new
-placed text rest out places old w puts is = (new, puts kept_map (writes_operations.all rest w.1 w.6), λ q. by q (last_of ops q) refl)
+placed text rest out places old w puts is = (new, subst (λ d. IsDictionary out 0 d) (fold-append put empty w.1 ops) (writes_operations.all out (w.1 ++ ops) puts), λ q. by q (last_of ops q) refl)
   where
     ops : List Operation
     ops = map operation_of places

@@ -1,7 +1,7 @@
 -- Operations but those of some operators.
-use Rattle.std.proofs.Common.{◌≡◌, ◌≢◌, ◌⊎◌, sym, ap, subst, ◌∙◌, inl, inr, ℕ, ◌+◌, ◌-◌, ◌≤◌, ◌<◌, ◌^◌, zero, suc, get_or, false, List, [], ◌∷◌, ◌++◌, length, take, drop, length-append, length-take-le, take-append-drop, arith}
+use Rattle.std.proofs.Common.{◌≡◌, ◌≢◌, ◌⊎◌, refl, map, sym, ap, subst, ◌∙◌, inl, inr, ℕ, ◌+◌, ◌-◌, ◌≤◌, ◌<◌, ◌^◌, zero, suc, get_or, false, List, [], ◌∷◌, ◌++◌, length, take, drop, length-append, length-take-le, take-append-drop, arith}
 use Rattle.std.specs.List.{Contains}
-use Rattle.std.proofs.lemmas.List.{append-nil}
+use Rattle.std.proofs.lemmas.List.{append-nil, append_assoc}
 use Rattle.postscript_base.specs.Refusal.{Refusal}
 use Rattle.postscript_base.specs.Tape.Loops.{is_end}
 use Rattle.postscript_base.specs.Tape.Outcome.{Outcome, Got, Fault, Past, RefusedAs}
@@ -16,9 +16,10 @@ use Rattle.postscript_base.proofs.DictionaryIs.{reads_dictionaries}
 use Rattle.postscript_base.proofs.Onward.{Goes}
 use Rattle.postscript_base.proofs.OperationIs.{IsOperation, is_at, operation_is}
 use Rattle.postscript_base.proofs.OperationSteps.{operation_goes}
-use Rattle.postscript_write.specs.Dictionaries.{AreHeld, AreLeft, IsHeld, IsWritable, numbers_of}
+use Rattle.postscript_write.specs.Dictionaries.{AreHeld, AreLeft, HasSize, IsHeld, IsLeftText, IsWritable, numbers_of, places_size}
 use Rattle.postscript_write.specs.declared.dictionaries.Place.{Place}
 use Rattle.postscript_write.specs.Dictionaries.AreLeft.{none, kept, gone}
+use Rattle.postscript_write.specs.Dictionaries.IsLeftText.{ends, keeps, leaves}
 use Rattle.postscript_write.proofs.Locality.{operation_local, operations_local}
 use Rattle.postscript_write.proofs.Moving.{operation_back, operation_moved}
 use Rattle.postscript_write.proofs.OperationsStand.{one_more}
@@ -92,6 +93,48 @@ one_more_so text out more left_out place next o e put h =
         stand = spelled_more text out place next h.left o (omega (arith, up)) goes.1 at h.stand;
       })
     ]
+
+-- one operation more, as it is spelled
+pub left_more : (text out more : List ℕ) (left_out : List Operator) (place next : ℕ) (o : Operation) → operation text place ≡ Got o next →
+    (Contains left_out o.0 × (more ≡ out)) ⊎ ((Contains left_out o.0 → ⊥) × (more ≡ out ++ take (next - place) (drop place text))) →
+    ((rest : List ℕ) → IsLeftText text left_out place rest → IsLeftText text left_out 0 (out ++ rest)) → (rest : List ℕ) → IsLeftText text left_out next rest → IsLeftText text left_out 0 (more ++ rest)
+left_more text out more left_out place next o got (inl out_of) before rest h = subst (λ xs. IsLeftText text left_out 0 (xs ++ rest)) (sym out_of.1) (before rest (leaves place next o rest got out_of.0 h))
+left_more text out more left_out place next o got (inr stays) before rest h =
+    let spelled : List ℕ = take (next - place) (drop place text) in
+    subst (IsLeftText text left_out 0) (sym (ap (λ xs. xs ++ rest) stays.1 ∙ append_assoc out spelled rest)) (before (spelled ++ rest) (keeps place next o rest (spelled ++ rest) got stays.0 h refl))
+
+same_got : (x y : Operation) (n m : ℕ) → Got x n ≡ Got y m → (x ≡ y) × (n ≡ m)
+same_got x y n m e = (cc, cc)
+
+-- one text is left
+pub one_left : (text : List ℕ) (left_out : List Operator) (place other : ℕ) (a b : List ℕ) → place ≡ other → IsLeftText text left_out place a → IsLeftText text left_out other b → a ≡ b
+one_left text left_out _ _ _ _ at (ends place stops) (ends other again) = refl
+one_left text left_out _ _ _ b at (ends place stops) (keeps other next o rest _ got out h e) = absurd (stops o next (subst (λ p. operation text p ≡ Got o next) (sym at) got))
+one_left text left_out _ _ _ b at (ends place stops) (leaves other next o _ got is h) = absurd (stops o next (subst (λ p. operation text p ≡ Got o next) (sym at) got))
+one_left text left_out _ _ a _ at (keeps place next o rest _ got out h e) (ends other stops) = absurd (stops o next (subst (λ p. operation text p ≡ Got o next) at got))
+one_left text left_out _ _ a _ at (leaves place next o _ got is h) (ends other stops) = absurd (stops o next (subst (λ p. operation text p ≡ Got o next) at got))
+one_left text left_out _ _ a b at (keeps place next o rest _ got out h e) (keeps other after q more _ got2 out2 h2 e2) =
+    let same = same_got o q next after (sym (subst (λ p. operation text p ≡ Got o next) at got) ∙ got2) in
+    let tail = one_left text left_out next after rest more same.1 h h2 in
+    e ∙ ap (λ xs. take (next - place) (drop place text) ++ xs) tail ∙ ap (λ n. take (n - place) (drop place text) ++ more) same.1 ∙ ap (λ p. take (after - p) (drop p text) ++ more) at ∙ sym e2
+one_left text left_out _ _ a b at (leaves place next o _ got is h) (leaves other after q _ got2 is2 h2) =
+    let same = same_got o q next after (sym (subst (λ p. operation text p ≡ Got o next) at got) ∙ got2) in
+    one_left text left_out next after a b same.1 h h2
+one_left text left_out _ _ a b at (keeps place next o rest _ got out h e) (leaves other after q _ got2 is2 h2) =
+    let same = same_got o q next after (sym (subst (λ p. operation text p ≡ Got o next) at got) ∙ got2) in
+    absurd (out (subst (λ (x : Operation). Contains left_out x.0) (sym same.0) is2))
+one_left text left_out _ _ a b at (leaves place next o _ got is h) (keeps other after q more _ got2 out2 h2 e2) =
+    let same = same_got o q next after (sym (subst (λ p. operation text p ≡ Got o next) at got) ∙ got2) in
+    absurd (out2 (subst (λ (x : Operation). Contains left_out x.0) same.0 is))
+
+-- places of the same operators, of the same size, make dictionaries of one size
+pub one_size : (text : List ℕ) (places other : List Place) (n m : ℕ) → HasSize text places n → HasSize text other m → map (λ place. place.operator) places ≡ map (λ place. place.operator) other → places_size places ≡ places_size other →
+    n ≡ m
+one_size text places other n m x y same sizes =
+    let left = ap length (one_left text (map (λ place. place.operator) other) 0 0 x.0 y.0 refl (subst (λ os. IsLeftText text os 0 x.0) same x.1) y.1) in
+    let a = x.2 in
+    let b = y.2 in
+    omega (arith, a, b, left, sizes)
 
 not_end : (e : Error) → e ≢ UnexpectedEof → (refusal : Refusal) → RefusedAs {A = Operation} e (Fault refusal) → is_end refusal ≡ false
 not_end e other refusal h = grind arith

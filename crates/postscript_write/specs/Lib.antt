@@ -5,8 +5,11 @@ pub mod Glyphs
 pub mod Parts
 pub mod Dictionaries
 pub mod Privates
+pub mod Arrangement
 pub mod Naming
 pub mod Strings
+pub mod Renumbered
+pub mod Written
 pub mod Fonts
 pub mod Whole
 pub mod Sources

@@ -1,11 +1,11 @@
 -- Private dictionaries as they are written (Technical Note 5176, sections 15 and 16).
-use Rattle.std.specs.Prelude.{◌≡◌, ℕ, List, [], ◌∷◌, Option, Some, None, length, slice_get, slice_index_or}
+use Rattle.std.specs.Prelude.{◌≡◌, ℕ, ◌+◌, ◌<◌, List, [], ◌∷◌, Option, Some, None, flat_map, length, slice_get, slice_index_or, take}
 use Rattle.postscript_base.specs.Compact1.Dictionary.{Dictionary, dictionary_of}
 use Rattle.postscript_base.specs.Compact1.DictionaryLaw.{IsDictionary}
 use Rattle.postscript_base.specs.declared.compact1.operator.Operator.TheVariants.{Subrs}
 use Rattle.postscript_base.specs.declared.compact1.operator.Operator.TheVariants as operators
 use Rattle.postscript_view.specs.Order.{PrivateDict}
-use Rattle.postscript_write.specs.Dictionaries.{IsLess}
+use Rattle.postscript_write.specs.Dictionaries.{HasSize, IsLess, IsPlaced}
 use Rattle.postscript_write.specs.declared.dictionaries.Place.{Place}
 use Rattle.postscript_write.specs.declared.layout.Private.{Private}
 
@@ -26,3 +26,35 @@ place_of_private (Some private) offset =
 pub record AreOwnPrivates (parts : List PrivateDict) (privates : List (Option Private)) : Type 0 where
   pub many : length privates ≡ length parts
   pub each : (i : ℕ) (part : PrivateDict) → slice_get parts i ≡ Some part → IsOwnPrivate part (slice_index_or privates i None)
+
+abbrev pub private_text : Option Private → List ℕ
+private_text None = []
+private_text (Some private) = private.text.items
+
+-- private dictionaries, one behind the other
+abbrev pub privates_text : List (Option Private) → List ℕ
+privates_text privates = flat_map private_text privates
+
+-- where the one of a number begins, if the first one begins at the start
+abbrev pub private_offset : (start : ℕ) → List (Option Private) → (number : ℕ) → ℕ
+private_offset start privates number = start + length (privates_text (take number privates))
+
+-- A font dictionary, written: it says what another one says, but names the private dictionary at an offset, where there is one.
+abbrev pub IsFontDictionary : (old : Dictionary) → Option Private → (offset : ℕ) → (text : List ℕ) → Type 0
+IsFontDictionary old private offset text =
+    (new : Dictionary) × IsDictionary text 0 new × IsPlaced old (place_of_private private offset) new
+
+abbrev pub IsSomeDictionary : List ℕ → Type 0
+IsSomeDictionary item = (map : Dictionary) × IsDictionary item 0 map
+
+-- Font dictionaries, written, as many as there are items: each of the item in its place, and with the private dictionary in its place.
+pub record AreFontDictionaries (items : List (List ℕ)) (privates : List (Option Private)) (start : ℕ) (texts : List (List ℕ)) : Type 0 where
+  pub many : length texts ≡ length items
+  pub each : (i : ℕ) (old : Dictionary) → i < length items → IsDictionary (slice_index_or items i []) 0 old →
+      IsFontDictionary old (slice_index_or privates i None) (private_offset start privates i) (slice_index_or texts i [])
+
+-- Texts have the sizes of font dictionaries that name these private dictionaries, wherever these stand.
+pub record AreSized (items : List (List ℕ)) (privates : List (Option Private)) (texts : List (List ℕ)) : Type 0 where
+  pub many : length texts ≡ length items
+  pub each : (i : ℕ) → i < length items →
+      HasSize (slice_index_or items i []) (place_of_private (slice_index_or privates i None) 0) (length (slice_index_or texts i []))

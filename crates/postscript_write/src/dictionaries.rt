@@ -1,14 +1,14 @@
 //! Dictionaries, written (Technical Note 5176, "DICT Data").
-ghost use Rattle.std.specs.Prelude.{All, ◌≡◌, ◌≢◌, ◌⊎◌, None, ◌≤◌, ◌<◌, ◌^◌, ◌++◌, List, [], ◌∷◌, length, IfErr, IfOk, IfSome, OnOk, fold, map};
+ghost use Rattle.std.specs.Prelude.{All, ◌≡◌, ◌≢◌, ◌⊎◌, None, ◌≤◌, ◌<◌, ◌+◌, ◌*◌, ◌^◌, ◌++◌, List, [], ◌∷◌, length, IfErr, IfOk, IfSome, OnOk, ℕ, map};
 ghost use Rattle.std.specs.List.{Contains};
 ghost use Rattle.postscript_base.specs.Tape.Outcome.{Got, RefusedAs};
 ghost use Rattle.postscript_base.specs.Compact1.Decimal.{Decimal};
-ghost use Rattle.postscript_base.specs.Compact1.Dictionary.{Dictionary, put};
+ghost use Rattle.postscript_base.specs.Compact1.Dictionary.{Dictionary};
 ghost use Rattle.postscript_base.specs.Compact1.DictionaryLaw.{IsDictionary, OperationsAt, UnfinishedAt};
 ghost use Rattle.postscript_base.specs.Compact1.Operation.{Operation, operation};
 ghost use Rattle.postscript_base.specs.declared.error.Error.TheVariants as errors;
 ghost use Rattle.postscript_write.specs.Parts.{IsAmong};
-ghost use Rattle.postscript_write.specs.Dictionaries.{integer_text, integers_text, operands_of, AreHeld, IsCode, IsEscaped, IsHeld, IsPlaced, IsWithout, IsWritable, escaped, operation_of, short};
+ghost use Rattle.postscript_write.specs.Dictionaries.{integer_text, integers_text, operands_of, AreHeld, HasSize, IsCode, IsEscaped, IsHeld, IsLeftText, IsPlaced, IsWithout, IsWritable, escaped, operation_of, operation_size, operator_size, place_size, places_size, short};
 
 use crate::number::put_number;
 use crate::same::is_among;
@@ -24,6 +24,8 @@ fn next_operator(alloc: Global, tape: &mut Cursor<&[u8]>) -> Result<Option<Opera
     ensures onward { IfOk result (λ found. IfSome found
         (λ _. (tape.old.pos < tape.new.pos) × (tape.new.pos ≤ length tape.old.inner.now))) }
     ensures cut { IfOk result (λ found. found ≡ None → UnfinishedAt tape.old.inner.now tape.old.pos) }
+    ensures ends { IfOk result (λ found. found ≡ None → (o : Operation) (next : ℕ) →
+        operation tape.old.inner.now tape.old.pos ≡ Got o next → ⊥) }
     ensures kept { OnOk result (tape.new.inner.now ≡ tape.old.inner.now) }
     ensures refused { IfErr result (λ e. e ≢ errors.Memory →
         RefusedAs e (operation tape.old.inner.now tape.old.pos) × (e ≢ errors.UnexpectedEof)) }
@@ -35,24 +37,10 @@ fn next_operator(alloc: Global, tape: &mut Cursor<&[u8]>) -> Result<Option<Opera
     }
 }
 
-/// The place behind the last whole operation.
-pub(crate) fn whole_end(alloc: Global, text: &[u8]) -> Result<usize>
-    ensures within { IfOk result (λ end. end ≤ length text.now) }
-    ensures whole { IfOk result (λ end. (operations : List Operation) × OperationsAt text.now 0 operations end
-        × UnfinishedAt text.now end) }
-    ensures refused { IfErr result (λ e. e ≢ errors.Memory → (dictionary : Dictionary) → IsDictionary text.now 0 dictionary → ⊥) }
-{
-    let mut tape = Cursor::new(text);
-    let mut place = 0usize;
-    'operations: while let Some(_) = next_operator(alloc, &mut tape)? {
-        place = tape.position() as usize;
-    }
-    Ok(place)
-}
-
 /// Appends an integer of five bytes.
 fn put_integer(out: &mut Vec<u8>, number: usize) -> Result<()>
     ensures ok { OnOk result (out.new.items ≡ out.old.items ++ integer_text number) }
+    ensures sized { OnOk result (length out.new.items ≡ length out.old.items + 5) }
     ensures held { OnOk result (number < 2 ^ 31) }
     ensures refused { IfErr result (λ e. e ≢ errors.Memory → 2 ^ 31 ≤ number) }
 {
@@ -67,6 +55,7 @@ fn put_integer(out: &mut Vec<u8>, number: usize) -> Result<()>
 /// Appends integers.
 fn put_integers(out: &mut Vec<u8>, numbers: &[usize]) -> Result<()>
     ensures ok { OnOk result (out.new.items ≡ out.old.items ++ integers_text numbers.now) }
+    ensures sized { OnOk result (length out.new.items ≡ length out.old.items + 5 * length numbers.now) }
     ensures held { OnOk result (AreHeld numbers.now) }
     ensures refused { IfErr result (λ e. e ≢ errors.Memory → AreHeld numbers.now → ⊥) }
 {
@@ -80,6 +69,7 @@ fn put_integers(out: &mut Vec<u8>, numbers: &[usize]) -> Result<()>
 #[tactic(auto, unfolding(postscript_base::specs::Compact1::Operators::operator_of))]
 fn code_of(operator: Operator) -> Option<u8>
     ensures code { IfSome result (λ code. IsCode code operator) }
+    ensures size { IfSome result (λ _. operator_size operator ≡ 1) }
     ensures none { result ≡ None → IsAmong operator short → ⊥ }
 {
     match operator {
@@ -101,6 +91,7 @@ fn code_of(operator: Operator) -> Option<u8>
 #[tactic(auto, unfolding(postscript_base::specs::Compact1::Operators::operator_of))]
 fn second_of(operator: Operator) -> Option<u8>
     ensures code { IfSome result (λ second. IsEscaped second operator) }
+    ensures size { IfSome result (λ _. operator_size operator ≡ 2) }
     ensures none { result ≡ None → IsAmong operator escaped → ⊥ }
 {
     match operator {
@@ -117,6 +108,7 @@ fn second_of(operator: Operator) -> Option<u8>
 /// Appends an operation of an operator of one byte.
 fn put_short(out: &mut Vec<u8>, numbers: &[usize], operator: Operator, code: u8) -> Result<()>
     requires { IsCode code operator }
+    ensures sized { OnOk result (length out.new.items ≡ length out.old.items + (5 * length numbers.now + 1)) }
     ensures refused { IfErr result (λ e. e ≢ errors.Memory → AreHeld numbers.now → ⊥) }
     ensures one_more { OnOk result ((operations : List Operation) → OperationsAt out.old.items 0 operations (length out.old.items) →
         OperationsAt out.new.items 0 (operations ++ (operator, operands_of numbers.now) ∷ []) (length out.new.items)) }
@@ -129,6 +121,7 @@ fn put_short(out: &mut Vec<u8>, numbers: &[usize], operator: Operator, code: u8)
 /// Appends an operation of an operator of two bytes.
 fn put_escaped(out: &mut Vec<u8>, numbers: &[usize], operator: Operator, second: u8) -> Result<()>
     requires { IsEscaped second operator }
+    ensures sized { OnOk result (length out.new.items ≡ length out.old.items + (5 * length numbers.now + 2)) }
     ensures refused { IfErr result (λ e. e ≢ errors.Memory → AreHeld numbers.now → ⊥) }
     ensures one_more { OnOk result ((operations : List Operation) → OperationsAt out.old.items 0 operations (length out.old.items) →
         OperationsAt out.new.items 0 (operations ++ (operator, operands_of numbers.now) ∷ []) (length out.new.items)) }
@@ -144,6 +137,7 @@ fn put_escaped(out: &mut Vec<u8>, numbers: &[usize], operator: Operator, second:
 /// Refused: `MissingOperation` for another operator; `OutOfRangeOffset` for a number of more than 31 bits; `Memory`.
 pub fn put_operation(out: &mut Vec<u8>, numbers: &[usize], operator: Operator) -> Result<()>
     ensures refused { IfErr result (λ e. e ≢ errors.Memory → IsWritable operator → AreHeld numbers.now → ⊥) }
+    ensures sized { OnOk result (length out.new.items ≡ length out.old.items + operation_size numbers.now operator) }
     ensures one_more { OnOk result ((operations : List Operation) → OperationsAt out.old.items 0 operations (length out.old.items) →
         OperationsAt out.new.items 0 (operations ++ (operator, operands_of numbers.now) ∷ []) (length out.new.items)) }
 {
@@ -165,6 +159,7 @@ pub(crate) struct Place {
 /// Appends the operation of a place.
 fn put_place(out: &mut Vec<u8>, place: &Place) -> Result<()>
     ensures refused { IfErr result (λ e. e ≢ errors.Memory → IsHeld place.now → ⊥) }
+    ensures sized { OnOk result (length out.new.items ≡ length out.old.items + place_size place.now) }
     ensures one_more { OnOk result ((operations : List Operation) → OperationsAt out.old.items 0 operations (length out.old.items) →
         OperationsAt out.new.items 0 (operations ++ operation_of place.now ∷ []) (length out.new.items)) }
 {
@@ -177,6 +172,7 @@ fn put_place(out: &mut Vec<u8>, place: &Place) -> Result<()>
 /// Appends the operations of places to those that the bytes are.
 fn put_places(out: &mut Vec<u8>, places: &[Place]) -> Result<()>
     ensures refused { IfErr result (λ e. e ≢ errors.Memory → All IsHeld places.now → ⊥) }
+    ensures sized { OnOk result (length out.new.items ≡ length out.old.items + places_size places.now) }
     ensures more { OnOk result ((operations : List Operation) → OperationsAt out.old.items 0 operations (length out.old.items) →
         OperationsAt out.new.items 0 (operations ++ map operation_of places.now) (length out.new.items)) }
 {
@@ -184,16 +180,6 @@ fn put_places(out: &mut Vec<u8>, places: &[Place]) -> Result<()>
         put_place(out, place)?;
     }
     Ok(())
-}
-
-/// The bytes, copied.
-fn copied(alloc: Global, bytes: &[u8]) -> Result<Vec<u8>>
-    ensures bytes { IfOk result (λ out. out.items ≡ bytes.now) }
-    ensures memory { IfErr result (λ e. e ≡ errors.Memory) }
-{
-    let mut out = Vec::new(alloc);
-    out.extend_from_slice(bytes)?;
-    Ok(out)
 }
 
 /// Appends an operation, where its operator is none of these.
@@ -216,6 +202,7 @@ fn put_unless(
 /// The whole operations that bytes are, as they are spelled, without those of some operators.
 pub(crate) fn without(alloc: Global, text: &[u8], left_out: &[Operator]) -> Result<Vec<u8>>
     ensures left { IfOk result (λ out. IsWithout text.now left_out.now out.items) }
+    ensures text { IfOk result (λ out. IsLeftText text.now left_out.now 0 out.items) }
     ensures refused { IfErr result (λ e. e ≢ errors.Memory → (dictionary : Dictionary) → IsDictionary text.now 0 dictionary → ⊥) }
 {
     let mut out = Vec::new(alloc);
@@ -229,15 +216,14 @@ pub(crate) fn without(alloc: Global, text: &[u8], left_out: &[Operator]) -> Resu
     Ok(out)
 }
 
-/// The dictionary that bytes are, with the operations of places in the place of earlier ones of their operators.
-fn replaced(alloc: Global, text: &[u8], places: &[Place]) -> Result<Vec<u8>>
-    ensures refused { IfErr result (λ e. e ≢ errors.Memory → All IsHeld places.now → (dictionary : Dictionary) →
-        IsDictionary text.now 0 dictionary → ⊥) }
-    ensures put { IfOk result (λ out. (dictionary : Dictionary) → IsDictionary text.now 0 dictionary →
-        IsDictionary out.items 0 (fold put dictionary (map operation_of places.now))) }
+/// The bytes of whole operations, and behind them the operations of places.
+fn replaced(rest: Vec<u8>, places: &[Place]) -> Result<Vec<u8>>
+    ensures refused { IfErr result (λ e. e ≢ errors.Memory → All IsHeld places.now → ⊥) }
+    ensures sized { IfOk result (λ out. length out.items ≡ length rest.items + places_size places.now) }
+    ensures more { IfOk result (λ out. (operations : List Operation) → OperationsAt rest.items 0 operations (length rest.items) →
+        OperationsAt out.items 0 (operations ++ map operation_of places.now) (length out.items)) }
 {
-    let end = whole_end(alloc, text)?;
-    let mut out = copied(alloc, &text[..end])?;
+    let mut out = rest;
     put_places(&mut out, places)?;
     Ok(out)
 }
@@ -258,10 +244,11 @@ fn operators_of(alloc: Global, places: &[Place]) -> Result<Vec<Operator>>
 pub(crate) fn with_places(alloc: Global, text: &[u8], places: &[Place]) -> Result<Vec<u8>>
     ensures placed { IfOk result (λ out. (old : Dictionary) → IsDictionary text.now 0 old →
         (new : Dictionary) × IsDictionary out.items 0 new × IsPlaced old places.now new) }
+    ensures sized { IfOk result (λ out. HasSize text.now places.now (length out.items)) }
     ensures refused { IfErr result (λ e. e ≢ errors.Memory → All IsHeld places.now → (old : Dictionary) →
         IsDictionary text.now 0 old → ⊥) }
 {
     let operators = operators_of(alloc, places)?;
     let rest = without(alloc, text, &operators)?;
-    replaced(alloc, &rest, places)
+    replaced(rest, places)
 }

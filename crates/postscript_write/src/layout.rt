@@ -1,15 +1,25 @@
 //! The parts of a font, and where they stand (Technical Note 5176, "CFF Data Layout").
-ghost use Rattle.std.specs.Prelude.{◌≡◌, ◌≢◌, ◌≤◌, length, All, Option, IfErr, IfOk};
+ghost use Rattle.std.specs.Prelude.{◌≡◌, ◌≢◌, ◌≤◌, ◌<◌, ◌+◌, ◌^◌, ◌++◌, ℕ, pos, List, [], ◌∷◌, IsSome, length, All, Option, IfErr, IfOk, OnOk};
 ghost use Rattle.std.specs.Option.{unwrap_or};
 ghost use Rattle.postscript_base.specs.Compact1.Dictionary.{Dictionary};
 ghost use Rattle.postscript_base.specs.Compact1.DictionaryLaw.{IsDictionary};
 ghost use Rattle.postscript_base.specs.declared.error.Error.TheVariants as errors;
+ghost use Rattle.postscript_base.specs.declared.compact1.operator.Operator.TheVariants as operators;
 ghost use Rattle.postscript_base.specs.Index.{number_at};
-ghost use Rattle.postscript_view.specs.Layout.{AreParts, AreTables, IsPart};
+ghost use Rattle.postscript_base.specs.Index.Lent.{items_of};
+ghost use Rattle.postscript_compact1.specs.FontSet.Layout.{HasFirst};
+ghost use Rattle.postscript_type2.specs.Program.Routines.{texts};
+ghost use Rattle.postscript_view.specs.Layout.{AreParts, AreTables, IsPart, NamesIndex};
 ghost use Rattle.postscript_view.specs.Order.{PrivateDict as Part, Tables};
-ghost use Rattle.postscript_view.specs.Value.{parts_shown};
-ghost use Rattle.postscript_write.specs.Dictionaries.{IsHeld, IsPlaced};
-ghost use Rattle.postscript_write.specs.Privates.{AreOwnPrivates, IsOwnPrivate, place_of_private};
+ghost use Rattle.postscript_view.specs.Sizes.{IsKeyed};
+ghost use Rattle.postscript_view.specs.Value.{parts_shown, view_shown};
+ghost use Rattle.postscript_write.specs.Arrangement.{AreSizedFor, beginnings, dictionaries_place, only_place, place_if, places_of, standard_place, text_of, NameParts, dictionaries_text, parts_text, tables_text};
+ghost use Rattle.postscript_write.specs.Dictionaries.{HasSize, IsHeld, IsPlaced, IsWithPlaces};
+ghost use Rattle.postscript_write.specs.Index.{Fits, index_text};
+ghost use Rattle.postscript_write.specs.Privates.{AreFontDictionaries, AreSized, AreOwnPrivates, IsFontDictionary, IsOwnPrivate, IsSomeDictionary, place_of_private, private_text, privates_text};
+ghost use Rattle.postscript_write.specs.Renumbered.{all_renamed, renamed_if};
+ghost use Rattle.postscript_write.specs.Strings.{identifier_in as the_identifier};
+ghost use Rattle.postscript_write.specs.Written.{IsWritten};
 
 use crate::dictionaries::{Place, with_places, without};
 use crate::indices::put_index;
@@ -27,7 +37,10 @@ use postscript_view::{FontView, PrivateDict};
 use std::alloc::Global;
 
 /// The items, copied.
-fn copied(alloc: Global, items: &IndexView<'_>) -> Result<Vec<Vec<u8>>> {
+fn copied(alloc: Global, items: &IndexView<'_>) -> Result<Vec<Vec<u8>>>
+    ensures items { IfOk result (λ all. texts all.items ≡ items_of items.now) }
+    ensures memory { IfErr result (λ e. e ≡ errors.Memory) }
+{
     let mut all = Vec::new(alloc);
     for i in 0..items.len() {
         let mut copy = Vec::new(alloc);
@@ -38,7 +51,10 @@ fn copied(alloc: Global, items: &IndexView<'_>) -> Result<Vec<Vec<u8>>> {
 }
 
 /// The first operand of an operator, as a place.
-fn place_of(dictionary: &Operations, operator: Operator) -> Result<usize> {
+fn place_of(dictionary: &Operations, operator: Operator) -> Result<usize>
+    ensures first { IfOk result (λ place. HasFirst dictionary.now operator (pos place)) }
+    ensures refused { IfErr result (λ e. (place : ℕ) → HasFirst dictionary.now operator (pos place) → ⊥) }
+{
     let operand = dictionary
         .get_single(operator)
         .ok_or(Error::MissingOperation(operator))?;
@@ -169,20 +185,32 @@ struct Parts<'g> {
 }
 
 /// How many bytes there are, if any.
-fn len_of(bytes: &Option<Vec<u8>>) -> usize {
+fn len_of(bytes: &Option<Vec<u8>>) -> usize
+    ensures { result ≡ length (text_of bytes.now) }
+{
     match bytes {
         Some(bytes) => bytes.len(),
         None => 0,
     }
 }
 
+/// How many bytes a private dictionary has, if there is one.
+fn private_len(private: &Option<Private>) -> usize
+    ensures { result ≡ length (private_text private.now) }
+{
+    match private {
+        Some(private) => private.text.len(),
+        None => 0,
+    }
+}
+
 /// How many bytes the private dictionaries have.
-fn privates_len(privates: &[Option<Private>]) -> usize {
+fn privates_len(privates: &[Option<Private>]) -> usize
+    ensures { length (privates_text privates.now) < 2 ^ 64 → result ≡ length (privates_text privates.now) }
+{
     let mut len = 0usize;
     for private in privates {
-        if let Some(private) = private {
-            len = len.saturating_add(private.text.len());
-        }
+        len = len.saturating_add(private_len(private));
     }
     len
 }
@@ -193,7 +221,11 @@ fn placed(
     offset: usize,
     operator: Operator,
     text: &Option<Vec<u8>>,
-) -> Result<usize> {
+) -> Result<usize>
+    ensures placed { OnOk result (places.new.items ≡ places.old.items ++ place_if operator text.now offset) }
+    ensures next { IfOk result (λ next. offset + length (text_of text.now) < 2 ^ 64 → next ≡ offset + length (text_of text.now)) }
+    ensures memory { IfErr result (λ e. e ≡ errors.Memory) }
+{
     if text.is_some() {
         places.push(Place {
             operator,
@@ -204,20 +236,63 @@ fn placed(
     Ok(offset.saturating_add(len_of(text)))
 }
 
-/// The place of the only private dictionary, if there is one.
-fn only_private(privates: &[Option<Private>], offset: usize) -> Option<Place> {
-    match privates {
-        [Some(private)] => Some(Place {
+/// Adds the place of the only private dictionary, if there is one.
+fn place_only(places: &mut Vec<Place>, privates: &[Option<Private>], offset: usize) -> Result<()>
+    ensures placed { OnOk result (places.new.items ≡ places.old.items ++ only_place privates.now offset) }
+    ensures memory { IfErr result (λ e. e ≡ errors.Memory) }
+{
+    if let [Some(private)] = privates {
+        places.push(Place {
             operator: Operator::Private,
             size: Some(private.text.len()),
             offset,
-        }),
-        _ => None,
+        })?;
     }
+    Ok(())
+}
+
+/// Adds the standard encoding, where it is named.
+fn place_standard(places: &mut Vec<Place>, standard: bool) -> Result<()>
+    ensures placed { OnOk result (places.new.items ≡ places.old.items ++ standard_place standard) }
+    ensures memory { IfErr result (λ e. e ≡ errors.Memory) }
+{
+    if standard {
+        places.push(Place {
+            operator: Operator::Encoding,
+            size: None,
+            offset: 0,
+        })?;
+    }
+    Ok(())
+}
+
+/// Adds the place of the font dictionaries of a CID-keyed font, or else that of the only private dictionary.
+fn place_dictionaries(
+    places: &mut Vec<Place>,
+    parts: &Parts<'_>,
+    private: usize,
+    behind: usize,
+) -> Result<()>
+    ensures placed { OnOk result (places.new.items ≡ places.old.items
+        ++ dictionaries_place parts.now.glyphs.now.select parts.now.privates.items private behind) }
+    ensures memory { IfErr result (λ e. e ≡ errors.Memory) }
+{
+    if parts.glyphs.select.is_none() {
+        return place_only(places, &parts.privates, private);
+    }
+    places.push(Place {
+        operator: Operator::FDArray,
+        size: None,
+        offset: behind,
+    })?;
+    Ok(())
 }
 
 /// The places of the parts from a place on, which the dictionary of the font names.
-fn places_from(alloc: Global, start: usize, parts: &Parts<'_>) -> Result<Vec<Place>> {
+fn places_from(alloc: Global, start: usize, parts: &Parts<'_>) -> Result<Vec<Place>>
+    ensures places { IfOk result (λ places. (beginnings start parts.now).end < 2 ^ 64 → places.items ≡ places_of start parts.now) }
+    ensures memory { IfErr result (λ e. e ≡ errors.Memory) }
+{
     let mut places = Vec::new(alloc);
     let select = placed(
         &mut places,
@@ -225,13 +300,7 @@ fn places_from(alloc: Global, start: usize, parts: &Parts<'_>) -> Result<Vec<Pla
         Operator::Encoding,
         &parts.glyphs.encoding,
     )?;
-    if parts.glyphs.standard {
-        places.push(Place {
-            operator: Operator::Encoding,
-            size: None,
-            offset: 0,
-        })?;
-    }
+    place_standard(&mut places, parts.glyphs.standard)?;
     let offset = placed(
         &mut places,
         select,
@@ -245,15 +314,7 @@ fn places_from(alloc: Global, start: usize, parts: &Parts<'_>) -> Result<Vec<Pla
     })?;
     let private = offset.saturating_add(parts.char_strings.len());
     let behind = private.saturating_add(privates_len(&parts.privates));
-    if parts.glyphs.select.is_some() {
-        places.push(Place {
-            operator: Operator::FDArray,
-            size: None,
-            offset: behind,
-        })?;
-    } else if let Some(place) = only_private(&parts.privates, private) {
-        places.push(place)?;
-    }
+    place_dictionaries(&mut places, parts, private, behind)?;
     let end = behind.saturating_add(parts.dictionaries);
     placed(&mut places, end, Operator::CharSet, &parts.glyphs.char_set)?;
     Ok(places)
@@ -267,7 +328,8 @@ fn font_dictionary(
     offset: usize,
 ) -> Result<Vec<u8>>
     ensures placed { IfOk result (λ out. (old : Dictionary) → IsDictionary text.now 0 old →
-        (new : Dictionary) × IsDictionary out.items 0 new × IsPlaced old (place_of_private private.now offset) new) }
+        IsFontDictionary old private.now offset out.items) }
+    ensures sized { IfOk result (λ out. HasSize text.now (place_of_private private.now 0) (length out.items)) }
     ensures refused { IfErr result (λ e. e ≢ errors.Memory → All IsHeld (place_of_private private.now offset) → (old : Dictionary) →
         IsDictionary text.now 0 old → ⊥) }
 {
@@ -285,43 +347,114 @@ fn font_dictionary(
     }
 }
 
-/// The font dictionaries of a CID-keyed font, whose private dictionaries stand from a place on.
-fn font_dictionaries(
+/// The font dictionaries that items are, whose private dictionaries stand one behind the other from a place on.
+fn placed_dictionaries(
     alloc: Global,
-    font: &FontView<'_>,
+    sources: &IndexView<'_>,
     privates: &[Option<Private>],
     start: usize,
-) -> Result<Vec<Vec<u8>>> {
-    let place = place_of(&font.dictionary, Operator::FDArray)?;
-    let (sources, _next) = IndexView::open(font.bytes, place)?;
+) -> Result<Vec<Vec<u8>>>
+    ensures placed { IfOk result (λ out. start + length (privates_text privates.now) < 2 ^ 64 →
+        AreFontDictionaries (items_of sources.now) privates.now start (texts out.items)) }
+    ensures sized { IfOk result (λ out. AreSized (items_of sources.now) privates.now (texts out.items)) }
+    ensures refused { IfErr result (λ e. e ≢ errors.Memory → All IsSomeDictionary (items_of sources.now) →
+        length (items_of sources.now) ≤ length privates.now → start + length (privates_text privates.now) < 2 ^ 31 → ⊥) }
+{
     let mut offset = start;
     let mut all = Vec::new(alloc);
     for i in 0..sources.len() {
         let private = privates.get(i).ok_or(Error::UnexpectedEof)?;
         all.push(font_dictionary(alloc, sources.item(i), private, offset)?)?;
-        if let Some(private) = private {
-            offset = offset.saturating_add(private.text.len());
-        }
+        offset = offset.saturating_add(private_len(private));
     }
     Ok(all)
 }
 
-/// The dictionary of a font, whose operators name strings by their new identifiers.
-fn dictionary_with(alloc: Global, font: &FontView<'_>, strings: &Strings) -> Result<Vec<u8>> {
-    let mut places = Vec::new(alloc);
-    for operator in &SID_OPERATORS {
-        if let Some(old) = identifier_in(&font.dictionary, *operator) {
-            let new = strings.identifier(usize::from(old));
-            if new != usize::from(old) {
-                places.push(Place {
-                    operator: *operator,
-                    size: None,
-                    offset: new,
-                })?;
-            }
+/// The font dictionaries of a CID-keyed font, whose private dictionaries stand one behind the other from a place on.
+fn font_dictionaries(
+    alloc: Global,
+    font: &FontView<'_>,
+    privates: &[Option<Private>],
+    start: usize,
+) -> Result<Vec<Vec<u8>>>
+    ensures placed { IfOk result (λ out. (items : List (List ℕ)) →
+        NamesIndex font.now.bytes.now font.now.dictionary operators.FDArray items →
+        start + length (privates_text privates.now) < 2 ^ 64 → AreFontDictionaries items privates.now start (texts out.items)) }
+    ensures sized { IfOk result (λ out. AreSizedFor font.now.bytes.now font.now.dictionary privates.now (texts out.items)) }
+    ensures refused { IfErr result (λ e. e ≢ errors.Memory → IsKeyed font.now.dictionary →
+        AreParts font.now.bytes.now font.now.dictionary (parts_shown font.now.parts.items) →
+        AreOwnPrivates (parts_shown font.now.parts.items) privates.now → start + length (privates_text privates.now) < 2 ^ 31 → ⊥) }
+{
+    let place = place_of(&font.dictionary, Operator::FDArray)?;
+    let (sources, _next) = IndexView::open(font.bytes, place)?;
+    placed_dictionaries(alloc, &sources, privates, start)
+}
+
+/// Adds an operator whose string is written under another identifier, with that.
+fn place_renamed(
+    places: &mut Vec<Place>,
+    dictionary: &Operations,
+    strings: &Strings,
+    operator: Operator,
+) -> Result<()>
+    ensures placed { OnOk result (places.new.items ≡ places.old.items
+        ++ renamed_if strings.now operator (the_identifier dictionary.now operator)) }
+    ensures memory { IfErr result (λ e. e ≡ errors.Memory) }
+{
+    if let Some(old) = identifier_in(dictionary, operator) {
+        let new = strings.identifier(usize::from(old));
+        if new != usize::from(old) {
+            places.push(Place {
+                operator,
+                size: None,
+                offset: new,
+            })?;
         }
     }
-    with_places(alloc, first_dictionary(font.bytes)?, &places)
+    Ok(())
+}
+
+/// The operators whose strings are written under other identifiers, with these.
+fn renamed(alloc: Global, dictionary: &Operations, strings: &Strings) -> Result<Vec<Place>>
+    ensures places { IfOk result (λ places. places.items ≡ all_renamed strings.now dictionary.now) }
+    ensures memory { IfErr result (λ e. e ≡ errors.Memory) }
+{
+    let mut places = Vec::new(alloc);
+    for operator in &SID_OPERATORS {
+        place_renamed(&mut places, dictionary, strings, *operator)?;
+    }
+    Ok(places)
+}
+
+/// The dictionary of a font, whose operators name strings by their new identifiers.
+fn dictionary_with(alloc: Global, font: &FontView<'_>, strings: &Strings) -> Result<Vec<u8>>
+    ensures renamed { IfOk result (λ out. AreTables font.now.bytes.now (number_at font.now.bytes.now 2 1) 0 (view_shown font.now).tables →
+        (new : Dictionary) × IsDictionary out.items 0 new
+        × IsPlaced font.now.dictionary (all_renamed strings.now font.now.dictionary) new) }
+    ensures refused { IfErr result (λ e. e ≢ errors.Memory → 3 ≤ length font.now.bytes.now →
+        AreTables font.now.bytes.now (number_at font.now.bytes.now 2 1) 0 (view_shown font.now).tables →
+        All IsHeld (all_renamed strings.now font.now.dictionary) → ⊥) }
+{
+    let places = renamed(alloc, &font.dictionary, strings)?;
+    let first = first_dictionary(font.bytes)?;
+    with_places(alloc, first, &places)
+}
+
+/// Appends an INDEX of one dictionary, with places in it.
+fn put_dictionary(
+    alloc: Global,
+    out: &mut Vec<u8>,
+    dictionary: &[u8],
+    places: &[Place],
+) -> Result<()>
+    ensures text { OnOk result ((placed : List ℕ) × (out.new.items ≡ out.old.items ++ index_text (placed ∷ []))
+        × IsWithPlaces dictionary.now places.now placed × HasSize dictionary.now places.now (length placed)
+        × Fits (placed ∷ [])) }
+{
+    let mut dictionaries = Vec::new(alloc);
+    dictionaries.push(with_places(alloc, dictionary, places)?)?;
+    put_index(out, &dictionaries)?;
+    Ok(())
 }
 
 /// Appends the tables: header, names, the dictionary with places, strings, and an INDEX without subroutines.
@@ -332,51 +465,93 @@ fn put_tables(
     dictionary: &[u8],
     strings: &[Vec<u8>],
     places: &[Place],
-) -> Result<()> {
+) -> Result<()>
+    ensures text { OnOk result ((placed : List ℕ) × (out.new.items ≡ out.old.items
+        ++ tables_text (items_of font.now.names) placed (texts strings.now))
+        × IsWithPlaces dictionary.now places.now placed × HasSize dictionary.now places.now (length placed)
+        × Fits (placed ∷ [])) }
+    ensures names_fit { OnOk result (Fits (items_of font.now.names)) }
+    ensures strings_fit { OnOk result (Fits (texts strings.now)) }
+{
     let names = copied(alloc, &font.names)?;
     out.extend_from_slice(&[1, 0, 4, 4])?;
     put_index(out, &names)?;
-    let mut dictionaries = Vec::new(alloc);
-    dictionaries.push(with_places(alloc, dictionary, places)?)?;
-    put_index(out, &dictionaries)?;
+    put_dictionary(alloc, out, dictionary, places)?;
     put_index(out, strings)?;
     put_index(out, &[])
 }
 
 /// Appends bytes, if there are any.
-fn put_if(out: &mut Vec<u8>, bytes: &Option<Vec<u8>>) -> Result<()> {
+fn put_if(out: &mut Vec<u8>, bytes: &Option<Vec<u8>>) -> Result<()>
+    ensures text { OnOk result (out.new.items ≡ out.old.items ++ text_of bytes.now) }
+    ensures memory { IfErr result (λ e. e ≡ errors.Memory) }
+{
     if let Some(bytes) = bytes {
         out.extend_from_slice(bytes)?;
     }
     Ok(())
 }
 
-/// Appends private dictionaries.
-fn put_privates(out: &mut Vec<u8>, privates: &[Option<Private>]) -> Result<()> {
-    for private in privates {
-        if let Some(private) = private {
-            out.extend_from_slice(&private.text)?;
-        }
+/// Appends a private dictionary, if there is one.
+fn put_private(out: &mut Vec<u8>, private: &Option<Private>) -> Result<()>
+    ensures text { OnOk result (out.new.items ≡ out.old.items ++ private_text private.now) }
+    ensures memory { IfErr result (λ e. e ≡ errors.Memory) }
+{
+    if let Some(private) = private {
+        out.extend_from_slice(&private.text)?;
     }
     Ok(())
 }
 
-/// Appends the parts behind the tables.
-fn put_parts(
+/// Appends private dictionaries.
+fn put_privates(out: &mut Vec<u8>, privates: &[Option<Private>]) -> Result<()>
+    ensures text { OnOk result (out.new.items ≡ out.old.items ++ privates_text privates.now) }
+    ensures memory { IfErr result (λ e. e ≡ errors.Memory) }
+{
+    for private in privates {
+        put_private(out, private)?;
+    }
+    Ok(())
+}
+
+/// Appends the font dictionaries of a CID-keyed font, whose private dictionaries stand behind the bytes of a length.
+fn put_dictionaries(
     alloc: Global,
     out: &mut Vec<u8>,
     font: &FontView<'_>,
     parts: &Parts<'_>,
-) -> Result<()> {
+    start: usize,
+) -> Result<()>
+    ensures text { OnOk result ((dictionaries : List (List ℕ))
+        × (out.new.items ≡ out.old.items ++ dictionaries_text parts.now.glyphs.now.select dictionaries)
+        × (start + length (privates_text parts.now.privates.items) < 2 ^ 64 →
+        NameParts font.now.bytes.now font.now.dictionary parts.now start dictionaries)
+        × (IsSome parts.now.glyphs.now.select →
+        AreSizedFor font.now.bytes.now font.now.dictionary parts.now.privates.items dictionaries)
+        × (IsSome parts.now.glyphs.now.select → Fits dictionaries)) }
+{
+    if parts.glyphs.select.is_none() {
+        return Ok(());
+    }
+    let dictionaries = font_dictionaries(alloc, font, &parts.privates, start)?;
+    put_index(out, &dictionaries)?;
+    Ok(())
+}
+
+/// Appends the parts behind the tables.
+fn put_parts(alloc: Global, out: &mut Vec<u8>, font: &FontView<'_>, parts: &Parts<'_>) -> Result<()>
+    ensures text { OnOk result ((dictionaries : List (List ℕ)) × (out.new.items ≡ out.old.items ++ parts_text parts.now dictionaries)
+        × NameParts font.now.bytes.now font.now.dictionary parts.now (beginnings (length out.old.items) parts.now).privates dictionaries
+        × (IsSome parts.now.glyphs.now.select →
+        AreSizedFor font.now.bytes.now font.now.dictionary parts.now.privates.items dictionaries)
+        × (IsSome parts.now.glyphs.now.select → Fits dictionaries)) }
+{
     put_if(out, &parts.glyphs.encoding)?;
     put_if(out, &parts.glyphs.select)?;
     out.extend_from_slice(&parts.char_strings)?;
     let start = out.len();
     put_privates(out, &parts.privates)?;
-    if parts.glyphs.select.is_some() {
-        let dictionaries = font_dictionaries(alloc, font, &parts.privates, start)?;
-        put_index(out, &dictionaries)?;
-    }
+    put_dictionaries(alloc, out, font, parts, start)?;
     put_if(out, &parts.glyphs.char_set)
 }
 
@@ -386,7 +561,10 @@ fn dictionaries_len(
     font: &FontView<'_>,
     glyphs: &Glyphs,
     privates: &[Option<Private>],
-) -> Result<usize> {
+) -> Result<usize>
+    ensures { IfOk result (λ len. (dictionaries : List (List ℕ)) × (len ≡ length (dictionaries_text glyphs.now.select dictionaries))
+        × (IsSome glyphs.now.select → AreSizedFor font.now.bytes.now font.now.dictionary privates.now dictionaries)) }
+{
     if glyphs.select.is_none() {
         return Ok(0);
     }
@@ -402,7 +580,9 @@ pub(crate) fn written(
     font: &FontView<'_>,
     glyphs: &Glyphs,
     codes: &[Vec<u8>],
-) -> Result<Vec<u8>> {
+) -> Result<Vec<u8>>
+    ensures { IfOk result (λ out. IsWritten font.now glyphs.now (texts codes.now) out.items) }
+{
     let mut char_strings = Vec::new(alloc);
     put_index(&mut char_strings, codes)?;
     let privates = own_privates(alloc, font)?;

@@ -1,4 +1,7 @@
 //! The strings that are written, and the identifiers that name them (Technical Note 5176, sections 9 and 10).
+ghost use Rattle.std.specs.Prelude.{◌≡◌};
+ghost use Rattle.postscript_write.specs.Renumbered.{new_identifier};
+
 use crate::kept::SID_OPERATORS;
 use crate::naming::identifier_in;
 use postscript_base::Result;
@@ -83,7 +86,9 @@ impl Strings {
     }
 
     /// The new identifier of an old one: that of a string that is written under another, and any other as it is.
-    pub(crate) fn identifier(&self, old: usize) -> usize {
+    pub(crate) fn identifier(&self, old: usize) -> usize
+        ensures { result ≡ new_identifier self.now old }
+    {
         if old < 391 || old - 391 >= self.renumbered.len() {
             return old;
         }

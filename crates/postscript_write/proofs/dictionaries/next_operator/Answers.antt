@@ -1,5 +1,5 @@
 use Rattle.std.proofs.Common.{refl}
-use Rattle.postscript_write.proofs.WholeEnd.{stops}
+use Rattle.postscript_write.proofs.WholeEnd.{none_read, stops}
 use Rattle.postscript_write.proofs.Without.{reached}
 use Rattle.postscript_write.proofs.dictionaries.next_operator.Goals as goal
 
@@ -10,3 +10,8 @@ pub returns-in-Err-UnexpectedEof-clause-cut : goal.returns-in-Err-UnexpectedEof-
 returns-in-Err-UnexpectedEof-clause-cut c = λ _.
     let exact = c.in-Err-UnexpectedEof.ensures.exact refl in
     stops c.args.tape.now.inner.now c.args.tape.now.inner.now c.args.tape.now.pos c.args.tape.now.pos c.in-Err-UnexpectedEof.field-0 refl refl c.in-Err-UnexpectedEof.field-0-is exact.1
+
+pub returns-in-Err-UnexpectedEof-clause-ends : goal.returns-in-Err-UnexpectedEof-clause-ends
+returns-in-Err-UnexpectedEof-clause-ends c = λ _ o next got.
+    let exact = c.in-Err-UnexpectedEof.ensures.exact refl in
+    none_read c.args.tape.now.inner.now c.args.tape.now.pos c.in-Err-UnexpectedEof.field-0 c.in-Err-UnexpectedEof.field-0-is exact.1 o next got

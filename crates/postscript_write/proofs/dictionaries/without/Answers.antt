@@ -1,9 +1,12 @@
-use Rattle.std.proofs.Common.{length, ◌≡◌, refl, sym, ap, subst, ◌∙◌, [], arith}
+use Rattle.std.proofs.Common.{length, ◌≡◌, refl, sym, ap, subst, ◌∙◌, [], ◌++◌, arith}
 use Rattle.std.proofs.lemmas.Result.{err_from_is_err_and}
 use Rattle.postscript_base.specs.Tape.Outcome.{Got, RefusedAs}
 use Rattle.postscript_base.specs.Compact1.Operation.{Operation, operation}
+use Rattle.postscript_write.specs.Dictionaries.{IsLeftText}
 use Rattle.postscript_write.specs.Dictionaries.AreLeft.{none}
-use Rattle.postscript_write.proofs.Without.{no_dictionary, one_more_so}
+use Rattle.postscript_write.specs.Dictionaries.IsLeftText.{ends}
+use Rattle.std.proofs.lemmas.List.{append-nil}
+use Rattle.postscript_write.proofs.Without.{left_more, no_dictionary, one_more_so}
 use Rattle.postscript_write.proofs.dictionaries.without.Goals as goal
 
 pub operations-init : goal.operations-init
@@ -12,6 +15,7 @@ operations-init c = record {
   position = c.new-tape.ensures.position;
   within = omega arith;
   so_far = record { all = []; left = []; are = refl; among = none; stand = ap length c.new-out.ensures.items };
+  spelled = λ rest h. subst (λ xs. IsLeftText c.args.text.now c.args.left_out.now 0 (xs ++ rest)) (sym c.new-out.ensures.items) h;
 }
 
 pub returns-in_err-operator-clause-refused : goal.returns-in_err-operator-clause-refused
@@ -39,4 +43,12 @@ operations-preserved c =
       position = next;
       within = let past = onward.1 in let same = ap length so_far.inner in omega (arith, past, same, next);
       so_far = one_more_so text c.operations.out.items c.put_unless.new.out.items c.args.left_out.now c.operations.place c.position-next.result one got c.in_ok-put_unless.ensures.either so_far.so_far;
+      spelled = left_more text c.operations.out.items c.put_unless.new.out.items c.args.left_out.now c.operations.place c.position-next.result one got c.in_ok-put_unless.ensures.either so_far.spelled;
     }
+
+pub returns-clause-text : goal.returns-clause-text
+returns-clause-text c =
+    let so_far = c.operations.invariant in
+    let text = c.args.text.now in
+    subst (λ xs. IsLeftText text c.args.left_out.now 0 xs) (append-nil c.operations.out.items) (so_far.spelled [] (ends c.operations.place (λ o next got.
+    c.in_ok-operator.ensures.ends c.in_default.is o next (subst (λ bs. operation bs c.operations.tape.pos ≡ Got o next) (sym so_far.inner) (subst (λ p. operation text p ≡ Got o next) (sym so_far.position) got)))))

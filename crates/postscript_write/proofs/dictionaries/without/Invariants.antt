@@ -1,4 +1,5 @@
-use Rattle.std.proofs.Common.{◌≡◌, ◌≤◌, ◌-◌, length}
+use Rattle.std.proofs.Common.{◌≡◌, ◌≤◌, ◌-◌, ◌++◌, ℕ, List, length}
+use Rattle.postscript_write.specs.Dictionaries.{IsLeftText}
 use Rattle.postscript_write.proofs.Without.{IsSoFar}
 use Rattle.postscript_write.proofs.dictionaries.without.Given as goal
 
@@ -8,6 +9,7 @@ invariant-operations l = record {
   position : l.tape.pos ≡ l.place;
   within : l.place ≤ length l.text;
   so_far : IsSoFar l.text l.left_out l.place l.out.items;
+  spelled : (rest : List ℕ) → IsLeftText l.text l.left_out l.place rest → IsLeftText l.text l.left_out 0 (l.out.items ++ rest);
 }
 
 abbrev pub decreases-operations : goal.decreases-operations

@@ -4,7 +4,7 @@ use Rattle.postscript_base.specs.Compact1.Dictionary.{Dictionary}
 use Rattle.postscript_base.specs.Compact1.DictionaryLaw.{IsDictionary}
 use Rattle.postscript_base.specs.declared.compact1.operator.Operator.TheVariants as operators
 use Rattle.postscript_base.specs.declared.error.Error.TheVariants as errors
-use Rattle.postscript_write.specs.Dictionaries.{IsHeld, IsPlaced}
+use Rattle.postscript_write.specs.Dictionaries.{HasSize, IsHeld, IsPlaced}
 use Rattle.postscript_write.specs.Privates.{place_of_private}
 use Rattle.postscript_write.specs.declared.dictionaries.Place.{Place}
 use Rattle.postscript_write.proofs.layout.font_dictionary.Goals as goal
@@ -39,3 +39,14 @@ returns-in-None-clause-placed c =
 pub returns-in-None-clause-refused : goal.returns-in-None-clause-refused
 returns-in-None-clause-refused c =
     subst (λ places. IfErr c.with_places-in-None.result (λ e. e ≢ errors.Memory → Held c.args.text.now places)) (ap (λ p. place_of_private p c.args.offset) (sym c.in-None.is)) c.with_places-in-None.ensures.refused
+
+pub returns-in-Some-clause-sized : goal.returns-in-Some-clause-sized
+unfolding one
+returns-in-Some-clause-sized c =
+    let long : c.len.result ≡ length c.in-Some.private.text.items = search rules in
+    let same = ap (λ n. one n 0) long ∙ ap (λ p. place_of_private p 0) (sym c.in-Some.is) in
+    subst (λ places. IfOk c.with_places.result (λ out. HasSize c.args.text.now places (length out.items))) same c.with_places.ensures.sized
+
+pub returns-in-None-clause-sized : goal.returns-in-None-clause-sized
+returns-in-None-clause-sized c =
+    subst (λ places. IfOk c.with_places-in-None.result (λ out. HasSize c.args.text.now places (length out.items))) (ap (λ p. place_of_private p 0) (sym c.in-None.is)) c.with_places-in-None.ensures.sized

@@ -3,6 +3,7 @@ use Rattle.postscript_base.specs.Tape.Outcome.{Got}
 use Rattle.postscript_view.specs.Order.{view}
 use Rattle.postscript_view.specs.Value.{view_shown}
 use Rattle.postscript_write.specs.Fonts.{IsFontOf}
+use Rattle.postscript_write.specs.Readings.{HasLenientFont}
 use Rattle.postscript_write.specs.Whole.{IsWhole}
 use Rattle.postscript_write.proofs.whole.put_together.Goals as goal
 
@@ -17,3 +18,6 @@ returns-clause-font c =
 
 pub returns-clause-whole : goal.returns-clause-whole
 returns-clause-whole c = subst (λ (xs : List ℕ). IsWhole xs) c.deref.ensures.value c.in_ok-read_back.ensures.whole
+
+pub returns-clause-lenient : goal.returns-clause-lenient
+returns-clause-lenient c = λ was. subst (λ (xs : List ℕ). HasLenientFont xs) c.deref-2.ensures.value (c.in_ok-stays_read.ensures.lenient was)

@@ -1,0 +1,62 @@
+-- The tables that are written, and other indices, stand where they begin.
+use Rattle.std.proofs.Common.{◌≡◌, refl, sym, subst, inl, inr, ℕ, ◌+◌, ◌<◌, ◌^◌, List, [], ◌∷◌, ◌++◌, length, Option, Some, None, Vec, arith}
+use Rattle.std.specs.Prelude.{IsSome}
+use Rattle.std.specs.declared.alloc.Global.{Global}
+use Rattle.postscript_base.specs.Compact1.Dictionary.{Dictionary}
+use Rattle.postscript_base.specs.Compact1.DictionaryLaw.{IsDictionary}
+use Rattle.postscript_base.specs.Index.{IsIndex, IsOpened}
+use Rattle.postscript_view.specs.Layout.{AreTables, IsIndexAt}
+use Rattle.postscript_write.specs.Arrangement.{dictionaries_text, tables_text}
+use Rattle.postscript_write.specs.Fonts.{HasHeader}
+use Rattle.postscript_write.specs.Index.{Fits, index_text}
+use Rattle.postscript_write.specs.Texts.{Stands}
+use Rattle.postscript_write.proofs.IndexStands.{writes_indices}
+use Rattle.postscript_write.proofs.Rests.{none_fit}
+use Rattle.postscript_write.proofs.Standing.{stands_first, stands_second}
+
+is_opened : (bytes : List ℕ) (place : ℕ) (items : List (List ℕ)) (next : ℕ) → IsIndex bytes place items next → IsOpened bytes place items next
+is_opened bytes place items next (inl empty) = inl empty
+is_opened bytes place items next (inr filled) = inr (record { laid = filled.laid; slices = filled.slices })
+
+opened_there : (items : List (List ℕ)) (bytes : List ℕ) (place : ℕ) → Fits items → Stands (index_text items) bytes place → IsOpened bytes place items (place + length (index_text items))
+opened_there items bytes place fits stands = is_opened bytes place items (place + length (index_text items)) (writes_indices items bytes place fits stands)
+
+pub index_there : (items : List (List ℕ)) (bytes : List ℕ) (place : ℕ) → length bytes < 2 ^ 64 → Fits items → Stands (index_text items) bytes place → IsIndexAt bytes place items
+index_there items bytes place small fits stands =
+    let within = stands.within in
+    (place + length (index_text items), omega (arith, within, small), opened_there items bytes place fits stands)
+
+pub dictionaries_there : (select : Option (Vec ℕ Global)) (dictionaries : List (List ℕ)) (bytes : List ℕ) (place : ℕ) → length bytes < 2 ^ 64 → (IsSome select → Fits dictionaries) → Stands (dictionaries_text select dictionaries) bytes place → IsSome select →
+    IsIndexAt bytes place dictionaries
+dictionaries_there (Some s) dictionaries bytes place small fits stands some = index_there dictionaries bytes place small (fits some) stands
+dictionaries_there None dictionaries bytes place small fits stands some = absurd (cc)
+
+pub header_is : (out behind : List ℕ) (names strings : List (List ℕ)) (placed : List ℕ) → out ≡ tables_text names placed strings ++ behind → HasHeader out
+header_is out behind names strings placed is = subst HasHeader (sym is) refl
+
+pub tables_are : (out behind : List ℕ) (names strings : List (List ℕ)) (placed : List ℕ) (new : Dictionary) → out ≡ tables_text names placed strings ++ behind → Fits names → Fits (placed ∷ []) → Fits strings → IsDictionary placed 0 new →
+    AreTables out 4 0 (record { names = names; dictionary = new; strings = strings; subroutines = [] })
+tables_are out behind names strings placed new is names_fit placed_fits strings_fit dictionary =
+    let a : List ℕ = index_text names in
+    let b : List ℕ = index_text (placed ∷ []) in
+    let d : List ℕ = index_text strings in
+    let e : List ℕ = index_text [] in
+    let whole : Stands (tables_text names placed strings) out 0 = record { within = omega arith; behind = behind; there = is } in
+    let first = stands_second (1 ∷ 0 ∷ 4 ∷ 4 ∷ []) (a ++ (b ++ (d ++ e))) whole in
+    let second = stands_second a (b ++ (d ++ e)) first in
+    let third = stands_second b (d ++ e) second in
+    let fourth = stands_second d e third in
+    record {
+      dictionaries = placed ∷ [];
+      item = placed;
+      names_next = 4 + length a;
+      dictionaries_next = 4 + length a + length b;
+      strings_next = 4 + length a + length b + length d;
+      next = 4 + length a + length b + length d + length e;
+      are_names = opened_there names out 4 names_fit (stands_first a (b ++ (d ++ e)) first);
+      are_dictionaries = opened_there (placed ∷ []) out (4 + length a) placed_fits (stands_first b (d ++ e) second);
+      are_strings = opened_there strings out (4 + length a + length b) strings_fit (stands_first d e third);
+      are_subroutines = opened_there [] out (4 + length a + length b + length d) (none_fit [] refl) fourth;
+      there = refl;
+      is_dictionary = dictionary;
+    }
