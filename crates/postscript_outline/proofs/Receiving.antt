@@ -1,5 +1,5 @@
 -- How sinks receive segments, one after another.
-use Rattle.std.proofs.Common.{◌≡◌, ℕ, List, [], ◌∷◌, ◌++◌, ◌+◌, ◌<◌, add-one, append_assoc, append-nil, ap, fold, get_or, length, refl, subst, sym, take, ◌∙◌}
+use Rattle.std.proofs.Common.{◌≡◌, ℕ, List, [], ◌∷◌, ◌++◌, ◌+◌, ◌<◌, add-one, append_assoc, append-nil, ap, ap₂, fold, get_or, length, refl, subst, sym, take, ◌∙◌}
 use Rattle.std.proofs.Math.Seq.{take-suc}
 use Rattle.std.specs.List.{flat_map}
 use Rattle.postscript_outline.specs.Sinks.{Receives}
@@ -34,3 +34,16 @@ list-received (segment ∷ segments) old new is = list-received segments is.0 ne
 pub text-received : (of : Segment → List ℕ) (segments : List Segment) (old new : List ℕ) → Receives (λ text segment next. next ≡ text ++ of segment) old segments new → new ≡ old ++ flat_map of segments
 text-received of [] old new is = is ∙ sym (append-nil old)
 text-received of (segment ∷ segments) old new is = text-received of segments is.0 new is.2 ∙ (ap (λ v. v ++ flat_map of segments) is.1 ∙ append_assoc old (of segment) (flat_map of segments))
+
+-- a pair has received what each of the two has
+pub each-received : (S E : Type 0) (after : S → Segment → S → Type 0) (and : E → Segment → E → Type 0) (segments : List Segment) (old new : S × E) →
+    Receives (λ old segment new. after old.0 segment new.0 × and old.1 segment new.1) old segments new → Receives after old.0 segments new.0 × Receives and old.1 segments new.1
+each-received S E after and [] old new is = (ap (λ both. both.0) is, ap (λ both. both.1) is)
+each-received S E after and (segment ∷ segments) old new is =
+    let rest = each-received S E after and segments is.0 new is.2 in ((is.0.0, is.1.0, rest.0), (is.0.1, is.1.1, rest.1))
+
+pub pair-received : (S E : Type 0) (after : S → Segment → S → Type 0) (and : E → Segment → E → Type 0) (segments : List Segment) (old new : S × E) →
+    Receives after old.0 segments new.0 × Receives and old.1 segments new.1 → Receives (λ old segment new. after old.0 segment new.0 × and old.1 segment new.1) old segments new
+pair-received S E after and [] old new is = ap₂ (λ one other. (one, other)) is.0 is.1
+pair-received S E after and (segment ∷ segments) old new is =
+    ((is.0.0, is.1.0), (is.0.1, is.1.1), pair-received S E after and segments (is.0.0, is.1.0) new (is.0.2, is.1.2))

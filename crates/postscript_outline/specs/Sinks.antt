@@ -1,5 +1,5 @@
 -- Segments that a sink is given.
-use Rattle.std.specs.Prelude.{◌≡◌, List, [], ◌∷◌, ◌++◌}
+use Rattle.std.specs.Prelude.{◌≡◌, ◌↔◌, List, [], ◌∷◌, ◌++◌}
 use Rattle.postscript_outline.specs.declared.segment.Segment.{Segment}
 
 -- A sink has received segments, one after another, each as after says.
@@ -18,3 +18,10 @@ pub record Took {T : Type 0} (after : T → Segment → T → Type 0) (old : T) 
 abbrev pub ListsTakeInSegments : Type 0
 ListsTakeInSegments = (segments old new : List Segment) → Receives (λ xs segment next. next ≡ xs ++ segment ∷ []) old segments new →
     new ≡ old ++ segments
+
+-- A pair of sinks has received segments where each of the two has.
+abbrev pub PairsTakeInAsEach : {S E : Type 0} (after : S → Segment → S → Type 0) (and : E → Segment → E → Type 0) → Type 0
+PairsTakeInAsEach {S} {E} after and =
+    (segments : List Segment) (old new : S × E) →
+    Receives (λ old segment new. after old.0 segment new.0 × and old.1 segment new.1) old segments new
+    ↔ (Receives after old.0 segments new.0 × Receives and old.1 segments new.1)

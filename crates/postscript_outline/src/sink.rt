@@ -41,6 +41,13 @@ pub trait Sink {
         ensures refuses { OnErr result (refuses (state self.old)) };
 }
 
+/// A sink that is never full.
+pub trait Endless: Sink {
+    /// Takes one more segment.
+    fn take(&mut self, segment: Segment)
+        ensures { Self.after (Self.state self.old) segment (Self.state self.new) };
+}
+
 /// A list holds the segments that it has been given.
 impl Sink for Vec<Segment> {
     ghost use Rattle.std.specs.Prelude.{◌≡◌, ◌++◌, ◌∷◌, [], List};
@@ -77,30 +84,15 @@ impl Sink for Option<Bounds> {
 
     #[inline(always)]
     fn add(&mut self, segment: Segment) -> Given {
-        *self = Bounds::taking(*self, segment);
+        Endless::take(self, segment);
         Ok(())
     }
 }
 
-/// A sink, and the bounds of what it is given beside it.
-impl<S: Sink> Sink for (S, Option<Bounds>) {
-    ghost use Rattle.std.specs.Prelude.{◌≡◌, Option};
-    ghost use Rattle.postscript_outline.specs.Bounds.{taking};
-    ghost use Rattle.postscript_outline.specs.declared.bounds.Bounds.{Bounds};
-
-    ghost State = { S.State × Option Bounds };
-
-    ghost state = { λ both. (S.state both.0, both.1) };
-
-    ghost after = { λ old segment new. S.after old.0 segment new.0 × (new.1 ≡ taking old.1 segment) };
-
-    ghost refuses = { λ both. S.refuses both.0 };
-
+impl Endless for Option<Bounds> {
     #[inline(always)]
-    fn add(&mut self, segment: Segment) -> Given {
-        self.0.add(segment)?;
-        self.1 = Bounds::taking(self.1, segment);
-        Ok(())
+    fn take(&mut self, segment: Segment) {
+        *self = Bounds::taking(*self, segment);
     }
 }
 
@@ -119,7 +111,34 @@ impl Sink for TightBounds {
 
     #[inline(always)]
     fn add(&mut self, segment: Segment) -> Given {
+        self.take(segment);
+        Ok(())
+    }
+}
+
+impl Endless for TightBounds {
+    #[inline(always)]
+    fn take(&mut self, segment: Segment) {
         *self = self.taking(segment);
+    }
+}
+
+/// A sink, and beside it one that is never full, as bounds are. Each is given every segment.
+impl<S: Sink, E: Endless> Sink for (S, E) {
+    ghost use Rattle.postscript_outline.specs.declared.segment.Segment.{Segment};
+
+    ghost State = { S.State × E.State };
+
+    ghost state = { λ both. (S.state both.0, E.state both.1) };
+
+    ghost after = { λ old segment new. S.after old.0 segment new.0 × E.after old.1 segment new.1 };
+
+    ghost refuses = { λ both. S.refuses both.0 };
+
+    #[inline(always)]
+    fn add(&mut self, segment: Segment) -> Given {
+        self.0.add(segment)?;
+        self.1.take(segment);
         Ok(())
     }
 }

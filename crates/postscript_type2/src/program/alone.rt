@@ -1,11 +1,13 @@
 //! Numbers of one byte, eight bytes at a time.
 ghost use Rattle.std.specs.List.{prefix_len};
+ghost use Rattle.std.specs.Vec.{vec_len, vec_capacity};
 ghost use Rattle.std.specs.Prelude.{◌≡◌, ◌≤◌, ◌+◌, ◌∷◌, ◌++◌, ◌&&◌, nat_lt, true, length, take, drop, map, IfOk, IfErr, OnOk};
 ghost use Rattle.postscript_type2.specs.declared.refused.Refused.TheVariants as cases;
 ghost use Rattle.postscript_type2.specs.Private.Alone.{alone as the_alone, is_alone as the_is_alone, PutsAlone};
 
 use crate::operation::Operand;
 use crate::refused::Result;
+use core::mem::replace_with;
 use std::simd::prelude::*;
 
 /// How many bytes are looked at at once.
@@ -44,34 +46,34 @@ fn alone(byte: u8) -> Operand
     Operand::from_int(i16::from(byte) - 139)
 }
 
-/// What eight bytes are, each by itself.
+/// A stack with what eight bytes are, each by itself, for which it has room. It is handed over, so that where it stands is not read again
+/// behind each number.
 #[inline(always)]
-fn all_alone(bytes: [u8; AT_ONCE]) -> [Operand; AT_ONCE]
-    ensures { result ≡ map the_alone bytes }
+fn with_all(stack: Vec<Operand>, bytes: u8x8) -> (Vec<Operand>, ())
+    requires { vec_len stack + 8 ≤ vec_capacity stack }
+    ensures { result.0.items ≡ stack.items ++ map the_alone bytes }
 {
-    let [a, b, c, d, e, f, g, h] = bytes;
-    [
-        alone(a),
-        alone(b),
-        alone(c),
-        alone(d),
-        alone(e),
-        alone(f),
-        alone(g),
-        alone(h),
-    ]
+    let mut stack = stack;
+    let [a, b, c, d, e, f, g, h] = *bytes.as_array();
+    stack.push_reserved(alone(a));
+    stack.push_reserved(alone(b));
+    stack.push_reserved(alone(c));
+    stack.push_reserved(alone(d));
+    stack.push_reserved(alone(e));
+    stack.push_reserved(alone(f));
+    stack.push_reserved(alone(g));
+    stack.push_reserved(alone(h));
+    (stack, ())
 }
 
-/// Puts eight more operands onto the stack.
+/// Puts what eight bytes are, each by itself, onto the stack.
 #[inline(always)]
-fn put_all(operands: [Operand; AT_ONCE], stack: &mut Vec<Operand>) -> Result<()>
-    ensures stack { OnOk result (stack.new.items ≡ stack.old.items ++ operands) }
+fn put_all(bytes: u8x8, stack: &mut Vec<Operand>) -> Result<()>
+    ensures stack { OnOk result (stack.new.items ≡ stack.old.items ++ map the_alone bytes) }
     ensures refused { IfErr result (λ e. e ≡ cases.Memory) }
 {
-    stack.resize(stack.len() + AT_ONCE, Operand::from_int(0))?;
-    if let Some(room) = stack.as_mut_slice().last_chunk_mut() {
-        *room = operands;
-    }
+    stack.reserve(AT_ONCE)?;
+    replace_with(stack, bytes, with_all);
     Ok(())
 }
 
@@ -83,7 +85,7 @@ fn put_front(bytes: u8x8, stack: &mut Vec<Operand>) -> Result<usize>
     ensures room { IfOk result (λ count. count ≤ 8) }
     ensures refused { IfErr result (λ e. e ≡ cases.Memory) }
 {
-    put_all(all_alone(bytes.to_array()), stack)?;
+    put_all(bytes, stack)?;
     let count = alone_front(bytes);
     let behind = AT_ONCE - count;
     stack.truncate(stack.len() - behind);

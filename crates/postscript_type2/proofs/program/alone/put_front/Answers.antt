@@ -1,4 +1,4 @@
-use Rattle.std.proofs.Common.{ap, length, length-append, arith}
+use Rattle.std.proofs.Common.{ap, map, length, length-append, arith}
 use Rattle.std.proofs.lemmas.List.{length-map}
 use Rattle.postscript_type2.specs.Private.Alone.{alone}
 use Rattle.postscript_type2.proofs.Alone.{kept}
@@ -8,5 +8,5 @@ pub returns-clause-stack : goal.returns-clause-stack
 returns-clause-stack c =
     let stack = c.args.stack.now.items in
     let whole = ap length c.in_ok-put_all.ensures.stack in
-    rw (c.truncate.ensures.items, c.in_ok-put_all.ensures.stack, c.all_alone.ensures)
-    (kept stack c.args.bytes c.alone_front-count.result _ (omega (arith, c.len.ensures, whole, length-append stack c.all_alone.result, ap length c.all_alone.ensures, length-map c.args.bytes alone, c.alone_front-count.ensures.room)))
+    rw (c.truncate.ensures.items, c.in_ok-put_all.ensures.stack)
+    (kept stack c.args.bytes c.alone_front-count.result _ (omega (arith, c.len.ensures, whole, length-append stack (map alone c.args.bytes), length-map c.args.bytes alone, c.alone_front-count.ensures.room)))
