@@ -564,9 +564,10 @@ fn a_box_with_no_list(rt: HostRuntime) {
 fn a_list_and_its_box(rt: HostRuntime) {
     let alloc = rt.alloc();
     let code = bytes_of(&rt, alloc, "90 8c8d15 8e06 8f16 9007 0e");
-    let mut both: (Vec<Segment>, Option<Bounds>) = (Vec::new(alloc), None);
-    let width = drawn(alloc, code.as_slice(), &mut both).expect(&rt, "a glyph");
-    let (segments, bounds) = both;
+    let list: (Vec<Segment>, Option<Bounds>) = (Vec::new(alloc), None);
+    let mut all = (list, TightBounds::new());
+    let width = drawn(alloc, code.as_slice(), &mut all).expect(&rt, "a glyph");
+    let ((segments, bounds), tight) = all;
     let outline = Outline {
         segments,
         width_difference: width,
@@ -574,6 +575,7 @@ fn a_list_and_its_box(rt: HostRuntime) {
     let path = outline.to_string(alloc).expect(&rt, "memory");
     is_text(&rt, path.as_str(), "M1 2L4 2ZM8 2L8 7Z", "the list");
     holds(&rt, bounds == outline.bounds(), "its box");
+    holds(&rt, tight.bounds == bounds, "of lines the same");
 }
 
 #[test]
