@@ -17,7 +17,8 @@ use Rattle.postscript_compact1.proofs.Outcomes.{got}
 use Rattle.postscript_base.specs.Index.{opened}
 use Rattle.postscript_view.proofs.LayoutLaws.{whole_offset}
 use Rattle.postscript_view.specs.Select.{offset_from, offset_of}
-use Rattle.postscript_view.specs.Order.{View, Tables, aside, char_strings, map_from, header_size, parts, tables, view, view_of}
+use Rattle.postscript_view.specs.Order.{aside, char_strings, map_from, header_size, parts, tables, view, view_of}
+use Rattle.postscript_view.specs.Contents.{View, Tables}
 use Rattle.postscript_base.specs.declared.compact1.operator.Operator.{Operator}
 use Rattle.postscript_base.specs.declared.compact1.operator.Operator.TheVariants as operators
 use Rattle.postscript_compact1.specs.FontSet.Operands.{place_at, type_two}

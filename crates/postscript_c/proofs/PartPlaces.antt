@@ -10,7 +10,7 @@ use Rattle.postscript_base.specs.declared.compact1.operator.Operator.TheVariants
 use Rattle.postscript_c.proofs.Cutting.{every-width, zero-width}
 use Rattle.postscript_c.specs.Glyphs.{index_at}
 use Rattle.postscript_c.specs.Places as told
-use Rattle.postscript_c.specs.SameParts.{NamesSubroutines}
+use Rattle.postscript_c.specs.AtStart.{NamesSubroutines}
 use Rattle.postscript_c.specs.Widths.{AreWidths, IsWidth}
 use Rattle.postscript_compact1.proofs.OperandLaws.{bounds_has, bounds_is, placed_is}
 use Rattle.postscript_compact1.proofs.Outcomes.{got}

@@ -30,8 +30,8 @@ use Rattle.postscript_view.specs.CharSets.{IsCharSetOf}
 use Rattle.postscript_view.specs.Cids.{IsCidKeyed}
 use Rattle.postscript_view.specs.Glyphs.{HasGlyph, HasPartNumber, IsPartNumber}
 use Rattle.postscript_view.specs.Naming.{IsFirstNamed}
-use Rattle.postscript_view.specs.Order as order
-use Rattle.postscript_view.specs.Order.{View}
+use Rattle.postscript_view.specs.Contents as contents
+use Rattle.postscript_view.specs.Contents.{View}
 use Rattle.postscript_view.specs.Select.{IsSelected}
 use Rattle.postscript_view.specs.Value.{part_shown, parts_shown}
 use Rattle.postscript_view.specs.declared.font.FontView.{FontView}
@@ -57,7 +57,7 @@ alike bytes u v f g =
     }
 
 count_alike : (u v : FontView) → Alike u v → length u.parts.items ≡ length v.parts.items
-count_alike u v a = sym (length_shown u.parts.items) ∙ ap (λ (ps : List order.PrivateDict). length ps) a.parts ∙ length_shown v.parts.items
+count_alike u v a = sym (length_shown u.parts.items) ∙ ap (λ (ps : List contents.PrivateDict). length ps) a.parts ∙ length_shown v.parts.items
 
 glyphs_alike : (u v : FontView) → Alike u v → glyphs_of u ≡ glyphs_of v
 glyphs_alike u v a = ap (λ (codes : List (List ℕ)). length codes) a.codes
@@ -82,10 +82,10 @@ number_alike u v glyph fd a h =
 part_alike : (u v : FontView) (fd : ℕ) (p : PrivateDict) → Alike u v → fd < length v.parts.items → slice_get u.parts.items fd ≡ Some p → (q : PrivateDict) × (slice_get v.parts.items fd ≡ Some q) × (items_of p.subroutines ≡ items_of q.subroutines)
 part_alike u v fd p a within e =
     let q = there_is v.parts.items fd within in
-    let first = subst (λ (ps : List order.PrivateDict). slice_get ps fd ≡ Some (part_shown p)) a.parts (shown_at u.parts.items fd p e) in
+    let first = subst (λ (ps : List contents.PrivateDict). slice_get ps fd ≡ Some (part_shown p)) a.parts (shown_at u.parts.items fd p e) in
     let both : Some (part_shown p) ≡ Some (part_shown q.0) = sym first ∙ shown_at v.parts.items fd q.0 q.1 in
     let same : part_shown p ≡ part_shown q.0 = cc in
-    (q.0, q.1, ap (λ (p : order.PrivateDict). p.subroutines) same)
+    (q.0, q.1, ap (λ (p : contents.PrivateDict). p.subroutines) same)
 
 run_alike : (u v : FontView) (glyph : ℕ) (part : PrivateDict) (run : Run) → Alike u v → HasRun u glyph part run → (part : PrivateDict) × HasRun v glyph part run
 run_alike u v glyph part run a h =

@@ -27,7 +27,8 @@ use Rattle.postscript_c.specs.Law.{NamesSelection}
 use Rattle.postscript_c.specs.Parts.{IsPartIn, TellsNoPart, no_glyph, no_dictionary, refused}
 use Rattle.postscript_c.specs.Places as told
 use Rattle.postscript_c.specs.Places.{Places, codes, placed, places, places_of}
-use Rattle.postscript_c.specs.SameParts.{HasNoPart, HasNumberIn, HasSameSubroutines, HasSameWidths, IsNoneIn, IsToldNone, IsToldOf, KeepsParts, NamesNoStart, NamesSubroutines, NamesSubroutinesOf, SamePart, TellsPart, TellsParts, naming, program_in}
+use Rattle.postscript_c.specs.SameParts.{HasNoPart, HasNumberIn, HasSameSubroutines, HasSameWidths, IsNoneIn, IsToldNone, IsToldOf, KeepsParts, SamePart, TellsPart, TellsParts, program_in}
+use Rattle.postscript_c.specs.AtStart.{NamesNoStart, NamesSubroutines, NamesSubroutinesOf, naming}
 use Rattle.postscript_c.specs.Widths.{AreWidths, IsWidth}
 use Rattle.postscript_c.specs.declared.font.PsfFont.{PsfFont}
 use Rattle.postscript_c.specs.declared.part.PsfPart.{PsfPart}
@@ -47,8 +48,9 @@ use Rattle.postscript_view.proofs.Selecting.{one_named}
 use Rattle.postscript_view.proofs.Wider.{map_is}
 use Rattle.postscript_view.specs.Glyphs.{HasPartNumber, IsPartNumber}
 use Rattle.postscript_view.specs.Layout.{AreParts, ArePartsOf, HasLocals, IsLaidOut, IsPart, NamesIndex, OfFont, OfFontDictionaries}
-use Rattle.postscript_view.specs.Order as order
-use Rattle.postscript_view.specs.Order.{View, aside, header_size, map_from, view}
+use Rattle.postscript_view.specs.Contents as contents
+use Rattle.postscript_view.specs.Order.{aside, header_size, map_from, view}
+use Rattle.postscript_view.specs.Contents.{View}
 use Rattle.postscript_view.specs.Select.{IsSelected, Selects, offset_from, offset_of}
 use Rattle.postscript_view.specs.Value.{part_shown, parts_shown, view_shown}
 use Rattle.postscript_view.specs.declared.font.FontView.{FontView}
@@ -243,7 +245,7 @@ same_items bytes font v k items fd e within =
 
 -- ---- a font that is CID-keyed, and one that is not
 data Cases (bytes : List ℕ) (font : PsfFont) (v : FontView) : Type 0 where
-  OfPlain : (p : order.PrivateDict) → font.is_cid ≡ 0 → look v.dictionary operators.ROS ≡ None → IsPart bytes v.dictionary None p → parts_shown v.parts.items ≡ p ∷ [] → Cases bytes font v
+  OfPlain : (p : contents.PrivateDict) → font.is_cid ≡ 0 → look v.dictionary operators.ROS ≡ None → IsPart bytes v.dictionary None p → parts_shown v.parts.items ≡ p ∷ [] → Cases bytes font v
   OfKeyed : Keyed bytes font v → Cases bytes font v
 
 some_none : (o : Option (List Decimal)) → IsSome o → o ≡ None → ⊥
@@ -265,16 +267,16 @@ cases bytes font v c (OfFontDictionaries items keyed named are) =
     OfKeyed (record { items = items; is = is; named = named; place = array_place v.dictionary font named.0 c.keyed is named.1; parts = are })
 
 -- ---- lists of parts
-same_length : (bytes : List ℕ) (items : List (List ℕ)) (ps : List order.PrivateDict) → ArePartsOf bytes items ps → length items ≡ length ps
+same_length : (bytes : List ℕ) (items : List (List ℕ)) (ps : List contents.PrivateDict) → ArePartsOf bytes items ps → length items ≡ length ps
 same_length bytes [] [] h = refl
 same_length bytes (item ∷ items) (p ∷ ps) h = ap (λ (n : ℕ). suc n) (same_length bytes items ps h.3)
 same_length bytes [] (p ∷ ps) h = absurd h
 same_length bytes (item ∷ items) [] h = absurd h
 
-item_of : (bytes : List ℕ) (items : List (List ℕ)) (ps : List order.PrivateDict) (fd : ℕ) (p : order.PrivateDict) → ArePartsOf bytes items ps → slice_get ps fd ≡ Some p
+item_of : (bytes : List ℕ) (items : List (List ℕ)) (ps : List contents.PrivateDict) (fd : ℕ) (p : contents.PrivateDict) → ArePartsOf bytes items ps → slice_get ps fd ≡ Some p
     → (item : List ℕ) × (map : Dictionary) × (slice_get items fd ≡ Some item) × IsDictionary item 0 map × IsPart bytes map (Some map) p
 item_of bytes [] [] fd p h e = absurd (cc)
-item_of bytes (item ∷ items) (q ∷ ps) zero p h e = (item, h.0, refl, h.1, subst (λ (p : order.PrivateDict). IsPart bytes h.0 (Some h.0) p) (cc) h.2)
+item_of bytes (item ∷ items) (q ∷ ps) zero p h e = (item, h.0, refl, h.1, subst (λ (p : contents.PrivateDict). IsPart bytes h.0 (Some h.0) p) (cc) h.2)
 item_of bytes (item ∷ items) (q ∷ ps) (suc fd) p h e = item_of bytes items ps fd p h.3 e
 item_of bytes [] (q ∷ ps) fd p h e = absurd h
 item_of bytes (item ∷ items) [] fd p h e = absurd h
@@ -409,19 +411,19 @@ plain_number bytes font v glyph fd c is single = (there, back)
         let glyphs = c.glyphs in
         record { there = omega arith; number = inl (is, zero_of h) }
 
-plain_same : (bytes : List ℕ) (font : PsfFont) (v : FontView) (glyph : ℕ) (q : order.PrivateDict) → Common bytes font v → font.is_cid ≡ 0 → look v.dictionary operators.ROS ≡ None
+plain_same : (bytes : List ℕ) (font : PsfFont) (v : FontView) (glyph : ℕ) (q : contents.PrivateDict) → Common bytes font v → font.is_cid ≡ 0 → look v.dictionary operators.ROS ≡ None
     → IsPart bytes v.dictionary None q → parts_shown v.parts.items ≡ q ∷ [] → (fd : ℕ) (p : PrivateDict) (found : PsfPart) → fd ≡ 0 → slice_get v.parts.items fd ≡ Some p
     → IsPartIn bytes font glyph found → Same bytes (NamesSubroutinesOf v p 0) p found
 plain_same bytes font v glyph q c is plain part alone fd p found first-one e in_c =
     let at_zero = subst (λ (n : ℕ). slice_get (parts_shown v.parts.items) n ≡ Some (part_shown p)) first-one (shown_at v.parts.items fd p e) in
-    let first : Some q ≡ Some (part_shown p) = subst (λ (ps : List order.PrivateDict). slice_get ps 0 ≡ Some (part_shown p)) alone at_zero in
+    let first : Some q ≡ Some (part_shown p) = subst (λ (ps : List contents.PrivateDict). slice_get ps 0 ≡ Some (part_shown p)) alone at_zero in
     let same : q ≡ part_shown p = cc in
-    let are = subst (λ (q : order.PrivateDict). IsPart bytes v.dictionary None q) same part in
+    let are = subst (λ (q : contents.PrivateDict). IsPart bytes v.dictionary None q) same part in
     let named : naming v.dictionary p.font_dictionary ≡ v.dictionary = ap (naming v.dictionary) are.1 in
     let of = same_of bytes v.dictionary p font.part c.at c.next (NamesSubroutinesOf v p 0) are.0 (not_start bytes v v.dictionary p c.there named) (plain_local bytes v.dictionary c.at font.part.local_subroutines c.next plain c.local) (c.widths plain) in
     subst (λ (found : PsfPart). Same bytes (NamesSubroutinesOf v p 0) p found) (sym (in_c.0 is)) of
 
-plain_tells : (bytes : List ℕ) (font : PsfFont) (v : FontView) (glyph : ℕ) (q : order.PrivateDict) → Common bytes font v → font.is_cid ≡ 0 → look v.dictionary operators.ROS ≡ None
+plain_tells : (bytes : List ℕ) (font : PsfFont) (v : FontView) (glyph : ℕ) (q : contents.PrivateDict) → Common bytes font v → font.is_cid ≡ 0 → look v.dictionary operators.ROS ≡ None
     → IsPart bytes v.dictionary None q → parts_shown v.parts.items ≡ q ∷ [] → length v.parts.items ≡ 1 → TellsPart bytes font v glyph
 plain_tells bytes font v glyph q c is plain part alone single =
     let number = λ (fd : ℕ). plain_number bytes font v glyph fd c is single in
@@ -643,8 +645,8 @@ keyed_all bytes font v glyph c start k tells = record {
 }
 
 -- ---- the laws
-alone_is : (ps : List PrivateDict) (q : order.PrivateDict) → parts_shown ps ≡ q ∷ [] → length ps ≡ 1
-alone_is ps q alone = sym (length_shown ps) ∙ ap (λ (ps : List order.PrivateDict). length ps) alone
+alone_is : (ps : List PrivateDict) (q : contents.PrivateDict) → parts_shown ps ≡ q ∷ [] → length ps ≡ 1
+alone_is ps q alone = sym (length_shown ps) ∙ ap (λ (ps : List contents.PrivateDict). length ps) alone
 
 tells_by : (bytes : List ℕ) (font : PsfFont) (v : FontView) (glyph : ℕ) → Common bytes font v → Cases bytes font v → TellsPart bytes font v glyph
 tells_by bytes font v glyph c (OfPlain q is plain part alone) = plain_tells bytes font v glyph q c is plain part alone (alone_is v.parts.items q alone)

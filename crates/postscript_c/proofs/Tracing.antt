@@ -1,7 +1,8 @@
 -- What C is told of the tight bounds of a glyph.
 use Rattle.std.proofs.Common.{inr, ℕ, ℤ, pos, List, Option, Some, None, Result, Ok, Err, refl, subst, sym}
 use Rattle.std.specs.Prelude.{IfErr, IfOk, MatchOption}
-use Rattle.postscript_c.specs.Answers.{IsOf, IsTracedOver, TellsBounds, TellsTraced}
+use Rattle.postscript_c.specs.Answers.{IsOf}
+use Rattle.postscript_c.specs.BoundsTold.{IsTracedOver, TellsBounds, TellsTraced}
 use Rattle.postscript_c.specs.Drawn.{HasNone, IsUndrawnOver}
 use Rattle.postscript_c.specs.Glyphs.{Glyph}
 use Rattle.postscript_c.specs.declared.font.PsfFont.{PsfFont}

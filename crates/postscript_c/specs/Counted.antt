@@ -1,7 +1,8 @@
 -- What C is told of how many glyphs a variable font has: as many as its table CFF2 has charstrings (OpenType 1.9, "CFF2",
 -- "CharStringINDEX").
 use Rattle.std.specs.Prelude.{◌≡◌, ◌⊎◌, ℕ, ℤ, pos, length}
-use Rattle.postscript_c.specs.Varied.{HasFont, HasNoFont, unvaried_code}
+use Rattle.postscript_c.specs.Varied.{HasFont, HasNoFont}
+use Rattle.postscript_c.specs.VariedTold.{unvaried_code}
 use Rattle.postscript_c.specs.declared.varied.Unvaried.{Unvaried}
 use Rattle.postscript_cff2.specs.Shown.{view_shown}
 use Rattle.postscript_cff2.specs.declared.font.Font.{Font}

@@ -11,7 +11,8 @@ use Rattle.postscript_c.specs.Faces.{TellsOfFace}
 use Rattle.postscript_c.specs.Law.{IsFontOf}
 use Rattle.postscript_c.specs.Parts.{TellsByPart}
 use Rattle.postscript_c.specs.Placed.{AreCoordinatesAt, IsUnplaced, unplaced_code}
-use Rattle.postscript_c.specs.Varied.{HandsOutline, OutlineRoom, TellsVariedOf, cff2}
+use Rattle.postscript_c.specs.Varied.{cff2}
+use Rattle.postscript_c.specs.VariedTold.{HandsOutline, OutlineRoom, TellsVariedOf}
 use Rattle.postscript_c.specs.declared.font.PsfFont.{PsfFont}
 use Rattle.postscript_c.specs.declared.place.Unplaced.{Unplaced}
 use Rattle.postscript_drawing.specs.declared.error.Error.{Error}

@@ -3,7 +3,7 @@ use Rattle.std.specs.Prelude.{◌≡◌, ◌⊎◌, ℕ, ◌+◌, ℤ, pos, negs
 use Rattle.postscript_c.specs.Naming.{IsSetOf, LacksSet, OfFirst}
 use Rattle.postscript_c.specs.Texts.{HandsOver, Lent}
 use Rattle.postscript_view.specs.Naming.{Names}
-use Rattle.postscript_view.specs.Order.{View}
+use Rattle.postscript_view.specs.Contents.{View}
 use Rattle.postscript_view.specs.Strings.{string_of}
 use Rattle.postscript_view.specs.declared.char_set.CharSetView.{CharSetView}
 

@@ -7,7 +7,8 @@ use Rattle.postscript_c.specs.FontWidths.{TellsWidths}
 use Rattle.postscript_c.specs.declared.font.PsfFont.{PsfFont}
 use Rattle.postscript_c.specs.Places.{Places, placed, places}
 use Rattle.postscript_base.specs.Index.{opened}
-use Rattle.postscript_view.specs.Order.{View, view}
+use Rattle.postscript_view.specs.Order.{view}
+use Rattle.postscript_view.specs.Contents.{View}
 use Rattle.postscript_view.specs.Select.{offset_of}
 
 pub record AreOf (bytes : List ℕ) (v : View) (p : Places) : Type 0 where

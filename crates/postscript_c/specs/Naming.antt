@@ -6,7 +6,8 @@ use Rattle.postscript_base.specs.declared.error.Error.{Error}
 use Rattle.postscript_base.specs.declared.error.Error.TheVariants.{Memory}
 use Rattle.postscript_c.specs.Texts.{HandsOver, Lent}
 use Rattle.postscript_view.specs.CharSets.{IsCharSetOf}
-use Rattle.postscript_view.specs.Order.{View, view}
+use Rattle.postscript_view.specs.Order.{view}
+use Rattle.postscript_view.specs.Contents.{View}
 use Rattle.postscript_view.specs.Strings.{HasName, IsFirstWithName}
 use Rattle.postscript_view.specs.declared.char_set.CharSetView.{CharSetView}
 

@@ -2,7 +2,8 @@
 use Rattle.std.specs.Prelude.{ℕ, ℤ, List, Option}
 use Rattle.postscript_c.specs.Drawn.{IsDrawnOver, IsFirst}
 use Rattle.postscript_c.specs.Parts.{IsPartIn}
-use Rattle.postscript_c.specs.SameParts.{IsToldOf, NamesNoStart}
+use Rattle.postscript_c.specs.SameParts.{IsToldOf}
+use Rattle.postscript_c.specs.AtStart.{NamesNoStart}
 use Rattle.postscript_c.specs.declared.font.PsfFont.{PsfFont}
 use Rattle.postscript_c.specs.declared.part.PsfPart.{PsfPart}
 use Rattle.postscript_drawing.specs.Drawn.{IsDrawnAs}

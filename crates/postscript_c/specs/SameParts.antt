@@ -1,7 +1,6 @@
 -- The part of a glyph is the same for C and for the font that is opened in place.
-use Rattle.std.specs.Prelude.{◌≡◌, ◌≢◌, ◌⊎◌, ◌↔◌, ℕ, ◌<◌, ◌≤◌, ℤ, pos, ◌+ℤ◌, List, length, slice_get, Option, Some, None, Ok}
+use Rattle.std.specs.Prelude.{◌≡◌, ◌≢◌, ◌⊎◌, ◌↔◌, ℕ, ◌<◌, ◌≤◌, ℤ, pos, List, length, slice_get, Some, Ok}
 use Rattle.postscript_base.specs.Compact1.Defaults.{look, first_of}
-use Rattle.postscript_base.specs.Compact1.Dictionary.{Dictionary}
 use Rattle.postscript_base.specs.Tape.Outcome.{Got}
 use Rattle.postscript_base.specs.declared.compact1.operator.Operator.TheVariants as operators
 use Rattle.postscript_c.specs.CidParts.{HasNumber, LacksDictionary}
@@ -12,7 +11,6 @@ use Rattle.postscript_c.specs.Parts.{IsPartIn, IsPartless}
 use Rattle.postscript_c.specs.Widths.{IsWidth}
 use Rattle.postscript_c.specs.declared.font.PsfFont.{PsfFont}
 use Rattle.postscript_c.specs.declared.part.PsfPart.{PsfPart}
-use Rattle.postscript_compact1.specs.FontSet.Layout.{HasFirst, HasPrivate}
 use Rattle.postscript_base.specs.Index.Lent.{items_of}
 use Rattle.postscript_type2.specs.Program.Evaluation.{run_of}
 use Rattle.postscript_type2.specs.Program.Programs.{Pending, begun}
@@ -20,6 +18,7 @@ use Rattle.postscript_type2.specs.Program.Routines.{lent}
 use Rattle.postscript_view.specs.Glyphs.{HasGlyph, HasPartNumber}
 use Rattle.postscript_view.specs.declared.font.FontView.{FontView}
 use Rattle.postscript_view.specs.declared.private_dict.PrivateDict.{PrivateDict}
+use Rattle.postscript_c.specs.AtStart.{NamesSubroutinesOf, NamesNoStart}
 
 -- The number of a glyph's part for C: 0 in a font that is not CID-keyed, else the number of its font dictionary, which stands in FDArray.
 abbrev pub IsNumberIn : List ℕ → PsfFont → (glyph fd : ℕ) → Type 0
@@ -49,27 +48,6 @@ pub record HasSameWidths (part : PrivateDict) (told : PsfPart) : Type 0 where
 abbrev pub AreBoth : (bytes : List ℕ) (font : PsfFont) (view : FontView) (glyph : ℕ) → PrivateDict → PsfPart → Type 0
 AreBoth bytes font view glyph part told =
     (fd : ℕ) × HasPartNumber view glyph fd × (slice_get view.parts.items fd ≡ Some part) × IsPartIn bytes font glyph told
-
--- the dictionary that names the private dictionary of a part: its font dictionary, or else that of the font
-abbrev pub naming : Dictionary → Option Dictionary → Dictionary
-naming map None = map
-naming map (Some font_dictionary) = font_dictionary
-
--- the local subroutines of the private dictionary that a dictionary names are to stand at a place
-abbrev pub NamesSubroutines : List ℕ → (map local : Dictionary) → (place : ℕ) → Type 0
-NamesSubroutines bytes map local place =
-    (offset : ℕ) × (z : ℤ) × HasPrivate bytes 0 map offset local × HasFirst local operators.Subrs z × (pos offset +ℤ z ≡ pos place)
-
--- those of a part of a font in place
-abbrev pub NamesSubroutinesOf : FontView → PrivateDict → (place : ℕ) → Type 0
-NamesSubroutinesOf view part place = NamesSubroutines view.bytes.now (naming view.dictionary part.font_dictionary) part.dictionary place
-
--- The dictionaries of a font name nothing that is to stand at the place 0, where its header does. For C a place of 0 is nothing.
-pub record NamesNoStart (view : FontView) : Type 0 where
-  pub char_strings : HasFirst view.dictionary operators.CharStrings (pos 0) → ⊥
-  pub array : HasFirst view.dictionary operators.FDArray (pos 0) → ⊥
-  pub selection : HasFirst view.dictionary operators.FDSelect (pos 0) → ⊥
-  pub subroutines : (fd : ℕ) (part : PrivateDict) → slice_get view.parts.items fd ≡ Some part → NamesSubroutinesOf view part 0 → ⊥
 
 -- the font in place has no part for a glyph
 abbrev pub IsNoneIn : FontView → (glyph : ℕ) → Type 0

@@ -6,7 +6,8 @@ use Rattle.postscript_base.specs.Tape.Outcome.{Got}
 use Rattle.postscript_c.specs.Fitting.{FirstFits, TellsFits}
 use Rattle.postscript_c.specs.Texts.{HandsOver, Lent}
 use Rattle.postscript_c.specs.declared.written.PsfRefusal.{PsfRefusal}
-use Rattle.postscript_view.specs.Order.{View, view}
+use Rattle.postscript_view.specs.Order.{view}
+use Rattle.postscript_view.specs.Contents.{View}
 use Rattle.postscript_write.specs.Components.{IsSubset as IsSubsetFont}
 use Rattle.postscript_write.specs.Drawings.{DrawsKept, KeepsDrawings}
 use Rattle.postscript_write.specs.Glyphs.{Sources}

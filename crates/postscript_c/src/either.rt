@@ -3,7 +3,7 @@ ghost use Rattle.std.specs.Prelude.{◌≡◌, MatchOption};
 ghost use Rattle.postscript_c.specs.Either.{HasNoPlain, HasPlain, TellsCount, TellsCountEitherOf, TellsCountPlain, TellsDrawn, TellsEither, TellsEitherOf, TellsGlyphOf, TellsGlyphsOf, TellsPlain, TellsPlainAt, within as the_font_within};
 ghost use Rattle.postscript_c.specs.Law.{IsFontOf};
 ghost use Rattle.postscript_c.specs.Shown.{found_shown};
-ghost use Rattle.postscript_c.specs.Varied.{outline_room};
+ghost use Rattle.postscript_c.specs.VariedTold.{outline_room};
 
 use crate::counted::tell_count_of;
 use crate::files::file_status;

@@ -1,6 +1,6 @@
 //! The bounds of the lines and curves of a glyph.
 ghost use Rattle.std.specs.Prelude.{◌≡◌, IfErr, IfOk, MatchOption};
-ghost use Rattle.postscript_c.specs.Answers.{AreZeros, IsTracedOver, TellsTraced, sides_of};
+ghost use Rattle.postscript_c.specs.BoundsTold.{AreZeros, IsTracedOver, TellsTraced, sides_of};
 ghost use Rattle.postscript_c.specs.Drawn.{HasNone, IsUndrawnOver};
 
 use crate::drawn::draw_over;

@@ -1,7 +1,8 @@
 //! Glyphs of variable fonts, drawn at a place of the design space.
 ghost use Rattle.std.specs.Prelude.{◌≡◌, [], pos, Some, IfErr, IfOk};
 ghost use Rattle.postscript_c.specs.VariedShown.{segments_of, segments_shown};
-ghost use Rattle.postscript_c.specs.Varied.{HandsOutline, HasFont, HasNoFont, HasNoPlaceIn, IsDrawnWithin, IsPlaceAt, IsPlaceIn, IsVaried, NamesNoPlace, TellsAnswer, TellsVariedOf, outline_room, table_code, unvaried_code};
+ghost use Rattle.postscript_c.specs.Varied.{HasFont, HasNoFont, HasNoPlaceIn, IsDrawnWithin, IsPlaceAt, IsPlaceIn, IsVaried, NamesNoPlace};
+ghost use Rattle.postscript_c.specs.VariedTold.{HandsOutline, TellsAnswer, TellsVariedOf, outline_room, table_code, unvaried_code};
 
 use crate::costs::is_within;
 use crate::fill::{PsfSegment, fill};

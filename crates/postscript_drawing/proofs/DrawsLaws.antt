@@ -15,7 +15,8 @@ use Rattle.postscript_drawing.specs.declared.stroke.Vector.{Vector}
 use Rattle.postscript_drawing.specs.declared.undrawn.Undrawn.{Undrawn}
 use Rattle.postscript_drawing.specs.declared.undrawn.Undrawn.TheVariants.{Overflow, Full}
 use Rattle.postscript_drawing.specs.Bends.{IsDrawnBy, IsRefused}
-use Rattle.postscript_drawing.specs.Drawing.{Drawing, ◌>>=◌, DrawsInto, DrawsStrokes, IsFront, begun, closed, closing, drawing, drawn, held, opening, reached}
+use Rattle.postscript_drawing.specs.Drawing.{Drawing, ◌>>=◌, begun, closed, closing, drawing, drawn, held, opening, reached}
+use Rattle.postscript_drawing.specs.Outcome.{DrawsInto, DrawsStrokes, IsFront}
 use Rattle.postscript_drawing.proofs.GivenLaws.{drawing-append, drawing-behind, drawing-grows, front-of, front-through, front-under, mapped, prefixed}
 
 -- a refusal that is passed on

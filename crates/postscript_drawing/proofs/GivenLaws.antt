@@ -8,7 +8,8 @@ use Rattle.postscript_outline.specs.declared.segment.Segment.TheVariants.{MoveTo
 use Rattle.postscript_outline.specs.declared.point.Point.{Point}
 use Rattle.postscript_drawing.specs.declared.stroke.Stroke.{Stroke}
 use Rattle.postscript_drawing.specs.declared.stroke.Stroke.TheVariants.{Move, Line, Curve}
-use Rattle.postscript_drawing.specs.Drawing.{Drawing, ◌>>=◌, IsFront, begun, closed, drawing, drawn, extended, reached}
+use Rattle.postscript_drawing.specs.Drawing.{Drawing, ◌>>=◌, begun, closed, drawing, drawn, extended, reached}
+use Rattle.postscript_drawing.specs.Outcome.{IsFront}
 
 -- fronts
 

@@ -9,7 +9,8 @@ use Rattle.postscript_drawing.specs.declared.pen.Pen.{Pen}
 use Rattle.postscript_drawing.specs.declared.stroke.Stroke.{Stroke}
 use Rattle.postscript_drawing.specs.declared.undrawn.Undrawn.{Undrawn}
 use Rattle.postscript_drawing.specs.declared.undrawn.Undrawn.TheVariants.{Overflow, Full}
-use Rattle.postscript_drawing.specs.Drawing.{DrawsStrokes, IsFront, drawing, held}
+use Rattle.postscript_drawing.specs.Drawing.{drawing, held}
+use Rattle.postscript_drawing.specs.Outcome.{DrawsStrokes, IsFront}
 use Rattle.postscript_drawing.specs.Undrawn.{cause_of}
 use Rattle.postscript_drawing.proofs.GivenLaws.{drawing-behind, front-of, mapped, prefixed}
 

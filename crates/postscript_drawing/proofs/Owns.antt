@@ -20,7 +20,8 @@ use Rattle.postscript_drawing.specs.Accents.{IsAccent, IsTold, run_by}
 use Rattle.postscript_drawing.specs.Components.{IsComponent}
 use Rattle.postscript_base.specs.Refusal.{Refusal}
 use Rattle.postscript_drawing.specs.DrawnProgram.{DrawsFront, IsUndrawn, IsWanting}
-use Rattle.postscript_drawing.specs.Drawing.{Drawing, ◌>>=◌, IsFront, blank_at, closed}
+use Rattle.postscript_drawing.specs.Drawing.{Drawing, ◌>>=◌, blank_at, closed}
+use Rattle.postscript_drawing.specs.Outcome.{IsFront}
 use Rattle.postscript_drawing.specs.Given.{GivesComponent, GivesComponents, GivesGlyph, GivesOwn, GivesOwnFront}
 use Rattle.postscript_drawing.specs.Outline.{drawing_of, finished, outlined_at}
 use Rattle.postscript_drawing.specs.Drawn.{DrawsAt, DrawsComponent, DrawsComponents, HasOwn, IsDrawnAs, Takes, zero_point}

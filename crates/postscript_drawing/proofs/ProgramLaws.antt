@@ -16,7 +16,8 @@ use Rattle.postscript_drawing.specs.declared.stroke.Stroke.{Stroke}
 use Rattle.postscript_drawing.specs.declared.undrawn.Undrawn.{Undrawn}
 use Rattle.postscript_drawing.specs.declared.undrawn.Undrawn.TheVariants.{Overflow, Full}
 use Rattle.postscript_drawing.specs.DrawnProgram.{DrawsFront, IsUndrawn, IsWanting}
-use Rattle.postscript_drawing.specs.Drawing.{Drawing, ◌>>=◌, DrawsStrokes, IsFront, blank_at, closed, closing, drawing, held}
+use Rattle.postscript_drawing.specs.Drawing.{Drawing, ◌>>=◌, blank_at, closed, closing, drawing, held}
+use Rattle.postscript_drawing.specs.Outcome.{DrawsStrokes, IsFront}
 use Rattle.postscript_drawing.specs.Operators.{strokes}
 use Rattle.postscript_drawing.specs.Outline.{drawing_of, finished, outlined_at}
 use Rattle.postscript_drawing.specs.Undrawn.{error_of}

@@ -5,7 +5,7 @@ use Rattle.postscript_base.specs.declared.error.Error.{Error as Cause}
 use Rattle.postscript_base.specs.declared.error.Error.TheVariants as causes
 use Rattle.postscript_drawing.specs.declared.error.Error.{Error}
 use Rattle.postscript_drawing.specs.declared.error.Error.TheVariants.{Font, Full, TooLong}
-use Rattle.postscript_drawing.specs.Drawing.{IsFront}
+use Rattle.postscript_drawing.specs.Outcome.{IsFront}
 use Rattle.postscript_drawing.specs.Outline.{outlined_at}
 use Rattle.postscript_outline.specs.declared.point.Point.{Point}
 use Rattle.postscript_outline.specs.declared.segment.Segment.{Segment}

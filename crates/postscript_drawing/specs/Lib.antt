@@ -17,3 +17,4 @@ pub mod Spending
 pub mod Strokes
 pub mod Undrawn
 pub mod Using
+pub mod Outcome

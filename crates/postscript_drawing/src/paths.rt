@@ -1,6 +1,6 @@
 //! Paths: what the operands of an operator spell is drawn as it is read, by one method for each pattern (Technical Note 5177,
 //! "Path Construction Operators"). Flexes are drawn by their strokes.
-ghost use Rattle.postscript_drawing.specs.Drawing.{DrawsStrokes};
+ghost use Rattle.postscript_drawing.specs.Outcome.{DrawsStrokes};
 ghost use Rattle.postscript_drawing.specs.Operators.{strokes as the_strokes};
 ghost use Rattle.postscript_drawing.specs.Strokes.{move as the_move, move_along as the_move_along, lines as the_lines, lines_in_turn as the_lines_in_turn, curves as the_curves, curves_along as the_curves_along, curves_level as the_curves_level, curves_in_turn as the_curves_in_turn, curves_then_line as the_curves_then_line, lines_then_curve as the_lines_then_curve};
 

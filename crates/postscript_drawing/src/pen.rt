@@ -3,7 +3,8 @@ ghost use Rattle.std.specs.Prelude.{◌≡◌, ◌∷◌, OnOk, OnErr, IfErr, []
 ghost use Rattle.postscript_base.specs.declared.error.Error.TheVariants as errors;
 ghost use Rattle.postscript_base.specs.Error.{IsListed};
 ghost use Rattle.postscript_drawing.specs.Applying.{applied};
-ghost use Rattle.postscript_drawing.specs.Drawing.{Draws, DrawsStrokes, drawing, held, blank, closed, closing, opening};
+ghost use Rattle.postscript_drawing.specs.Drawing.{drawing, held, blank, closed, closing, opening};
+ghost use Rattle.postscript_drawing.specs.Outcome.{Draws, DrawsStrokes};
 ghost use Rattle.postscript_drawing.specs.Left.{left};
 ghost use Rattle.postscript_drawing.specs.Operators.{strokes as the_strokes};
 ghost use Rattle.postscript_outline.specs.Sinks.{Receives};

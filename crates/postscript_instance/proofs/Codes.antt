@@ -2,7 +2,7 @@
 use Rattle.std.proofs.Common.{◌≡◌, refl, ap, sym, subst, ◌∙◌, ℕ, zero, suc, ◌+◌, ◌<◌, ◌⊎◌, inl, inr, ℤ, List, [], ◌∷◌, ◌++◌, length, length-append, Some, slice_get, get_or, Vec, arith}
 use Rattle.std.specs.declared.alloc.Global.{Global}
 use Rattle.postscript_view.specs.Layout.{IsLaidOut}
-use Rattle.postscript_view.specs.Order.{View}
+use Rattle.postscript_view.specs.Contents.{View}
 use Rattle.postscript_instance.specs.Advances.{AreAdvancesAt, IsOperand}
 use Rattle.postscript_instance.specs.declared.advances.AdvancesAt.{AdvancesAt}
 use Rattle.postscript_instance.specs.Naming.{IsCalled}

@@ -13,8 +13,10 @@ use Rattle.postscript_type2.specs.Operation.Kinds.{Kind, Draws, kind}
 use Rattle.postscript_type2.specs.Operation.Lengths.{exactly, curves_of_four}
 use Rattle.postscript_variable.specs.Sayings.{Phrase}
 use Rattle.postscript_instance.specs.Pieces.{IsPath, AreInPieces, nothing, as_it_is, in_pieces}
-use Rattle.postscript_instance.specs.Private as cuts
-use Rattle.postscript_instance.specs.Private.{is_cut, first_operator, first_count, front_of, rest_of, IsTooLong, IsWhole, AreCut, IsHeldOrCut, AreHeldOrCut, HasMoreUncut}
+use Rattle.postscript_instance.specs.Cuts as cuts
+use Rattle.postscript_instance.specs.Private as uncut
+use Rattle.postscript_instance.specs.Private.{IsHeldOrCut, AreHeldOrCut, HasMoreUncut}
+use Rattle.postscript_instance.specs.Cuts.{is_cut, first_operator, first_count, front_of, rest_of, IsTooLong, IsWhole, AreCut}
 use Rattle.postscript_instance.specs.Refusals as refusals
 use Rattle.postscript_instance.specs.Refusals.{IsHint, HasMore}
 use Rattle.postscript_instance.specs.Statics.{bears_width, BearsWidth, Fits}
@@ -243,5 +245,5 @@ is-hint HVCurveTo stems next width x uncut h many = absurd (cc)
 is-hint op stems next width x uncut h many = absurd h
 
 pub hints-more : {width : Option ℤ} {says : List Phrase} → HasMoreUncut width says → (stems after : ℕ) → AreSayable stems says after → HasMore width says
-hints-more (cuts.here width x xs uncut many) stems after (more _ next _ _ _ here later) = refusals.here width x xs (is-hint x.operator stems next width x uncut here many) many
-hints-more (cuts.later width x xs rest) stems after (more _ next _ _ _ here later) = refusals.later width x xs (hints-more rest next after later)
+hints-more (uncut.here width x xs uncut many) stems after (more _ next _ _ _ here later) = refusals.here width x xs (is-hint x.operator stems next width x uncut here many) many
+hints-more (uncut.later width x xs rest) stems after (more _ next _ _ _ here later) = refusals.later width x xs (hints-more rest next after later)

@@ -19,10 +19,12 @@ use Rattle.postscript_instance.specs.Axes.{steps_of, behind_steps, is_hint, AreS
 use Rattle.postscript_instance.specs.Axes as axes
 use Rattle.postscript_instance.specs.Far as outs
 use Rattle.postscript_instance.specs.Far.{AreWays, AreEdges, IsWithin, LeadsOut, NotRounded}
-use Rattle.postscript_instance.specs.Private as cuts
-use Rattle.postscript_instance.specs.Private.{is_cut, first_operator, first_count, AreCut, rounded_edges, in_units, all_in_units, AreNear, AreHeldOrCut, IsFar, IsUnwritten, IsWritten}
+use Rattle.postscript_instance.specs.Cuts as cuts
+use Rattle.postscript_instance.specs.Private.{rounded_edges, in_units, all_in_units, AreNear, AreHeldOrCut, IsFar, IsUnwritten, IsWritten}
+use Rattle.postscript_instance.specs.Cuts.{is_cut, first_operator, first_count, AreCut}
 use Rattle.postscript_instance.specs.Refusals.{IsHint, HasMore, here, later, LacksMove}
-use Rattle.postscript_instance.specs.Rounded.{nearest, edges_from, edges_of, rounded_operator, behind, origin, AreWhole, AreInUnits, IsInRange, IsRounded, AreRounded, IsRoundedOf}
+use Rattle.postscript_instance.specs.Rounded.{edges_from, edges_of, rounded_operator, origin, AreWhole, AreInUnits, IsRounded, AreRounded, IsRoundedOf}
+use Rattle.postscript_instance.specs.Nearest.{nearest, behind, IsInRange}
 use Rattle.postscript_instance.specs.Statics.{bears_width, BearsWidth}
 use Rattle.postscript_instance.specs.Texts.{width_numbers, numbers_of}
 use Rattle.postscript_instance.proofs.Cutting.{cut-sayable, cut-in-pieces, cut-fits, cut-bears, hints-more}

@@ -4,7 +4,7 @@ use Rattle.std.proofs.lemmas.Int.{ints}
 use Rattle.std.specs.Int.{int_rem_euclid}
 use Rattle.postscript_type2.specs.Program.OperatorRules.{IsHeld}
 use Rattle.postscript_instance.specs.Far.{IsStep}
-use Rattle.postscript_instance.specs.Rounded.{nearest, rounded}
+use Rattle.postscript_instance.specs.Nearest.{nearest, rounded}
 
 pub at-origin : nearest (pos 0) ≡ pos 0
 unfolding nearest

@@ -9,7 +9,8 @@ use Rattle.postscript_variable.specs.Sayings.{Phrase}
 use Rattle.postscript_variable.specs.Told.{said_of}
 use Rattle.postscript_type2.specs.Program.OperatorRules.{IsHeld}
 use Rattle.postscript_instance.specs.Numbers.{number_text, numbers_text}
-use Rattle.postscript_instance.specs.Private.{is_cut, front_of, rest_of, IsTooLong, IsWhole, AreCut, none, whole, piece, IsWritten, IsHeldOrCut, AreHeldOrCut, HasMoreUncut, here, later}
+use Rattle.postscript_instance.specs.Private.{IsWritten, IsHeldOrCut, AreHeldOrCut, HasMoreUncut, here, later}
+use Rattle.postscript_instance.specs.Cuts.{is_cut, front_of, rest_of, IsTooLong, IsWhole, AreCut, none, whole, piece}
 use Rattle.postscript_instance.specs.Texts.{width_numbers, numbers_of, phrase_text, code_text}
 
 pub rest-more : (xs : List Saying) (i : ℕ) (x : Saying) → x ≡ get_or xs i x → i < length xs → map said_of (drop i xs) ≡ said_of x ∷ map said_of (drop (i + 1) xs)

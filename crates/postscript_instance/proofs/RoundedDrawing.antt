@@ -30,7 +30,8 @@ use Rattle.postscript_variable.proofs.MeaningLaws as varied
 use Rattle.postscript_variable.proofs.SaysLaws as says
 use Rattle.postscript_instance.specs.Laws.{NearestIsNearest, RoundedOutlines}
 use Rattle.postscript_instance.specs.Pieces.{strokes_of}
-use Rattle.postscript_instance.specs.Rounded.{nearest, nearest_point, nearest_segment, led, rounded_by, rounded_strokes, behind, origin, IsInRange, AreInRange, AreRounded, IsRoundedOf}
+use Rattle.postscript_instance.specs.Rounded.{origin, AreRounded, IsRoundedOf}
+use Rattle.postscript_instance.specs.Nearest.{nearest, nearest_point, nearest_segment, led, rounded_by, rounded_strokes, behind, IsInRange, AreInRange}
 use Rattle.postscript_instance.specs.Statics.{answer_with}
 use Rattle.postscript_instance.proofs.InUnits.{origin-in-range}
 use Rattle.postscript_instance.proofs.Nearest.{at-origin, is-whole, above-low, below-high}

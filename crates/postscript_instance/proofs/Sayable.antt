@@ -10,7 +10,8 @@ use Rattle.postscript_type2.specs.Program.Effects.{mask_len, last_of, implied}
 use Rattle.postscript_type2.specs.Program.OperatorRules.{TakesMost}
 use Rattle.postscript_type2.specs.Program.Runs.{Answer}
 use Rattle.postscript_variable.specs.declared.command.Command.{Command}
-use Rattle.postscript_variable.specs.Effects.{Font, State, Effect, Keeps, Clears, Calls, Refuses, effect}
+use Rattle.postscript_variable.specs.Effects.{effect}
+use Rattle.postscript_variable.specs.State.{Font, State, Effect, Keeps, Clears, Calls, Refuses}
 use Rattle.postscript_variable.specs.Meaning as rules
 use Rattle.postscript_variable.specs.Meaning.{End, UsedUp, Stopped, Means}
 use Rattle.postscript_variable.specs.OperatorRules as does

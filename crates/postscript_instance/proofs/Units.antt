@@ -23,7 +23,8 @@ use Rattle.postscript_instance.specs.declared.axes.Step.{Step}
 use Rattle.postscript_instance.specs.Axes.{so_far, in_turn, bows, level, coordinates, steps_of, at, moved, rounded_steps, behind_steps, AreSteps}
 use Rattle.postscript_instance.proofs.Nearest.{is-whole}
 use Rattle.postscript_instance.specs.Far.{IsStep, IsWay, AreWays}
-use Rattle.postscript_instance.specs.Rounded.{nearest, rounded, rounded_by, rounded_operator, depth_of, led, rounded_strokes, behind, AreWhole, IsInRange, AreInRange}
+use Rattle.postscript_instance.specs.Rounded.{rounded_operator, depth_of, AreWhole}
+use Rattle.postscript_instance.specs.Nearest.{nearest, rounded, rounded_by, led, rounded_strokes, behind, IsInRange, AreInRange}
 
 -- strokes of operands, and of the same in whole units
 pub record Agrees (p : Point) (steps : List Step) (old new : List Stroke) : Type 0 where

@@ -15,7 +15,7 @@ use Rattle.postscript_type2.specs.declared.operation.Operator.TheVariants.{HStem
 use Rattle.postscript_variable.specs.Sayings.{Phrase}
 use Rattle.postscript_instance.specs.declared.axes.Step.{Step}
 use Rattle.postscript_instance.specs.Far.{IsStep, AreEdges}
-use Rattle.postscript_instance.specs.Rounded.{rounded}
+use Rattle.postscript_instance.specs.Nearest.{rounded}
 
 -- so far along an axis
 abbrev pub so_far : Axis → ℤ → Step

@@ -3,7 +3,7 @@ use Rattle.std.specs.Prelude.{◌≡◌, ◌≢◌, ◌⊎◌, ℕ, ◌<◌, Lis
 use Rattle.postscript_cff2.specs.Parts.{HasNumber}
 use Rattle.postscript_cff2.specs.Shown.{view_shown}
 use Rattle.postscript_cff2.specs.declared.font.Font.{Font}
-use Rattle.postscript_view.specs.Order.{View}
+use Rattle.postscript_view.specs.Contents.{View}
 use Rattle.postscript_view.specs.Select.{IsSelected}
 
 -- FDSelect of a table gives a glyph the Font DICT of a number; where there is one Private DICT, it is that of all glyphs.

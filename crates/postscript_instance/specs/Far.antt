@@ -13,7 +13,8 @@ use Rattle.postscript_variable.specs.Told.{Says}
 use Rattle.postscript_instance.specs.declared.error.Error.{Error}
 use Rattle.postscript_instance.specs.declared.error.Error.TheVariants as errors
 use Rattle.postscript_instance.specs.Refusals.{IsHint, NotWritten}
-use Rattle.postscript_instance.specs.Rounded.{nearest, rounded, led, behind, origin}
+use Rattle.postscript_instance.specs.Rounded.{origin}
+use Rattle.postscript_instance.specs.Nearest.{nearest, rounded, led, behind}
 
 -- 16.16 bits hold where a step ends, its start and its end at the nearest whole units, and how far it is between these
 pub record IsStep (from distance : ℤ) : Type 0 where

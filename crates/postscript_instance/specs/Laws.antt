@@ -16,7 +16,8 @@ use Rattle.postscript_variable.specs.Programs.{end_of}
 use Rattle.postscript_variable.specs.Sayings.{Phrase}
 use Rattle.postscript_instance.specs.Numbers.{IsShortest, number_text}
 use Rattle.postscript_instance.specs.Pieces.{stack_limit, AreInPieces}
-use Rattle.postscript_instance.specs.Rounded.{nearest, nearest_segment, IsRoundedOf}
+use Rattle.postscript_instance.specs.Rounded.{IsRoundedOf}
+use Rattle.postscript_instance.specs.Nearest.{nearest, nearest_segment}
 use Rattle.postscript_instance.specs.Statics.{IsStaticOf}
 
 -- A law of the definitions: what is written of a number that 32 bits hold spells it, and nothing shorter does.

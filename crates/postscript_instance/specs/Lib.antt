@@ -16,3 +16,5 @@ pub mod Advances
 pub mod Axes
 pub mod Placed
 pub mod Private
+pub mod Nearest
+pub mod Cuts

@@ -6,7 +6,7 @@ use Rattle.postscript_instance.specs.declared.naming.Naming.{Naming}
 use Rattle.postscript_view.specs.CharSets.{IsCharSetOf}
 use Rattle.postscript_view.specs.Cids.{IsCidKeyed}
 use Rattle.postscript_view.specs.Naming.{Names}
-use Rattle.postscript_view.specs.Order.{View}
+use Rattle.postscript_view.specs.Contents.{View}
 use Rattle.postscript_view.specs.Strings.{HasName}
 use Rattle.postscript_view.specs.declared.char_set.CharSetView.{CharSetView}
 

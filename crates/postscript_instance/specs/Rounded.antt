@@ -1,22 +1,14 @@
 -- Charstrings in whole units: each place is at the nearest whole units, and what is drawn goes from place to place (Technical Note 5177,
 -- "Path Construction Operators", "Hint Operators").
-use Rattle.std.specs.Int.{int_rem_euclid}
-use Rattle.std.specs.Prelude.{◌≡◌, ℤ, pos, ◌+ℤ◌, ◌-ℤ◌, ℕ, List, [], ◌∷◌, map, drop, Option}
+use Rattle.std.specs.Prelude.{◌≡◌, ℤ, pos, ◌+ℤ◌, ℕ, List, [], ◌∷◌, map, drop, Option}
 use Rattle.postscript_drawing.specs.Operators.{strokes}
-use Rattle.postscript_drawing.specs.Strokes.{by}
 use Rattle.postscript_drawing.specs.Using.{used}
-use Rattle.postscript_drawing.specs.declared.stroke.Stroke.{Stroke}
-use Rattle.postscript_drawing.specs.declared.stroke.Stroke.TheVariants.{Move, Line, Curve}
-use Rattle.postscript_drawing.specs.declared.stroke.Vector.{Vector}
 use Rattle.postscript_outline.specs.Points.{point}
 use Rattle.postscript_outline.specs.declared.point.Point.{Point}
-use Rattle.postscript_outline.specs.declared.segment.Segment.{Segment}
-use Rattle.postscript_outline.specs.declared.segment.Segment.TheVariants.{MoveTo, LineTo, CurveTo, Close}
 use Rattle.postscript_type2.specs.declared.operation.Operator.{Operator}
 use Rattle.postscript_type2.specs.declared.operation.Operator.TheVariants.{HFlex, HFlex1, Flex, Flex1}
 use Rattle.postscript_type2.specs.Number.{whole}
 use Rattle.postscript_type2.specs.Operation.Kinds.{kind}
-use Rattle.postscript_type2.specs.Program.OperatorRules.{IsHeld}
 use Rattle.postscript_type2.specs.Program.Routines.{Lists}
 use Rattle.postscript_variable.specs.declared.charstring.Charstring.{Charstring}
 use Rattle.postscript_variable.specs.Sayings.{Phrase}
@@ -24,51 +16,7 @@ use Rattle.postscript_variable.specs.Told.{Says}
 use Rattle.postscript_instance.specs.Pieces.{AreInPieces}
 use Rattle.postscript_instance.specs.Refusals.{IsHint}
 use Rattle.postscript_instance.specs.Statics.{SaysSo, Fits, BearsWidth}
-
--- the whole units nearest to 16.16 bits, in 16.16 bits; of two as near, the upper
-unfoldable pub nearest : ℤ → ℤ
-nearest bits = bits +ℤ pos 32768 -ℤ int_rem_euclid (bits +ℤ pos 32768) (pos 65536)
-
--- how far it is between the nearest whole units of two places, of which the second is so far from the first
-abbrev pub rounded : (from distance : ℤ) → ℤ
-rounded from distance = nearest (from +ℤ distance) -ℤ nearest from
-
--- the same of vectors, and where they lead
-abbrev pub rounded_by : Point → Vector → Vector
-rounded_by p v = by (rounded p.x v.dx) (rounded p.y v.dy)
-
-abbrev pub led : Point → Vector → Point
-led p v = point (p.x +ℤ v.dx) (p.y +ℤ v.dy)
-
--- strokes from a place on, each vector between the nearest whole units of the places that it joins
-abbrev pub rounded_strokes : Point → List Stroke → List Stroke
-rounded_strokes p [] = []
-rounded_strokes p (Move v ∷ strokes) = Move (rounded_by p v) ∷ rounded_strokes (led p v) strokes
-rounded_strokes p (Line v ∷ strokes) = Line (rounded_by p v) ∷ rounded_strokes (led p v) strokes
-rounded_strokes p (Curve a b c ∷ strokes) =
-    let q = led p a in
-    let r = led q b in
-    Curve (rounded_by p a) (rounded_by q b) (rounded_by r c) ∷ rounded_strokes (led r c) strokes
-
--- the place behind strokes
-abbrev pub behind : Point → List Stroke → Point
-behind p [] = p
-behind p (Move v ∷ strokes) = behind (led p v) strokes
-behind p (Line v ∷ strokes) = behind (led p v) strokes
-behind p (Curve a b c ∷ strokes) = behind (led (led (led p a) b) c) strokes
-
--- the nearest whole units of each place are in the range of 16.16 bits
-abbrev pub IsInRange : Point → Type 0
-IsInRange p = IsHeld (nearest p.x) × IsHeld (nearest p.y)
-
-abbrev pub AreInRange : Point → List Stroke → Type 0
-AreInRange p [] = IsInRange p
-AreInRange p (Move v ∷ strokes) = IsInRange p × AreInRange (led p v) strokes
-AreInRange p (Line v ∷ strokes) = IsInRange p × AreInRange (led p v) strokes
-AreInRange p (Curve a b c ∷ strokes) =
-    let q = led p a in
-    let r = led q b in
-    IsInRange p × IsInRange q × IsInRange r × AreInRange (led r c) strokes
+use Rattle.postscript_instance.specs.Nearest.{nearest, rounded_strokes, behind, AreInRange}
 
 -- the edges of stems: each is so far from the one before it, and the first from 0 ("Hint Operators")
 abbrev pub edges_from : ℤ → List ℤ → List ℤ
@@ -134,13 +82,3 @@ pub record IsRoundedOf (charstring : Charstring) (width : Option ℤ) (code : Li
   pub does : (lists : Lists) → SaysSo lists code width written
   pub fits : Fits width written
   pub bears : BearsWidth width written
-
--- segments, with each point at the nearest whole units
-abbrev pub nearest_point : Point → Point
-nearest_point p = point (nearest p.x) (nearest p.y)
-
-abbrev pub nearest_segment : Segment → Segment
-nearest_segment (MoveTo p) = MoveTo (nearest_point p)
-nearest_segment (LineTo p) = LineTo (nearest_point p)
-nearest_segment (CurveTo p q r) = CurveTo (nearest_point p) (nearest_point q) (nearest_point r)
-nearest_segment Close = Close

@@ -7,7 +7,7 @@ use Rattle.postscript_base.specs.declared.compact1.operator.Operator.TheVariants
 use Rattle.postscript_cff2.specs.declared.font.Font.{Font}
 use Rattle.postscript_variable_font.specs.declared.place.Place.{Place}
 use Rattle.postscript_view.specs.Layout.{IsLaidOut}
-use Rattle.postscript_view.specs.Order.{PrivateDict, View}
+use Rattle.postscript_view.specs.Contents.{PrivateDict, View}
 use Rattle.postscript_instance.specs.Dictionaries.{KeepDictionaries}
 use Rattle.postscript_instance.specs.Glyphs.{AreWidthsOf, DoesAt, DoesRoundedAt}
 use Rattle.postscript_instance.specs.Naming.{IsCalled}

@@ -19,7 +19,7 @@ pub fn outlines_stay()
     ensures { OutlinesStay }
 {}
 
-/// A law: the nearest whole units (`specs/Rounded.antt`) are a whole number, not more than half a unit off; of two as near, the upper. It
+/// A law: the nearest whole units (`specs/Nearest.antt`) are a whole number, not more than half a unit off; of two as near, the upper. It
 /// does nothing and is never refused.
 pub fn nearest_is_nearest()
     ensures { NearestIsNearest }

@@ -1,7 +1,7 @@
 //! Path operators in pieces, where a stack does not hold their operands (Technical Note 5177, "Path Construction Operators").
 ghost use Rattle.std.specs.Prelude.{◌≡◌, ◌<◌, ◌≤◌, length, MatchOption};
 ghost use Rattle.postscript_variable.specs.Told.{said_of};
-ghost use Rattle.postscript_instance.specs.Private.{said_by, is_cut as may_be_cut, first_operator as the_first_operator, first_count as the_first_count, front_of, rest_of, IsTooLong, IsWhole};
+ghost use Rattle.postscript_instance.specs.Cuts.{said_by, is_cut as may_be_cut, first_operator as the_first_operator, first_count as the_first_count, front_of, rest_of, IsTooLong, IsWhole};
 
 use postscript_type2::{Operand, Operator};
 use postscript_variable::Saying;

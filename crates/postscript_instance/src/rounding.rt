@@ -4,7 +4,7 @@ ghost use Rattle.postscript_base.specs.declared.error.Error.TheVariants as cause
 ghost use Rattle.postscript_instance.specs.Axes.{at, moved, rounded_steps, behind_steps, AreSteps};
 ghost use Rattle.postscript_instance.specs.Far.{AreEdges, IsStep};
 ghost use Rattle.postscript_instance.specs.Private.{IsFar, rounded_edges};
-ghost use Rattle.postscript_instance.specs.Rounded.{nearest as the_nearest, rounded};
+ghost use Rattle.postscript_instance.specs.Nearest.{nearest as the_nearest, rounded};
 ghost use Rattle.postscript_type2.specs.Program.OperatorRules.{IsHeld};
 
 use crate::axes::{Step, along};

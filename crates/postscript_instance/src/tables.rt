@@ -10,7 +10,7 @@ ghost use Rattle.postscript_instance.specs.Refusals.{IsLate};
 ghost use Rattle.postscript_instance.specs.Tables.{AreItems, HasNoWidths, HaveNoWidths, IsPlainFont, IsRoundedTableOf, IsTable, IsTableAt, IsTableOf};
 ghost use Rattle.postscript_base.specs.Index.Lent.{items_of};
 ghost use Rattle.postscript_view.specs.Layout.{IsLaidOut};
-ghost use Rattle.postscript_view.specs.Order.{View};
+ghost use Rattle.postscript_view.specs.Contents.{View};
 ghost use Rattle.postscript_view.specs.Value.{part_shown, parts_shown, view_shown};
 
 use crate::advances::AdvancesAt;

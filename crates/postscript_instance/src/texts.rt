@@ -9,7 +9,8 @@ ghost use Rattle.postscript_instance.specs.Refusals.{LacksMove};
 ghost use Rattle.postscript_instance.specs.Statics.{BearsWidth, bears_width as may_bear};
 ghost use Rattle.postscript_instance.specs.Texts.{operator_text, width_numbers, numbers_of, phrase_text};
 ghost use Rattle.postscript_instance.specs.Numbers.{numbers_text};
-ghost use Rattle.postscript_instance.specs.Private.{said_by, is_cut as may_be_cut, AreHeldOrCut, HasMoreUncut, IsUnwritten, IsWritten};
+ghost use Rattle.postscript_instance.specs.Private.{AreHeldOrCut, HasMoreUncut, IsUnwritten, IsWritten};
+ghost use Rattle.postscript_instance.specs.Cuts.{said_by, is_cut as may_be_cut};
 
 use crate::error::{Error, Result};
 use crate::numbers::{put_number, put_numbers};

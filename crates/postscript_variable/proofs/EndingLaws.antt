@@ -13,7 +13,8 @@ use Rattle.postscript_type2.proofs.EndingLaws.{spelled-cut}
 use Rattle.postscript_variable.specs.declared.command.Command.{Command}
 use Rattle.postscript_variable.specs.declared.machine.Machine.{Machine}
 use Rattle.postscript_variable.specs.Blending.{sum_of, value, before_all, values}
-use Rattle.postscript_variable.specs.Effects.{Font, State, start, Effect, Refuses, answer_move, index_move, blended, blend_top, blend_many, blend_by, blend_over, call_move, effect}
+use Rattle.postscript_variable.specs.Effects.{answer_move, index_move, blended, blend_top, blend_many, blend_by, blend_over, call_move, effect}
+use Rattle.postscript_variable.specs.State.{Font, State, start, Effect, Refuses}
 use Rattle.postscript_variable.specs.Endings.{run_refusals, IsRunsEnd, RunsEndSo}
 use Rattle.postscript_variable.specs.Evaluation.{Run, after_call, Stride, Halts, moved, stride_by, stride, Callee, paced, routine, callee, mean}
 use Rattle.postscript_variable.specs.Meaning.{End}

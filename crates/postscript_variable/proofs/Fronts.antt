@@ -7,7 +7,8 @@ use Rattle.postscript_type2.specs.declared.refused.Refused.{Refused}
 use Rattle.postscript_variable.specs.declared.routine.Token.{Token}
 use Rattle.postscript_variable.specs.declared.routine.Token.TheVariants as tokens
 use Rattle.postscript_variable.specs.Costs.{cost_beside}
-use Rattle.postscript_variable.specs.Effects.{Font, State, effect}
+use Rattle.postscript_variable.specs.Effects.{effect}
+use Rattle.postscript_variable.specs.State.{Font, State}
 use Rattle.postscript_variable.specs.Evaluation.{Run, at_end}
 use Rattle.postscript_variable.specs.Meaning.{Stopped}
 use Rattle.postscript_variable.specs.Private.Machines.{Advances}

@@ -9,7 +9,8 @@ use Rattle.postscript_type2.specs.Program.Runs.{Answer}
 use Rattle.postscript_variable.specs.declared.command.Command.{Command}
 use Rattle.postscript_variable.specs.Computed.{Tells, MeaningIsComputed, RunIsMeant, EachHasARun, NoOtherRun}
 use Rattle.postscript_variable.specs.Costs.{cost_beside}
-use Rattle.postscript_variable.specs.Effects.{Font, State, start, stack_limit, pushed, Effect, Keeps, Clears, Calls, Refuses, effect}
+use Rattle.postscript_variable.specs.Effects.{effect}
+use Rattle.postscript_variable.specs.State.{Font, State, start, stack_limit, pushed, Effect, Keeps, Clears, Calls, Refuses}
 use Rattle.postscript_variable.specs.Evaluation.{Run, at_end, with_step, with_answer, followed, after_call, mean, run_of}
 use Rattle.postscript_variable.specs.Meaning as rules
 use Rattle.postscript_variable.specs.Meaning.{answer, End, UsedUp, Stopped, Means, IsRunOf}

@@ -6,7 +6,7 @@ use Rattle.std.proofs.Math.Seq.{drop-cons}
 use Rattle.postscript_base.specs.Tape.Outcome.{Got}
 use Rattle.postscript_type2.specs.Number.{number}
 use Rattle.postscript_type2.specs.Program.Parsing.{is_number}
-use Rattle.postscript_variable.specs.Effects.{Font, State, stacked, pushed, stack_limit}
+use Rattle.postscript_variable.specs.State.{Font, State, stacked, pushed, stack_limit}
 use Rattle.postscript_variable.specs.Evaluation.{Run, with_step}
 use Rattle.postscript_variable.specs.Limit.{Spends, nothing}
 use Rattle.postscript_variable.specs.Private.Numbers.{IsNumberAt, PutsNumbers, none, one_more}

@@ -17,9 +17,11 @@ use Rattle.postscript_type2.proofs.Taken.{exactly-taken}
 use Rattle.postscript_variable.specs.declared.command.Command.{Command}
 use Rattle.postscript_variable.specs.declared.command.Command.TheVariants.{Answered, VsIndex, Blend, CallSubr, CallGSubr}
 use Rattle.postscript_variable.specs.Blending.{values}
-use Rattle.postscript_variable.specs.Effects.{Font, State, cleared, Effect, Clears, Refuses, clearing, stems_after, with_stems, path_move, answer_move, index_move, chosen, chosen_by, blended, blend_top, blend_many, blend_by, blend_over, called_as, call_by, call_move, effect}
+use Rattle.postscript_variable.specs.Effects.{clearing, stems_after, with_stems, path_move, answer_move, index_move, chosen, chosen_by, blended, blend_top, blend_many, blend_by, blend_over, called_as, call_by, call_move, effect}
+use Rattle.postscript_variable.specs.State.{Font, State, cleared, Effect, Clears, Refuses}
 use Rattle.postscript_variable.specs.OperatorRules as rules
-use Rattle.postscript_variable.specs.OperatorRules.{AreBlended, LeavesRange, StemsAfter, CallsFrom, IsOther, Does, OperatorsDoSo}
+use Rattle.postscript_variable.specs.OperatorRules.{StemsAfter, CallsFrom, IsOther, Does, OperatorsDoSo}
+use Rattle.postscript_variable.specs.BlendRules.{AreBlended, LeavesRange}
 use Rattle.postscript_variable.proofs.BlendLaws.{values-are, values-past, Blend as BlendOf, blend-of}
 use Rattle.postscript_type2.proofs.StackLaws.{no-whole, whole-on, WholeTop, whole-top, most-taken, none-taken, last-is, Taking, taking}
 

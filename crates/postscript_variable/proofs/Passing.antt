@@ -3,7 +3,7 @@ use Rattle.std.proofs.Common.{◌≡◌, ◌≢◌, refl, ap, sym, subst, ◌∙
 use Rattle.postscript_variable.specs.declared.machine.Machine.{Machine}
 use Rattle.postscript_type2.specs.declared.refused.Refused.{Refused}
 use Rattle.postscript_type2.specs.declared.refused.Refused.TheVariants.{Memory}
-use Rattle.postscript_variable.specs.Effects.{State}
+use Rattle.postscript_variable.specs.State.{State}
 use Rattle.postscript_variable.specs.Evaluation.{Run, at_end, with_step}
 use Rattle.postscript_variable.specs.Limit.{Spends, nothing}
 use Rattle.postscript_variable.specs.Meaning.{UsedUp, Stopped}

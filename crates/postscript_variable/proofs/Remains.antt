@@ -5,7 +5,8 @@ use Rattle.std.proofs.lemmas.List.{drop-drop}
 use Rattle.postscript_base.specs.Refusal.{Refusal, too_deep}
 use Rattle.postscript_variable.specs.declared.command.Command.{Command}
 use Rattle.postscript_variable.specs.Costs.{cost_beside}
-use Rattle.postscript_variable.specs.Effects.{Font, State, Effect, effect}
+use Rattle.postscript_variable.specs.Effects.{effect}
+use Rattle.postscript_variable.specs.State.{Font, State, Effect}
 use Rattle.postscript_variable.specs.Evaluation.{Run, at_end, with_step, with_answer, with_any_answer, followed, after_call, Stride, On, Into, Halts, moved, stride_by, stride, Callee, paced, routine, callee, mean}
 use Rattle.postscript_variable.specs.Meaning.{End, UsedUp, Stopped}
 use Rattle.postscript_variable.specs.Private.Remaining.{through, still, still_number, still_moved}

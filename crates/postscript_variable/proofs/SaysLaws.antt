@@ -10,7 +10,7 @@ use Rattle.postscript_variable.specs.declared.machine.Machine.{Machine}
 use Rattle.postscript_type2.specs.declared.refused.Refused.{Refused}
 use Rattle.postscript_type2.specs.declared.refused.Refused.TheVariants.{Memory}
 use Rattle.postscript_variable.specs.Charstrings.{font_from, run_from, IsRunFrom}
-use Rattle.postscript_variable.specs.Effects.{Font, State, Keeps, Clears, Calls, Refuses}
+use Rattle.postscript_variable.specs.State.{Font, State, Keeps, Clears, Calls, Refuses}
 use Rattle.postscript_variable.specs.Evaluation.{Run, followed, after_call, mean}
 use Rattle.postscript_variable.specs.Meaning as rules
 use Rattle.postscript_variable.specs.Meaning.{End, UsedUp, Stopped, Means}

@@ -3,7 +3,7 @@ use Rattle.std.specs.Prelude.{List}
 use Rattle.postscript_type2.specs.Program.Charstrings.{lists_of}
 use Rattle.postscript_type2.specs.Program.Runs.{Answer}
 use Rattle.postscript_variable.specs.declared.charstring.Charstring.{Charstring}
-use Rattle.postscript_variable.specs.Effects.{Font}
+use Rattle.postscript_variable.specs.State.{Font}
 use Rattle.postscript_variable.specs.Evaluation.{Run, run_of}
 use Rattle.postscript_variable.specs.Meaning.{End, IsRunOf}
 use Rattle.postscript_variable.specs.Programs.{font}

@@ -3,7 +3,8 @@ use Rattle.std.specs.Prelude.{ℕ, zero, suc, ◌+◌, ℤ, nat_lt, List, [], �
 use Rattle.postscript_base.specs.Refusal.{Refusal, too_deep, overflow}
 use Rattle.postscript_type2.specs.Program.Runs.{Answer}
 use Rattle.postscript_variable.specs.Costs.{cost_beside}
-use Rattle.postscript_variable.specs.Effects.{Font, State, start, stack_limit, pushed, Effect, Keeps, Clears, Calls, Refuses, effect}
+use Rattle.postscript_variable.specs.Effects.{effect}
+use Rattle.postscript_variable.specs.State.{Font, State, start, stack_limit, pushed, Effect, Keeps, Clears, Calls, Refuses}
 use Rattle.postscript_variable.specs.Meaning.{End, UsedUp, Stopped, answer}
 use Rattle.postscript_variable.specs.Sayings.{Phrase, said}
 use Rattle.postscript_variable.specs.Tokens.{Token, Number, Operator, NoToken, token}

@@ -19,3 +19,5 @@ pub mod Endings
 pub mod Told
 pub mod OperatorRules
 pub mod Private
+pub mod BlendRules
+pub mod State

@@ -6,7 +6,7 @@ use Rattle.postscript_base.specs.Refusal.{refusal_of}
 use Rattle.postscript_type2.specs.Program.Routines.{Lists}
 use Rattle.postscript_type2.specs.Program.Runs as type2
 use Rattle.postscript_type2.specs.Program.Runs.{Answer}
-use Rattle.postscript_variable.specs.Effects.{Font}
+use Rattle.postscript_variable.specs.State.{Font}
 use Rattle.postscript_variable.specs.Evaluation.{Run}
 use Rattle.postscript_variable.specs.Meaning.{End, UsedUp, Stopped}
 

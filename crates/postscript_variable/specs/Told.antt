@@ -5,7 +5,7 @@ use Rattle.postscript_type2.specs.Program.Runs.{Answer}
 use Rattle.postscript_variable.specs.declared.charstring.Charstring.{Charstring}
 use Rattle.postscript_variable.specs.declared.sayings.Saying.{Saying}
 use Rattle.postscript_variable.specs.Charstrings.{IsRunFrom}
-use Rattle.postscript_variable.specs.Effects.{Font, State}
+use Rattle.postscript_variable.specs.State.{Font, State}
 use Rattle.postscript_variable.specs.Evaluation.{run_of}
 use Rattle.postscript_variable.specs.Meaning as rules
 use Rattle.postscript_variable.specs.Meaning.{answer, End, Means, IsRunOf}

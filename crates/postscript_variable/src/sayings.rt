@@ -6,7 +6,7 @@ ghost use Rattle.postscript_base.specs.Refusal.{refusal_of};
 ghost use Rattle.postscript_type2.specs.Operation.Kinds.{kind};
 ghost use Rattle.postscript_type2.specs.Program.Effects.{last_of};
 ghost use Rattle.postscript_type2.specs.declared.refused.Refused.TheVariants as cases;
-ghost use Rattle.postscript_variable.specs.Effects.{State as ProgramState};
+ghost use Rattle.postscript_variable.specs.State.{State as ProgramState};
 ghost use Rattle.postscript_variable.specs.Endings.{sayings_refusals};
 ghost use Rattle.postscript_variable.specs.Meaning.{UsedUp, Stopped};
 ghost use Rattle.postscript_variable.specs.Private.Machines.{IsNested, still_of};

@@ -8,7 +8,8 @@ use Rattle.postscript_type2.specs.Operation.Lengths.{greatest}
 use Rattle.postscript_type2.specs.Program.Effects.{last_of, mask_len}
 use Rattle.postscript_type2.specs.Program.Runs.{Answer}
 use Rattle.postscript_variable.specs.declared.command.Command.{Command}
-use Rattle.postscript_variable.specs.Effects.{Font, State, Effect, Clears, Refuses, clearing, path_move, with_stems, stems_after, answer_move, index_move, blend_over, call_move, effect}
+use Rattle.postscript_variable.specs.Effects.{clearing, path_move, with_stems, stems_after, answer_move, index_move, blend_over, call_move, effect}
+use Rattle.postscript_variable.specs.State.{Font, State, Effect, Clears, Refuses}
 use Rattle.postscript_variable.specs.Meaning.{End, Means}
 use Rattle.postscript_variable.specs.Meaning as rules
 use Rattle.postscript_variable.proofs.MeaningLaws.{run-means}

@@ -1,7 +1,7 @@
 -- Operands that operators take.
 use Rattle.std.specs.Prelude.{ℕ, List}
 use Rattle.postscript_drawing.specs.Fitting.{AllFit}
-use Rattle.postscript_variable.specs.Effects.{Font}
+use Rattle.postscript_variable.specs.State.{Font}
 use Rattle.postscript_variable.specs.Evaluation.{run_of}
 
 -- A law of the definitions: each operation of a run has as many operands as its operator takes.

@@ -24,7 +24,8 @@ use Rattle.postscript_base.specs.Index.{number_at, opened, IsOpened}
 use Rattle.postscript_base.proofs.Opening.{opened_only}
 use Rattle.postscript_view.specs.Causes.{NoIndex, NamesNone, OfOffset, OfIndex, NoTables, OfNames, OfDictionaries, OfStrings, OfSubroutines, OfNumber, OfDictionary, NoType, OfType, OtherType, NoCharStrings, OfTheirOffset, OfTheirType, OfTheirIndex, NoPart, OfBounds, OfSlice, OfPrivate, OfSubrs, NoItem, NoParts, OfFont, OfArray, OfItem, NoFont, OfHeader, OfTables, OfCharStrings, OfParts}
 use Rattle.postscript_view.specs.Layout.{AreTables}
-use Rattle.postscript_view.specs.Order.{Tables, PrivateDict, View, aside, header_size, map_from, tables, char_strings, slice_at, subroutines, own_part, part, item_part, font_parts, parts, view_of}
+use Rattle.postscript_view.specs.Order.{aside, header_size, map_from, tables, char_strings, slice_at, subroutines, own_part, part, item_part, font_parts, parts, view_of}
+use Rattle.postscript_view.specs.Contents.{Tables, PrivateDict, View}
 use Rattle.postscript_view.specs.Value.{view_shown}
 use Rattle.postscript_view.specs.declared.font.FontView.{FontView}
 use Rattle.postscript_view.proofs.LayoutLaws.{part_with, aside_has, names_index, whole_offset, map_has, tables_have, char_strings_have, slice_has, item_has, header_has}

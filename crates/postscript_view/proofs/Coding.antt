@@ -15,7 +15,7 @@ use Rattle.postscript_view.specs.declared.encoding.Codes.TheVariants.{Predefined
 use Rattle.postscript_view.specs.Cids.{HasCid, IsCidKeyed}
 use Rattle.postscript_view.specs.Dictionaries.{HasFontDictionary, HasMatrix}
 use Rattle.postscript_view.specs.Encodings.{AreCodesAt}
-use Rattle.postscript_view.specs.Order.{View}
+use Rattle.postscript_view.specs.Contents.{View}
 use Rattle.postscript_view.specs.declared.encoding.EncodingView.{EncodingView}
 use Rattle.postscript_view.specs.declared.font.FontView.{FontView}
 use Rattle.postscript_view.proofs.Selecting.{risen}

@@ -24,7 +24,8 @@ use Rattle.postscript_compact1.proofs.Steps.{Done, Last, Step, accepted}
 use Rattle.postscript_base.specs.Index.{number_at, opened, IsOpened}
 use Rattle.postscript_base.proofs.Opening.{opened_is, opened_only}
 use Rattle.postscript_view.specs.Layout.{IsIndexAt, NamesIndex, AreTables, AreCharStrings, AreSubroutines, HasLocals, WithBoth, WithoutSubrs, WithoutPrivate, IsPart, ArePartsOf, AreParts, OfFont, OfFontDictionaries, IsLaidOut, ReadsLayout}
-use Rattle.postscript_view.specs.Order.{Tables, PrivateDict, View, aside, header_size, map_from, tables, char_strings, slice_at, subroutines, own_part, part, item_part, font_parts, parts, view_of}
+use Rattle.postscript_view.specs.Order.{aside, header_size, map_from, tables, char_strings, slice_at, subroutines, own_part, part, item_part, font_parts, parts, view_of}
+use Rattle.postscript_view.specs.Contents.{Tables, PrivateDict, View}
 use Rattle.postscript_view.specs.Value.{view_shown}
 use Rattle.postscript_view.specs.declared.font.FontView.{FontView}
 use Rattle.postscript_view.proofs.Wider.{map_is, slice_is, has_some}

@@ -8,7 +8,7 @@ use Rattle.postscript_view.specs.CharSet.{covered, first_of, more_of, IsNamed, I
 use Rattle.std.specs.Prelude.{IfSome, IfNone, option_map}
 use Rattle.postscript_view.specs.Naming.{Names, NamesFrom, NamesBehind}
 use Rattle.postscript_view.specs.Strings.{HasName, HasString, string_of}
-use Rattle.postscript_view.specs.Order.{View}
+use Rattle.postscript_view.specs.Contents.{View}
 use Rattle.postscript_view.specs.declared.char_set.CharSetView.{CharSetView}
 use Rattle.postscript_view.specs.declared.char_set.Identifiers.{Identifiers}
 use Rattle.postscript_view.specs.declared.char_set.Identifiers.TheVariants.{ISOAdobe, Expert, ExpertSubset, Listed, Ranges1, Ranges2}

@@ -13,7 +13,7 @@ use Rattle.postscript_compact1.specs.FontSet.Causes.{NoFirst, NoOffset, NoBounds
 use Rattle.postscript_compact1.specs.FontSet.Layout.{HasFirst, HasTwo, HasPrivate, IsSlice}
 use Rattle.postscript_base.specs.Index.{number_at, opened, IsOpened}
 use Rattle.postscript_view.specs.Layout.{NamesIndex, AreTables, AreCharStrings, IsPart}
-use Rattle.postscript_view.specs.Order.{Tables, PrivateDict}
+use Rattle.postscript_view.specs.Contents.{Tables, PrivateDict}
 
 -- no INDEX is opened at a place
 abbrev pub NoIndex : Error → List ℕ → (place : ℕ) → Type 0

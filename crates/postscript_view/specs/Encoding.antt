@@ -4,7 +4,7 @@ use Rattle.postscript_compact1.specs.Computed.Encodings.{identifier_of}
 use Rattle.postscript_base.specs.Index.{number_at}
 use Rattle.postscript_view.specs.Cids.{IsCidKeyed}
 use Rattle.postscript_view.specs.Naming.{Names}
-use Rattle.postscript_view.specs.Order.{View}
+use Rattle.postscript_view.specs.Contents.{View}
 use Rattle.postscript_view.specs.declared.char_set.CharSetView.{CharSetView}
 use Rattle.postscript_view.specs.declared.encoding.Codes.{Codes}
 use Rattle.postscript_view.specs.declared.encoding.Codes.TheVariants.{Predefined, Listed, Ranges}

@@ -9,7 +9,8 @@ use Rattle.postscript_base.specs.declared.compact1.operator.Operator.{Operator}
 use Rattle.postscript_base.specs.declared.compact1.operator.Operator.TheVariants as operators
 use Rattle.postscript_compact1.specs.FontSet.Layout.{HasFirst, HasPrivate, IsPlace}
 use Rattle.postscript_base.specs.Index.{number_at, IsOpened}
-use Rattle.postscript_view.specs.Order.{Tables, PrivateDict, View, view_of}
+use Rattle.postscript_view.specs.Order.{view_of}
+use Rattle.postscript_view.specs.Contents.{Tables, PrivateDict, View}
 
 -- an INDEX of these items stands at an offset
 abbrev pub IsIndexAt : List ℕ → (offset : ℕ) → List (List ℕ) → Type 0

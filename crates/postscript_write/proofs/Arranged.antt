@@ -15,7 +15,7 @@ use Rattle.postscript_base.specs.declared.compact1.operator.Operator.TheVariants
 use Rattle.postscript_compact1.specs.FontSet.Layout.{HasFirst}
 use Rattle.postscript_view.specs.Layout.{AreParts, ArePartsOf, NamesIndex}
 use Rattle.postscript_view.specs.Layout.AreParts.{OfFont, OfFontDictionaries}
-use Rattle.postscript_view.specs.Order.{PrivateDict}
+use Rattle.postscript_view.specs.Contents.{PrivateDict}
 use Rattle.postscript_view.specs.Sizes.{IsKeyed}
 use Rattle.postscript_write.specs.Texts.{Stands}
 use Rattle.postscript_write.proofs.Standing.{stands_first, stands_second}

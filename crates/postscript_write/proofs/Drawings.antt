@@ -20,7 +20,8 @@ use Rattle.postscript_type2.specs.Program.Routines.{lent}
 use Rattle.postscript_view.specs.Advances.{HasRun}
 use Rattle.postscript_view.specs.CharSets.{IsCharSetOf}
 use Rattle.postscript_view.specs.Cids.{IsCidKeyed}
-use Rattle.postscript_view.specs.Order.{View, PrivateDict as ShownDict, view as the_view}
+use Rattle.postscript_view.specs.Order.{view as the_view}
+use Rattle.postscript_view.specs.Contents.{View, PrivateDict as ShownDict}
 use Rattle.postscript_view.specs.Naming.{IsFirstNamed, Names}
 use Rattle.postscript_view.specs.Select.{IsSelected}
 use Rattle.postscript_view.specs.Value.{part_shown, parts_shown, view_shown}

@@ -4,7 +4,7 @@ use Rattle.postscript_base.specs.Index.{IsOpened, number_at}
 use Rattle.postscript_base.specs.Tape.Outcome.{Got}
 use Rattle.postscript_base.proofs.Opening.{opened_is}
 use Rattle.postscript_view.specs.Layout.{AreTables}
-use Rattle.postscript_view.specs.Order.{Tables}
+use Rattle.postscript_view.specs.Contents.{Tables}
 
 both_same : {A : Type 0} (x y : A) (n m : ℕ) → Got x n ≡ Got y m → (x ≡ y) × (n ≡ m)
 both_same x y n m e = (cc, cc)

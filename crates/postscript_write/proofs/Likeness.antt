@@ -10,7 +10,7 @@ use Rattle.postscript_base.specs.Index.Lent.{items_of}
 use Rattle.postscript_view.specs.Advances.{advance_of}
 use Rattle.postscript_view.specs.Glyphs.{HasPartNumber}
 use Rattle.postscript_view.specs.Naming.{Names}
-use Rattle.postscript_view.specs.Order as order
+use Rattle.postscript_view.specs.Contents as contents
 use Rattle.postscript_view.specs.Select.{IsSelected}
 use Rattle.postscript_view.specs.Value.{part_shown, parts_shown, view_shown}
 use Rattle.postscript_view.specs.declared.font.FontView.{FontView}
@@ -38,7 +38,7 @@ pub shown_at : (parts : List PrivateDict) (i : ℕ) (part : PrivateDict) → i <
 shown_at parts i part less is = slice_get-map part_shown parts i ∙ ap (option_map part_shown) (slice_get_read parts (length parts) i part refl less is)
 
 -- what is found at a place of the parts is what is shown of it
-found_at : (parts : List PrivateDict) (i : ℕ) (part : PrivateDict) (shown : order.PrivateDict) → i < length parts → part ≡ get_or parts i part → slice_get (parts_shown parts) i ≡ Some shown → part_shown part ≡ shown
+found_at : (parts : List PrivateDict) (i : ℕ) (part : PrivateDict) (shown : contents.PrivateDict) → i < length parts → part ≡ get_or parts i part → slice_get (parts_shown parts) i ≡ Some shown → part_shown part ≡ shown
 found_at parts i part shown less is at =
     let here : slice_get (parts_shown parts) i ≡ Some (part_shown part) = shown_at parts i part less is in
     let e : Some (part_shown part) ≡ Some shown = sym here ∙ at in
@@ -49,14 +49,14 @@ pub part_of : (old new : List PrivateDict) (i : ℕ) (a b : PrivateDict) → i <
 part_of old new i a b lo ln ea eb all = all.each i (part_shown a) (part_shown b) (shown_at old i a lo ea) (shown_at new i b ln eb)
 
 pub same_more : (old new : List PrivateDict) (i : ℕ) (a b : PrivateDict) → i < length old → i < length new → a ≡ get_or old i a → b ≡ get_or new i b → SamePart (part_shown a) (part_shown b) →
-    ((k : ℕ) → k < i → (x y : order.PrivateDict) → slice_get (parts_shown old) k ≡ Some x → slice_get (parts_shown new) k ≡ Some y → SamePart x y) →
-    (k : ℕ) → k < i + 1 → (x y : order.PrivateDict) → slice_get (parts_shown old) k ≡ Some x → slice_get (parts_shown new) k ≡ Some y → SamePart x y
+    ((k : ℕ) → k < i → (x y : contents.PrivateDict) → slice_get (parts_shown old) k ≡ Some x → slice_get (parts_shown new) k ≡ Some y → SamePart x y) →
+    (k : ℕ) → k < i + 1 → (x y : contents.PrivateDict) → slice_get (parts_shown old) k ≡ Some x → slice_get (parts_shown new) k ≡ Some y → SamePart x y
 same_more old new i a b lo ln ea eb same before =
-    below_more (λ k. (x y : order.PrivateDict) → slice_get (parts_shown old) k ≡ Some x → slice_get (parts_shown new) k ≡ Some y → SamePart x y) i before
+    below_more (λ k. (x y : contents.PrivateDict) → slice_get (parts_shown old) k ≡ Some x → slice_get (parts_shown new) k ≡ Some y → SamePart x y) i before
     (λ x y ex ey. subst (λ p. SamePart p y) (found_at old i a x lo ea ex) (subst (λ p. SamePart (part_shown a) p) (found_at new i b y ln eb ey) same))
 
 pub same_all : (old new : List PrivateDict) (i : ℕ) → length old ≡ length new → length old ≤ i →
-    ((k : ℕ) → k < i → (x y : order.PrivateDict) → slice_get (parts_shown old) k ≡ Some x → slice_get (parts_shown new) k ≡ Some y → SamePart x y) → SameParts (parts_shown old) (parts_shown new)
+    ((k : ℕ) → k < i → (x y : contents.PrivateDict) → slice_get (parts_shown old) k ≡ Some x → slice_get (parts_shown new) k ≡ Some y → SamePart x y) → SameParts (parts_shown old) (parts_shown new)
 same_all old new i many past before = record {
   many = length-map new part_shown ∙ sym many ∙ sym (length-map old part_shown);
   each = λ number x y ex ey.

@@ -12,7 +12,8 @@ use Rattle.postscript_base.specs.Index.Lent.{items_of}
 use Rattle.postscript_view.specs.CharSets.{IsCharSetOf}
 use Rattle.postscript_view.specs.Glyphs.{HasPartNumber}
 use Rattle.postscript_view.specs.Naming.{Names}
-use Rattle.postscript_view.specs.Order.{View, PrivateDict, view}
+use Rattle.postscript_view.specs.Order.{view}
+use Rattle.postscript_view.specs.Contents.{View, PrivateDict}
 use Rattle.postscript_view.specs.Select.{IsSelected}
 use Rattle.postscript_view.specs.Value.{view_shown, part_shown, parts_shown}
 use Rattle.postscript_view.specs.declared.char_set.CharSetView.{CharSetView}

@@ -6,7 +6,7 @@ use Rattle.std.proofs.Math.Seq.{drop-cons, take-append_seam}
 use Rattle.std.proofs.lemmas.Bool.{eqb-true, eq-eqb}
 use Rattle.std.proofs.lemmas.List.{get_or-set_same, get_or-set_other, get_or_past, map-append, map-id}
 use Rattle.std.proofs.lemmas.List.FromFn.{filter_of_map_range_with_len_more, map-range_with_len_more}
-use Rattle.postscript_view.specs.Order.{View}
+use Rattle.postscript_view.specs.Contents.{View}
 use Rattle.postscript_view.specs.declared.char_set.CharSetView.{CharSetView}
 use Rattle.postscript_write.specs.Strings.{AreNeededMarks, IsNeeded}
 use Rattle.postscript_write.specs.Sources.{every, is_kept, chosen, kept_of, kept_or_none, keeping}

@@ -13,7 +13,8 @@ use Rattle.postscript_compact1.proofs.OperandLaws.{bounds_is}
 use Rattle.postscript_view.specs.Layout.{AreParts, ArePartsOf, HasLocals, IsPart}
 use Rattle.postscript_view.specs.Layout.AreParts.{OfFont, OfFontDictionaries}
 use Rattle.postscript_view.specs.Layout.HasLocals.{WithBoth, WithoutSubrs, WithoutPrivate}
-use Rattle.postscript_view.specs.Order.{PrivateDict, slice_at}
+use Rattle.postscript_view.specs.Order.{slice_at}
+use Rattle.postscript_view.specs.Contents.{PrivateDict}
 use Rattle.postscript_view.proofs.Wider.{slice_is}
 
 -- a part has a private dictionary that its dictionary names, or none is named

@@ -4,7 +4,8 @@ use Rattle.std.specs.Prelude.{◌↔◌, Bool, Result, Ok, Err, IfOk, IfErr, Vec
 use Rattle.std.specs.declared.alloc.Global.{Global}
 use Rattle.postscript_base.specs.Tape.Outcome.{Got}
 use Rattle.postscript_view.specs.CharSets.{IsCharSetOf}
-use Rattle.postscript_view.specs.Order.{View, view}
+use Rattle.postscript_view.specs.Order.{view}
+use Rattle.postscript_view.specs.Contents.{View}
 use Rattle.postscript_view.specs.Value.{view_shown}
 use Rattle.postscript_view.specs.declared.font.FontView.{FontView}
 use Rattle.postscript_drawing.specs.Components.{glyphs_of}

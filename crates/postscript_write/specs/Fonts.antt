@@ -3,7 +3,7 @@ use Rattle.std.specs.Prelude.{◌≡◌, ℕ, ◌<◌, List, [], ◌∷◌, ◌+
 use Rattle.postscript_type2.specs.Program.Inlined.{inlined_text}
 use Rattle.postscript_type2.specs.Program.Routines.{Lists}
 use Rattle.postscript_type2.specs.Program.Runs.{fault_of}
-use Rattle.postscript_view.specs.Order.{View, PrivateDict}
+use Rattle.postscript_view.specs.Contents.{View, PrivateDict}
 use Rattle.postscript_write.specs.Glyphs.{DrawsAs, HasPart, Sources, run_in}
 use Rattle.postscript_write.specs.Naming.{GivesWay, KeepsCodes}
 use Rattle.postscript_write.specs.Parts.{SameBut, SamePart, SameParts, naming, placing}

@@ -6,7 +6,7 @@ use Rattle.postscript_type2.specs.Program.Inlined.{inlined_text}
 use Rattle.postscript_type2.specs.Program.Inlining.{is_flat}
 use Rattle.postscript_type2.specs.Program.Routines.{Lists, lent}
 use Rattle.postscript_type2.specs.Program.Runs.{Run, fault_of, taken_by, width_of}
-use Rattle.postscript_view.specs.Order.{View, PrivateDict}
+use Rattle.postscript_view.specs.Contents.{View, PrivateDict}
 use Rattle.postscript_view.specs.Select.{IsSelected}
 
 -- A glyph has the part of a number: of several parts that of the font dictionary that FDSelect gives it; a single part is that

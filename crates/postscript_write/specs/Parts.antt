@@ -5,7 +5,7 @@ use Rattle.postscript_base.specs.Compact1.Dictionary.{Dictionary}
 use Rattle.postscript_base.specs.declared.compact1.operator.Operator.{Operator}
 use Rattle.postscript_base.specs.declared.compact1.operator.Operator.TheVariants.{BaseFontName, CharSet, CharStrings, Copyright, Encoding, FDArray, FDSelect, FamilyName, FontName, FullName, Notice, PostScript, Private, Subrs, Version, Weight}
 use Rattle.postscript_view.specs.Advances.{advance_of}
-use Rattle.postscript_view.specs.Order.{PrivateDict}
+use Rattle.postscript_view.specs.Contents.{PrivateDict}
 
 -- these operators have the same operands
 abbrev pub SameAt : List Operator → Dictionary → Dictionary → Type 0

@@ -4,7 +4,7 @@ use Rattle.postscript_base.specs.Compact1.Dictionary.{Dictionary, dictionary_of}
 use Rattle.postscript_base.specs.Compact1.DictionaryLaw.{IsDictionary}
 use Rattle.postscript_base.specs.declared.compact1.operator.Operator.TheVariants.{Subrs}
 use Rattle.postscript_base.specs.declared.compact1.operator.Operator.TheVariants as operators
-use Rattle.postscript_view.specs.Order.{PrivateDict}
+use Rattle.postscript_view.specs.Contents.{PrivateDict}
 use Rattle.postscript_write.specs.Dictionaries.{HasSize, IsLess, IsPlaced}
 use Rattle.postscript_write.specs.declared.dictionaries.Place.{Place}
 use Rattle.postscript_write.specs.declared.layout.Private.{Private}

@@ -8,7 +8,8 @@ use Rattle.postscript_type2.specs.Program.Runs.{fault_of}
 use Rattle.postscript_view.specs.CharSets.{IsCharSetOf}
 use Rattle.postscript_view.specs.Encodings.{IsEncodingOf}
 use Rattle.postscript_view.specs.Naming.{Names}
-use Rattle.postscript_view.specs.Order.{View, PrivateDict, fonts, view}
+use Rattle.postscript_view.specs.Order.{fonts, view}
+use Rattle.postscript_view.specs.Contents.{View, PrivateDict}
 use Rattle.postscript_view.specs.declared.char_set.CharSetView.{CharSetView}
 use Rattle.postscript_view.specs.declared.encoding.EncodingView.{EncodingView}
 use Rattle.postscript_write.specs.Components.{AreClosed}

@@ -2,7 +2,8 @@
 use Rattle.std.specs.Prelude.{◌≡◌, ℕ, ◌<◌, ◌==◌, ◌||◌, List, [], ◌∷◌, Bool, false, Option, Some, None, map, length, slice_index_or, if◌then◌else◌}
 use Rattle.std.specs.List.{filter, range_with_len}
 use Rattle.postscript_base.specs.Tape.Outcome.{Got}
-use Rattle.postscript_view.specs.Order.{View, view}
+use Rattle.postscript_view.specs.Order.{view}
+use Rattle.postscript_view.specs.Contents.{View}
 use Rattle.postscript_write.specs.Fonts.{IsFontOf}
 use Rattle.postscript_write.specs.Glyphs.{Sources}
 

@@ -3,7 +3,7 @@ use Rattle.std.specs.Prelude.{◌≡◌, ◌≢◌, ℕ, List, Option, Some}
 use Rattle.postscript_drawing.specs.Components.{HasCharSet, glyphs_of}
 use Rattle.postscript_base.specs.declared.error.Error.TheVariants.{Memory}
 use Rattle.postscript_write.specs.Glyphs.{Sources}
-use Rattle.postscript_view.specs.Order.{View}
+use Rattle.postscript_view.specs.Contents.{View}
 use Rattle.postscript_view.specs.declared.char_set.CharSetView.{CharSetView}
 use Rattle.postscript_view.specs.declared.font.FontView.{FontView}
 use Rattle.postscript_write.specs.Refusals.{HasOtherFonts, IsFirstPast, IsFirstRefused, IsRefusedAs, IsRunRefused}

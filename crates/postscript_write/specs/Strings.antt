@@ -8,7 +8,7 @@ use Rattle.postscript_base.specs.declared.compact1.operator.Operator.{Operator}
 use Rattle.postscript_base.specs.declared.compact1.operator.Operator.TheVariants as operators
 use Rattle.postscript_view.specs.CharSets.{IsCharSetOf}
 use Rattle.postscript_view.specs.Naming.{Names}
-use Rattle.postscript_view.specs.Order.{Tables, View}
+use Rattle.postscript_view.specs.Contents.{Tables, View}
 use Rattle.postscript_view.specs.Strings.{HasString, string_of}
 use Rattle.postscript_view.specs.declared.char_set.CharSetView.{CharSetView}
 use Rattle.postscript_write.specs.Glyphs.{Sources}

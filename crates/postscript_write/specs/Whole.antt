@@ -11,7 +11,8 @@ use Rattle.postscript_compact1.specs.FontSet.Layout.{HasTwo}
 use Rattle.postscript_base.specs.Index.{number_at, IsIndex}
 use Rattle.postscript_view.specs.CharSet.{covered}
 use Rattle.postscript_view.specs.Cids.{IsCidKeyed}
-use Rattle.postscript_view.specs.Order.{PrivateDict, View, view}
+use Rattle.postscript_view.specs.Order.{view}
+use Rattle.postscript_view.specs.Contents.{PrivateDict, View}
 use Rattle.postscript_view.specs.Select.{offset_of}
 
 -- An INDEX begins at a place and ends at its last offset. Its offsets begin with 1 and do not fall, so that each byte is of an item.

@@ -1,7 +1,8 @@
 //! Fonts that are made of glyphs of other fonts.
 ghost use Rattle.std.specs.Prelude.{◌≡◌, [], true, false, Err, length, IfOk, IfErr, OnOk};
 ghost use Rattle.postscript_base.specs.Tape.Outcome.{Got};
-ghost use Rattle.postscript_view.specs.Order.{View, fonts as the_fonts, view as the_view};
+ghost use Rattle.postscript_view.specs.Order.{fonts as the_fonts, view as the_view};
+ghost use Rattle.postscript_view.specs.Contents.{View};
 ghost use Rattle.postscript_view.specs.Value.{view_shown};
 ghost use Rattle.postscript_write.specs.Components.{AreKept, IsSubset};
 ghost use Rattle.postscript_write.specs.Drawings.{DrawsKept, KeepsDrawings};

@@ -10,7 +10,7 @@ ghost use Rattle.postscript_base.specs.Index.Lent.{items_of};
 ghost use Rattle.postscript_compact1.specs.FontSet.Layout.{HasFirst};
 ghost use Rattle.postscript_type2.specs.Program.Routines.{texts};
 ghost use Rattle.postscript_view.specs.Layout.{AreParts, AreTables, IsPart, NamesIndex};
-ghost use Rattle.postscript_view.specs.Order.{PrivateDict as Part, Tables};
+ghost use Rattle.postscript_view.specs.Contents.{PrivateDict as Part, Tables};
 ghost use Rattle.postscript_view.specs.Sizes.{IsKeyed};
 ghost use Rattle.postscript_view.specs.Value.{parts_shown, view_shown};
 ghost use Rattle.postscript_write.specs.Arrangement.{AreSizedFor, beginnings, dictionaries_place, only_place, place_if, places_of, standard_place, text_of, NameParts, dictionaries_text, parts_text, tables_text};

@@ -1,6 +1,6 @@
 //! Whether each string of a font is needed (Technical Note 5176, sections 9, 10 and 13).
 ghost use Rattle.std.specs.Prelude.{◌≡◌, ◌+◌, ◌<◌, ℕ, IsTrue, IfOk, IfErr, false, true, length, slice_index_or};
-ghost use Rattle.postscript_view.specs.Order.{View};
+ghost use Rattle.postscript_view.specs.Contents.{View};
 ghost use Rattle.postscript_view.specs.Value.{view_shown};
 ghost use Rattle.postscript_view.specs.declared.char_set.CharSetView.{CharSetView as Set};
 ghost use Rattle.postscript_write.specs.Steps.{IsLate};

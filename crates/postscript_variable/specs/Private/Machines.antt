@@ -10,7 +10,8 @@ use Rattle.postscript_variable.specs.declared.machine.Machine.{Machine}
 use Rattle.postscript_type2.specs.declared.refused.Refused.{Refused}
 use Rattle.postscript_type2.specs.declared.refused.Refused.TheVariants.{Memory}
 use Rattle.postscript_variable.specs.Costs.{cost_beside}
-use Rattle.postscript_variable.specs.Effects.{State, cleared, effect}
+use Rattle.postscript_variable.specs.Effects.{effect}
+use Rattle.postscript_variable.specs.State.{State, cleared}
 use Rattle.postscript_variable.specs.Evaluation.{Run, at_end, with_step, with_answer}
 use Rattle.postscript_variable.specs.Meaning.{UsedUp, Stopped, answer}
 use Rattle.postscript_type2.specs.Refused.{reason}

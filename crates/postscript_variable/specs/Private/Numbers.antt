@@ -1,6 +1,6 @@
 -- Numbers that are put onto a stack, one after another.
 use Rattle.std.specs.Prelude.{◌≡◌, ◌<◌, ◌+◌, ◌-◌, ℕ, suc, ℤ, List, [], ◌∷◌, ◌++◌, drop, length}
-use Rattle.postscript_variable.specs.Effects.{stack_limit}
+use Rattle.postscript_variable.specs.State.{stack_limit}
 use Rattle.postscript_variable.specs.Tokens.{Number, token}
 
 -- a number at the front of bytes that stand at a place, and the place behind it

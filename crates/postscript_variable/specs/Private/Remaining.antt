@@ -1,7 +1,7 @@
 -- What a program in the middle of its run still answers.
 use Rattle.std.specs.Prelude.{ℕ, zero, suc, ◌+◌, ℤ, nat_lt, List, [], ◌∷◌, take, drop, length, if◌then◌else◌}
 use Rattle.postscript_base.specs.Refusal.{too_deep, overflow}
-use Rattle.postscript_variable.specs.Effects.{Font, State, stack_limit, pushed, Effect, Keeps, Clears, Calls, Refuses}
+use Rattle.postscript_variable.specs.State.{Font, State, stack_limit, pushed, Effect, Keeps, Clears, Calls, Refuses}
 use Rattle.postscript_variable.specs.Evaluation.{Run, at_end, with_step, with_answer, followed, after_call, mean}
 use Rattle.postscript_variable.specs.Meaning.{Stopped}
 use Rattle.postscript_variable.specs.Sayings.{said}

@@ -11,7 +11,7 @@ use Rattle.postscript_variable.specs.declared.state.Effect.TheVariants as effect
 use Rattle.postscript_variable.specs.declared.state.State as code
 use Rattle.postscript_variable.specs.declared.state.Font as code_font
 use Rattle.postscript_variable.specs.Blending.{values}
-use Rattle.postscript_variable.specs.Effects.{Font, State, Effect, Keeps, Clears, Calls, Refuses, cleared}
+use Rattle.postscript_variable.specs.State.{Font, State, Effect, Keeps, Clears, Calls, Refuses, cleared}
 use Rattle.postscript_type2.specs.Refused.{reason}
 use Rattle.postscript_variable.specs.Programs.{tables_of}
 use Rattle.postscript_variable.specs.Tokens.{Token, Number, Operator, NoToken, commanded, token}

@@ -1,6 +1,6 @@
 use Rattle.std.proofs.Common.{◌≡◌, rules, inl, sym, subst, ℤ, to_z, of_z, w32}
 use Rattle.postscript_c.specs.Either.{TellsEitherOf}
-use Rattle.postscript_c.specs.Varied.{outline_room}
+use Rattle.postscript_c.specs.VariedTold.{outline_room}
 use Rattle.postscript_c.proofs.either.tell_either.Goals as goal
 
 pub returns-in-Ok : goal.returns-in-Ok

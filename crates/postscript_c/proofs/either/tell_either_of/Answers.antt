@@ -1,6 +1,6 @@
 use Rattle.std.proofs.Common.{◌≡◌, rules, inl, inr, sym, subst, ℤ, to_z, of_z, w32}
 use Rattle.postscript_c.specs.Either.{TellsPlainAt}
-use Rattle.postscript_c.specs.Varied.{TellsVariedOf, outline_room}
+use Rattle.postscript_c.specs.VariedTold.{TellsVariedOf, outline_room}
 use Rattle.postscript_c.proofs.either.tell_either_of.Goals as goal
 
 pub returns-in-Some : goal.returns-in-Some

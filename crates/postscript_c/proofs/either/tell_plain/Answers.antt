@@ -1,7 +1,7 @@
 use Rattle.std.proofs.Common.{◌≡◌, rules, sym, subst, Ok, ℤ, to_z, of_z, w32}
 use Rattle.postscript_c.specs.Either.{TellsGlyphOf}
 use Rattle.postscript_c.specs.Law.{IsFontOf}
-use Rattle.postscript_c.specs.Varied.{outline_room}
+use Rattle.postscript_c.specs.VariedTold.{outline_room}
 use Rattle.postscript_c.specs.declared.font.PsfFont.{PsfFont}
 use Rattle.postscript_c.proofs.Agreeing.{font_of}
 use Rattle.postscript_c.proofs.either.tell_plain.Goals as goal

@@ -1,5 +1,5 @@
 use Rattle.std.proofs.Common.{◌≡◌, rules, inl, inr, refl, sym, subst, ℤ, to_z, of_z, w32}
-use Rattle.postscript_c.specs.Answers.{TellsTraced}
+use Rattle.postscript_c.specs.BoundsTold.{TellsTraced}
 use Rattle.postscript_c.specs.Parts.{IsPartless}
 use Rattle.postscript_c.proofs.Tracing.{traced-so}
 use Rattle.postscript_c.proofs.exports.psf_glyph_bounds.Goals as goal

@@ -1,7 +1,7 @@
 use Rattle.std.proofs.Common.{◌≡◌, rules, inl, sym, subst, ℕ, ℤ, List, to_z, of_z, w32}
 use Rattle.postscript_c.specs.Naming.{TellsName, TellsNameIn}
 use Rattle.postscript_c.specs.Texts.{lent}
-use Rattle.postscript_view.specs.Order.{View}
+use Rattle.postscript_view.specs.Contents.{View}
 use Rattle.postscript_view.specs.Value.{view_shown}
 use Rattle.postscript_c.proofs.names.tell_name.Goals as goal
 

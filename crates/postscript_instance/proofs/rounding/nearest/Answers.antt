@@ -1,5 +1,5 @@
 use Rattle.std.proofs.Common.{rules}
-use Rattle.postscript_instance.specs.Rounded.{nearest}
+use Rattle.postscript_instance.specs.Nearest.{nearest}
 use Rattle.postscript_instance.proofs.rounding.nearest.Goals as goal
 
 pub returns : goal.returns

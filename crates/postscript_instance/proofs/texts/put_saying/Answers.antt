@@ -1,5 +1,6 @@
 use Rattle.std.proofs.Common.{◌∷◌, subst}
-use Rattle.postscript_instance.specs.Private.{said_by, IsWritten}
+use Rattle.postscript_instance.specs.Private.{IsWritten}
+use Rattle.postscript_instance.specs.Cuts.{said_by}
 use Rattle.postscript_instance.proofs.Rests.{on-both, written-whole, written-piece}
 use Rattle.postscript_instance.proofs.texts.put_saying.Goals as goal
 

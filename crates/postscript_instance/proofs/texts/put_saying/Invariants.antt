@@ -1,7 +1,8 @@
 use Rattle.std.proofs.Common.{ℕ, List, ◌∷◌, length}
 use Rattle.postscript_variable.specs.Sayings.{Phrase}
 use Rattle.postscript_variable.specs.Told.{said_of}
-use Rattle.postscript_instance.specs.Private.{said_by, IsWritten}
+use Rattle.postscript_instance.specs.Private.{IsWritten}
+use Rattle.postscript_instance.specs.Cuts.{said_by}
 use Rattle.postscript_instance.proofs.texts.put_saying.Given as goal
 
 -- whatever is to be written of the rest, and of what is said behind it: with it, all is written

@@ -1,5 +1,5 @@
 use Rattle.std.proofs.Common.{◌≡◌, ℕ, ◌<◌, Some, slice_get}
-use Rattle.postscript_view.specs.Order.{PrivateDict}
+use Rattle.postscript_view.specs.Contents.{PrivateDict}
 use Rattle.postscript_view.specs.Value.{parts_shown}
 use Rattle.postscript_write.specs.Parts.{SamePart}
 use Rattle.postscript_write.proofs.alike.same_parts.Given as goal

@@ -2,7 +2,7 @@ use Rattle.std.proofs.Common.{◌≡◌, ◌∙◌, ap, subst, sym, List, length
 use Rattle.std.specs.Prelude.{false}
 use Rattle.std.proofs.lemmas.Result.{err_from_is_err_and}
 use Rattle.postscript_base.specs.Tape.Outcome.{Got}
-use Rattle.postscript_view.specs.Order.{View}
+use Rattle.postscript_view.specs.Contents.{View}
 use Rattle.postscript_view.specs.Value.{view_shown}
 use Rattle.postscript_drawing.specs.Components.{glyphs_of}
 use Rattle.postscript_write.specs.Components.{IsOpened}

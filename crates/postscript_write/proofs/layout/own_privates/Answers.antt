@@ -3,7 +3,7 @@ use Rattle.std.proofs.lemmas.List.{length-map}
 use Rattle.std.proofs.lemmas.Option.{slice_get_within}
 use Rattle.std.proofs.lemmas.Result.{err_from_is_err_and}
 use Rattle.postscript_view.specs.Layout.{IsPart}
-use Rattle.postscript_view.specs.Order.{PrivateDict}
+use Rattle.postscript_view.specs.Contents.{PrivateDict}
 use Rattle.postscript_view.specs.Value.{part_shown, parts_shown}
 use Rattle.postscript_write.specs.Privates.{IsOwnPrivate}
 use Rattle.postscript_write.proofs.Agree.{one_more}

@@ -1,6 +1,6 @@
 use Rattle.std.proofs.Common.{◌≡◌, ℕ, ◌<◌, Some, None, length, get_or, slice_get}
 use Rattle.postscript_view.specs.Layout.{AreParts}
-use Rattle.postscript_view.specs.Order.{PrivateDict}
+use Rattle.postscript_view.specs.Contents.{PrivateDict}
 use Rattle.postscript_view.specs.Value.{parts_shown}
 use Rattle.postscript_write.specs.Privates.{IsOwnPrivate}
 use Rattle.postscript_write.proofs.layout.own_privates.Given as goal

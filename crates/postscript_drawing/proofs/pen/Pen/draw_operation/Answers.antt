@@ -1,5 +1,5 @@
 use Rattle.std.proofs.Common.{rules}
-use Rattle.postscript_drawing.specs.Drawing.{IsFront}
+use Rattle.postscript_drawing.specs.Outcome.{IsFront}
 use Rattle.postscript_drawing.specs.Operators.{strokes}
 use Rattle.postscript_drawing.proofs.ListLaws.{list-drawn, list-kept, list-refused}
 use Rattle.postscript_drawing.proofs.pen.Pen.draw_operation.Goals as goal
