@@ -10,7 +10,7 @@ ghost use Rattle.postscript_drawing.specs.Spending.{PaysCode, PaysComponents, Pa
 ghost use Rattle.postscript_drawing.specs.declared.error.Error.TheVariants as errors;
 ghost use Rattle.postscript_outline.specs.Points.{point};
 ghost use Rattle.postscript_type2.specs.Program.Limit.{Spends};
-ghost use Rattle.postscript_type2.specs.Program.Runs.{Phrase as ASaid, width_of};
+ghost use Rattle.postscript_type2.specs.Program.Runs.{Phrase, width_of};
 
 use crate::accent::Accent;
 use crate::component::component_of;
@@ -152,7 +152,7 @@ fn draw_run<S: Sink>(
     ensures width { IfOk result (λ own. own.width ≡ width_of (run_by glyph.now)) }
     ensures told { IfOk result (λ own. IsTold own.accent (run_by glyph.now)) }
     ensures paid { OnOk result (Spends limit.old (run_by glyph.now).trace limit.new []) }
-    ensures spends { (rest : List ASaid) × Spends limit.old (run_by glyph.now).trace limit.new rest }
+    ensures spends { (rest : List Phrase) × Spends limit.old (run_by glyph.now).trace limit.new rest }
     ensures why { IfErr result (λ e. IsWanting limit.new e ⊎ IsUndrawn origin e (run_by glyph.now).answers (run_by glyph.now).end
         ⊎ IsUnread e (run_by glyph.now)) }
     ensures front { OnErr result (DrawsFront S.after origin (S.state sink.old) (S.state sink.new) (run_by glyph.now).answers) }
