@@ -25,10 +25,13 @@ struct RawSegment {
     points: [i32; 6],
 }
 
+/// A `psf_font`: ten numbers of eight bytes, the last but one of which is padded.
+type Numbers = [u64; 10];
+
 extern "C" {
-    fn psf_font_open(bytes: *const u8, length: usize, font: *mut [u64; 9]) -> i32;
+    fn psf_font_open(bytes: *const u8, length: usize, font: *mut Numbers) -> i32;
     fn psf_glyph_outline(
-        bytes: *const u8, length: usize, font: *const [u64; 9], glyph: usize,
+        bytes: *const u8, length: usize, font: *const Numbers, glyph: usize,
         segments: *mut RawSegment, room: usize, count: *mut usize, info: *mut [u64; 4],
     ) -> i32;
 }
@@ -260,7 +263,7 @@ fn fuzz(cases: u64, seed: u64, files: &[(String, Vec<u8>)]) -> bool {
     let mut random = Random(seed * 2 + 1);
     let fonts: Vec<Font> = files.iter().filter_map(|(_, file)| Font::from_file(file, 0).ok()).collect();
     let places: Vec<usize> = fonts.iter().map(|font| {
-        let mut numbers = [0; 9];
+        let mut numbers: Numbers = [0; 10];
         unsafe { psf_font_open(font.table().as_ptr(), font.table().len(), &mut numbers) };
         numbers[0] as usize
     }).collect();
@@ -324,7 +327,7 @@ fn speed(files: &[(String, Vec<u8>)]) {
     for (name, file) in files {
         let Ok(font) = Font::from_file(file, 0) else { continue };
         let (bytes, glyphs) = (font.table(), font.glyph_count());
-        let mut numbers = [0u64; 9];
+        let mut numbers: Numbers = [0; 10];
         let [open] = least([&mut || for _ in 0..100 { black_box(unsafe { psf_font_open(bytes.as_ptr(), bytes.len(), &mut numbers) }); }]);
         let mut segments = vec![RawSegment::default(); 1 << 14];
         let (mut count, mut info) = (0, [0; 4]);
