@@ -11,6 +11,9 @@ pub mod Placing
 pub mod Privates
 pub mod Arranged
 pub mod Lengths
+pub mod Room
+pub mod Few
+pub mod Within
 pub mod TablesStand
 pub mod Heads
 pub mod Shown

@@ -1,20 +1,21 @@
 -- Private dictionaries of parts.
-use Rattle.std.proofs.Common.{◌≡◌, ◌⊎◌, sym, ap, subst, ◌∙◌, inl, inr, ℕ, zero, suc, ◌+◌, [], ◌∷◌, List, slice_get, Option, Some, None, true, false}
+use Rattle.std.proofs.Common.{◌≡◌, ◌⊎◌, sym, ap, subst, ◌∙◌, inl, inr, ℕ, zero, suc, ◌+◌, ◌≤◌, ◌==◌, nat_lt, if◌then◌else◌, [], ◌∷◌, List, length, length-take, length-drop, take, drop, slice_get, Option, Some, None, Bool, true, false, arith}
 use Rattle.std.specs.Option.{is_none, unwrap_or}
 use Rattle.postscript_base.specs.Compact1.Defaults.{look, first_two_of}
 use Rattle.postscript_base.specs.Compact1.Dictionary.{Dictionary, dictionary_of}
 use Rattle.postscript_base.specs.Compact1.DictionaryLaw.{IsDictionary}
-use Rattle.postscript_base.specs.Tape.Outcome.{Got, RefusedAs}
+use Rattle.postscript_base.specs.Tape.Outcome.{Got, RefusedAs, end}
 use Rattle.postscript_base.specs.declared.compact1.operator.Operator.TheVariants as operators
 use Rattle.postscript_base.specs.declared.error.Error.{Error}
 use Rattle.postscript_compact1.specs.FontSet.Layout.{HasPrivate}
 use Rattle.postscript_compact1.specs.FontSet.Operands.{bounds}
-use Rattle.postscript_compact1.proofs.OperandLaws.{bounds_is}
+use Rattle.postscript_compact1.proofs.OperandLaws.{bounds_has, bounds_is}
 use Rattle.postscript_view.specs.Layout.{AreParts, ArePartsOf, HasLocals, IsPart}
 use Rattle.postscript_view.specs.Layout.AreParts.{OfFont, OfFontDictionaries}
 use Rattle.postscript_view.specs.Layout.HasLocals.{WithBoth, WithoutSubrs, WithoutPrivate}
 use Rattle.postscript_view.specs.Order.{slice_at}
 use Rattle.postscript_view.specs.Contents.{PrivateDict}
+use Rattle.postscript_view.specs.Sizes.{size_in, size_named}
 use Rattle.postscript_view.proofs.Wider.{slice_is}
 
 -- a part has a private dictionary that its dictionary names, or none is named
@@ -82,3 +83,22 @@ each_part bytes map parts i part (OfFont own plain is one) at = by i (subst (λ 
         subst (λ (p : PrivateDict). IsPart bytes (unwrap_or p.font map) p.font p) same (subst (λ f. IsPart bytes (unwrap_or f map) f own) (sym none) (is.0, none))
     by (suc i) at = let never : None ≡ Some part = at in absurd (cc)
 each_part bytes map parts i part (OfFontDictionaries items keyed named are) at = each_of bytes items parts map i part are at
+
+-- a private dictionary has the size that is named, and no more bytes than the font
+pub size_is : (bytes : List ℕ) (map : Dictionary) (size o there : ℕ) → bounds 0 map bytes 0 ≡ Got (size, o, there) 0 → size ≡ size_named (first_two_of (look map operators.Private))
+size_is bytes map size o there e =
+    let has = bounds_has 0 map (size, o, there) bytes 0 0 e in
+    let two = has.0 in
+    sym (ap size_named two.2 ∙ ap size_in two.3)
+
+pub source_within : (bytes source : List ℕ) (there size : ℕ) → slice_at there size bytes 0 ≡ Got source 0 → (length source ≤ size) × (length source ≤ length bytes)
+unfolding slice_at
+source_within bytes source there size is = by (size == 0) (nat_lt (length bytes) (there + size)) is
+  where
+    by : (none cut : Bool) → (if none then Got [] 0 else if cut then end else Got (take size (drop there bytes)) 0) ≡ Got source 0 → (length source ≤ size) × (length source ≤ length bytes)
+    by true cut e = let same = one_value [] source e in let long = ap length same in (omega (arith, long), omega (arith, long))
+    by false true e = absurd (cc)
+    by false false e =
+        let same = one_value (take size (drop there bytes)) source e in
+        let long = ap length same in
+        (omega (arith, long, length-take size (drop there bytes)), omega (arith, long, length-take size (drop there bytes), length-drop there bytes))

@@ -1,7 +1,7 @@
 -- Operations but those of some operators.
-use Rattle.std.proofs.Common.{◌≡◌, ◌≢◌, ◌⊎◌, refl, map, sym, ap, subst, ◌∙◌, inl, inr, ℕ, ◌+◌, ◌-◌, ◌≤◌, ◌<◌, ◌^◌, zero, suc, get_or, false, List, [], ◌∷◌, ◌++◌, length, take, drop, length-append, length-take-le, take-append-drop, arith}
+use Rattle.std.proofs.Common.{◌≡◌, ◌≢◌, ◌⊎◌, refl, map, sym, ap, subst, ◌∙◌, inl, inr, ℕ, ◌+◌, ◌-◌, ◌≤◌, ◌<◌, ◌^◌, zero, suc, get_or, false, List, [], ◌∷◌, ◌++◌, length, take, drop, length-append, length-take, length-take-le, take-append-drop, arith, below_more}
 use Rattle.std.specs.List.{Contains}
-use Rattle.std.proofs.lemmas.List.{append-nil, append_assoc}
+use Rattle.std.proofs.lemmas.List.{append-nil, append_assoc, get_or_default}
 use Rattle.postscript_base.specs.Refusal.{Refusal}
 use Rattle.postscript_base.specs.Tape.Loops.{is_end}
 use Rattle.postscript_base.specs.Tape.Outcome.{Outcome, Got, Fault, Past, RefusedAs}
@@ -160,3 +160,34 @@ held_at (n ∷ ns) (suc i) held less = held_at ns i held.1 (omega (arith, less))
 
 pub place_held : (place : Place) (numbers : List ℕ) → numbers_of place.size place.offset ≡ numbers → (IsWritable place.operator → AreHeld numbers → ⊥) → IsHeld place → ⊥
 place_held place numbers are never held = never held.0 (subst AreHeld are held.1)
+
+-- what holds of those so far, and of one more
+pub held_more : {X : Type 0} (P : X → Type 0) (xs : List X) (i : ℕ) (one : X) → i < length xs → P (get_or xs i one) → ((k : ℕ) (d : X) → k < i → P (get_or xs k d)) → (k : ℕ) (d : X) → k < i + 1 → P (get_or xs k d)
+held_more {X = X} P xs i one less here before k d h = below_more (λ k. (d : X) → P (get_or xs k d)) i (λ k under d. before k d under) (λ d. subst P (get_or_default xs i one d less) here) k h d
+
+-- what is left of a dictionary is no longer than the dictionary
+left_within : (text : List ℕ) (left_out : List Operator) (place : ℕ) (out : List ℕ) → place ≤ length text → IsLeftText text left_out place out → place + length out ≤ length text
+left_within text left_out _ _ within (ends place stops) = omega (arith, within)
+left_within text left_out _ _ within (keeps place next o rest out got stays h e) =
+    let goes = reached text place next o got in
+    let up = goes.0 in
+    let less = left_within text left_out next rest goes.1 h in
+    let spelled : List ℕ = take (next - place) (drop place text) in
+    let long : length out ≡ length spelled + length rest = ap length e ∙ length-append spelled rest in
+    let there : length spelled ≤ next - place = omega (arith, length-take (next - place) (drop place text)) in
+    omega (arith, up, less, long, there)
+left_within text left_out _ _ within (leaves place next o out got is h) =
+    let goes = reached text place next o got in
+    let up = goes.0 in
+    let less = left_within text left_out next out goes.1 h in
+    omega (arith, up, less)
+
+pub left_shorter : (text : List ℕ) (left_out : List Operator) (out : List ℕ) → IsLeftText text left_out 0 out → length out ≤ length text
+left_shorter text left_out out h = omega (arith, left_within text left_out 0 out (omega arith) h)
+
+-- and with places no longer than with as many bytes more as these have
+pub sized_within : (text : List ℕ) (places : List Place) (size : ℕ) → HasSize text places size → size ≤ length text + places_size places
+sized_within text places size h =
+    let less = left_shorter text (map (λ place. place.operator) places) h.0 h.1 in
+    let is = h.2 in
+    omega (arith, less, is)

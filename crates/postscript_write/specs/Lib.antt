@@ -9,6 +9,7 @@ pub mod Arrangement
 pub mod Naming
 pub mod Strings
 pub mod Renumbered
+pub mod Room
 pub mod Written
 pub mod Fonts
 pub mod Whole

@@ -1,11 +1,13 @@
 -- Private dictionaries as they are written (Technical Note 5176, sections 15 and 16).
-use Rattle.std.specs.Prelude.{◌≡◌, ℕ, ◌+◌, ◌<◌, List, [], ◌∷◌, Option, Some, None, flat_map, length, slice_get, slice_index_or, take}
+use Rattle.std.specs.Prelude.{All, ◌≡◌, ℕ, ◌+◌, ◌<◌, List, [], ◌∷◌, Option, Some, None, flat_map, length, slice_get, slice_index_or, take}
+use Rattle.std.specs.Option.{unwrap_or}
+use Rattle.postscript_base.specs.Compact1.Defaults.{first_two_of, look}
 use Rattle.postscript_base.specs.Compact1.Dictionary.{Dictionary, dictionary_of}
 use Rattle.postscript_base.specs.Compact1.DictionaryLaw.{IsDictionary}
 use Rattle.postscript_base.specs.declared.compact1.operator.Operator.TheVariants.{Subrs}
 use Rattle.postscript_base.specs.declared.compact1.operator.Operator.TheVariants as operators
 use Rattle.postscript_view.specs.Contents.{PrivateDict}
-use Rattle.postscript_write.specs.Dictionaries.{HasSize, IsLess, IsPlaced}
+use Rattle.postscript_write.specs.Dictionaries.{HasSize, IsHeld, IsLess, IsPlaced}
 use Rattle.postscript_write.specs.declared.dictionaries.Place.{Place}
 use Rattle.postscript_write.specs.declared.layout.Private.{Private}
 
@@ -21,6 +23,11 @@ abbrev pub place_of_private : Option Private → (offset : ℕ) → List Place
 place_of_private None offset = []
 place_of_private (Some private) offset =
     record { operator = operators.Private; size = Some (length private.text.items); offset = offset } ∷ []
+
+-- Where no private dictionary is written of a part, none is named: by its font dictionary, or by the dictionary of the font.
+abbrev pub NoneIsNamed : Dictionary → List PrivateDict → List (Option Private) → Type 0
+NoneIsNamed map parts privates = (i : ℕ) (part : PrivateDict) → slice_get parts i ≡ Some part → slice_index_or privates i None ≡ None →
+    first_two_of (look (unwrap_or part.font map) operators.Private) ≡ None
 
 -- as many as there are parts, each that of the part in its place
 pub record AreOwnPrivates (parts : List PrivateDict) (privates : List (Option Private)) : Type 0 where
@@ -47,11 +54,13 @@ IsFontDictionary old private offset text =
 abbrev pub IsSomeDictionary : List ℕ → Type 0
 IsSomeDictionary item = (map : Dictionary) × IsDictionary item 0 map
 
--- Font dictionaries, written, as many as there are items: each of the item in its place, and with the private dictionary in its place.
+-- Font dictionaries, written, as many as there are items: each of the item in its place, and with the private dictionary in its place,
+-- whose size and offset a dictionary can hold.
 pub record AreFontDictionaries (items : List (List ℕ)) (privates : List (Option Private)) (start : ℕ) (texts : List (List ℕ)) : Type 0 where
   pub many : length texts ≡ length items
   pub each : (i : ℕ) (old : Dictionary) → i < length items → IsDictionary (slice_index_or items i []) 0 old →
       IsFontDictionary old (slice_index_or privates i None) (private_offset start privates i) (slice_index_or texts i [])
+  pub held : (i : ℕ) → i < length items → All IsHeld (place_of_private (slice_index_or privates i None) (private_offset start privates i))
 
 -- Texts have the sizes of font dictionaries that name these private dictionaries, wherever these stand.
 pub record AreSized (items : List (List ℕ)) (privates : List (Option Private)) (texts : List (List ℕ)) : Type 0 where

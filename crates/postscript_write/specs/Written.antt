@@ -1,5 +1,5 @@
 -- What is written of a font (Technical Note 5176, "CFF Data Layout").
-use Rattle.std.specs.Prelude.{◌≡◌, ℕ, ◌<◌, None, slice_index_or, List, [], ◌∷◌, IsSome, ◌++◌, length}
+use Rattle.std.specs.Prelude.{All, ◌≡◌, ℕ, ◌<◌, None, slice_index_or, List, [], ◌∷◌, IsSome, ◌++◌, length}
 use Rattle.postscript_base.specs.Compact1.Dictionary.{Dictionary}
 use Rattle.postscript_base.specs.Compact1.DictionaryLaw.{IsDictionary}
 use Rattle.postscript_base.specs.Index.{number_at}
@@ -9,10 +9,10 @@ use Rattle.postscript_view.specs.Layout.{AreParts, AreTables, IsIndexAt}
 use Rattle.postscript_view.specs.Value.{parts_shown, view_shown}
 use Rattle.postscript_view.specs.declared.font.FontView.{FontView}
 use Rattle.postscript_write.specs.Arrangement.{NameParts, PartsStand, beginnings, parts_text, places_of, tables_text}
-use Rattle.postscript_write.specs.Dictionaries.{IsPlaced, IsWithPlaces}
+use Rattle.postscript_write.specs.Dictionaries.{IsHeld, IsPlaced, IsWithPlaces}
 use Rattle.postscript_write.specs.Fonts.{HasHeader}
 use Rattle.postscript_write.specs.Index.{Fits, index_text}
-use Rattle.postscript_write.specs.Privates.{AreOwnPrivates, private_offset, private_text}
+use Rattle.postscript_write.specs.Privates.{AreOwnPrivates, NoneIsNamed, private_offset, private_text}
 use Rattle.postscript_write.specs.Renumbered.{all_renamed}
 use Rattle.postscript_write.specs.Texts.{Stands}
 use Rattle.postscript_write.specs.declared.layout.Glyphs.{Glyphs}
@@ -52,9 +52,11 @@ pub record IsWritten (font : FontView) (glyphs : Glyphs) (codes : List (List ℕ
   pub char_strings : parts.char_strings.items ≡ index_text codes
   pub privates : AreParts font.bytes.now font.dictionary (parts_shown font.parts.items) →
       AreOwnPrivates (parts_shown font.parts.items) parts.privates.items
+  pub none_named : NoneIsNamed font.dictionary (parts_shown font.parts.items) parts.privates.items
   pub renamed : AreTables font.bytes.now (number_at font.bytes.now 2 1) 0 (view_shown font).tables →
       (new : Dictionary) × IsDictionary dictionary 0 new × IsPlaced font.dictionary (all_renamed glyphs.strings font.dictionary) new
   pub places : IsWithPlaces dictionary (places_of (length tables) parts) placed
+  pub held : All IsHeld (places_of (length tables) parts)
   pub tables_stand : AreTables font.bytes.now (number_at font.bytes.now 2 1) 0 (view_shown font).tables →
       TablesStand font glyphs parts (length tables) out
   pub codes_stand : IsIndexAt out (beginnings (length tables) parts).char_strings codes

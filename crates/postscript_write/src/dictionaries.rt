@@ -70,6 +70,7 @@ fn put_integers(out: &mut Vec<u8>, numbers: &[usize]) -> Result<()>
 fn code_of(operator: Operator) -> Option<u8>
     ensures code { IfSome result (λ code. IsCode code operator) }
     ensures size { IfSome result (λ _. operator_size operator ≡ 1) }
+    ensures writable { IfSome result (λ _. IsWritable operator) }
     ensures none { result ≡ None → IsAmong operator short → ⊥ }
 {
     match operator {
@@ -92,6 +93,7 @@ fn code_of(operator: Operator) -> Option<u8>
 fn second_of(operator: Operator) -> Option<u8>
     ensures code { IfSome result (λ second. IsEscaped second operator) }
     ensures size { IfSome result (λ _. operator_size operator ≡ 2) }
+    ensures writable { IfSome result (λ _. IsWritable operator) }
     ensures none { result ≡ None → IsAmong operator escaped → ⊥ }
 {
     match operator {
@@ -109,6 +111,7 @@ fn second_of(operator: Operator) -> Option<u8>
 fn put_short(out: &mut Vec<u8>, numbers: &[usize], operator: Operator, code: u8) -> Result<()>
     requires { IsCode code operator }
     ensures sized { OnOk result (length out.new.items ≡ length out.old.items + (5 * length numbers.now + 1)) }
+    ensures held { OnOk result (AreHeld numbers.now) }
     ensures refused { IfErr result (λ e. e ≢ errors.Memory → AreHeld numbers.now → ⊥) }
     ensures one_more { OnOk result ((operations : List Operation) → OperationsAt out.old.items 0 operations (length out.old.items) →
         OperationsAt out.new.items 0 (operations ++ (operator, operands_of numbers.now) ∷ []) (length out.new.items)) }
@@ -122,6 +125,7 @@ fn put_short(out: &mut Vec<u8>, numbers: &[usize], operator: Operator, code: u8)
 fn put_escaped(out: &mut Vec<u8>, numbers: &[usize], operator: Operator, second: u8) -> Result<()>
     requires { IsEscaped second operator }
     ensures sized { OnOk result (length out.new.items ≡ length out.old.items + (5 * length numbers.now + 2)) }
+    ensures held { OnOk result (AreHeld numbers.now) }
     ensures refused { IfErr result (λ e. e ≢ errors.Memory → AreHeld numbers.now → ⊥) }
     ensures one_more { OnOk result ((operations : List Operation) → OperationsAt out.old.items 0 operations (length out.old.items) →
         OperationsAt out.new.items 0 (operations ++ (operator, operands_of numbers.now) ∷ []) (length out.new.items)) }
@@ -138,6 +142,8 @@ fn put_escaped(out: &mut Vec<u8>, numbers: &[usize], operator: Operator, second:
 pub fn put_operation(out: &mut Vec<u8>, numbers: &[usize], operator: Operator) -> Result<()>
     ensures refused { IfErr result (λ e. e ≢ errors.Memory → IsWritable operator → AreHeld numbers.now → ⊥) }
     ensures sized { OnOk result (length out.new.items ≡ length out.old.items + operation_size numbers.now operator) }
+    ensures writable { OnOk result (IsWritable operator) }
+    ensures held { OnOk result (AreHeld numbers.now) }
     ensures one_more { OnOk result ((operations : List Operation) → OperationsAt out.old.items 0 operations (length out.old.items) →
         OperationsAt out.new.items 0 (operations ++ (operator, operands_of numbers.now) ∷ []) (length out.new.items)) }
 {
@@ -160,6 +166,7 @@ pub(crate) struct Place {
 fn put_place(out: &mut Vec<u8>, place: &Place) -> Result<()>
     ensures refused { IfErr result (λ e. e ≢ errors.Memory → IsHeld place.now → ⊥) }
     ensures sized { OnOk result (length out.new.items ≡ length out.old.items + place_size place.now) }
+    ensures held { OnOk result (IsHeld place.now) }
     ensures one_more { OnOk result ((operations : List Operation) → OperationsAt out.old.items 0 operations (length out.old.items) →
         OperationsAt out.new.items 0 (operations ++ operation_of place.now ∷ []) (length out.new.items)) }
 {
@@ -173,6 +180,7 @@ fn put_place(out: &mut Vec<u8>, place: &Place) -> Result<()>
 fn put_places(out: &mut Vec<u8>, places: &[Place]) -> Result<()>
     ensures refused { IfErr result (λ e. e ≢ errors.Memory → All IsHeld places.now → ⊥) }
     ensures sized { OnOk result (length out.new.items ≡ length out.old.items + places_size places.now) }
+    ensures held { OnOk result (All IsHeld places.now) }
     ensures more { OnOk result ((operations : List Operation) → OperationsAt out.old.items 0 operations (length out.old.items) →
         OperationsAt out.new.items 0 (operations ++ map operation_of places.now) (length out.new.items)) }
 {
@@ -217,9 +225,10 @@ pub(crate) fn without(alloc: Global, text: &[u8], left_out: &[Operator]) -> Resu
 }
 
 /// The bytes of whole operations, and behind them the operations of places.
-fn replaced(rest: Vec<u8>, places: &[Place]) -> Result<Vec<u8>>
+fn followed_by(rest: Vec<u8>, places: &[Place]) -> Result<Vec<u8>>
     ensures refused { IfErr result (λ e. e ≢ errors.Memory → All IsHeld places.now → ⊥) }
     ensures sized { IfOk result (λ out. length out.items ≡ length rest.items + places_size places.now) }
+    ensures held { OnOk result (All IsHeld places.now) }
     ensures more { IfOk result (λ out. (operations : List Operation) → OperationsAt rest.items 0 operations (length rest.items) →
         OperationsAt out.items 0 (operations ++ map operation_of places.now) (length out.items)) }
 {
@@ -245,10 +254,11 @@ pub(crate) fn with_places(alloc: Global, text: &[u8], places: &[Place]) -> Resul
     ensures placed { IfOk result (λ out. (old : Dictionary) → IsDictionary text.now 0 old →
         (new : Dictionary) × IsDictionary out.items 0 new × IsPlaced old places.now new) }
     ensures sized { IfOk result (λ out. HasSize text.now places.now (length out.items)) }
+    ensures held { OnOk result (All IsHeld places.now) }
     ensures refused { IfErr result (λ e. e ≢ errors.Memory → All IsHeld places.now → (old : Dictionary) →
         IsDictionary text.now 0 old → ⊥) }
 {
     let operators = operators_of(alloc, places)?;
     let rest = without(alloc, text, &operators)?;
-    replaced(rest, places)
+    followed_by(rest, places)
 }

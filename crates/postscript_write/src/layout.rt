@@ -1,6 +1,7 @@
 //! The parts of a font, and where they stand (Technical Note 5176, "CFF Data Layout").
-ghost use Rattle.std.specs.Prelude.{◌≡◌, ◌≢◌, ◌≤◌, ◌<◌, ◌+◌, ◌^◌, ◌++◌, ℕ, pos, List, [], ◌∷◌, IsSome, length, All, Option, IfErr, IfOk, OnOk};
+ghost use Rattle.std.specs.Prelude.{◌≡◌, ◌≢◌, None, ◌≤◌, ◌<◌, ◌+◌, ◌^◌, ◌++◌, ℕ, pos, List, [], ◌∷◌, IsSome, length, All, Option, IfErr, IfOk, OnOk};
 ghost use Rattle.std.specs.Option.{unwrap_or};
+ghost use Rattle.postscript_base.specs.Compact1.Defaults.{first_two_of, look};
 ghost use Rattle.postscript_base.specs.Compact1.Dictionary.{Dictionary};
 ghost use Rattle.postscript_base.specs.Compact1.DictionaryLaw.{IsDictionary};
 ghost use Rattle.postscript_base.specs.declared.error.Error.TheVariants as errors;
@@ -11,13 +12,14 @@ ghost use Rattle.postscript_compact1.specs.FontSet.Layout.{HasFirst};
 ghost use Rattle.postscript_type2.specs.Program.Routines.{texts};
 ghost use Rattle.postscript_view.specs.Layout.{AreParts, AreTables, IsPart, NamesIndex};
 ghost use Rattle.postscript_view.specs.Contents.{PrivateDict as Part, Tables};
-ghost use Rattle.postscript_view.specs.Sizes.{IsKeyed};
+ghost use Rattle.postscript_view.specs.Sizes.{IsKeyed, size_named};
 ghost use Rattle.postscript_view.specs.Value.{parts_shown, view_shown};
 ghost use Rattle.postscript_write.specs.Arrangement.{AreSizedFor, beginnings, dictionaries_place, only_place, place_if, places_of, standard_place, text_of, NameParts, dictionaries_text, parts_text, tables_text};
-ghost use Rattle.postscript_write.specs.Dictionaries.{HasSize, IsHeld, IsPlaced, IsWithPlaces};
+ghost use Rattle.postscript_write.specs.Dictionaries.{HasSize, IsHeld, IsPlaced, IsWithPlaces, places_size};
 ghost use Rattle.postscript_write.specs.Index.{Fits, index_text};
-ghost use Rattle.postscript_write.specs.Privates.{AreFontDictionaries, AreSized, AreOwnPrivates, IsFontDictionary, IsOwnPrivate, IsSomeDictionary, place_of_private, private_text, privates_text};
+ghost use Rattle.postscript_write.specs.Privates.{AreFontDictionaries, AreSized, AreOwnPrivates, IsFontDictionary, IsOwnPrivate, IsSomeDictionary, NoneIsNamed, place_of_private, private_text, privates_text};
 ghost use Rattle.postscript_write.specs.Renumbered.{all_renamed, renamed_if};
+ghost use Rattle.postscript_write.specs.Room.{HasRoom, IsRead, SelectsIfKeyed};
 ghost use Rattle.postscript_write.specs.Strings.{identifier_in as the_identifier};
 ghost use Rattle.postscript_write.specs.Written.{IsWritten};
 
@@ -66,6 +68,7 @@ fn place_of(dictionary: &Operations, operator: Operator) -> Result<usize>
 fn first_dictionary(bytes: &[u8]) -> Result<&[u8]>
     ensures is { IfOk result (λ item. (tables : Tables) → AreTables bytes.now (number_at bytes.now 2 1) 0 tables →
         IsDictionary item.now 0 tables.dictionary) }
+    ensures within { IfOk result (λ item. length item.now ≤ length bytes.now) }
     ensures refused { IfErr result (λ e. (tables : Tables) → 3 ≤ length bytes.now → AreTables bytes.now (number_at bytes.now 2 1) 0 tables → ⊥) }
 {
     let start = number_within(bytes, 2, 1)?;
@@ -120,6 +123,10 @@ struct Private {
 fn own_private(alloc: Global, bytes: &[u8], dictionary: &Operations) -> Result<Option<Private>>
     ensures own { IfOk result (λ private. (font : Option Dictionary) (part : Part) →
         IsPart bytes.now dictionary.now font part → IsOwnPrivate part private) }
+    ensures named { IfOk result (λ private. private ≡ None → first_two_of (look dictionary.now operators.Private) ≡ None) }
+    ensures sized { IfOk result (λ private.
+        length (private_text private) ≤ size_named (first_two_of (look dictionary.now operators.Private))) }
+    ensures within { IfOk result (λ private. length (private_text private) ≤ length bytes.now) }
     ensures refused { IfErr result (λ e. e ≢ errors.Memory → (font : Option Dictionary) (part : Part) →
         IsPart bytes.now dictionary.now font part → ⊥) }
 {
@@ -142,10 +149,15 @@ fn naming_dictionary<'d>(part: &'d PrivateDict<'_>, font: &'d Operations) -> &'d
     }
 }
 
-/// The private dictionaries of the parts of a font.
+/// The private dictionaries of the parts of a font. That of a font has no more bytes than the font, and those of a CID-keyed one have
+/// at most 20,000,000 (`HoldFew`).
 fn own_privates(alloc: Global, font: &FontView<'_>) -> Result<Vec<Option<Private>>>
     ensures own { IfOk result (λ privates. AreParts font.now.bytes.now font.now.dictionary (parts_shown font.now.parts.items) →
         AreOwnPrivates (parts_shown font.now.parts.items) privates.items) }
+    ensures named { IfOk result (λ privates.
+        NoneIsNamed font.now.dictionary (parts_shown font.now.parts.items) privates.items) }
+    ensures few { IfOk result (λ privates. IsRead font.now →
+        length (privates_text privates.items) ≤ length font.now.bytes.now + 20000000) }
     ensures refused { IfErr result (λ e. e ≢ errors.Memory →
         AreParts font.now.bytes.now font.now.dictionary (parts_shown font.now.parts.items) → ⊥) }
 {
@@ -330,6 +342,7 @@ fn font_dictionary(
     ensures placed { IfOk result (λ out. (old : Dictionary) → IsDictionary text.now 0 old →
         IsFontDictionary old private.now offset out.items) }
     ensures sized { IfOk result (λ out. HasSize text.now (place_of_private private.now 0) (length out.items)) }
+    ensures held { OnOk result (All IsHeld (place_of_private private.now offset)) }
     ensures refused { IfErr result (λ e. e ≢ errors.Memory → All IsHeld (place_of_private private.now offset) → (old : Dictionary) →
         IsDictionary text.now 0 old → ⊥) }
 {
@@ -431,6 +444,8 @@ fn dictionary_with(alloc: Global, font: &FontView<'_>, strings: &Strings) -> Res
     ensures renamed { IfOk result (λ out. AreTables font.now.bytes.now (number_at font.now.bytes.now 2 1) 0 (view_shown font.now).tables →
         (new : Dictionary) × IsDictionary out.items 0 new
         × IsPlaced font.now.dictionary (all_renamed strings.now font.now.dictionary) new) }
+    ensures sized { IfOk result (λ out.
+        length out.items ≤ length font.now.bytes.now + places_size (all_renamed strings.now font.now.dictionary)) }
     ensures refused { IfErr result (λ e. e ≢ errors.Memory → 3 ≤ length font.now.bytes.now →
         AreTables font.now.bytes.now (number_at font.now.bytes.now 2 1) 0 (view_shown font.now).tables →
         All IsHeld (all_renamed strings.now font.now.dictionary) → ⊥) }
@@ -450,6 +465,9 @@ fn put_dictionary(
     ensures text { OnOk result ((placed : List ℕ) × (out.new.items ≡ out.old.items ++ index_text (placed ∷ []))
         × IsWithPlaces dictionary.now places.now placed × HasSize dictionary.now places.now (length placed)
         × Fits (placed ∷ [])) }
+    ensures held { OnOk result (All IsHeld places.now) }
+    ensures refused { IfErr result (λ e. e ≢ errors.Memory → All IsHeld places.now → IsSomeDictionary dictionary.now →
+        length dictionary.now + places_size places.now < 2 ^ 31 → ⊥) }
 {
     let mut dictionaries = Vec::new(alloc);
     dictionaries.push(with_places(alloc, dictionary, places)?)?;
@@ -472,6 +490,9 @@ fn put_tables(
         × Fits (placed ∷ [])) }
     ensures names_fit { OnOk result (Fits (items_of font.now.names)) }
     ensures strings_fit { OnOk result (Fits (texts strings.now)) }
+    ensures held { OnOk result (All IsHeld places.now) }
+    ensures refused { IfErr result (λ e. e ≢ errors.Memory → All IsHeld places.now → IsSomeDictionary dictionary.now →
+        length dictionary.now + places_size places.now < 2 ^ 31 → Fits (items_of font.now.names) → Fits (texts strings.now) → ⊥) }
 {
     let names = copied(alloc, &font.names)?;
     out.extend_from_slice(&[1, 0, 4, 4])?;
@@ -529,6 +550,9 @@ fn put_dictionaries(
         × (IsSome parts.now.glyphs.now.select →
         AreSizedFor font.now.bytes.now font.now.dictionary parts.now.privates.items dictionaries)
         × (IsSome parts.now.glyphs.now.select → Fits dictionaries)) }
+    ensures refused { IfErr result (λ e. e ≢ errors.Memory → IsRead font.now → SelectsIfKeyed font.now parts.now.glyphs.now →
+        length font.now.parts.items < 2 ^ 16 → AreOwnPrivates (parts_shown font.now.parts.items) parts.now.privates.items →
+        start + length (privates_text parts.now.privates.items) < 2 ^ 31 → ⊥) }
 {
     if parts.glyphs.select.is_none() {
         return Ok(());
@@ -545,6 +569,9 @@ fn put_parts(alloc: Global, out: &mut Vec<u8>, font: &FontView<'_>, parts: &Part
         × (IsSome parts.now.glyphs.now.select →
         AreSizedFor font.now.bytes.now font.now.dictionary parts.now.privates.items dictionaries)
         × (IsSome parts.now.glyphs.now.select → Fits dictionaries)) }
+    ensures refused { IfErr result (λ e. e ≢ errors.Memory → IsRead font.now → SelectsIfKeyed font.now parts.now.glyphs.now →
+        length font.now.parts.items < 2 ^ 16 → AreOwnPrivates (parts_shown font.now.parts.items) parts.now.privates.items →
+        (beginnings (length out.old.items) parts.now).end < 2 ^ 31 → ⊥) }
 {
     put_if(out, &parts.glyphs.encoding)?;
     put_if(out, &parts.glyphs.select)?;
@@ -555,15 +582,21 @@ fn put_parts(alloc: Global, out: &mut Vec<u8>, font: &FontView<'_>, parts: &Part
     put_if(out, &parts.glyphs.char_set)
 }
 
-/// How many bytes the font dictionaries of a CID-keyed font have: as many, wherever the private dictionaries stand.
+/// How many bytes the font dictionaries of a CID-keyed font have: as many, wherever the private dictionaries stand. Those that are read
+/// have at most 20,000,000 (`HoldFew`), and each has at most 15 more as it is written: its offset, and the place of its private dictionary.
 fn dictionaries_len(
     alloc: Global,
     font: &FontView<'_>,
     glyphs: &Glyphs,
     privates: &[Option<Private>],
 ) -> Result<usize>
-    ensures { IfOk result (λ len. (dictionaries : List (List ℕ)) × (len ≡ length (dictionaries_text glyphs.now.select dictionaries))
+    ensures len { IfOk result (λ len. (dictionaries : List (List ℕ)) × (len ≡ length (dictionaries_text glyphs.now.select dictionaries))
         × (IsSome glyphs.now.select → AreSizedFor font.now.bytes.now font.now.dictionary privates.now dictionaries)) }
+    ensures few { IfOk result (λ len. IsRead font.now → SelectsIfKeyed font.now glyphs.now → length font.now.parts.items < 2 ^ 16 →
+        len ≤ 21000000) }
+    ensures refused { IfErr result (λ e. e ≢ errors.Memory → IsRead font.now → SelectsIfKeyed font.now glyphs.now →
+        length font.now.parts.items < 2 ^ 16 → AreOwnPrivates (parts_shown font.now.parts.items) privates.now →
+        length (privates_text privates.now) < 2 ^ 31 → ⊥) }
 {
     if glyphs.select.is_none() {
         return Ok(0);
@@ -581,7 +614,9 @@ pub(crate) fn written(
     glyphs: &Glyphs,
     codes: &[Vec<u8>],
 ) -> Result<Vec<u8>>
-    ensures { IfOk result (λ out. IsWritten font.now glyphs.now (texts codes.now) out.items) }
+    ensures written { IfOk result (λ out. IsWritten font.now glyphs.now (texts codes.now) out.items) }
+    ensures refused { IfErr result (λ e. e ≢ errors.Memory → IsRead font.now → SelectsIfKeyed font.now glyphs.now →
+        HasRoom font.now glyphs.now (texts codes.now) → ⊥) }
 {
     let mut char_strings = Vec::new(alloc);
     put_index(&mut char_strings, codes)?;

@@ -1,19 +1,55 @@
-use Rattle.std.proofs.Common.{◌≡◌, ◌∙◌, ap, ◌++◌, length, true, false, rules, arith}
+use Rattle.std.proofs.Common.{◌≡◌, ◌∙◌, ap, ◌++◌, length, true, false, rules, List, Vec, ℕ, sym, subst, inl, inr, arith}
+use Rattle.std.specs.Prelude.{IsSome}
+use Rattle.std.specs.declared.alloc.Global.{Global}
+use Rattle.std.proofs.lemmas.Result.{err_from_is_err_and}
 use Rattle.std.specs.Option.{is_none}
 use Rattle.postscript_type2.specs.Program.Routines.{texts}
 use Rattle.postscript_write.specs.Arrangement.{AreSizedFor}
-use Rattle.postscript_write.specs.Index.{index_text}
+use Rattle.postscript_write.specs.Index.{Fits, index_text}
+use Rattle.postscript_write.proofs.Few.{are_few, few_fit, few_most}
 use Rattle.postscript_write.proofs.Lengths.{none_text, some_text}
 use Rattle.postscript_write.proofs.layout.dictionaries_len.Goals as goal
 
-pub returns-then-is_none : goal.returns-then-is_none
-returns-then-is_none c =
+pub returns-then-is_none-clause-len : goal.returns-then-is_none-clause-len
+returns-then-is_none-clause-len c =
     let empty : is_none c.args.glyphs.now.select ≡ true = search rules in
     none_text (AreSizedFor c.args.font.now.bytes.now c.args.font.now.dictionary c.args.privates.now) c.args.glyphs.now.select empty
 
-pub returns : goal.returns
-returns c =
+pub returns-clause-len : goal.returns-clause-len
+returns-clause-len c =
     let ds = texts c.in_ok-dictionaries.dictionaries.items in
     let some : is_none c.args.glyphs.now.select ≡ false = search rules in
     let written = c.in_ok-put_index.ensures.ok ∙ ap (λ xs. xs ++ index_text (texts c.deref.result.now)) c.new-out.ensures.items ∙ ap (λ ds. index_text (texts ds)) c.deref.ensures.value ∙ some_text c.args.glyphs.now.select ds some in
     (ds, omega (arith, c.len.ensures, ap length written, c.put_index.new.out.ok.0), λ is. c.in_ok-dictionaries.ensures.sized)
+
+pub returns-in_err-dictionaries-clause-refused : goal.returns-in_err-dictionaries-clause-refused
+returns-in_err-dictionaries-clause-refused c =
+    let error = err_from_is_err_and c.from_residual.result c.from_residual.ensures.1 in
+    let some : IsSome c.args.glyphs.now.select = search rules in
+    rw (error.1, error.2) (λ other read selects parts own few. c.in_err-dictionaries.ensures.refused other (selects some) read.laid.parts own (omega (arith, few)))
+
+pub returns-in_err-put_index-clause-refused : goal.returns-in_err-put_index-clause-refused
+returns-in_err-put_index-clause-refused c =
+    let error = err_from_is_err_and c.from_residual-in_err-put_index.result c.from_residual-in_err-put_index.ensures.1 in
+    let font = c.args.font.now in
+    let ds = texts c.in_ok-dictionaries.dictionaries.items in
+    let some : IsSome c.args.glyphs.now.select = search rules in
+    rw (error.1, error.2) (λ other read selects parts own few.
+    let keyed = selects some in
+    elim c.in_err-put_index.ensures.refused [
+      | inl memory ↦ other memory
+      | inr bad ↦
+          bad.1 (subst (λ (ds : List (Vec ℕ Global)). Fits (texts ds)) (sym c.deref.ensures.value)
+          (few_fit ds (are_few font.bytes.now font.dictionary font.parts.items c.args.privates.now ds keyed (read.few keyed) read.laid.parts parts c.in_ok-dictionaries.ensures.sized)))
+    ])
+
+pub returns-clause-few : goal.returns-clause-few
+returns-clause-few c =
+    let font = c.args.font.now in
+    let ds = texts c.in_ok-dictionaries.dictionaries.items in
+    let some : IsSome c.args.glyphs.now.select = search rules in
+    let written = c.in_ok-put_index.ensures.ok ∙ ap (λ xs. xs ++ index_text (texts c.deref.result.now)) c.new-out.ensures.items ∙ ap (λ ds. index_text (texts ds)) c.deref.ensures.value in
+    λ read selects parts.
+    let keyed = selects some in
+    let most = few_most ds (are_few font.bytes.now font.dictionary font.parts.items c.args.privates.now ds keyed (read.few keyed) read.laid.parts parts c.in_ok-dictionaries.ensures.sized) in
+    omega (arith, c.len.ensures, ap length written, c.put_index.new.out.ok.0, most)

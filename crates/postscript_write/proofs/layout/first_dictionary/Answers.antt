@@ -4,7 +4,7 @@ use Rattle.std.proofs.lemmas.Result.{err_from_is_err_and}
 use Rattle.postscript_base.specs.Compact1.DictionaryLaw.{IsDictionary}
 use Rattle.postscript_base.specs.Index.{IsOpened}
 use Rattle.postscript_base.specs.Index.Lent.{items_of}
-use Rattle.postscript_write.proofs.Heads.{dictionaries_are, names_end}
+use Rattle.postscript_write.proofs.Heads.{dictionaries_are, item_within, names_end}
 use Rattle.postscript_write.proofs.layout.first_dictionary.Goals as goal
 
 pub returns-in_err-_names-clause-refused : goal.returns-in_err-_names-clause-refused
@@ -36,3 +36,9 @@ returns-in-None-clause-refused c = λ tables least are.
     let first = dictionaries_are c.args.bytes.now tables c.in_ok-start.start c.in_ok-_names.next _ (items_of c.in_ok-_names._names) (items_of c.in_ok-dictionaries.dictionaries) are at.1 c.in_ok-_names.ensures.exact c.in_ok-dictionaries.ensures.exact in
     let never : None ≡ Some are.item = sym (ap (option_map (λ item. item.now)) c.in-None.is) ∙ c.get.ensures ∙ first in
     absurd (cc)
+
+pub returns-in-Some-clause-within : goal.returns-in-Some-clause-within
+returns-in-Some-clause-within c =
+    let items : List (List ℕ) = items_of c.in_ok-dictionaries.dictionaries in
+    let at = sym (ap (option_map (λ item. item.now)) c.in-Some.is) ∙ c.get.ensures in
+    item_within c.args.bytes.now c.in_ok-_names.next items c.in_ok-dictionaries._next 0 c.in-Some.item.now c.in_ok-dictionaries.ensures.exact (sym at)

@@ -1,5 +1,5 @@
 use Rattle.std.proofs.Common.{length, rules, ◌≡◌, ◌≢◌, ◌∙◌, sym, ap, subst, List, ℕ, [], ◌∷◌, Some}
-use Rattle.std.specs.Prelude.{All, IfErr, IfOk}
+use Rattle.std.specs.Prelude.{All, IfErr, IfOk, OnOk}
 use Rattle.postscript_base.specs.Compact1.Dictionary.{Dictionary}
 use Rattle.postscript_base.specs.Compact1.DictionaryLaw.{IsDictionary}
 use Rattle.postscript_base.specs.declared.compact1.operator.Operator.TheVariants as operators
@@ -50,3 +50,13 @@ returns-in-Some-clause-sized c =
 pub returns-in-None-clause-sized : goal.returns-in-None-clause-sized
 returns-in-None-clause-sized c =
     subst (λ places. IfOk c.with_places-in-None.result (λ out. HasSize c.args.text.now places (length out.items))) (ap (λ p. place_of_private p 0) (sym c.in-None.is)) c.with_places-in-None.ensures.sized
+
+pub returns-in-Some-clause-held : goal.returns-in-Some-clause-held
+unfolding one
+returns-in-Some-clause-held c =
+    let long : c.len.result ≡ length c.in-Some.private.text.items = search rules in
+    let same = ap (λ n. one n c.args.offset) long ∙ ap (λ p. place_of_private p c.args.offset) (sym c.in-Some.is) in
+    subst (λ places. OnOk c.with_places.result (All IsHeld places)) same c.with_places.ensures.held
+
+pub returns-in-None-clause-held : goal.returns-in-None-clause-held
+returns-in-None-clause-held c = subst (λ places. OnOk c.with_places-in-None.result (All IsHeld places)) (ap (λ p. place_of_private p c.args.offset) (sym c.in-None.is)) c.with_places-in-None.ensures.held

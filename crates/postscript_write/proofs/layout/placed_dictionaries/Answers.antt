@@ -1,10 +1,11 @@
-use Rattle.std.proofs.Common.{◌≡◌, ◌∙◌, sym, ap, subst, ℕ, ◌<◌, List, [], ◌∷◌, ◌++◌, length, length-append, get_or, None, rules, arith}
+use Rattle.std.proofs.Common.{◌≡◌, ◌∙◌, sym, ap, subst, ℕ, ◌<◌, List, [], ◌∷◌, ◌++◌, length, length-append, get_or, None, rules, arith, below_more}
 use Rattle.std.proofs.lemmas.List.{get_or_default}
 use Rattle.std.proofs.lemmas.Result.{err_from_is_err_and}
+use Rattle.std.specs.Prelude.{All}
 use Rattle.postscript_base.specs.Compact1.Dictionary.{Dictionary}
 use Rattle.postscript_base.specs.Compact1.DictionaryLaw.{IsDictionary}
 use Rattle.postscript_base.specs.Index.Lent.{items_of}
-use Rattle.postscript_write.specs.Dictionaries.{HasSize}
+use Rattle.postscript_write.specs.Dictionaries.{HasSize, IsHeld}
 use Rattle.postscript_write.specs.Privates.{IsFontDictionary, IsSomeDictionary, place_of_private, private_offset}
 use Rattle.postscript_write.proofs.Agree.{text_more}
 use Rattle.postscript_write.proofs.Rests.{texts_many}
@@ -44,6 +45,9 @@ loop-i-preserved c =
           subst (λ p. IsFontDictionary old p (private_offset c.args.start privates c.loop-i.i) font.items) private_is (subst (λ n. IsFontDictionary old private n font.items) (c.loop-i.invariant.offset fits)
           (c.in_ok-font_dictionary.ensures.placed old (subst (λ (bs : List ℕ). IsDictionary bs 0 old) item_is is))))
           (c.loop-i.invariant.each fits);
+      held = λ fits.
+          below_more (λ k. All IsHeld (place_of_private (get_or privates k None) (private_offset c.args.start privates k))) c.loop-i.i (c.loop-i.invariant.held fits)
+          (subst (λ p. All IsHeld (place_of_private p (private_offset c.args.start privates c.loop-i.i))) private_is (subst (λ n. All IsHeld (place_of_private private n)) (c.loop-i.invariant.offset fits) c.in_ok-font_dictionary.ensures.held));
       sized =
           text_more (λ k text. HasSize (get_or items k []) (place_of_private (get_or privates k None) 0) (length text)) c.loop-i.all.items c.push.new.self.items font c.loop-i.i many more
           (subst (λ p. HasSize (get_or items c.loop-i.i []) (place_of_private p 0) (length font.items)) private_is (subst (λ (bs : List ℕ). HasSize bs (place_of_private private 0) (length font.items)) (sym item_is) c.in_ok-font_dictionary.ensures.sized))
@@ -59,6 +63,7 @@ returns-clause-placed c = λ fits.
     record {
       many = texts_many c.loop-i.all.items ∙ omega (arith, many, past, ends, least);
       each = λ k old less is. c.loop-i.invariant.each fits k (omega (arith, less, past, ends, least)) old is;
+      held = λ k less. c.loop-i.invariant.held fits k (omega (arith, less, past, ends, least));
     }
 
 pub returns-clause-sized : goal.returns-clause-sized

@@ -1,18 +1,24 @@
-use Rattle.std.proofs.Common.{◌≡◌, refl, sym, ◌∙◌, ap, subst, ◌++◌, ◌<◌, ◌^◌, List, ℕ, length, length-append, arith}
+use Rattle.std.proofs.Common.{◌≡◌, refl, sym, ◌∙◌, ap, subst, ◌++◌, ◌<◌, ◌≤◌, ◌+◌, ◌^◌, List, Vec, ℕ, inl, inr, length, length-append, arith}
+use Rattle.std.specs.Prelude.{All}
+use Rattle.std.specs.declared.alloc.Global.{Global}
+use Rattle.std.proofs.lemmas.Result.{err_from_is_err_and}
 use Rattle.postscript_base.specs.Index.Lent.{items_of}
 use Rattle.postscript_type2.specs.Program.Routines.{texts}
 use Rattle.postscript_write.specs.Arrangement.{AreSizedFor, beginnings, dictionaries_text, parts_text, places_of, tables_text}
-use Rattle.postscript_write.specs.Dictionaries.{HasSize, IsWithPlaces}
+use Rattle.postscript_write.specs.Dictionaries.{HasSize, IsHeld, IsWithPlaces, places_size}
 use Rattle.postscript_write.specs.Index.{Fits, index_text}
+use Rattle.postscript_write.specs.Privates.{AreOwnPrivates, IsSomeDictionary, privates_text}
+use Rattle.postscript_view.specs.Value.{parts_shown}
 use Rattle.postscript_write.specs.declared.layout.Parts.{Parts}
 use Rattle.postscript_write.proofs.Lengths.{parts_end, parts_stand, same_tables, same_text}
 use Rattle.postscript_write.specs.Texts.{Stands}
 use Rattle.postscript_write.proofs.Arranged.{private_there}
 use Rattle.postscript_write.proofs.TablesStand.{dictionaries_there, header_is, index_there, tables_are}
+use Rattle.postscript_write.proofs.Within.{all_held, codes_fit, dictionary_within, end_within, HasFew, names_fit, strings_fit, tables_room, tables_within}
 use Rattle.postscript_write.proofs.layout.written.Goals as goal
 
-pub returns : goal.returns
-returns c =
+pub returns-clause-written : goal.returns-clause-written
+returns-clause-written c =
     let font = c.args.font.now in
     let glyphs = c.args.glyphs.now in
     let parts : Parts = record { glyphs = c.args.glyphs; char_strings = c.put_index.new.out; privates = c.in_ok-privates.privates; dictionaries = c.in_ok-dictionaries_len.field-0 } in
@@ -22,7 +28,7 @@ returns c =
     let draft = c.in_ok-put_tables.ensures.text in
     let put = c.in_ok-put_tables-2.ensures.text in
     let behind = c.in_ok-put_parts.ensures.text in
-    let counted = c.in_ok-dictionaries_len.ensures in
+    let counted = c.in_ok-dictionaries_len.ensures.len in
     let tables : List ℕ = c.put_tables-2.new.out.items in
     let are_draft : c.put_tables.new.out.items ≡ tables_text names draft.0 strings =
     draft.1 ∙ ap (λ xs. xs ++ tables_text names draft.0 (texts c.deref-3.result.now)) c.new-draft.ensures.items ∙ ap (λ ts. tables_text names draft.0 (texts ts)) c.deref-3.ensures.value in
@@ -71,8 +77,10 @@ returns c =
       dictionaries_fit = behind.4;
       char_strings = codes_are;
       privates = c.in_ok-privates.ensures.own;
+      none_named = c.in_ok-privates.ensures.named;
       renamed = c.in_ok-dictionary.ensures.renamed;
       places = places;
+      held = subst (λ n. All IsHeld (places_of n parts)) place (subst (All IsHeld) second_places c.in_ok-put_tables-2.ensures.held);
       tables_stand = λ are.
           let named = c.in_ok-dictionary.ensures.renamed are in
           let new = places named.0 named.1 in
@@ -90,3 +98,132 @@ returns c =
       privates_stand = λ number less. private_there parts.privates.items number out at.privates less stand.privates;
       private_places = behind.2;
     }
+
+pub returns-in_err-put_index-clause-refused : goal.returns-in_err-put_index-clause-refused
+returns-in_err-put_index-clause-refused c =
+    let error = err_from_is_err_and c.from_residual.result c.from_residual.ensures.1 in
+    rw (error.1, error.2) (λ other read selects room. elim c.in_err-put_index.ensures.refused [
+      | inl memory ↦ other memory
+      | inr bad ↦ bad.1 (codes_fit c.args.font.now c.args.glyphs.now (texts c.args.codes.now) room)
+    ])
+
+pub returns-in_err-privates-clause-refused : goal.returns-in_err-privates-clause-refused
+returns-in_err-privates-clause-refused c =
+    let error = err_from_is_err_and c.from_residual-in_err-privates.result c.from_residual-in_err-privates.ensures.1 in
+    rw (error.1, error.2) (λ other read selects room. c.in_err-privates.ensures.refused other read.laid.parts)
+
+pub returns-in_err-dictionaries_len-clause-refused : goal.returns-in_err-dictionaries_len-clause-refused
+returns-in_err-dictionaries_len-clause-refused c =
+    let error = err_from_is_err_and c.from_residual-in_err-dictionaries_len.result c.from_residual-in_err-dictionaries_len.ensures.1 in
+    let font = c.args.font.now in
+    let same = sym c.deref.ensures.value in
+    rw (error.1, error.2) (λ other read selects room.
+    let few = c.in_ok-privates.ensures.few read in
+    let all = room.all in
+    c.in_err-dictionaries_len.ensures.refused other read selects room.few_parts (subst (AreOwnPrivates (parts_shown font.parts.items)) same (c.in_ok-privates.ensures.own read.laid.parts))
+    (subst (λ ps. length (privates_text ps) < 2 ^ 31) same (omega (arith, few, all))))
+
+pub returns-in_err-dictionary-clause-refused : goal.returns-in_err-dictionary-clause-refused
+returns-in_err-dictionary-clause-refused c =
+    let error = err_from_is_err_and c.from_residual-in_err-dictionary.result c.from_residual-in_err-dictionary.ensures.1 in
+    rw (error.1, error.2) (λ other read selects room. c.in_err-dictionary.ensures.refused other read.laid.header read.laid.tables room.renamed)
+
+pub returns-in_err-put_tables-clause-refused : goal.returns-in_err-put_tables-clause-refused
+returns-in_err-put_tables-clause-refused c =
+    let error = err_from_is_err_and c.from_residual-in_err-put_tables.result c.from_residual-in_err-put_tables.ensures.1 in
+    let font = c.args.font.now in
+    let glyphs = c.args.glyphs.now in
+    let codes : List (List ℕ) = texts c.args.codes.now in
+    let parts : Parts = record { glyphs = c.args.glyphs; char_strings = c.put_index.new.out; privates = c.in_ok-privates.privates; dictionaries = c.in_ok-dictionaries_len.field-0 } in
+    let dictionary : List ℕ = c.in_ok-dictionary.dictionary.items in
+    let codes_are : parts.char_strings.items ≡ index_text codes = c.in_ok-put_index.ensures.ok ∙ ap (λ xs. xs ++ index_text codes) c.new-char_strings.ensures.items in
+    rw (error.1, error.2) (λ other read selects room.
+    let few : HasFew font codes parts = record {
+      char_strings = codes_are;
+      privates = c.in_ok-privates.ensures.few read;
+      dictionaries = c.in_ok-dictionaries_len.ensures.few read selects room.few_parts;
+    } in
+    let end_first = end_within font codes parts 0 room few (omega arith) in
+    let first_places : c.deref-4.result.now ≡ places_of 0 parts = c.deref-4.ensures.value ∙ c.in_ok-places.ensures.places (omega (arith, end_first)) in
+    let first_few = dictionary_within font glyphs.strings dictionary parts 0 c.deref-4.result.now c.in_ok-dictionary.ensures.sized first_places in
+    let new = c.in_ok-dictionary.ensures.renamed read.laid.tables in
+    let all = room.all in
+    let is = sym c.deref-2.ensures.value in
+    c.in_err-put_tables.ensures.refused other (all_held font codes parts 0 c.deref-4.result.now room few (omega arith) first_places) (subst (λ (d : List ℕ). IsSomeDictionary d) is (new.0, new.1))
+    (subst (λ (d : List ℕ). length d + places_size c.deref-4.result.now < 2 ^ 31) is (omega (arith, first_few, all))) (names_fit font glyphs codes room)
+    (subst (λ (ts : List (Vec ℕ Global)). Fits (texts ts)) (sym c.deref-3.ensures.value) (strings_fit font glyphs codes room)))
+
+pub returns-in_err-put_tables-2-clause-refused : goal.returns-in_err-put_tables-2-clause-refused
+returns-in_err-put_tables-2-clause-refused c =
+    let error = err_from_is_err_and c.from_residual-in_err-put_tables-2.result c.from_residual-in_err-put_tables-2.ensures.1 in
+    let font = c.args.font.now in
+    let glyphs = c.args.glyphs.now in
+    let codes : List (List ℕ) = texts c.args.codes.now in
+    let parts : Parts = record { glyphs = c.args.glyphs; char_strings = c.put_index.new.out; privates = c.in_ok-privates.privates; dictionaries = c.in_ok-dictionaries_len.field-0 } in
+    let dictionary : List ℕ = c.in_ok-dictionary.dictionary.items in
+    let codes_are : parts.char_strings.items ≡ index_text codes = c.in_ok-put_index.ensures.ok ∙ ap (λ xs. xs ++ index_text codes) c.new-char_strings.ensures.items in
+    let draft = c.in_ok-put_tables.ensures.text in
+    let are_draft : c.put_tables.new.out.items ≡ tables_text (items_of font.names) draft.0 (texts glyphs.strings.texts.items) =
+    draft.1
+    ∙ ap (λ xs. xs ++ tables_text (items_of font.names) draft.0 (texts c.deref-3.result.now)) c.new-draft.ensures.items
+    ∙ ap (λ ts. tables_text (items_of font.names) draft.0 (texts ts)) c.deref-3.ensures.value in
+    let first_size : HasSize dictionary c.deref-4.result.now (length draft.0) = subst (λ (d : List ℕ). HasSize d c.deref-4.result.now (length draft.0)) c.deref-2.ensures.value draft.3 in
+    rw (error.1, error.2) (λ other read selects room.
+    let few : HasFew font codes parts = record {
+      char_strings = codes_are;
+      privates = c.in_ok-privates.ensures.few read;
+      dictionaries = c.in_ok-dictionaries_len.ensures.few read selects room.few_parts;
+    } in
+    let end_first = end_within font codes parts 0 room few (omega arith) in
+    let first_places : c.deref-4.result.now ≡ places_of 0 parts = c.deref-4.ensures.value ∙ c.in_ok-places.ensures.places (omega (arith, end_first)) in
+    let first_few = dictionary_within font glyphs.strings dictionary parts 0 c.deref-4.result.now c.in_ok-dictionary.ensures.sized first_places in
+    let begins : c.len.result ≤ tables_room font glyphs =
+    omega (arith, tables_within font glyphs dictionary draft.0 c.deref-4.result.now first_few first_size, ap length are_draft, c.len.ensures, c.put_tables.new.out.ok.0) in
+    let end = end_within font codes parts c.len.result room few begins in
+    let places : c.deref-7.result.now ≡ places_of c.len.result parts = c.deref-7.ensures.value ∙ c.in_ok-places-2.ensures.places (omega (arith, end)) in
+    let second_few = dictionary_within font glyphs.strings dictionary parts c.len.result c.deref-7.result.now c.in_ok-dictionary.ensures.sized places in
+    let new = c.in_ok-dictionary.ensures.renamed read.laid.tables in
+    let all = room.all in
+    let is = sym c.deref-5.ensures.value in
+    c.in_err-put_tables-2.ensures.refused other (all_held font codes parts c.len.result c.deref-7.result.now room few begins places) (subst (λ (d : List ℕ). IsSomeDictionary d) is (new.0, new.1))
+    (subst (λ (d : List ℕ). length d + places_size c.deref-7.result.now < 2 ^ 31) is (omega (arith, second_few, all))) (names_fit font glyphs codes room)
+    (subst (λ (ts : List (Vec ℕ Global)). Fits (texts ts)) (sym c.deref-6.ensures.value) (strings_fit font glyphs codes room)))
+
+pub returns-in_err-put_parts-clause-refused : goal.returns-in_err-put_parts-clause-refused
+returns-in_err-put_parts-clause-refused c =
+    let error = err_from_is_err_and c.from_residual-in_err-put_parts.result c.from_residual-in_err-put_parts.ensures.1 in
+    let font = c.args.font.now in
+    let glyphs = c.args.glyphs.now in
+    let codes : List (List ℕ) = texts c.args.codes.now in
+    let parts : Parts = record { glyphs = c.args.glyphs; char_strings = c.put_index.new.out; privates = c.in_ok-privates.privates; dictionaries = c.in_ok-dictionaries_len.field-0 } in
+    let dictionary : List ℕ = c.in_ok-dictionary.dictionary.items in
+    let codes_are : parts.char_strings.items ≡ index_text codes = c.in_ok-put_index.ensures.ok ∙ ap (λ xs. xs ++ index_text codes) c.new-char_strings.ensures.items in
+    let draft = c.in_ok-put_tables.ensures.text in
+    let are_draft : c.put_tables.new.out.items ≡ tables_text (items_of font.names) draft.0 (texts glyphs.strings.texts.items) =
+    draft.1
+    ∙ ap (λ xs. xs ++ tables_text (items_of font.names) draft.0 (texts c.deref-3.result.now)) c.new-draft.ensures.items
+    ∙ ap (λ ts. tables_text (items_of font.names) draft.0 (texts ts)) c.deref-3.ensures.value in
+    let first_size : HasSize dictionary c.deref-4.result.now (length draft.0) = subst (λ (d : List ℕ). HasSize d c.deref-4.result.now (length draft.0)) c.deref-2.ensures.value draft.3 in
+    let put = c.in_ok-put_tables-2.ensures.text in
+    let tables : List ℕ = c.put_tables-2.new.out.items in
+    let are_tables : tables ≡ tables_text (items_of font.names) put.0 (texts glyphs.strings.texts.items) =
+    put.1
+    ∙ ap (λ xs. xs ++ tables_text (items_of font.names) put.0 (texts c.deref-6.result.now)) c.new-out.ensures.items
+    ∙ ap (λ ts. tables_text (items_of font.names) put.0 (texts ts)) c.deref-6.ensures.value in
+    let second_size : HasSize dictionary c.deref-7.result.now (length put.0) = subst (λ (d : List ℕ). HasSize d c.deref-7.result.now (length put.0)) c.deref-5.ensures.value put.3 in
+    rw (error.1, error.2) (λ other read selects room.
+    let few : HasFew font codes parts = record {
+      char_strings = codes_are;
+      privates = c.in_ok-privates.ensures.few read;
+      dictionaries = c.in_ok-dictionaries_len.ensures.few read selects room.few_parts;
+    } in
+    let end_first = end_within font codes parts 0 room few (omega arith) in
+    let first_places : c.deref-4.result.now ≡ places_of 0 parts = c.deref-4.ensures.value ∙ c.in_ok-places.ensures.places (omega (arith, end_first)) in
+    let first_few = dictionary_within font glyphs.strings dictionary parts 0 c.deref-4.result.now c.in_ok-dictionary.ensures.sized first_places in
+    let begins : c.len.result ≤ tables_room font glyphs =
+    omega (arith, tables_within font glyphs dictionary draft.0 c.deref-4.result.now first_few first_size, ap length are_draft, c.len.ensures, c.put_tables.new.out.ok.0) in
+    let end = end_within font codes parts c.len.result room few begins in
+    let places : c.deref-7.result.now ≡ places_of c.len.result parts = c.deref-7.ensures.value ∙ c.in_ok-places-2.ensures.places (omega (arith, end)) in
+    let second_few = dictionary_within font glyphs.strings dictionary parts c.len.result c.deref-7.result.now c.in_ok-dictionary.ensures.sized places in
+    let within : length tables ≤ tables_room font glyphs = omega (arith, tables_within font glyphs dictionary put.0 c.deref-7.result.now second_few second_size, ap length are_tables) in
+    c.in_err-put_parts.ensures.refused other read selects room.few_parts (c.in_ok-privates.ensures.own read.laid.parts) (end_within font codes parts (length tables) room few within))
