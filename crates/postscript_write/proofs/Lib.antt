@@ -14,6 +14,9 @@ pub mod Lengths
 pub mod Room
 pub mod Few
 pub mod Within
+pub mod PlacesNamed
+pub mod PartsWritten
+pub mod LaidOut
 pub mod TablesStand
 pub mod Heads
 pub mod Shown

@@ -1,15 +1,15 @@
 -- How many bytes is what is written, at most.
-use Rattle.std.proofs.Common.{◌≡◌, refl, sym, ap, subst, ◌∙◌, inl, inr, ℕ, zero, suc, ◌+◌, ◌-◌, ◌*◌, ◌^◌, ◌<◌, ◌≤◌, ◌==◌, nat_lt, if◌then◌else◌, List, [], ◌∷◌, ◌++◌, length, length-append, length-take, length-drop, map, get_or, Option, Some, None, Bool, true, false, Vec, arith, mul-le-mul_left, rules}
-use Rattle.std.specs.List.{concat, sum_by}
+use Rattle.std.proofs.Common.{◌≡◌, ℕ, suc, ◌+◌, ◌*◌, ◌^◌, ◌<◌, ◌≤◌, ◌==◌, nat_lt, if◌then◌else◌, List, [], ◌∷◌, ◌++◌, length, length-append, get_or, Option, Some, None, Bool, true, false, Vec, arith, mul-le-mul_left, rules}
+use Rattle.std.specs.List.{concat}
 use Rattle.std.specs.Prelude.{All, flat_map}
 use Rattle.std.specs.declared.alloc.Global.{Global}
 use Rattle.std.proofs.lemmas.List.Elements.{All-append, All-cons, All-nil}
 use Rattle.std.proofs.lemmas.List.Sums.{sum_by-append}
 use Rattle.postscript_base.specs.Compact1.Dictionary.{Dictionary}
 use Rattle.postscript_base.specs.declared.compact1.operator.Operator.{Operator}
-use Rattle.postscript_base.specs.declared.compact1.operator.Operator.TheVariants.{CharSet, CharStrings, Encoding, FDArray, FDSelect}
+use Rattle.postscript_base.specs.declared.compact1.operator.Operator.TheVariants.{CharSet, CharStrings, Encoding, FDSelect}
 use Rattle.postscript_write.specs.Arrangement.{beginnings, dictionaries_place, only_place, place_at, place_if, places_of, standard_place, text_of}
-use Rattle.postscript_write.specs.Dictionaries.{HasSize, IsHeld, IsWritable, operator_size, place_size, places_size}
+use Rattle.postscript_write.specs.Dictionaries.{IsHeld, IsWritable, operator_size, place_size, places_size}
 use Rattle.postscript_write.specs.Index.{Fits, index_text, offset_behind, size_of}
 use Rattle.postscript_write.specs.Parts.{naming}
 use Rattle.postscript_write.specs.Privates.{AreSized, place_of_private, private_text, privates_text}

@@ -10,6 +10,7 @@ pub mod Naming
 pub mod Strings
 pub mod Renumbered
 pub mod Room
+pub mod LaidOut
 pub mod Written
 pub mod Fonts
 pub mod Whole

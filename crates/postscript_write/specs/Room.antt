@@ -19,8 +19,8 @@ pub record IsRead (font : FontView) : Type 0 where
   pub few : IsKeyed font.dictionary → HoldFew font.bytes.now font.dictionary font.parts.items
 
 -- only a CID-keyed font has an FDSelect (section 19)
-abbrev pub SelectsIfKeyed : FontView → Glyphs → Type 0
-SelectsIfKeyed font glyphs = IsSome glyphs.select → IsKeyed font.dictionary
+abbrev pub SelectsOnlyIfKeyed : FontView → Glyphs → Type 0
+SelectsOnlyIfKeyed font glyphs = IsSome glyphs.select → IsKeyed font.dictionary
 
 -- the bytes of an INDEX: its count, the size of its offsets, at most four bytes for each offset, and the items (section 5)
 abbrev pub index_room : List (List ℕ) → ℕ

@@ -17,9 +17,10 @@ ghost use Rattle.postscript_view.specs.Value.{parts_shown, view_shown};
 ghost use Rattle.postscript_write.specs.Arrangement.{AreSizedFor, beginnings, dictionaries_place, only_place, place_if, places_of, standard_place, text_of, NameParts, dictionaries_text, parts_text, tables_text};
 ghost use Rattle.postscript_write.specs.Dictionaries.{HasSize, IsHeld, IsPlaced, IsWithPlaces, places_size};
 ghost use Rattle.postscript_write.specs.Index.{Fits, index_text};
+ghost use Rattle.postscript_write.specs.LaidOut.{IsLaidOutOf, SelectsExactly};
 ghost use Rattle.postscript_write.specs.Privates.{AreFontDictionaries, AreSized, AreOwnPrivates, IsFontDictionary, IsOwnPrivate, IsSomeDictionary, NoneIsNamed, place_of_private, private_text, privates_text};
 ghost use Rattle.postscript_write.specs.Renumbered.{all_renamed, renamed_if};
-ghost use Rattle.postscript_write.specs.Room.{HasRoom, IsRead, SelectsIfKeyed};
+ghost use Rattle.postscript_write.specs.Room.{HasRoom, IsRead, SelectsOnlyIfKeyed};
 ghost use Rattle.postscript_write.specs.Strings.{identifier_in as the_identifier};
 ghost use Rattle.postscript_write.specs.Written.{IsWritten};
 
@@ -69,7 +70,8 @@ fn first_dictionary(bytes: &[u8]) -> Result<&[u8]>
     ensures is { IfOk result (λ item. (tables : Tables) → AreTables bytes.now (number_at bytes.now 2 1) 0 tables →
         IsDictionary item.now 0 tables.dictionary) }
     ensures within { IfOk result (λ item. length item.now ≤ length bytes.now) }
-    ensures refused { IfErr result (λ e. (tables : Tables) → 3 ≤ length bytes.now → AreTables bytes.now (number_at bytes.now 2 1) 0 tables → ⊥) }
+    ensures refused { IfErr result (λ e. (tables : Tables) → 3 ≤ length bytes.now →
+        AreTables bytes.now (number_at bytes.now 2 1) 0 tables → ⊥) }
 {
     let start = number_within(bytes, 2, 1)?;
     let (_names, next) = IndexView::open(bytes, start)?;
@@ -550,7 +552,7 @@ fn put_dictionaries(
         × (IsSome parts.now.glyphs.now.select →
         AreSizedFor font.now.bytes.now font.now.dictionary parts.now.privates.items dictionaries)
         × (IsSome parts.now.glyphs.now.select → Fits dictionaries)) }
-    ensures refused { IfErr result (λ e. e ≢ errors.Memory → IsRead font.now → SelectsIfKeyed font.now parts.now.glyphs.now →
+    ensures refused { IfErr result (λ e. e ≢ errors.Memory → IsRead font.now → SelectsOnlyIfKeyed font.now parts.now.glyphs.now →
         length font.now.parts.items < 2 ^ 16 → AreOwnPrivates (parts_shown font.now.parts.items) parts.now.privates.items →
         start + length (privates_text parts.now.privates.items) < 2 ^ 31 → ⊥) }
 {
@@ -569,7 +571,7 @@ fn put_parts(alloc: Global, out: &mut Vec<u8>, font: &FontView<'_>, parts: &Part
         × (IsSome parts.now.glyphs.now.select →
         AreSizedFor font.now.bytes.now font.now.dictionary parts.now.privates.items dictionaries)
         × (IsSome parts.now.glyphs.now.select → Fits dictionaries)) }
-    ensures refused { IfErr result (λ e. e ≢ errors.Memory → IsRead font.now → SelectsIfKeyed font.now parts.now.glyphs.now →
+    ensures refused { IfErr result (λ e. e ≢ errors.Memory → IsRead font.now → SelectsOnlyIfKeyed font.now parts.now.glyphs.now →
         length font.now.parts.items < 2 ^ 16 → AreOwnPrivates (parts_shown font.now.parts.items) parts.now.privates.items →
         (beginnings (length out.old.items) parts.now).end < 2 ^ 31 → ⊥) }
 {
@@ -592,9 +594,9 @@ fn dictionaries_len(
 ) -> Result<usize>
     ensures len { IfOk result (λ len. (dictionaries : List (List ℕ)) × (len ≡ length (dictionaries_text glyphs.now.select dictionaries))
         × (IsSome glyphs.now.select → AreSizedFor font.now.bytes.now font.now.dictionary privates.now dictionaries)) }
-    ensures few { IfOk result (λ len. IsRead font.now → SelectsIfKeyed font.now glyphs.now → length font.now.parts.items < 2 ^ 16 →
+    ensures few { IfOk result (λ len. IsRead font.now → SelectsOnlyIfKeyed font.now glyphs.now → length font.now.parts.items < 2 ^ 16 →
         len ≤ 21000000) }
-    ensures refused { IfErr result (λ e. e ≢ errors.Memory → IsRead font.now → SelectsIfKeyed font.now glyphs.now →
+    ensures refused { IfErr result (λ e. e ≢ errors.Memory → IsRead font.now → SelectsOnlyIfKeyed font.now glyphs.now →
         length font.now.parts.items < 2 ^ 16 → AreOwnPrivates (parts_shown font.now.parts.items) privates.now →
         length (privates_text privates.now) < 2 ^ 31 → ⊥) }
 {
@@ -615,7 +617,9 @@ pub(crate) fn written(
     codes: &[Vec<u8>],
 ) -> Result<Vec<u8>>
     ensures written { IfOk result (λ out. IsWritten font.now glyphs.now (texts codes.now) out.items) }
-    ensures refused { IfErr result (λ e. e ≢ errors.Memory → IsRead font.now → SelectsIfKeyed font.now glyphs.now →
+    ensures laid_out { IfOk result (λ out. IsRead font.now → SelectsExactly font.now glyphs.now →
+        IsLaidOutOf font.now glyphs.now (texts codes.now) out.items) }
+    ensures refused { IfErr result (λ e. e ≢ errors.Memory → IsRead font.now → SelectsOnlyIfKeyed font.now glyphs.now →
         HasRoom font.now glyphs.now (texts codes.now) → ⊥) }
 {
     let mut char_strings = Vec::new(alloc);

@@ -15,6 +15,7 @@ use Rattle.postscript_write.specs.Texts.{Stands}
 use Rattle.postscript_write.proofs.Arranged.{private_there}
 use Rattle.postscript_write.proofs.TablesStand.{dictionaries_there, header_is, index_there, tables_are}
 use Rattle.postscript_write.proofs.Within.{all_held, codes_fit, dictionary_within, end_within, HasFew, names_fit, strings_fit, tables_room, tables_within}
+use Rattle.postscript_write.proofs.LaidOut.{laid_out}
 use Rattle.postscript_write.proofs.layout.written.Goals as goal
 
 pub returns-clause-written : goal.returns-clause-written
@@ -98,6 +99,9 @@ returns-clause-written c =
       privates_stand = λ number less. private_there parts.privates.items number out at.privates less stand.privates;
       private_places = behind.2;
     }
+
+pub returns-clause-laid_out : goal.returns-clause-laid_out
+returns-clause-laid_out c = λ read exactly. laid_out c.args.font.now c.args.glyphs.now (texts c.args.codes.now) c.put_parts.new.out.items (returns-clause-written c) read exactly
 
 pub returns-in_err-put_index-clause-refused : goal.returns-in_err-put_index-clause-refused
 returns-in_err-put_index-clause-refused c =
