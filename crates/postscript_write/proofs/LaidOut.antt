@@ -35,6 +35,7 @@ use Rattle.postscript_write.specs.declared.layout.Parts.{Parts}
 use Rattle.postscript_write.specs.declared.layout.Private.{Private}
 use Rattle.postscript_write.proofs.Arranged.{all_dictionaries}
 use Rattle.postscript_write.proofs.PartsWritten.{HasPartsLike, keyed_parts, plain_parts}
+use Rattle.postscript_write.proofs.Says.{font_says}
 use Rattle.postscript_write.proofs.PlacesNamed.{array_other, named_by, none_named, of_char_strings, of_dictionaries, private_other, private_stays, ros_apart, ros_stays, stays, type_apart, type_stays, whole_is}
 
 all_left : {X : Type 0} (P : X → Type 0) (xs ys : List X) → All P (xs ++ ys) → All P xs
@@ -112,7 +113,7 @@ module _ (font : FontView) (glyphs : Glyphs) (codes : List (List ℕ)) (out : Li
       let stand = subst (λ n. Stands (private_text private) out n) first (w.privates_stand 0 (omega (arith, many))) in
       let unnamed = λ (e : private ≡ None). subst (λ m. first_two_of (look (unwrap_or m font.dictionary) operators.Private) ≡ None) no_font (w.none_named 0 part there e) in
       subst (HasPartsLike out t.new) (sym one)
-      (plain_parts out font.dictionary t.new part private at.privates (ros_is ∙ no_ros_there) is (subst (All IsHeld) places (dictionaries_held (length w.tables) w.parts w.held)) stand (own.each 0 part there) unnamed)
+      (plain_parts out font.dictionary t.new part private at.privates no_font (ros_is ∙ no_ros_there) is (subst (All IsHeld) places (dictionaries_held (length w.tables) w.parts w.held)) stand (own.each 0 part there) unnamed)
 
   keyed : (items : List (List ℕ)) → IsRead font → IsSome w.parts.glyphs.now.select → IsSome (look font.dictionary operators.ROS) → NamesIndex font.bytes.now font.dictionary operators.FDArray items →
       ArePartsOf font.bytes.now items (parts_shown font.parts.items) → HasPartsLike out t.new (parts_shown font.parts.items)
@@ -169,11 +170,14 @@ laid_out font glyphs codes out w read exactly = record {
     char_strings = char_strings font glyphs codes out w t read;
     parts = parts.are;
   };
-  names = refl;
   strings = refl;
-  no_global = refl;
   char_strings = refl;
-  parts = parts.like;
+  repeats = record {
+    names = refl;
+    no_global = refl;
+    dictionary = font_says glyphs.strings font.dictionary t.named t.new (length w.tables) w.parts t.renamed t.placed;
+    parts = parts.like;
+  };
 }
   where
     t : TablesStand font glyphs w.parts (length w.tables) out

@@ -17,6 +17,7 @@ pub mod Within
 pub mod PlacesNamed
 pub mod PartsWritten
 pub mod LaidOut
+pub mod Says
 pub mod TablesStand
 pub mod Heads
 pub mod Shown

@@ -1,13 +1,14 @@
 -- The parts of what is written.
-use Rattle.std.proofs.Common.{◌≡◌, refl, sym, ap, subst, ◌∙◌, ℕ, zero, suc, pos, ◌+◌, ◌<◌, ◌^◌, List, [], ◌∷◌, length, get_or, Option, Some, None, arith}
+use Rattle.std.proofs.Common.{◌≡◌, refl, sym, ap, subst, ◌∙◌, inl, inr, ℕ, zero, suc, pos, ◌+◌, ◌<◌, ◌^◌, List, [], ◌∷◌, length, get_or, Option, Some, None, arith}
 use Rattle.std.specs.Option.{option_or, unwrap_or}
 use Rattle.std.specs.Prelude.{All, IsSome, slice_get}
 use Rattle.postscript_base.specs.Compact1.Defaults.{default_of, first_of, first_two_of, look}
 use Rattle.postscript_base.specs.Compact1.Dictionary.{Dictionary, dictionary_of}
 use Rattle.postscript_base.specs.Compact1.DictionaryLaw.{IsDictionary}
 use Rattle.postscript_base.specs.Compact1.Number.{whole}
+use Rattle.postscript_base.specs.declared.compact1.operator.Operator.{Operator}
 use Rattle.postscript_base.specs.declared.compact1.operator.Operator.TheVariants as operators
-use Rattle.postscript_base.specs.declared.compact1.operator.Operator.TheVariants.{Subrs}
+use Rattle.postscript_base.specs.declared.compact1.operator.Operator.TheVariants.{DefaultWidthX, NominalWidthX, Subrs}
 use Rattle.postscript_base.proofs.DictionaryIs.{get_last}
 use Rattle.postscript_compact1.specs.FontSet.Layout.{HasTwo, IsSlice}
 use Rattle.postscript_view.specs.Contents.{PrivateDict}
@@ -15,11 +16,13 @@ use Rattle.postscript_view.specs.Layout.{AreParts, ArePartsOf, HasLocals, IsPart
 use Rattle.postscript_view.specs.Layout.AreParts.{OfFont, OfFontDictionaries}
 use Rattle.postscript_view.specs.Layout.HasLocals.{WithoutPrivate, WithoutSubrs}
 use Rattle.postscript_write.specs.Dictionaries.{IsHeld, IsLess}
-use Rattle.postscript_write.specs.LaidOut.{AreLike, IsPartLike}
+use Rattle.postscript_write.specs.Parts.{SameBut, SameFont, SamePart, SameParts}
 use Rattle.postscript_write.specs.Privates.{AreFontDictionaries, AreOwnPrivates, IsOwnPrivate, NoneIsNamed, place_of_private, private_offset, private_text}
 use Rattle.postscript_write.specs.Texts.{Stands}
 use Rattle.postscript_write.specs.declared.layout.Private.{Private}
 use Rattle.postscript_write.proofs.PlacesNamed.{named_by, whole_is}
+use Rattle.postscript_write.proofs.Likeness.{same_advance, same_font_by}
+use Rattle.postscript_write.proofs.Says.{less_says, own_says}
 use Rattle.postscript_write.proofs.Standing.{stands_slice, stands_within}
 
 -- a private dictionary that is written stands where a dictionary names it, or none is named
@@ -52,6 +55,26 @@ has_written out old new (Some private) offset was is held stands own none =
       local = own.0;
       locals = WithoutSubrs offset (length text, text, two, omega (arith, low), slice_there text out offset stands, own.1) lacks refl;
       less = own.2;
+    }
+
+-- of any other operator the same is said
+look_same : (old new : Dictionary) (operator : Operator) → (operator ≡ Subrs → ⊥) → SameBut (Subrs ∷ []) old new → look new operator ≡ look old operator
+look_same old new operator other same = elim (same operator) [
+  | inl is ↦ is
+  | inr among ↦ elim among [
+    | inl is ↦ absurd (other is)
+    | inr never ↦ absurd never
+  ]
+]
+
+same_part : (was : PrivateDict) (local : Dictionary) (font : Option Dictionary) → IsLess (Subrs ∷ []) was.dictionary local → SameFont was.font font → SamePart was (record { dictionary = local; subroutines = []; font = font })
+same_part was local font less fonts =
+    let says = less_says was.dictionary local less in
+    record {
+      private = says;
+      no_local = refl;
+      font = fonts;
+      advance = same_advance was.dictionary local (look_same was.dictionary local DefaultWidthX (λ e. cc) says) (look_same was.dictionary local NominalWidthX (λ e. cc) says);
     }
 
 extend : (R : ℕ → PrivateDict → Type 0) (x : PrivateDict) (xs : List PrivateDict) → R 0 x → ((k : ℕ) (is : PrivateDict) → slice_get xs k ≡ Some is → R (suc k) is) → (k : ℕ) (is : PrivateDict) → slice_get (x ∷ xs) k ≡ Some is → R k is
@@ -101,7 +124,7 @@ has_dictionary bytes (item ∷ items) (part ∷ parts) (suc k) are less =
 pub record HasPartsLike (bytes : List ℕ) (map : Dictionary) (old : List PrivateDict) : Type 0 where
   pub parts : List PrivateDict
   pub are : AreParts bytes map parts
-  pub like : AreLike old parts
+  pub like : SameParts old parts
 
 -- the parts of font dictionaries that are written, like those that are read
 pub keyed_parts : (bytes out : List ℕ) (old new : Dictionary) (items texts : List (List ℕ)) (parts : List PrivateDict) (privates : List (Option Private)) (start : ℕ) → IsSome (look new operators.ROS) → NamesIndex out new operators.FDArray texts →
@@ -111,7 +134,7 @@ keyed_parts bytes out old new items texts parts privates start keyed names are l
     record { parts = all.parts; are = OfFontDictionaries texts keyed names all.are; like = record { many = all.many ∙ fonts.many ∙ long; each = λ i was is at there. all.each i is there was at } }
   where
     like : (k : ℕ) → k < length texts →
-        (part : PrivateDict) × (own : Dictionary) × IsDictionary (get_or texts k []) 0 own × IsPart out own (Some own) part × ((was : PrivateDict) → slice_get parts k ≡ Some was → IsPartLike was part)
+        (part : PrivateDict) × (own : Dictionary) × IsDictionary (get_or texts k []) 0 own × IsPart out own (Some own) part × ((was : PrivateDict) → slice_get parts k ≡ Some was → SamePart was part)
     like k less =
         let within : k < length items = subst (λ n. k < n) fonts.many less in
         let has = has_dictionary bytes items parts k are within in
@@ -127,28 +150,29 @@ keyed_parts bytes out old new items texts parts privates start keyed names are l
           λ was at.
               let both : Some has.part ≡ Some was = sym has.there ∙ at in
               let same : has.part ≡ was = cc in
-              subst (λ (p : PrivateDict). IsPartLike p (record { dictionary = written.local; subroutines = []; font = Some font.0 })) same (record { says = written.less; none = refl }),
+              subst (λ (p : PrivateDict). SamePart p (record { dictionary = written.local; subroutines = []; font = Some font.0 })) same
+              (same_part has.part written.local (Some font.0) written.less (same_font_by has.part.font (Some font.0) has.map font.0 has.font refl (own_says has.map font.0 private (private_offset start privates k) font.2))),
         )
 
-    all : Collected out texts (λ k is. (was : PrivateDict) → slice_get parts k ≡ Some was → IsPartLike was is)
-    all = collected out texts (λ k is. (was : PrivateDict) → slice_get parts k ≡ Some was → IsPartLike was is) like
+    all : Collected out texts (λ k is. (was : PrivateDict) → slice_get parts k ≡ Some was → SamePart was is)
+    all = collected out texts (λ k is. (was : PrivateDict) → slice_get parts k ≡ Some was → SamePart was is) like
 
 -- and the only part of another font
-pub plain_parts : (out : List ℕ) (old new : Dictionary) (part : PrivateDict) (private : Option Private) (start : ℕ) → look new operators.ROS ≡ None →
+pub plain_parts : (out : List ℕ) (old new : Dictionary) (part : PrivateDict) (private : Option Private) (start : ℕ) → part.font ≡ None → look new operators.ROS ≡ None →
     look new operators.Private ≡ option_or (named_by (place_of_private private start) operators.Private) (look old operators.Private) → All IsHeld (place_of_private private start) → Stands (private_text private) out start → IsOwnPrivate part private →
     (private ≡ None → first_two_of (look old operators.Private) ≡ None) → HasPartsLike out new (part ∷ [])
-plain_parts out old new part private start plain is held stands own none =
+plain_parts out old new part private start no_font plain is held stands own none =
     let written = has_written out old new private start part is held stands own none in
     let like : PrivateDict = record { dictionary = written.local; subroutines = []; font = None } in
     record {
       parts = like ∷ [];
       are = OfFont like plain (written.locals, refl) refl;
-      like = record { many = refl; each = λ i was is at there. pair i was is part like (record { says = written.less; none = refl }) at there };
+      like = record { many = refl; each = λ i was is at there. pair i was is part like (same_part part written.local None written.less (subst (λ f. SameFont f None) (sym no_font) tt)) at there };
     }
   where
-    pair : (i : ℕ) (was is first like : PrivateDict) → IsPartLike first like → slice_get (first ∷ []) i ≡ Some was → slice_get (like ∷ []) i ≡ Some is → IsPartLike was is
+    pair : (i : ℕ) (was is first like : PrivateDict) → SamePart first like → slice_get (first ∷ []) i ≡ Some was → slice_get (like ∷ []) i ≡ Some is → SamePart was is
     pair zero was is first like h at there =
         let x : first ≡ was = cc in
         let y : like ≡ is = cc in
-        subst (λ (p : PrivateDict). IsPartLike p is) x (subst (IsPartLike first) y h)
+        subst (λ (p : PrivateDict). SamePart p is) x (subst (SamePart first) y h)
     pair (suc i) was is first like h at there = let never : None ≡ Some was = at in absurd (cc)

@@ -33,7 +33,7 @@ put_last d (o ∷ os) q = put_last (put d o) os q ∙ ap (option_or (last_of os 
 equal : (o : Ordering) → is_eq o ≡ true → o ≡ Equal
 equal o f = grind arith
 
-same_operator : (q o : Operator) → eq_by_cmp operator_cmp q o ≡ true → q ≡ o
+pub same_operator : (q o : Operator) → eq_by_cmp operator_cmp q o ≡ true → q ≡ o
 same_operator q o e = exact q o (equal (operator_cmp q o) e)
 
 or_none : {A : Type 0} (x y : Option A) → option_or x y ≡ None → (x ≡ None) × (y ≡ None)
