@@ -1,5 +1,5 @@
 //! A font, written and read back.
-ghost use Rattle.std.specs.Prelude.{◌≡◌, false, IfOk, IfErr, OnOk, IsTrue, length};
+ghost use Rattle.std.specs.Prelude.{◌≡◌, ◌↔◌, false, IfOk, IfErr, OnOk, IsTrue, length};
 ghost use Rattle.postscript_base.specs.Tape.Outcome.{Got};
 ghost use Rattle.postscript_type2.specs.Program.Routines.{texts};
 ghost use Rattle.postscript_view.specs.CharSets.{IsCharSetOf};
@@ -36,7 +36,7 @@ use std::alloc::Global;
 
 /// Whether a font has what another one has, besides its glyphs, what names places, and strings with what names them.
 fn says_same(old: &FontView<'_>, new: &FontView<'_>) -> bool
-    ensures { IsTrue result → Repeats (view_shown old.now) (view_shown new.now) }
+    ensures { IsTrue result ↔ Repeats (view_shown old.now) (view_shown new.now) }
 {
     if !same_items(&old.names, &new.names) {
         return false;
@@ -62,7 +62,7 @@ fn are_kept(
     new: &FontView<'_>,
     new_set: &CharSetView<'_>,
 ) -> bool
-    ensures { IsTrue result → KeepsStrings sources.now (view_shown old.now) old_set.now (view_shown new.now) new_set.now }
+    ensures { IsTrue result ↔ KeepsStrings sources.now (view_shown old.now) old_set.now (view_shown new.now) new_set.now }
 {
     if !same_items(&old.strings, &new.strings) {
         return false;
