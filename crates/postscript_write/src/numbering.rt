@@ -1,9 +1,11 @@
 //! Char sets, encodings and FDSelect of the glyphs that are written (Technical Note 5176, sections 12, 13 and 19).
-ghost use Rattle.std.specs.Prelude.{◌≡◌, ℕ, IfErr, Some, length};
+ghost use Rattle.std.specs.Prelude.{◌≡◌, ◌↔◌, ℕ, IfErr, IfOk, IsSome, Some, length};
 ghost use Rattle.postscript_base.specs.Index.Lent.{items_of};
 ghost use Rattle.postscript_view.specs.CharSets.{IsCharSetOf};
 ghost use Rattle.postscript_view.specs.Naming.{Names};
+ghost use Rattle.postscript_view.specs.Sizes.{IsKeyed};
 ghost use Rattle.postscript_view.specs.Value.{view_shown};
+ghost use Rattle.postscript_write.specs.LaidOut.{SelectsExactly};
 ghost use Rattle.postscript_write.specs.Refusals.{FontRefusedBy};
 ghost use Rattle.postscript_write.specs.Steps.{IsLate};
 ghost use Rattle.postscript_write.specs.declared.error.Error.TheVariants as errors;
@@ -148,6 +150,17 @@ fn select(alloc: Global, numbers: &[usize]) -> Result<Vec<u8>>
     Ok(out)
 }
 
+/// FDSelect of a CID-keyed font with font dictionaries of these numbers. None of another font.
+fn select_of(alloc: Global, font: &FontView<'_>, numbers: &[usize]) -> Result<Option<Vec<u8>>>
+    ensures keyed { IfOk result (λ select. IsSome select ↔ IsKeyed font.now.dictionary) }
+    ensures late { IfErr result (λ e. IsLate e) }
+{
+    if !font.is_cid_keyed() {
+        return Ok(None);
+    }
+    Ok(Some(select(alloc, numbers)?))
+}
+
 /// What is written of glyphs besides their codes. Where their identifiers are not listed, they keep their numbers, and char set,
 /// encoding and strings stay as they are; else an encoding of the font's own gives way to the standard one.
 pub(crate) fn numbered(
@@ -156,13 +169,10 @@ pub(crate) fn numbered(
     numbers: &[usize],
     identifiers: &Option<Vec<StringID>>,
 ) -> Result<Glyphs>
-    ensures { IfErr result (λ e. IsLate e) }
+    ensures selects { IfOk result (λ glyphs. SelectsExactly font.now glyphs) }
+    ensures late { IfErr result (λ e. IsLate e) }
 {
-    let select = if font.is_cid_keyed() {
-        Some(select(alloc, numbers)?)
-    } else {
-        None
-    };
+    let select = select_of(alloc, font, numbers)?;
     let encoding = copied(alloc, own_encoding(font.bytes, &font.dictionary))?;
     let strings = strings_of(alloc, font, identifiers)?;
     if let Some(identifiers) = identifiers {
