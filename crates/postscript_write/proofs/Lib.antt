@@ -37,5 +37,6 @@ pub mod Drawings
 pub mod Successive
 pub mod Sums
 pub mod Ranges
+pub mod Endings
 pub mod Told
 pub mod Operators

@@ -1,5 +1,6 @@
 -- Ranges of a char set, one behind another.
-use Rattle.std.proofs.Common.{◌≡◌, refl, sym, ℕ, ◌+◌, ◌*◌, ◌/◌, ◌≤◌, ◌<◌, List, length, inl, inr, arith, below_more}
+use Rattle.std.proofs.Common.{◌≡◌, ◌⊎◌, refl, sym, ℕ, ◌+◌, ◌*◌, ◌/◌, ◌≤◌, ◌<◌, List, length, inl, inr, arith, below_more}
+use Rattle.std.proofs.lemmas.Bool.{cases_lt}
 use Rattle.std.proofs.Math.Nat.{lt_of_mul-lt-mul_right, le-div_iff_mul-le, zero-mul}
 use Rattle.postscript_view.specs.CharSet.{covered, more_of}
 use Rattle.postscript_view.proofs.Covering.{covered_none, covered_more}
@@ -59,3 +60,25 @@ no_range ranges size = record {
   needed = λ k less. absurd (omega (arith, less));
   enough = inl (0, sym (zero-mul (2 + size)), omega arith);
 }
+
+-- so many ranges are among the bytes
+pub among : (width k n : ℕ) → 0 < width → k ≤ n / width → k * width ≤ n
+among width k n some less = (le-div_iff_mul-le some).0 less
+
+no_less : (ranges : List ℕ) (size glyphs a b : ℕ) → RangesEnd ranges size glyphs a → RangesEnd ranges size glyphs b → b ≤ length ranges → a < b → ⊥
+no_less ranges size glyphs a b ends others within less = by ends.enough
+  where
+    by : ((r : ℕ) × (a ≡ r * (2 + size)) × (glyphs ≤ covered ranges size r)) ⊎ (a ≡ length ranges) → ⊥
+    by (inl (r, is, enough)) =
+        let needed = others.needed r (omega (arith, is, less)) in
+        absurd (omega (arith, needed, enough))
+    by (inr is) = absurd (omega (arith, is, less, within))
+
+-- ranges end in one place
+pub one_end : (ranges : List ℕ) (size glyphs a b : ℕ) → RangesEnd ranges size glyphs a → RangesEnd ranges size glyphs b → a ≤ length ranges → b ≤ length ranges → a ≡ b
+one_end ranges size glyphs a b ends others within most = by (cases_lt a b) (cases_lt b a)
+  where
+    by : (a < b) ⊎ (b ≤ a) → (b < a) ⊎ (a ≤ b) → a ≡ b
+    by (inl less) other = absurd (no_less ranges size glyphs a b ends others most less)
+    by (inr le) (inl more) = absurd (no_less ranges size glyphs b a others ends within more)
+    by (inr le) (inr ge) = omega (arith, le, ge)

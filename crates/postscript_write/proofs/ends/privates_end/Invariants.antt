@@ -1,8 +1,6 @@
-use Rattle.std.proofs.Common.{ℕ, drop}
-use Rattle.postscript_view.specs.Value.{parts_shown}
-use Rattle.postscript_write.specs.Whole.{PrivatesEnd}
+use Rattle.postscript_write.proofs.Successive.{EndWith, LeftEnd}
 use Rattle.postscript_write.proofs.ends.privates_end.Given as goal
 
--- where those that are left end, all end
+-- where those that are left end, all end, and the other way round
 abbrev pub invariant-loop-i : goal.invariant-loop-i
-invariant-loop-i l = (end : ℕ) → PrivatesEnd l.map (parts_shown (drop l.i l.parts)) l.next end → PrivatesEnd l.map (parts_shown l.parts) l.place end
+invariant-loop-i l = EndWith l.map l.parts l.i l.place l.next × LeftEnd l.map l.parts l.i l.place l.next

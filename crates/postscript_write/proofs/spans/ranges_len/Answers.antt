@@ -1,5 +1,5 @@
-use Rattle.std.proofs.Common.{arith, ◌-◌, ◌+◌}
-use Rattle.postscript_write.proofs.Ranges.{at_first, one_more, last_range}
+use Rattle.std.proofs.Common.{arith, length, ◌-◌, ◌+◌}
+use Rattle.postscript_write.proofs.Ranges.{among, at_first, one_more, last_range}
 use Rattle.postscript_write.proofs.spans.ranges_len.Goals as goal
 
 pub loop-r-init : goal.loop-r-init
@@ -15,4 +15,5 @@ pub returns-then-left-more : goal.returns-then-left-more
 returns-then-left-more c = record {
   len = last_range c.args.ranges.now c.args.size c.args.glyphs c.loop-r.r c.loop-r.left c.number_at-more.result
       c.number_at-more.ensures.value (omega (arith, c.if-left-more.true)) c.loop-r.invariant;
+  within = among (2 + c.args.size) (c.loop-r.r + 1) (length c.args.ranges.now) (omega arith) (omega arith);
 }

@@ -55,5 +55,5 @@ returns-clause-whole c =
     let new = view_shown c.in-Ok.again in (
       new,
       c.in-Ok.ensures.exact,
-      subst (λ (bs : List ℕ). HasNoByteBeside bs new) c.in-Ok.ensures.bytes (c.has_no_byte_beside.ensures c.if-not-has_no_byte_beside.false),
+      subst (λ (bs : List ℕ). HasNoByteBeside bs new) c.in-Ok.ensures.bytes (c.has_no_byte_beside.ensures.none c.if-not-has_no_byte_beside.false),
     )
