@@ -6,14 +6,16 @@
 # Each WORD is a folder or an installed Debian package, of which each file .otf is taken, or a font file. First every glyph of every font is drawn
 # by all three, and the segments are compared: with ttf-parser's to 0.05 of a unit, since its numbers are of 24 bits, and with
 # FreeType's, unscaled and unhinted, to whole units. Then CASES tables are made of these with one to four bytes changed, from SEED,
-# and are opened and drawn by this library and by ttf-parser: the classes of disagreement are printed with the code of the first.
+# and are opened and drawn by this library and by ttf-parser: the classes of disagreement are printed with the code of the first, and
+# where the two draw a glyph otherwise, whose outline FreeType draws.
 # Then fonts whose bytes and numbers are spoiled are called with the bytes and the room in front of pages that may not be touched,
 # and under the address sanitizer. Last comes the time a glyph over the first two fonts. The status is 1 where two draw a glyph of
-# a font otherwise, where both draw a changed one with other coordinates, or where a call reads or writes what it may not.
+# a font otherwise, where both draw a changed one with other coordinates and FreeType does not draw it as this library does, or where
+# a call reads or writes what it may not.
 #
 # Needs `rt` and cargo on the path, and Debian's gcc, make, pkg-config, libfreetype-dev and librust-ttf-parser-dev.
 set -e
-[ $# -ge 3 ] || { sed -n '2,16s/^# \{0,1\}//p' "$0" >&2; exit 2; }
+[ $# -ge 3 ] || { sed -n '2,18s/^# \{0,1\}//p' "$0" >&2; exit 2; }
 tools=$(cd "$(dirname "$0")/.." && pwd)
 cases=$1
 seed=$2

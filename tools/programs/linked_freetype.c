@@ -13,6 +13,8 @@ void *ft_open(const unsigned char *bytes, size_t length) {
     return face;
 }
 
+void ft_close(void *face) { FT_Done_Face(face); }
+
 /* How many points the outline of a glyph has, or -1. */
 int ft_glyph(void *face, unsigned glyph) {
     if (FT_Load_Glyph(face, glyph, FT_LOAD_NO_SCALE | FT_LOAD_NO_HINTING)) return -1;
