@@ -12,10 +12,12 @@ use Rattle.postscript_base.specs.Tape.Loops.{is_end}
 use Rattle.postscript_base.specs.Numbers.{slice, number as unsigned, two_sided, above, below}
 use Rattle.postscript_base.specs.Compact1.Decimal.{Decimal}
 use Rattle.postscript_base.specs.Compact1.Number.{begun, number, whole}
-use Rattle.postscript_base.specs.Compact1.Reals.{Real, ended_by, is_in_text, nibbles, real, real_of, text_of_real, valued}
+use Rattle.postscript_base.specs.Compact1.Reals.{Real, real_of}
+use Rattle.postscript_base.specs.Compact1.Nibbles.{ended_by, is_in_text, nibbles, real, text_of_real, valued}
 use Rattle.postscript_base.specs.Compact1.Operation.{begins_operand, operator_begun, step}
 use Rattle.postscript_base.specs.Compact1.Operators.{operator_of, operators}
-use Rattle.postscript_base.specs.Compact1.DictionaryLaw.{begins, is_cut, is_cut_operand, is_open, operator, BadAt, RefusedBy}
+use Rattle.postscript_base.specs.Compact1.DictionaryLaw.{is_cut, is_cut_operand, is_open}
+use Rattle.postscript_base.specs.Compact1.OperationLaw.{begins, operator, BadAt, RefusedBy}
 use Rattle.postscript_base.specs.declared.compact1.operator.Operator.{Operator}
 use Rattle.postscript_base.proofs.Nibbles.{byte_at, byte_none}
 use Rattle.postscript_base.proofs.Onward.{Goes}

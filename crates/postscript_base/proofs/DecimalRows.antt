@@ -4,7 +4,8 @@ use Rattle.postscript_base.specs.Refusal.{unexpected_eof, malformed_offset, malf
 use Rattle.postscript_base.specs.Tape.Outcome.{Outcome, Got, Fault}
 use Rattle.postscript_base.specs.Numbers.{slice, number as unsigned}
 use Rattle.postscript_base.specs.Compact1.Decimal.{Decimal, IsCanonical, IsOperand, canonical, operand_of, to_i32, without_zeros}
-use Rattle.postscript_base.specs.Compact1.Reals.{Real, real, real_of, spelling, text_of_real, value_of}
+use Rattle.postscript_base.specs.Compact1.Reals.{Real, real_of, spelling, value_of}
+use Rattle.postscript_base.specs.Compact1.Nibbles.{real, text_of_real}
 use Rattle.postscript_base.specs.Compact1.Number.{number}
 use Rattle.postscript_base.specs.Compact1.Header.{header}
 use Rattle.postscript_base.specs.Compact1.Offset.{offset}

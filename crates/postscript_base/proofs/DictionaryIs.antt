@@ -5,7 +5,8 @@ use Rattle.std.specs.Option.{option_or}
 use Rattle.std.specs.FinMap.{empty, get, get-insert, get-empty, same_map}
 use Rattle.std.specs.Ordering.{eq_by_cmp}
 use Rattle.postscript_base.specs.Error.{IsOneOf}
-use Rattle.postscript_base.specs.Refusal.{Refusal, malformed_number, out_of_range_number, unknown_operator, number_of}
+use Rattle.postscript_base.specs.Refusal.{Refusal, malformed_number, out_of_range_number, unknown_operator}
+use Rattle.postscript_base.specs.RefusalOf.{number_of}
 use Rattle.postscript_base.specs.Tape.Outcome.{Outcome, Got, Fault, Past, after, end}
 use Rattle.postscript_base.specs.Tape.Loops.{is_end, to_end, to_end_from, unless_end}
 use Rattle.postscript_base.specs.Compact1.Decimal.{Decimal}

@@ -7,7 +7,7 @@ use Rattle.postscript_base.specs.Tape.Outcome.{Outcome, Got, Fault, Past}
 use Rattle.postscript_base.specs.Numbers.{slice, number as unsigned}
 use Rattle.postscript_base.specs.Compact1.Decimal.{canonical, without_zeros}
 use Rattle.postscript_base.specs.Compact1.Number.{number}
-use Rattle.postscript_base.specs.Compact1.Reals.{real, text_of_real}
+use Rattle.postscript_base.specs.Compact1.Nibbles.{real, text_of_real}
 use Rattle.postscript_base.specs.Compact1.Operation.{Operation, operation, operation_from, step}
 use Rattle.postscript_base.specs.Compact1.Operators.{operator_of}
 use Rattle.postscript_base.specs.Compact1.Dictionary.{Dictionary, dictionary, dictionary_of}

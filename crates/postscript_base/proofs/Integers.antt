@@ -9,7 +9,7 @@ use Rattle.postscript_base.specs.Compact1.Decimal.{Decimal}
 use Rattle.postscript_base.specs.Compact1.Integers as spellings
 use Rattle.postscript_base.specs.Compact1.Integers.{IsInteger, IsIntegerAt, ReadsIntegers, StandAt}
 use Rattle.postscript_base.specs.Compact1.Number.{begun, number, whole}
-use Rattle.postscript_base.specs.Compact1.Reals.{real}
+use Rattle.postscript_base.specs.Compact1.Nibbles.{real}
 use Rattle.postscript_base.proofs.Nibbles.{byte_at, byte_none}
 
 -- the number of so many bytes, and what is made of it

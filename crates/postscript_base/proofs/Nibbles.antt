@@ -12,7 +12,7 @@ use Rattle.postscript_base.proofs.Outcomes.{refused_after}
 use Rattle.postscript_base.specs.Tape.Outcome.{Outcome, Got, Fault, after, end, RefusedAs}
 use Rattle.postscript_base.specs.Numbers.{slice, number}
 use Rattle.postscript_base.specs.Private.Nibbles.{one_byte, one_nibble, step, then_low}
-use Rattle.postscript_base.specs.Compact1.Reals.{ended_by, is_in_text, nibbles, symbols, text_of_real}
+use Rattle.postscript_base.specs.Compact1.Nibbles.{ended_by, is_in_text, nibbles, symbols, text_of_real}
 
 abbrev stepped : Option (Bool × List ℕ) → ℕ → (List ℕ → Outcome (List ℕ)) → Outcome (List ℕ)
 stepped None next more = Fault malformed_number

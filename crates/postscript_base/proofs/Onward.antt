@@ -3,14 +3,15 @@ use Rattle.std.proofs.lemmas.Grind.{common_steps}
 use Rattle.std.proofs.Common.{◌≡◌, refl, ap, ℕ, ◌+◌, ◌-◌, ◌*◌, ◌≤◌, ◌<◌, Bool, true, List, [], ◌∷◌, length, ◌==◌, nat_lt, Option, length-drop, inl, inr, arith, if◌then◌else◌}
 use Rattle.std.proofs.lemmas.Bool.Decides.{nat_tests}
 use Rattle.postscript_base.specs.Error.{IsOneOf}
-use Rattle.postscript_base.specs.Refusal.{number_of}
+use Rattle.postscript_base.specs.RefusalOf.{number_of}
 use Rattle.postscript_base.specs.Tape.Outcome.{Outcome, Got, Fault, Past, Reading, after, ◌>>=◌, pure}
 use Rattle.postscript_base.specs.Tape.Onward.{MovesOn, TakesBytes}
 use Rattle.postscript_base.specs.Tape.At.{NeedsBytes}
 use Rattle.postscript_base.specs.Numbers.{slice, number, two_sided, above, below}
 use Rattle.postscript_base.specs.Compact1.Decimal.{Decimal}
 use Rattle.postscript_base.specs.Compact1.Number.{begun, number as dict_number, whole}
-use Rattle.postscript_base.specs.Compact1.Reals.{Real, nibbles, real, real_of, text_of_real, valued}
+use Rattle.postscript_base.specs.Compact1.Reals.{Real, real_of}
+use Rattle.postscript_base.specs.Compact1.Nibbles.{nibbles, real, text_of_real, valued}
 
 -- the refusals of numbers and operations
 abbrev pub known_refusals : List ℕ

@@ -7,7 +7,8 @@ use Rattle.postscript_base.specs.Tape.Onward.{MovesOn}
 use Rattle.postscript_base.specs.Compact1.Decimal.{Decimal}
 use Rattle.postscript_base.specs.Compact1.Number.{number}
 use Rattle.postscript_base.specs.Compact1.Operation.{Operation, ended_or, operation, operation_from, step}
-use Rattle.postscript_base.specs.Compact1.DictionaryLaw.{IsNoOperation, ReadsOperations, OperandsAt, OperationAt, UnfinishedAt, BadAt, operator}
+use Rattle.postscript_base.specs.Compact1.DictionaryLaw.{UnfinishedAt}
+use Rattle.postscript_base.specs.Compact1.OperationLaw.{IsNoOperation, ReadsOperations, OperandsAt, OperationAt, BadAt, operator}
 use Rattle.postscript_base.proofs.Onward.{Goes, dict_number_takes}
 use Rattle.postscript_base.proofs.OperationSteps.{Found, step_goes, stepped}
 use Rattle.postscript_base.proofs.Cuts.{IsStep, step_is, operand_step, operator_step, bad_step, cut_step}

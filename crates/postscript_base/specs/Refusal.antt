@@ -1,8 +1,6 @@
 -- What refuses a reading, ends a run or refuses an operator, with what it names.
 use Rattle.std.specs.Prelude.{ℕ}
 use Rattle.postscript_base.specs.declared.compact1.operator.Operator.{Operator}
-use Rattle.postscript_base.specs.declared.error.Error.{Error}
-use Rattle.postscript_base.specs.declared.error.Error.TheVariants as errors
 use Rattle.postscript_base.specs.declared.error.Part.{Part}
 
 -- A refusal: its number alone; or the part of the formats that is not followed, or the operator of a dictionary whose
@@ -120,43 +118,3 @@ too_many_stems = Numbered 29
 -- an earlier call of the program was refused
 abbrev pub already_failed : Refusal
 already_failed = Numbered 30
-
--- the refusal that an error tells
-abbrev pub refusal_of : Error → Refusal
-refusal_of errors.UnexpectedEof = unexpected_eof
-refusal_of (errors.Io fault) = io
-refusal_of errors.Memory = memory
-refusal_of errors.TapeStuck = tape_stuck
-refusal_of errors.MalformedOffset = malformed_offset
-refusal_of errors.MalformedIndex = malformed_index
-refusal_of errors.MalformedNumber = malformed_number
-refusal_of errors.OutOfRangeNumber = out_of_range_number
-refusal_of errors.UnknownOperator = unknown_operator
-refusal_of errors.MalformedCharSet = malformed_char_set
-refusal_of errors.UnknownCharSetFormat = unknown_char_set_format
-refusal_of errors.UnknownCharStringFormat = unknown_char_string_format
-refusal_of (errors.MalformedOperation operator) = OfMalformed operator
-refusal_of (errors.MissingOperation operator) = OfMissing operator
-refusal_of errors.OutOfRangeOffset = out_of_range_offset
-refusal_of (errors.Unsupported part) = OfPart part
-refusal_of errors.ExpectedOperand = expected_operand
-refusal_of errors.ExpectedInteger = expected_integer
-refusal_of errors.ExpectedMoreOperands = expected_more_operands
-refusal_of errors.MalformedOperands = malformed_operands
-refusal_of errors.InvalidOperand = invalid_operand
-refusal_of errors.MissingSubroutine = missing_subroutine
-refusal_of errors.ReturnWithoutCaller = return_without_caller
-refusal_of errors.TrailingData = trailing_data
-refusal_of errors.TooDeep = too_deep
-refusal_of errors.Overflow = overflow
-refusal_of errors.ZeroDivisor = zero_divisor
-refusal_of errors.NegativeRoot = negative_root
-refusal_of errors.TooManyStems = too_many_stems
-refusal_of errors.AlreadyFailed = already_failed
-
--- the number of a refusal
-abbrev pub number_of : Refusal → ℕ
-number_of (Numbered number) = number
-number_of (OfMalformed operator) = 13
-number_of (OfMissing operator) = 14
-number_of (OfPart part) = 16

@@ -14,7 +14,7 @@ use Rattle.postscript_c.specs.AtStart.{NamesSubroutines}
 use Rattle.postscript_c.specs.Widths.{AreWidths, IsWidth}
 use Rattle.postscript_compact1.proofs.OperandLaws.{bounds_has, bounds_is, placed_is}
 use Rattle.postscript_compact1.proofs.Outcomes.{got}
-use Rattle.postscript_compact1.specs.FontSet.Layout.{HasFirst, HasPrivate, IsPlace}
+use Rattle.postscript_compact1.specs.FontSet.Parts.{HasFirst, HasPrivate, IsPlace}
 use Rattle.postscript_compact1.specs.Kinds.{map_of}
 use Rattle.postscript_base.proofs.Opening.{opened_is}
 use Rattle.postscript_view.proofs.Wider.{map_is, slice_is}

@@ -34,7 +34,7 @@ use Rattle.postscript_c.specs.declared.font.PsfFont.{PsfFont}
 use Rattle.postscript_c.specs.declared.part.PsfPart.{PsfPart}
 use Rattle.postscript_compact1.proofs.OperandLaws.{placed_has, placed_is}
 use Rattle.postscript_compact1.proofs.Outcomes.{got}
-use Rattle.postscript_compact1.specs.FontSet.Layout.{HasFirst, IsPlace}
+use Rattle.postscript_compact1.specs.FontSet.Parts.{HasFirst, IsPlace}
 use Rattle.postscript_compact1.specs.FontSet.Operands.{place_at, type_two}
 use Rattle.postscript_compact1.specs.Kinds.{map_of}
 use Rattle.postscript_base.proofs.Opening.{opened_only}

@@ -11,7 +11,9 @@ use Rattle.postscript_base.specs.Tape.Outcome.{Outcome, Got, Fault, Past, Readin
 use Rattle.postscript_base.proofs.Onward.{number_takes}
 use Rattle.postscript_compact1.specs.CharSets.{char_set, char_set_0, char_set_of, covered, covered_1, covered_2, covering, glyphs_of_1, glyphs_of_2, if_any, listed, none_wanting, range_1, range_2, uncovered}
 use Rattle.postscript_compact1.specs.CharSets.Formats.{Listed, Covered}
-use Rattle.postscript_compact1.specs.CharSetLaw.{BehindFormat, CutFormat, CutIdentifier, CutRange, NoCharSet, NoCharSet0, NoCharSet1, NoCharSet2, NoCover, NoFormat, NoGlyphs, NoneToName, NoRanges1, NoRanges2, NoRangesOf, OtherFormat, WrongFormat, ReadsCharSets, StandAt, TooManyGlyphs, ListsGlyphs, CoversGlyphs1, CoversGlyphs2, IsCharSet}
+use Rattle.postscript_compact1.specs.CharSetLaw.{ReadsCharSets}
+use Rattle.postscript_compact1.specs.CharSetAt.{StandAt, ListsGlyphs, CoversGlyphs1, CoversGlyphs2, IsCharSet}
+use Rattle.postscript_compact1.specs.CharSetCauses.{BehindFormat, CutFormat, CutIdentifier, CutRange, NoCharSet, NoCharSet0, NoCharSet1, NoCharSet2, NoCover, NoFormat, NoGlyphs, NoneToName, NoRanges1, NoRanges2, NoRangesOf, OtherFormat, WrongFormat, TooManyGlyphs}
 use Rattle.postscript_compact1.specs.declared.char_set.CharSet.{CharSet}
 use Rattle.postscript_compact1.specs.declared.char_set.CharSet.TheVariants.{Format0, Format1, Format2}
 use Rattle.postscript_compact1.proofs.Ranges.{range_1_takes, range_2_takes}

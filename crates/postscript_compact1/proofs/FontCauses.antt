@@ -3,7 +3,8 @@ use Rattle.std.proofs.Common.{◌≡◌, ◌⊎◌, inl, inr, ℕ, zero, suc, �
 use Rattle.std.proofs.lemmas.Int.{ints}
 use Rattle.std.proofs.lemmas.Bool.Decides.{nat_tests}
 use Rattle.postscript_base.specs.Numbers.{slice}
-use Rattle.postscript_base.specs.Refusal.{refusal_of, out_of_range_offset, unknown_char_string_format}
+use Rattle.postscript_base.specs.Refusal.{out_of_range_offset, unknown_char_string_format}
+use Rattle.postscript_base.specs.RefusalOf.{refusal_of}
 use Rattle.postscript_base.specs.Tape.At.{at, bytes_at}
 use Rattle.postscript_base.specs.Tape.Loops.{each}
 use Rattle.postscript_base.specs.Tape.Outcome.{Got, Reading, RefusedAs, after, pure, Outcome, Fault, Past}
@@ -20,16 +21,19 @@ use Rattle.postscript_compact1.specs.Index.{Index, index, empty}
 use Rattle.postscript_compact1.specs.Kinds.{map_of}
 use Rattle.postscript_compact1.specs.Texts.{text}
 use Rattle.postscript_compact1.specs.CharSets.{char_set as the_set}
-use Rattle.postscript_compact1.specs.IndexLaw.{IsIndex}
+use Rattle.postscript_compact1.specs.IndexAt.{IsIndex}
 use Rattle.postscript_compact1.specs.ItemsLaw.{AreDictionaries}
 use Rattle.postscript_compact1.specs.declared.char_set.CharSet.{CharSet}
 use Rattle.postscript_compact1.specs.declared.encoding.Encoding.{Encoding}
 use Rattle.postscript_compact1.specs.declared.font_set.manner.Manner.{Manner}
 use Rattle.postscript_compact1.specs.FontSet.Operands.{goes_without, number_of, number_of_first, first, numbers_of_two, two, size_of, in_range, place_at, only_two, type_two, bounded, bounds}
 use Rattle.postscript_compact1.specs.FontSet.Font.{Tables}
-use Rattle.postscript_compact1.specs.Computed.Order.{encoding_of, encoding, char_strings, own_char_set, char_set_of, char_set_offset, char_set, glyphs, private, subroutines, own_subroutines, own_locals, locals, part, names, dictionaries, tables, behind, parts, font_by}
-use Rattle.postscript_compact1.specs.FontSet.Layout.{HasFirst, IsPlace, IsSlice, HasEncoding, HasCharStrings, HasCharSet, HasPrivate, AreTables}
-use Rattle.postscript_compact1.specs.FontSet.Causes.{RefusedAt, NoFirst, Missing, Malformed, NoOffset, OfOperand, OutOfRange, NoEncoding, EncodingOperand, OtherEncoding, NoCharStrings, StringsOffset, TypeOperand, OtherType, StringsRefused, NoCharSet, SetOperand, SetNegative, SetFar, SetRefused, NoBounds, TooFew, NotWhole, BoundsRange, NoPrivate, PrivateBounds, PrivateSlice, PrivateRefused, NoSubroutines, SubrsOffset, SubrsRefused, IsSought, NoPart, OfEncoding, OfStrings, OfSet, OfPrivate, OfSubroutines, NoParts, NoTables, OfNames, OfItems, OfDictionaries, OfStringList, OfGlobalList, NoFontBy, OfHeader, HeaderSize, OfTables, OfParts, RefusesLayout}
+use Rattle.postscript_compact1.specs.Computed.Order.{names, dictionaries, tables, behind, parts, font_by}
+use Rattle.postscript_compact1.specs.Computed.Parts.{encoding_of, encoding, char_strings, own_char_set, char_set_of, char_set_offset, char_set, glyphs, private, subroutines, own_subroutines, own_locals, locals, part}
+use Rattle.postscript_compact1.specs.FontSet.Layout.{AreTables}
+use Rattle.postscript_compact1.specs.FontSet.Parts.{HasFirst, IsPlace, IsSlice, HasEncoding, HasCharStrings, HasCharSet, HasPrivate}
+use Rattle.postscript_compact1.specs.FontSet.Causes.{NoTables, OfNames, OfItems, OfDictionaries, OfStringList, OfGlobalList, NoFontBy, OfHeader, HeaderSize, OfTables, OfParts, RefusesLayout}
+use Rattle.postscript_compact1.specs.FontSet.PartCauses.{RefusedAt, NoFirst, Missing, Malformed, NoOffset, OfOperand, OutOfRange, NoEncoding, EncodingOperand, OtherEncoding, NoCharStrings, StringsOffset, TypeOperand, OtherType, StringsRefused, NoCharSet, SetOperand, SetNegative, SetFar, SetRefused, NoBounds, TooFew, NotWhole, BoundsRange, NoPrivate, PrivateBounds, PrivateSlice, PrivateRefused, NoSubroutines, SubrsOffset, SubrsRefused, IsSought, NoPart, OfEncoding, OfStrings, OfSet, OfPrivate, OfSubroutines, NoParts}
 use Rattle.postscript_compact1.proofs.IndexRefused.{reads_indices}
 use Rattle.postscript_compact1.proofs.ItemsAre.{reads_items}
 use Rattle.postscript_compact1.proofs.OperandLaws.{none_lacking, first_has, two_has, size_has, in_range_has, placed_has, type_has, bounds_has, there_is, first_is, in_range_is, placed_is, type_is, bounds_is}

@@ -12,18 +12,20 @@ use Rattle.postscript_base.specs.Compact1.DictionaryLaw.{IsDictionary, ReadsDict
 use Rattle.postscript_base.specs.Compact1.Header.{header}
 use Rattle.postscript_base.specs.declared.compact1.operator.Operator.TheVariants as operators
 use Rattle.postscript_compact1.specs.Index.{Index, index, empty}
-use Rattle.postscript_compact1.specs.IndexLaw.{IsIndex}
+use Rattle.postscript_compact1.specs.IndexAt.{IsIndex}
 use Rattle.postscript_compact1.specs.Kinds.{map_of, maps_of}
 use Rattle.postscript_compact1.specs.Texts.{text}
-use Rattle.postscript_compact1.specs.CharSetLaw.{IsCharSet}
+use Rattle.postscript_compact1.specs.CharSetAt.{IsCharSet}
 use Rattle.postscript_compact1.specs.declared.char_set.CharSet.{CharSet}
 use Rattle.postscript_compact1.specs.declared.encoding.Encoding.{Encoding}
 use Rattle.postscript_compact1.specs.declared.font_set.manner.Manner.{Manner}
 use Rattle.postscript_compact1.specs.declared.font_set.manner.Manner.TheVariants.{Strict, Lenient}
 use Rattle.postscript_compact1.specs.FontSet.Operands.{goes_without, in_range}
 use Rattle.postscript_compact1.specs.FontSet.Font.{Part, Tables, Font, columns, font_of}
-use Rattle.postscript_compact1.specs.Computed.Order.{encoding, char_strings, own_char_set, char_set_of, char_set_offset, char_set, glyphs, private, subroutines, own_subroutines, own_locals, locals, part, names, dictionaries, tables, behind, parts, font_by, font, lenient_font}
-use Rattle.postscript_compact1.specs.FontSet.Layout.{HasFirst, IsSlice, IsPlace, HasEncoding, HasCharStrings, HasCharSet, Is_0, Is_1, Is_2, Own, HasPrivate, HasSubroutines, IsLacking, HasLocals, WithBoth, WithoutSubrs, WithoutPrivate, IsPart, AreParts, AreTables, IsFontBy, IsFont, IsLenientFont, ReadsLayout, ReadsLeniently}
+use Rattle.postscript_compact1.specs.Computed.Order.{names, dictionaries, tables, behind, parts, font_by, font, lenient_font}
+use Rattle.postscript_compact1.specs.Computed.Parts.{encoding, char_strings, own_char_set, char_set_of, char_set_offset, char_set, glyphs, private, subroutines, own_subroutines, own_locals, locals, part}
+use Rattle.postscript_compact1.specs.FontSet.Layout.{AreTables, IsFontBy, IsFont, IsLenientFont, ReadsLayout, ReadsLeniently}
+use Rattle.postscript_compact1.specs.FontSet.Parts.{HasFirst, IsSlice, IsPlace, HasEncoding, HasCharStrings, HasCharSet, Is_0, Is_1, Is_2, Own, HasPrivate, HasSubroutines, IsLacking, HasLocals, WithBoth, WithoutSubrs, WithoutPrivate, IsPart, AreParts}
 use Rattle.postscript_compact1.proofs.CharSetIs.{char_set_needs}
 use Rattle.postscript_compact1.proofs.CharSetRefused.{reads_char_sets}
 use Rattle.postscript_compact1.proofs.IndexRefused.{reads_indices}

@@ -11,7 +11,7 @@ use Rattle.postscript_base.specs.Tape.Outcome.{Outcome, Got, Fault, Past, after,
 use Rattle.postscript_base.proofs.Onward.{needs_after, number_needs}
 use Rattle.postscript_compact1.specs.Index.{Index, empty, filled, index, lengths, lengths_from, offsets}
 use Rattle.postscript_compact1.specs.Kinds.{char_strings}
-use Rattle.postscript_compact1.specs.IndexLaw.{AreOffsets, IsFilledAt, IsIndex, IsWhole, ItemsAt, ItemsFrom, NumberAt, OffsetsAt, RisesFrom, before_data, last_of}
+use Rattle.postscript_compact1.specs.IndexAt.{AreOffsets, IsFilledAt, IsIndex, IsWhole, ItemsAt, ItemsFrom, NumberAt, OffsetsAt, RisesFrom, before_data, last_of}
 
 -- what refuses an INDEX: no place past the end is sought
 abbrev Refuses : Refusal → Type 0

@@ -5,7 +5,7 @@ use Rattle.std.specs.declared.alloc.Global.{Global}
 use Rattle.postscript_base.specs.Compact1.Offset.{behind, rises}
 use Rattle.postscript_base.specs.Tape.Loops.{AreFor, AreLinked}
 use Rattle.postscript_compact1.specs.Index.{lengths, lengths_from}
-use Rattle.postscript_compact1.specs.IndexLaw.{IsFilled}
+use Rattle.postscript_compact1.specs.IndexAt.{IsFilled}
 use Rattle.postscript_compact1.specs.declared.index.Length.{Length}
 use Rattle.postscript_compact1.proofs.IndexIs.{Follows, follows_on, nothing_follows}
 

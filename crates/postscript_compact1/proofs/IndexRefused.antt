@@ -7,7 +7,9 @@ use Rattle.postscript_base.specs.Refusal.{Refusal, malformed_index, malformed_of
 use Rattle.postscript_base.specs.Tape.Loops.{chain, each}
 use Rattle.postscript_base.specs.Tape.Outcome.{Outcome, Got, Fault, Past, after, end, fault, pure}
 use Rattle.postscript_compact1.specs.Index.{Index, filled, index, lengths, lengths_from, offsets}
-use Rattle.postscript_compact1.specs.IndexLaw.{AreFirstOffsets, AreOffsets, BeginsOffsets, FallsBehind, HasCutSize, IsCounted, IsCut, IsNoIndex, NumberAt, OffsetsAt, ReadsIndices, RisesFrom, last_of}
+use Rattle.postscript_compact1.specs.IndexLaw.{ReadsIndices}
+use Rattle.postscript_compact1.specs.IndexAt.{AreOffsets, NumberAt, OffsetsAt, RisesFrom, last_of}
+use Rattle.postscript_compact1.specs.IndexCauses.{AreFirstOffsets, BeginsOffsets, FallsBehind, HasCutSize, IsCounted, IsCut, IsNoIndex}
 use Rattle.postscript_compact1.proofs.IndexIs.{Is, all, only, whole, takes, needs, is_index, Follows, nothing_follows, IsChain, IsNumber, IsSize, is_chain, is_number, number_got, rising_got, sizes, slice_got, chain_got, up_by, follows_on, is_rising, IsRising}
 use Rattle.postscript_compact1.proofs.CharSetRefused.{Fails, fails_after}
 

@@ -15,8 +15,9 @@ use Rattle.postscript_base.specs.declared.error.Error.{Error}
 use Rattle.postscript_base.specs.declared.error.Error.TheVariants.{Memory}
 use Rattle.postscript_base.proofs.Onward.{needs_after, number_needs}
 use Rattle.postscript_compact1.specs.Index.{Index, empty, filled, index, lengths, lengths_from, offsets}
-use Rattle.postscript_compact1.specs.IndexLaw.{OffsetsAt, RisesFrom, last_of}
-use Rattle.postscript_compact1.specs.Computed.Order.{encoding, glyphs, char_strings, char_set, locals, part, parts, font, lenient_font, font_by, behind as tables_behind}
+use Rattle.postscript_compact1.specs.IndexAt.{OffsetsAt, RisesFrom, last_of}
+use Rattle.postscript_compact1.specs.Computed.Order.{parts, font, lenient_font, font_by, behind as tables_behind}
+use Rattle.postscript_compact1.specs.Computed.Parts.{encoding, glyphs, char_strings, char_set, locals, part}
 use Rattle.postscript_compact1.specs.Private.Passed.{passed, size_of_items, filled_count, index_count, glyph_count, passed_part, passed_parts, passed_font}
 use Rattle.postscript_compact1.specs.FontSet.Causes.{NoFontBy}
 use Rattle.postscript_compact1.specs.FontSet.Font.{Part, Font, columns, font_of}

@@ -5,11 +5,15 @@ pub mod StandardStrings
 pub mod FontSet
 pub mod Index
 pub mod IndexLaw
+pub mod IndexAt
+pub mod IndexCauses
 pub mod Kinds
 pub mod CharSets
 pub mod ItemsLaw
 pub mod Texts
 pub mod TextsLaw
 pub mod CharSetLaw
+pub mod CharSetAt
+pub mod CharSetCauses
 pub mod Computed
 pub mod Private

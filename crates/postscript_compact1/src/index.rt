@@ -8,7 +8,7 @@ ghost use Rattle.postscript_base.specs.Compact1.Offset.{behind, rises};
 ghost use Rattle.postscript_base.specs.Tape.Loops.{AreLinked};
 ghost use Rattle.postscript_base.specs.Tape.Outcome.{same};
 ghost use Rattle.postscript_base.specs.Private.Seen.{each_as_it_is};
-ghost use Rattle.postscript_compact1.specs.IndexLaw.{IsFilled, IsWhole};
+ghost use Rattle.postscript_compact1.specs.IndexAt.{IsFilled, IsWhole};
 ghost use Rattle.postscript_compact1.specs.Index.{empty as no_items, filled, index, lengths, lengths_from, offsets as the_offsets};
 
 mod char_strings;
@@ -151,7 +151,7 @@ impl Value for Index {
     ghost use Rattle.postscript_base.specs.Private.Seen.{each_as_it_is};
     ghost use Rattle.postscript_base.specs.Tape.{Reads, IsHonest};
     ghost use Rattle.postscript_compact1.specs.Index.{Index, index};
-    ghost use Rattle.postscript_compact1.specs.IndexLaw.{IsWhole};
+    ghost use Rattle.postscript_compact1.specs.IndexAt.{IsWhole};
 
     ghost Shown = { Index };
 

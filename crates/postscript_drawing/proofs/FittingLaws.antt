@@ -5,7 +5,8 @@ use Rattle.postscript_drawing.specs.Fitting.{AllFit, Fits, RunsFit}
 use Rattle.postscript_type2.specs.declared.operation.Operator.{Operator}
 use Rattle.postscript_type2.specs.Operation.Kinds.{Kind, Draws, DeclaresStems, Masks, Works, Stores, CallsFrom, GoesBack, EndsGlyph, IsRefused, kind, lengths, taken}
 use Rattle.postscript_type2.specs.Operation.Lengths.{greatest}
-use Rattle.postscript_type2.specs.Program.Effects.{State, Effect, Clears, Refuses, call_move, clearing, effect_of, last_of, mask_clearing, store_move, work_move, pushed}
+use Rattle.postscript_type2.specs.Program.Effects.{Effect, Clears, Refuses, call_move, clearing, effect_of, last_of, mask_clearing, store_move, work_move}
+use Rattle.postscript_type2.specs.Program.States.{State, pushed}
 use Rattle.postscript_type2.specs.Program.Meaning.{Means}
 use Rattle.postscript_type2.specs.Program.Meaning as rules
 use Rattle.postscript_type2.specs.Program.Routines.{Lists}

@@ -6,7 +6,8 @@ use Rattle.postscript_drawing.specs.Flat.{FlatTextDrawsTheSame, InlinedTextDraws
 use Rattle.postscript_drawing.specs.Outline.{drawing_of, finished, outline_of, outlined}
 use Rattle.postscript_type2.specs.Program.Evaluation.{run_of}
 use Rattle.postscript_type2.specs.Program.Flat.{flat_text}
-use Rattle.postscript_type2.specs.Program.Inlined.{inlined_text, InlinedTextKeepsMeaning}
+use Rattle.postscript_type2.specs.Program.Inlined.{inlined_text}
+use Rattle.postscript_type2.specs.Program.InlinedLaws.{InlinedTextKeepsMeaning}
 use Rattle.postscript_type2.specs.Program.Inlining.{FlatTextKeepsMeaning}
 use Rattle.postscript_type2.specs.Program.Runs.{Answer, End, Fault, Finished, Returned, Run, UsedUp, fault_of}
 

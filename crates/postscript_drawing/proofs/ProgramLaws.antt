@@ -2,7 +2,8 @@
 use Rattle.std.proofs.lemmas.List.{append-nil}
 use Rattle.std.proofs.Common.{◌≡◌, ◌⊎◌, inl, inr, ℕ, ℤ, Bool, true, false, List, [], ◌∷◌, ◌++◌, Option, Result, Ok, Err, IfOk, IfErr, OnErr, refl, sym, ap, subst, ◌∙◌}
 use Rattle.std.specs.Prelude.{IsErrAnd}
-use Rattle.postscript_base.specs.Refusal.{Refusal, refusal_of}
+use Rattle.postscript_base.specs.Refusal.{Refusal}
+use Rattle.postscript_base.specs.RefusalOf.{refusal_of}
 use Rattle.postscript_base.specs.declared.error.Error.{Error as Cause}
 use Rattle.postscript_base.specs.declared.error.Error.TheVariants as causes
 use Rattle.postscript_outline.specs.declared.point.Point.{Point}

@@ -2,7 +2,8 @@
 use Rattle.std.specs.Prelude.{◌≡◌, ◌⊎◌, List, [], length, take, Result, Ok, Err, IfOk, OnErr}
 use Rattle.postscript_base.specs.declared.error.Error.{Error}
 use Rattle.postscript_base.specs.declared.error.Error.TheVariants as errors
-use Rattle.postscript_base.specs.Refusal.{Refusal, refusal_of, overflow}
+use Rattle.postscript_base.specs.Refusal.{Refusal, overflow}
+use Rattle.postscript_base.specs.RefusalOf.{refusal_of}
 use Rattle.postscript_drawing.specs.declared.pen.Pen.{Pen}
 use Rattle.postscript_outline.specs.declared.segment.Segment.{Segment}
 use Rattle.postscript_outline.specs.Sinks.{Receives}

@@ -2,7 +2,7 @@
 ghost use Rattle.std.specs.Prelude.{◌≡◌, ◌⊎◌, ◌∷◌, [], IfOk, OnOk, MatchResult};
 ghost use Rattle.postscript_base.specs.declared.error.Error.TheVariants as errors;
 ghost use Rattle.postscript_base.specs.Error.{IsListed};
-ghost use Rattle.postscript_base.specs.Refusal.{refusal_of};
+ghost use Rattle.postscript_base.specs.RefusalOf.{refusal_of};
 ghost use Rattle.postscript_outline.specs.Contours.{AreContours};
 ghost use Rattle.postscript_drawing.specs.Fitting.{AllFit};
 ghost use Rattle.postscript_drawing.specs.Operations.{OutlinesApplied, answers_of, outline_applied, run_telling};

@@ -2,7 +2,7 @@
 ghost use Rattle.std.specs.Prelude.{◌≡◌, ◌⊎◌, ℕ, ℤ, pos, ◌*ℤ◌, List, Some, None, IfOk, IfErr, IfSome, IsOkAnd, ◌≤◌, ◌^◌};
 ghost use Rattle.std.specs.Int.RustNames.{unsigned_abs};
 ghost use Rattle.postscript_base.specs.Compact1.Dictionary.{Dictionary};
-ghost use Rattle.postscript_base.specs.Refusal.{refusal_of};
+ghost use Rattle.postscript_base.specs.RefusalOf.{refusal_of};
 ghost use Rattle.postscript_compact1.specs.Index.{Index};
 ghost use Rattle.postscript_compact1.specs.FontSet.Value.{font_shown};
 ghost use Rattle.postscript_type2.specs.Program.Evaluation.{run_of};

@@ -1,6 +1,6 @@
 //! Glyphs that need no subroutines any more.
 ghost use Rattle.std.specs.Prelude.{◌≡◌, ◌⊎◌, [], None, Some, map, slice_get, IfOk, IfErr, IsOkAnd, OnOk};
-ghost use Rattle.postscript_base.specs.Refusal.{refusal_of};
+ghost use Rattle.postscript_base.specs.RefusalOf.{refusal_of};
 ghost use Rattle.postscript_compact1.specs.Index.{Index};
 ghost use Rattle.postscript_compact1.specs.FontSet.Value.{font_shown};
 ghost use Rattle.postscript_type2.specs.Program.Routines.{Lists, subroutines, texts};

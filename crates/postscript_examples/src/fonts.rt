@@ -1,6 +1,6 @@
 //! Fonts from their bytes.
 ghost use Rattle.std.specs.Prelude.{◌≡◌, ◌≢◌, ◌⊎◌, ℕ, [], None, IfOk, IfErr, IsOkAnd, OnOk, map, slice_get, string_bytes};
-ghost use Rattle.postscript_base.specs.Refusal.{refusal_of};
+ghost use Rattle.postscript_base.specs.RefusalOf.{refusal_of};
 ghost use Rattle.postscript_compact1.specs.Index.{Index};
 ghost use Rattle.postscript_compact1.specs.FontSet.Font.{Font};
 ghost use Rattle.postscript_compact1.specs.FontSet.Layout.{IsFont};

@@ -1,6 +1,6 @@
 //! Glyphs from their charstrings.
 ghost use Rattle.std.specs.Prelude.{◌≡◌, ◌⊎◌, None, Some, map, IfOk, IfErr, OnOk};
-ghost use Rattle.postscript_base.specs.Refusal.{refusal_of};
+ghost use Rattle.postscript_base.specs.RefusalOf.{refusal_of};
 ghost use Rattle.postscript_type2.specs.Program.Evaluation.{run_of};
 ghost use Rattle.postscript_type2.specs.Program.Routines.{subroutines, texts};
 ghost use Rattle.postscript_examples.specs.Glyphs.{drawn, drawn_by, refused_by, first_refused_by};

@@ -9,7 +9,7 @@ use Rattle.postscript_type2.specs.declared.operation.Operator.{Operator}
 use Rattle.postscript_type2.specs.declared.operation.Operator.TheVariants.{HStem, VStem, VMoveTo, RLineTo, HLineTo, VLineTo, RRCurveTo, HStemHM, HintMask, CntrMask, RMoveTo, HMoveTo, VStemHM, RCurveLine, RLineCurve, VVCurveTo, HHCurveTo, VHCurveTo, HVCurveTo, HFlex, Flex, HFlex1, Flex1}
 use Rattle.postscript_type2.specs.Operation.Kinds.{kind}
 use Rattle.postscript_type2.specs.Operation.Lengths.{groups}
-use Rattle.postscript_type2.specs.Program.OperatorRules.{IsHeld}
+use Rattle.postscript_type2.specs.Program.StackRules.{IsHeld}
 use Rattle.postscript_variable.specs.declared.charstring.Charstring.{Charstring}
 use Rattle.postscript_variable.specs.Sayings.{Phrase}
 use Rattle.postscript_variable.specs.Told.{Says}

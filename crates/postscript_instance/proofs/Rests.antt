@@ -7,7 +7,7 @@ use Rattle.postscript_variable.specs.declared.sayings.Saying.{Saying}
 use Rattle.postscript_variable.specs.Defaults.{AreHeld}
 use Rattle.postscript_variable.specs.Sayings.{Phrase}
 use Rattle.postscript_variable.specs.Told.{said_of}
-use Rattle.postscript_type2.specs.Program.OperatorRules.{IsHeld}
+use Rattle.postscript_type2.specs.Program.StackRules.{IsHeld}
 use Rattle.postscript_instance.specs.Numbers.{number_text, numbers_text}
 use Rattle.postscript_instance.specs.Private.{IsWritten, IsHeldOrCut, AreHeldOrCut, HasMoreUncut, here, later}
 use Rattle.postscript_instance.specs.Cuts.{is_cut, front_of, rest_of, IsTooLong, IsWhole, AreCut, none, whole, piece}

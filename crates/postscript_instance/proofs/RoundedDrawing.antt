@@ -14,7 +14,7 @@ use Rattle.postscript_outline.specs.declared.segment.Segment.{Segment}
 use Rattle.postscript_outline.specs.declared.segment.Segment.TheVariants.{MoveTo, LineTo, CurveTo, Close}
 use Rattle.postscript_type2.specs.Program.FixedPoint.{fit}
 use Rattle.postscript_type2.specs.Program.Meaning.{IsRunOf}
-use Rattle.postscript_type2.specs.Program.OperatorRules.{IsHeld}
+use Rattle.postscript_type2.specs.Program.StackRules.{IsHeld}
 use Rattle.postscript_type2.specs.Program.Routines.{Lists}
 use Rattle.postscript_type2.specs.Program.Runs as runs
 use Rattle.postscript_type2.specs.Program.Runs.{Answer, Finished, Run}

@@ -8,7 +8,8 @@ use Rattle.postscript_type2.specs.declared.operation.Operator.TheVariants.{EndCh
 use Rattle.postscript_type2.specs.Operation.Kinds.{Kind, Draws, DeclaresStems, Masks, Works, Stores, CallsFrom, GoesBack, EndsGlyph, IsRefused, kind}
 use Rattle.postscript_type2.specs.Operation.Lengths.{exactly, groups}
 use Rattle.postscript_type2.specs.Program.Phrases.{IsPhrase}
-use Rattle.postscript_type2.specs.Program.Effects.{State, start, Clears, Ends, pushed, mask_len}
+use Rattle.postscript_type2.specs.Program.Effects.{Clears, Ends, mask_len}
+use Rattle.postscript_type2.specs.Program.States.{State, start, pushed}
 use Rattle.postscript_type2.specs.Program.Meaning as rules
 use Rattle.postscript_type2.specs.Program.Meaning.{Means, IsRunOf, Moves, Closes}
 use Rattle.postscript_type2.specs.Program.OperatorRules as does

@@ -6,7 +6,7 @@ use Rattle.std.proofs.lemmas.Int.{ints, quot-rem, rem_below}
 use Rattle.std.specs.Ordering.{int_eq}
 use Rattle.postscript_base.specs.Numbers.{big_endian, two_sided, above, below}
 use Rattle.postscript_type2.specs.Number.{whole}
-use Rattle.postscript_type2.specs.Program.OperatorRules.{IsHeld}
+use Rattle.postscript_type2.specs.Program.StackRules.{IsHeld}
 use Rattle.postscript_type2.specs.Program.Phrases.{IsNumber, of_two_bytes, small, positive, negative, of_bits}
 use Rattle.postscript_instance.specs.Laws.{NumbersAreShortest}
 use Rattle.postscript_instance.specs.Numbers.{pair, two_bytes, four_bytes, whole_above, whole_below, whole_text, bits_text, text_by, number_text}

@@ -18,7 +18,7 @@ use Rattle.postscript_type2.specs.declared.operation.Operator.TheVariants.{VMove
 use Rattle.postscript_type2.specs.Operation.Kinds.{Kind, Draws, kind}
 use Rattle.postscript_type2.specs.Operation.Lengths.{exactly, some, groups, groups_and, curves_of_four}
 use Rattle.postscript_type2.specs.Number.{whole as units}
-use Rattle.postscript_type2.specs.Program.OperatorRules.{IsHeld}
+use Rattle.postscript_type2.specs.Program.StackRules.{IsHeld}
 use Rattle.postscript_instance.specs.declared.axes.Step.{Step}
 use Rattle.postscript_instance.specs.Axes.{so_far, in_turn, bows, level, coordinates, steps_of, at, moved, rounded_steps, behind_steps, AreSteps}
 use Rattle.postscript_instance.proofs.Nearest.{is-whole}

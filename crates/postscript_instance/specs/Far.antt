@@ -6,7 +6,7 @@ use Rattle.postscript_drawing.specs.declared.stroke.Stroke.TheVariants.{Move, Li
 use Rattle.postscript_drawing.specs.declared.stroke.Vector.{Vector}
 use Rattle.postscript_outline.specs.declared.point.Point.{Point}
 use Rattle.postscript_type2.specs.Operation.Kinds.{kind}
-use Rattle.postscript_type2.specs.Program.OperatorRules.{IsHeld}
+use Rattle.postscript_type2.specs.Program.StackRules.{IsHeld}
 use Rattle.postscript_variable.specs.declared.charstring.Charstring.{Charstring}
 use Rattle.postscript_variable.specs.Sayings.{Phrase}
 use Rattle.postscript_variable.specs.Told.{Says}

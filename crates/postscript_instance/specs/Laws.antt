@@ -5,7 +5,7 @@ use Rattle.postscript_outline.specs.declared.point.Point.{Point}
 use Rattle.postscript_outline.specs.declared.segment.Segment.{Segment}
 use Rattle.postscript_type2.specs.Number.{whole}
 use Rattle.postscript_type2.specs.declared.operation.Operator.{Operator}
-use Rattle.postscript_type2.specs.Program.OperatorRules.{IsHeld}
+use Rattle.postscript_type2.specs.Program.StackRules.{IsHeld}
 use Rattle.postscript_type2.specs.Program.Meaning.{IsRunOf}
 use Rattle.postscript_type2.specs.Program.Runs.{Answer, Finished, Run, operation}
 use Rattle.postscript_type2.specs.Program.Routines.{Lists}

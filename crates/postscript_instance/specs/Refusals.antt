@@ -1,7 +1,7 @@
 -- Why no static charstring is written.
 use Rattle.std.specs.Prelude.{◌≡◌, ◌<◌, ℤ, false, List, ◌∷◌, length, Option, Some, None}
 use Rattle.postscript_base.specs.declared.error.Error.TheVariants as causes
-use Rattle.postscript_base.specs.Refusal.{refusal_of}
+use Rattle.postscript_base.specs.RefusalOf.{refusal_of}
 use Rattle.postscript_type2.specs.Operation.Kinds.{Kind, DeclaresStems, Masks, kind}
 use Rattle.postscript_variable.specs.declared.charstring.Charstring.{Charstring}
 use Rattle.postscript_variable.specs.Sayings.{Phrase}

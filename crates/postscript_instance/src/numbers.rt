@@ -1,7 +1,7 @@
 //! Numbers of charstrings, written (Technical Note 5177, "Charstring Number Encoding").
 ghost use Rattle.std.specs.Prelude.{◌≡◌, ◌++◌, ◌∷◌, ◌≤◌, ◌<◌, ◌^◌, OnOk, IfErr};
 ghost use Rattle.postscript_base.specs.declared.error.Error.TheVariants as causes;
-ghost use Rattle.postscript_type2.specs.Program.OperatorRules.{IsHeld};
+ghost use Rattle.postscript_type2.specs.Program.StackRules.{IsHeld};
 ghost use Rattle.postscript_variable.specs.Defaults.{AreHeld};
 ghost use Rattle.postscript_instance.specs.declared.error.Error.TheVariants as errors;
 ghost use Rattle.postscript_instance.specs.Numbers.{pair, two_bytes, four_bytes, whole_above, whole_below, whole_text, bits_text, number_text, numbers_text};

@@ -5,7 +5,7 @@ ghost use Rattle.postscript_instance.specs.Axes.{at, moved, rounded_steps, behin
 ghost use Rattle.postscript_instance.specs.Far.{AreEdges, IsStep};
 ghost use Rattle.postscript_instance.specs.Private.{IsFar, rounded_edges};
 ghost use Rattle.postscript_instance.specs.Nearest.{nearest as the_nearest, rounded};
-ghost use Rattle.postscript_type2.specs.Program.OperatorRules.{IsHeld};
+ghost use Rattle.postscript_type2.specs.Program.StackRules.{IsHeld};
 
 use crate::axes::{Step, along};
 use crate::error::{Error, Result};

@@ -8,7 +8,8 @@ use Rattle.postscript_type2.specs.declared.refused.Refused.TheVariants.{Memory}
 use Rattle.postscript_base.specs.Refusal.{Refusal, return_without_caller, trailing_data, too_deep}
 use Rattle.postscript_type2.specs.Refused.{reason}
 use Rattle.postscript_type2.specs.declared.operation.Operator.{Operator}
-use Rattle.postscript_type2.specs.Program.Effects.{State, Effect, Keeps, Clears, Calls, Returns, Ends, Refuses, effect, stacked, holding, cleared, last_of}
+use Rattle.postscript_type2.specs.Program.Effects.{Effect, Keeps, Clears, Calls, Returns, Ends, Refuses, effect, last_of}
+use Rattle.postscript_type2.specs.Program.States.{State, stacked, holding, cleared}
 use Rattle.postscript_type2.specs.Program.Evaluation as answers
 use Rattle.postscript_type2.specs.Program.Evaluation.{with_phrase, with_answer, at_end, said, moved, stride}
 use Rattle.postscript_type2.specs.Program.Limit.{IsLast}

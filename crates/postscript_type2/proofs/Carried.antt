@@ -3,7 +3,8 @@ use Rattle.std.proofs.Math.Seq.{take-append-add, drop-append-add}
 use Rattle.std.proofs.Common.{◌≡◌, refl, ap, sym, ◌∙◌, ℕ, zero, suc, ◌+◌, ◌<◌, false, List, [], ◌∷◌, ◌++◌, take, drop, length, length-append, append_assoc, ℤ, arith}
 use Rattle.postscript_base.specs.Refusal.{too_deep, return_without_caller}
 use Rattle.postscript_type2.specs.declared.operation.Operator.{Operator}
-use Rattle.postscript_type2.specs.Program.Effects.{State, Effect, Keeps, Clears, Calls, Returns, Ends, Refuses, pushed, stacked, holding, cleared, effect}
+use Rattle.postscript_type2.specs.Program.Effects.{Effect, Keeps, Clears, Calls, Returns, Ends, Refuses, effect}
+use Rattle.postscript_type2.specs.Program.States.{State, pushed, stacked, holding, cleared}
 use Rattle.postscript_type2.specs.Program.Evaluation.{with_phrase, with_answer, at_end, answered, moved, stride_by, mean}
 use Rattle.postscript_type2.specs.Program.Inlined.{put_before, text}
 use Rattle.postscript_type2.specs.Program.Meaning.{answer, hinting}

@@ -1,7 +1,8 @@
 -- Each phrase of a run has a byte, and the one at which it is refused is the last.
 use Rattle.std.proofs.Common.{◌≡◌, subst, sym, ℕ, zero, suc, ◌+◌, ◌<◌, List, [], ◌∷◌, take, drop, length, Some, None, add-one, arith}
 use Rattle.postscript_type2.specs.declared.operation.Operator.{Operator}
-use Rattle.postscript_type2.specs.Program.Effects.{State, Effect, Keeps, Clears, Calls, Returns, Ends, Refuses, pushed}
+use Rattle.postscript_type2.specs.Program.Effects.{Effect, Keeps, Clears, Calls, Returns, Ends, Refuses}
+use Rattle.postscript_type2.specs.Program.States.{State, pushed}
 use Rattle.postscript_type2.specs.Program.Evaluation.{with_phrase, Stride, On, Into, Back, Over, Faults, moved, stride_by, stride}
 use Rattle.postscript_type2.specs.Program.Limit.{cost_of}
 use Rattle.postscript_type2.specs.Program.Parsing.{Parsed, Complete, NoPhrase, phrase}

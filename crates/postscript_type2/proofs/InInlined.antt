@@ -5,7 +5,8 @@ use Rattle.std.proofs.lemmas.List.{length-take-le}
 use Rattle.postscript_base.specs.Refusal.{Refusal, unexpected_eof}
 use Rattle.postscript_type2.specs.declared.operation.Operator.{Operator}
 use Rattle.postscript_type2.specs.Operation.Kinds.{Kind, Draws, DeclaresStems, Masks, Works, Stores, CallsFrom, GoesBack, EndsGlyph, IsRefused, kind, taken}
-use Rattle.postscript_type2.specs.Program.Effects.{State, Effect, Keeps, Clears, Calls, Returns, Ends, Refuses, clearing, work_move, store_move, end_move, stems_after, with_stems, mask_len, mask_clearing, subroutine, call_move, effect_of, pushed, stacked, holding}
+use Rattle.postscript_type2.specs.Program.Effects.{Effect, Keeps, Clears, Calls, Returns, Ends, Refuses, clearing, work_move, store_move, end_move, with_stems, mask_len, mask_clearing, subroutine, call_move, effect_of}
+use Rattle.postscript_type2.specs.Program.States.{State, stems_after, pushed, stacked, holding}
 use Rattle.postscript_type2.specs.Program.Evaluation.{with_any_answer, at_end, Stride, On, Into, Back, Over, Faults, said, moved, stride_by, stride, mean}
 use Rattle.postscript_type2.specs.Program.Flat.{without_operator, dropping, flat_of, flat_said}
 use Rattle.postscript_type2.specs.Program.Inlined.{before_last, Piece, Stands, Leaves, call_piece, piece_of, piece}

@@ -6,7 +6,8 @@ use Rattle.postscript_type2.specs.declared.operation.Operator.{Operator}
 use Rattle.postscript_type2.specs.Operation.Kinds.{Kind, kind}
 use Rattle.postscript_type2.specs.Program.Evaluation.{run_of}
 use Rattle.postscript_type2.specs.Program.Flat.{without_operator, flat_of, flat_bytes, flat_text}
-use Rattle.postscript_type2.specs.Program.Inlined.{behind_first, unless_last, before_last_past, before_last, piece_of, pieced, inlined, text, inlined_text, InlinedIsNoLonger, SpellsItsNumber, operators, AddsNoOperator}
+use Rattle.postscript_type2.specs.Program.Inlined.{behind_first, unless_last, before_last_past, before_last, piece_of, pieced, inlined, text, inlined_text}
+use Rattle.postscript_type2.specs.Program.InlinedLaws.{InlinedIsNoLonger, SpellsItsNumber, operators, AddsNoOperator}
 use Rattle.postscript_type2.specs.Program.Inlining.{is_flat_kind, is_flat}
 use Rattle.postscript_type2.specs.Program.Phrases as spellings
 use Rattle.postscript_type2.specs.Program.Phrases.{IsNumber, IsPhrase}

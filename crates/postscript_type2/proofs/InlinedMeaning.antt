@@ -7,10 +7,11 @@ use Rattle.std.proofs.lemmas.List.Elements.{All-nil, All-cons, All-head, All-tai
 use Rattle.std.specs.List.{AllPass}
 use Rattle.postscript_type2.specs.declared.operation.Operator.{Operator}
 use Rattle.postscript_type2.specs.Operation.Kinds.{Kind, kind, CallsFrom, GoesBack}
-use Rattle.postscript_type2.specs.Program.Effects.{State, start}
+use Rattle.postscript_type2.specs.Program.States.{State, start}
 use Rattle.postscript_type2.specs.Program.Evaluation.{at_end, with_phrase, with_any_answer, followed, after_call, Stride, On, Into, Back, Over, Faults, stride, Callee, paced, routine, callee, mean, run_of}
 use Rattle.postscript_type2.specs.Program.Flat.{flat_of, flat_text, without_operator, dropping}
-use Rattle.postscript_type2.specs.Program.Inlined.{Piece, Stands, Leaves, piece_of, piece, put_before, pieced, inlined_onto, inlined, text, inlined_text, InlinedTextKeepsMeaning, InlinedRunIsInlined, before_last, call_piece}
+use Rattle.postscript_type2.specs.Program.Inlined.{Piece, Stands, Leaves, piece_of, piece, put_before, pieced, inlined_onto, inlined, text, inlined_text, before_last, call_piece}
+use Rattle.postscript_type2.specs.Program.InlinedLaws.{InlinedTextKeepsMeaning, InlinedRunIsInlined}
 use Rattle.postscript_type2.specs.Program.Inlining.{is_flat_kind, is_flat, KeepsMeaning}
 use Rattle.postscript_type2.specs.Program.Routines.{Lists}
 use Rattle.postscript_type2.specs.Program.Runs.{Answer, Phrase, by, End, UsedUp, Returned, Finished, Fault, Run, fault_of}

@@ -7,7 +7,7 @@ use Rattle.std.proofs.lemmas.List.Concat.{flat_map-append}
 use Rattle.std.proofs.lemmas.List.Elements.{All-nil, All-cons}
 use Rattle.std.specs.List.{AllPass}
 use Rattle.postscript_type2.specs.declared.operation.Operator.{Operator}
-use Rattle.postscript_type2.specs.Program.Effects.{State, start}
+use Rattle.postscript_type2.specs.Program.States.{State, start}
 use Rattle.postscript_type2.specs.Program.Evaluation.{at_end, followed, Stride, stride, Callee, paced, routine, callee, mean, run_of, with_phrase, after_call}
 use Rattle.postscript_type2.specs.Program.Flat.{flat_by, flat_said, flat_bytes, flat_text}
 use Rattle.postscript_type2.specs.Program.Inlining.{is_flat, KeepsMeaning, FlatTextKeepsMeaning}

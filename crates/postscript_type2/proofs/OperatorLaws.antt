@@ -15,9 +15,11 @@ use Rattle.postscript_type2.specs.declared.operation.Operator.TheVariants.{HintM
 use Rattle.postscript_type2.specs.Number.{whole}
 use Rattle.postscript_type2.specs.Operation.Kinds.{Kind, Draws, DeclaresStems, Masks, Works, Stores, CallsFrom, GoesBack, EndsGlyph, IsRefused, kind, lengths, taken as taken_of}
 use Rattle.postscript_type2.specs.Operation.Lengths.{exactly, greatest}
-use Rattle.postscript_type2.specs.Program.Effects.{State, Effect, Keeps, Clears, Calls, Returns, Ends, Refuses, stacked, settled, last_of, clearing, stems_after, with_stems, mask_len, implied, mask_clearing, taken_at_end, end_move, work_move, store_move, named, effect_of, effect}
+use Rattle.postscript_type2.specs.Program.Effects.{Effect, Keeps, Clears, Calls, Returns, Ends, Refuses, last_of, clearing, with_stems, mask_len, implied, mask_clearing, taken_at_end, end_move, work_move, store_move, named, effect_of, effect}
+use Rattle.postscript_type2.specs.Program.States.{State, stacked, settled, stems_after}
 use Rattle.postscript_type2.specs.Program.FixedPoint.{cut, fit, absolute_value, opposite, root, sum, difference, product, quotient, truth, is_true, both, either, denial, same_bits}
-use Rattle.postscript_type2.specs.Program.OperatorRules.{IsHeld, HasResult, abs, neg, add, sub, mul, div, Leaves, result, sqrt, and, or, negated, eq, if_not_above, if_above, drop, exch, dup, index, roll as rolls, Makes, stored_stay, put, get, pops, NamesByTop, index_names, roll_names, put_names, get_names, HasNoWholeTop, NamesNone, below_zero, past_last, IsRefusedOn, too_few, zero_divisor_on_top, root_of_negative, past_range, nothing_to_double, no_whole_top, index_too_deep, no_whole_span, span_below_zero, span_too_long, nothing_to_put, put_nowhere, get_nowhere, IsSettled, settled_before, operand_beneath, nothing_beneath, StemsAfter, in_pairs, TakesAtEnd, last_four, fewer, Does, makes, refused, without_meaning, draws, draws_none, declares, declares_none, declares_too_many, masks, masks_cut, masks_too_many, calls, calls_no_number, calls_nothing, returns, ends, OperatorsDoSo}
+use Rattle.postscript_type2.specs.Program.OperatorRules.{IsSettled, settled_before, operand_beneath, nothing_beneath, StemsAfter, in_pairs, TakesAtEnd, last_four, fewer, Does, makes, refused, without_meaning, draws, draws_none, declares, declares_none, declares_too_many, masks, masks_cut, masks_too_many, calls, calls_no_number, calls_nothing, returns, ends, OperatorsDoSo}
+use Rattle.postscript_type2.specs.Program.StackRules.{IsHeld, HasResult, abs, neg, add, sub, mul, div, Leaves, result, sqrt, and, or, negated, eq, if_not_above, if_above, drop, exch, dup, index, roll as rolls, Makes, stored_stay, put, get, pops, NamesByTop, index_names, roll_names, put_names, get_names, HasNoWholeTop, NamesNone, below_zero, past_last, IsRefusedOn, too_few, zero_divisor_on_top, root_of_negative, past_range, nothing_to_double, no_whole_top, index_too_deep, no_whole_span, span_below_zero, span_too_long, nothing_to_put, put_nowhere, get_nowhere}
 use Rattle.postscript_type2.specs.Program.Routines.{Lists}
 use Rattle.postscript_type2.specs.Program.Stacks.{IsRolled, distance, copy, roll, roll_by, rolled as rolled_of, rolled_top}
 use Rattle.postscript_type2.specs.Program.Storage.{stored_at, storing, fetching}

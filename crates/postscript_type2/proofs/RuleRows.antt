@@ -1,7 +1,7 @@
 -- Runs shown rule by rule, without the functions that compute them.
 use Rattle.std.proofs.Common.{refl, ℕ, List, [], ◌∷◌, None, pos, neg_ℤ, lit<, lit≤}
 use Rattle.postscript_type2.specs.declared.operation.Operator.TheVariants.{CallSubr, Return, EndChar, HMoveTo}
-use Rattle.postscript_type2.specs.Program.Effects.{start, cleared}
+use Rattle.postscript_type2.specs.Program.States.{start, cleared}
 use Rattle.postscript_type2.specs.Program.Meaning.{answer, in_outermost, IsRunOf, clears, calls, returns, finishes}
 use Rattle.postscript_type2.specs.Number.{whole}
 use Rattle.postscript_type2.specs.Program.Phrases.{small, operator, after_number}

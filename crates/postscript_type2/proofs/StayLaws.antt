@@ -8,7 +8,8 @@ use Rattle.postscript_type2.specs.declared.operation.Operator.{Operator}
 use Rattle.postscript_type2.specs.Operation.Kinds.{Kind, CallsFrom, GoesBack, kind}
 use Rattle.postscript_type2.specs.Program.Flat.{without_operator}
 use Rattle.postscript_type2.specs.Program.Inlined as rules
-use Rattle.postscript_type2.specs.Program.Inlined.{Piece, Stands, Leaves, IsNumbers, Stays, behind_first, unless_last, before_last, call_piece, piece_of, piece, StaysIsComputed}
+use Rattle.postscript_type2.specs.Program.Inlined.{Piece, Stands, Leaves, IsNumbers, Stays, behind_first, unless_last, before_last, call_piece, piece_of, piece}
+use Rattle.postscript_type2.specs.Program.InlinedLaws.{StaysIsComputed}
 use Rattle.postscript_type2.specs.Program.Inlining.{is_flat_kind, is_flat}
 use Rattle.postscript_type2.specs.Program.Phrases as spellings
 use Rattle.postscript_type2.specs.Program.Phrases.{IsNumber, IsPhrase}

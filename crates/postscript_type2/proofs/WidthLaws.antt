@@ -2,7 +2,8 @@
 use Rattle.std.proofs.lemmas.List.Elements.{All-append, All-nil, All-cons, All-head, All-tail}
 use Rattle.std.proofs.Common.{◌≡◌, refl, ap, sym, subst, ◌∙◌, ◌⊎◌, inl, inr, ℕ, suc, ◌<◌, ℤ, List, [], ◌∷◌, ◌++◌, length, Option, Some, None, All, arith}
 use Rattle.postscript_type2.specs.declared.operation.Operator.{Operator}
-use Rattle.postscript_type2.specs.Program.Effects.{State, start, Effect, Keeps, Clears, Calls, Ends, pushed, stacked, holding, cleared}
+use Rattle.postscript_type2.specs.Program.Effects.{Effect, Keeps, Clears, Calls, Ends}
+use Rattle.postscript_type2.specs.Program.States.{State, start, pushed, stacked, holding, cleared}
 use Rattle.postscript_type2.specs.Program.Meaning.{answer as answer_of, hinting, Moves, Means, keeps, clears as clears_phrase, calls as calls_phrase, calls_to_stop, calls_to_finish, returns as returns_phrase, finishes, Closes}
 use Rattle.postscript_type2.specs.Program.OperatorRules.{Does, draws, declares, masks, ends, IsSettled}
 use Rattle.postscript_type2.specs.Program.Routines.{Lists}

@@ -3,7 +3,8 @@ use Rattle.std.specs.Prelude.{ℕ, List, Result, MatchResult}
 use Rattle.postscript_base.specs.declared.error.Error.{Error}
 use Rattle.postscript_base.specs.declared.error.Error.TheVariants as errors
 use Rattle.postscript_base.specs.Error.{IsOneOf}
-use Rattle.postscript_base.specs.Refusal.{Refusal, refusal_of, number_of}
+use Rattle.postscript_base.specs.Refusal.{Refusal}
+use Rattle.postscript_base.specs.RefusalOf.{refusal_of, number_of}
 use Rattle.postscript_type2.specs.declared.refused.Refused.{Refused}
 use Rattle.postscript_type2.specs.declared.refused.Refused.TheVariants as cases
 

@@ -1,7 +1,8 @@
 -- Runs end in no other refusal than those of the list.
 use Rattle.std.proofs.Common.{◌≡◌, refl, ℕ, zero, suc, ◌-◌, ◌*◌, nat_lt, ℤ, pos, negsuc, ◌+ℤ◌, Bool, true, false, List, [], ◌∷◌, take, drop, length, Option, Some, None, Result, Ok, Err, if◌then◌else◌, arith}
 use Rattle.postscript_base.specs.Error.{IsOneOf}
-use Rattle.postscript_base.specs.Refusal.{Refusal, number_of, expected_more_operands}
+use Rattle.postscript_base.specs.Refusal.{Refusal, expected_more_operands}
+use Rattle.postscript_base.specs.RefusalOf.{number_of}
 use Rattle.postscript_type2.specs.declared.operation.Operator.{Operator}
 use Rattle.postscript_type2.specs.Number.{spelled}
 use Rattle.postscript_type2.specs.Operation.Kinds.{Kind}

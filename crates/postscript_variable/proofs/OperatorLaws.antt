@@ -10,7 +10,8 @@ use Rattle.postscript_type2.specs.Number.{whole}
 use Rattle.postscript_type2.specs.Operation.Kinds.{Kind, Draws, DeclaresStems, Masks, Works, Stores, GoesBack, EndsGlyph, IsRefused, CallsFrom as KindCalls, kind, lengths, taken as taken_of}
 use Rattle.postscript_type2.specs.Operation.Lengths.{greatest}
 use Rattle.postscript_type2.specs.Program.Effects.{mask_len, last_of, named}
-use Rattle.postscript_type2.specs.Program.OperatorRules.{HasNoWholeTop, TakesMost, TakesNone}
+use Rattle.postscript_type2.specs.Program.OperatorRules.{TakesMost, TakesNone}
+use Rattle.postscript_type2.specs.Program.StackRules.{HasNoWholeTop}
 use Rattle.postscript_type2.specs.Program.StackWork.{whole_operand, at}
 use Rattle.postscript_type2.proofs.Greatest.{greatest-none}
 use Rattle.postscript_type2.proofs.Taken.{exactly-taken}

@@ -1,6 +1,6 @@
 -- What a blend makes (OpenType 1.9, "CFF2 CharString Format": "Variation Data Operators"): exact sums, each product the nearest number.
 use Rattle.std.specs.Prelude.{ℕ, suc, ◌+◌, ◌*◌, ◌<◌, ◌≤◌, ℤ, pos, negsuc, neg_ℤ, ◌+ℤ◌, List, [], ◌∷◌, ◌++◌}
-use Rattle.postscript_type2.specs.Program.OperatorRules.{IsHeld}
+use Rattle.postscript_type2.specs.Program.StackRules.{IsHeld}
 
 -- A delta times the scalar of its region: the nearest number, and of two that are as near the one further from zero.
 pub data IsScaled (scalar : ℕ) : (delta product : ℤ) → Type 0 where

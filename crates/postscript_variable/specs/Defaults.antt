@@ -1,6 +1,6 @@
 -- Blends at a place where no region counts, as at the default place of a font's axes.
 use Rattle.std.specs.Prelude.{◌≡◌, ℕ, ℤ, List, [], ◌∷◌, Ok}
-use Rattle.postscript_type2.specs.Program.OperatorRules.{IsHeld}
+use Rattle.postscript_type2.specs.Program.StackRules.{IsHeld}
 use Rattle.postscript_variable.specs.Blending.{values}
 
 -- no region counts

@@ -6,7 +6,7 @@ use denote.Ref.{Bor}
 use mir.Syntax.{named}
 use Rattle.postscript_base.specs.declared.error.Error.{Error}
 use Rattle.postscript_base.specs.declared.error.Error.TheVariants.{Memory}
-use Rattle.postscript_base.specs.Refusal.{refusal_of}
+use Rattle.postscript_base.specs.RefusalOf.{refusal_of}
 use Rattle.postscript_type2.specs.declared.operation.Operator.{Operator}
 use Rattle.postscript_type2.specs.Program.Runs.{Answer, UsedUp, Fault}
 use Rattle.postscript_variable.specs.contracts.program.Program.{the_row}

@@ -2,7 +2,7 @@
 use Rattle.std.specs.Prelude.{ℕ, Bool, true, false, List, [], map, Vec}
 use Rattle.std.specs.declared.alloc.Global.{Global}
 use Rattle.postscript_base.specs.declared.error.Error.TheVariants.{AlreadyFailed}
-use Rattle.postscript_base.specs.Refusal.{refusal_of}
+use Rattle.postscript_base.specs.RefusalOf.{refusal_of}
 use Rattle.postscript_type2.specs.Program.Routines.{Lists}
 use Rattle.postscript_type2.specs.Program.Runs as type2
 use Rattle.postscript_type2.specs.Program.Runs.{Answer}

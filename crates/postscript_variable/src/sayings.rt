@@ -2,7 +2,7 @@
 ghost use Rattle.std.specs.Prelude.{◌≡◌, ◌⊎◌, ◌∷◌, map, IfOk, IfErr, OnOk};
 ghost use Rattle.postscript_base.specs.declared.error.Error.TheVariants as errors;
 ghost use Rattle.postscript_base.specs.Error.{IsListed};
-ghost use Rattle.postscript_base.specs.Refusal.{refusal_of};
+ghost use Rattle.postscript_base.specs.RefusalOf.{refusal_of};
 ghost use Rattle.postscript_type2.specs.Operation.Kinds.{kind};
 ghost use Rattle.postscript_type2.specs.Program.Effects.{last_of};
 ghost use Rattle.postscript_type2.specs.declared.refused.Refused.TheVariants as cases;

@@ -1,7 +1,7 @@
 -- Advances by the run of a glyph.
 use Rattle.std.proofs.Common.{◌≡◌, ℕ, List, sym, inl, inr, ◌⊎◌, Result, Ok, Err, Option, Some, None}
 use Rattle.std.specs.Prelude.{IfOk, IfErr, IfSome, IfNone}
-use Rattle.postscript_base.specs.Refusal.{refusal_of}
+use Rattle.postscript_base.specs.RefusalOf.{refusal_of}
 use Rattle.postscript_base.specs.declared.error.Error.{Error}
 use Rattle.postscript_base.specs.declared.error.Error.TheVariants as errors
 use Rattle.postscript_type2.specs.Program.Runs.{Run, fault_of, width_of}

@@ -3,7 +3,8 @@ use Rattle.std.proofs.Common.{◌≡◌, ◌≢◌, ◌⊎◌, refl, sym, subst,
 use Rattle.std.specs.Prelude.{slice_get, IsSome, Option, Result, Ok, Err, IfErr}
 use Rattle.std.specs.Option.{is_none}
 use Rattle.std.proofs.lemmas.Bool.Decides.{nat_tests}
-use Rattle.postscript_base.specs.Refusal.{refusal_of, unexpected_eof, unknown_char_string_format}
+use Rattle.postscript_base.specs.Refusal.{unexpected_eof, unknown_char_string_format}
+use Rattle.postscript_base.specs.RefusalOf.{refusal_of}
 use Rattle.postscript_base.specs.Tape.Loops.{each}
 use Rattle.postscript_base.specs.Tape.Outcome.{Outcome, Got, Fault, Past, Reading, after, end, pure, Answers, RefusedAs}
 use Rattle.postscript_base.specs.Compact1.Defaults.{look, first_of, first_two_of}
@@ -14,8 +15,8 @@ use Rattle.postscript_base.specs.declared.error.Error.{Error}
 use Rattle.postscript_base.specs.declared.error.Error.TheVariants.{Memory}
 use Rattle.postscript_base.proofs.DictionaryIs.{reads_dictionaries}
 use Rattle.postscript_compact1.specs.Kinds.{map_of}
-use Rattle.postscript_compact1.specs.FontSet.Causes.{NoFirst}
-use Rattle.postscript_compact1.specs.FontSet.Layout.{HasFirst, HasPrivate, IsSlice}
+use Rattle.postscript_compact1.specs.FontSet.PartCauses.{NoFirst}
+use Rattle.postscript_compact1.specs.FontSet.Parts.{HasFirst, HasPrivate, IsSlice}
 use Rattle.postscript_compact1.specs.FontSet.Operands.{place_at, type_two, bounds}
 use Rattle.postscript_compact1.proofs.FontCauses.{no_offset, no_type, no_bounds, no_map}
 use Rattle.postscript_compact1.proofs.OperandLaws.{placed_has, type_has, bounds_has}

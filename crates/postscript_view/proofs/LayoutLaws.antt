@@ -16,7 +16,7 @@ use Rattle.postscript_base.specs.declared.error.Error.{Error}
 use Rattle.postscript_base.specs.declared.error.Error.TheVariants.{Memory}
 use Rattle.postscript_base.proofs.DictionaryIs.{reads_dictionaries}
 use Rattle.postscript_compact1.specs.Kinds.{map_of}
-use Rattle.postscript_compact1.specs.FontSet.Layout.{HasFirst, HasPrivate, IsPlace, IsSlice}
+use Rattle.postscript_compact1.specs.FontSet.Parts.{HasFirst, HasPrivate, IsPlace, IsSlice}
 use Rattle.postscript_compact1.specs.FontSet.Operands.{place_at, type_two, bounds}
 use Rattle.postscript_compact1.proofs.OperandLaws.{faulty, placed_is, placed_has, type_is, type_has, bounds_is, bounds_has}
 use Rattle.postscript_compact1.proofs.Outcomes.{got}

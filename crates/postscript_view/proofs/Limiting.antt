@@ -4,7 +4,8 @@ use Rattle.std.proofs.lemmas.List.{append-nil}
 use Rattle.std.specs.Bool.{OnTrue, OnFalse}
 use Rattle.std.specs.Prelude.{IsSome, MatchResult}
 use denote.Ref.{Bor}
-use Rattle.postscript_base.specs.Refusal.{Refusal, refusal_of}
+use Rattle.postscript_base.specs.Refusal.{Refusal}
+use Rattle.postscript_base.specs.RefusalOf.{refusal_of}
 use Rattle.postscript_base.specs.declared.error.Error.{Error}
 use Rattle.postscript_base.specs.declared.error.Error.TheVariants.{Memory}
 use Rattle.postscript_base.specs.Index.Lent.{items_of}

@@ -4,7 +4,7 @@ use Rattle.std.specs.Prelude.{Result, Ok, Err, IfOk, IfErr, MatchResult}
 use Rattle.postscript_base.specs.Compact1.Dictionary.{Dictionary}
 use Rattle.postscript_base.specs.declared.compact1.operator.Operator.TheVariants as operators
 use Rattle.postscript_base.specs.declared.error.Error.{Error}
-use Rattle.postscript_compact1.specs.FontSet.Layout.{HasFirst, HasEncoding}
+use Rattle.postscript_compact1.specs.FontSet.Parts.{HasFirst, HasEncoding}
 use Rattle.postscript_compact1.specs.declared.encoding.Encoding.{Encoding}
 use Rattle.postscript_view.specs.Encodings.{IsEncodingOf, IsNamedBy}
 use Rattle.postscript_view.specs.SameEncoding.{IsSameEncoding}

@@ -12,9 +12,9 @@ use Rattle.postscript_base.specs.Compact1.Dictionary.{Dictionary}
 use Rattle.postscript_base.specs.declared.compact1.operator.Operator.{Operator}
 use Rattle.postscript_base.specs.declared.compact1.operator.Operator.TheVariants as operators
 use Rattle.postscript_compact1.proofs.Steps.{Done, Step, accepted}
-use Rattle.postscript_compact1.specs.CharSetLaw.{StandAt, IsCharSet}
+use Rattle.postscript_compact1.specs.CharSetAt.{StandAt, IsCharSet}
 use Rattle.postscript_compact1.specs.CharSets.{range, range_1, range_2}
-use Rattle.postscript_compact1.specs.FontSet.Layout.{HasFirst, HasCharSet, Is_0, Is_1, Is_2, Own}
+use Rattle.postscript_compact1.specs.FontSet.Parts.{HasFirst, HasCharSet, Is_0, Is_1, Is_2, Own}
 use Rattle.postscript_compact1.specs.declared.char_set.CharSet.{CharSet}
 use Rattle.postscript_compact1.specs.declared.char_set.CharSet.TheVariants as sets
 use Rattle.postscript_compact1.specs.declared.char_set.range.Range1.{Range1}

@@ -3,7 +3,8 @@ use Rattle.std.proofs.Common.{◌≡◌, ◌≢◌, ap, inl, inr, subst, ℕ, �
 use Rattle.std.specs.Prelude.{Result, Ok, Err, IfErr}
 use Rattle.postscript_base.specs.Compact1.Dictionary.{Dictionary}
 use Rattle.postscript_base.specs.Error.{code, IsOneOf}
-use Rattle.postscript_base.specs.Refusal.{Refusal, Numbered, OfPart, OfMalformed, OfMissing, number_of, refusal_of, out_of_range_offset, unexpected_eof}
+use Rattle.postscript_base.specs.Refusal.{Refusal, Numbered, OfPart, OfMalformed, OfMissing, out_of_range_offset, unexpected_eof}
+use Rattle.postscript_base.specs.RefusalOf.{number_of, refusal_of}
 use Rattle.postscript_base.specs.Tape.Outcome.{Got, RefusedAs}
 use Rattle.postscript_base.specs.declared.compact1.operator.Operator.{Operator}
 use Rattle.postscript_base.specs.declared.compact1.operator.Operator.TheVariants as operators

@@ -1,7 +1,8 @@
 -- Why a font is not read in place: what stands before is laid out, and the step behind it is refused so (Technical Note 5176, "CFF
 -- Data Layout").
 use Rattle.std.specs.Prelude.{◌≡◌, ◌⊎◌, ℕ, ◌+◌, ◌<◌, ◌≤◌, ℤ, pos, ◌+ℤ◌, List, [], ◌∷◌, length, Some, None, IsSome, slice_get}
-use Rattle.postscript_base.specs.Refusal.{refusal_of, unexpected_eof, unknown_char_string_format}
+use Rattle.postscript_base.specs.Refusal.{unexpected_eof, unknown_char_string_format}
+use Rattle.postscript_base.specs.RefusalOf.{refusal_of}
 use Rattle.postscript_base.specs.Tape.Outcome.{RefusedAs}
 use Rattle.postscript_base.specs.Compact1.Defaults.{look, first_of, first_two_of}
 use Rattle.postscript_base.specs.Compact1.Dictionary.{Dictionary}
@@ -9,8 +10,8 @@ use Rattle.postscript_base.specs.Compact1.DictionaryLaw.{IsDictionary, IsRefused
 use Rattle.postscript_base.specs.declared.compact1.operator.Operator.{Operator}
 use Rattle.postscript_base.specs.declared.compact1.operator.Operator.TheVariants as operators
 use Rattle.postscript_base.specs.declared.error.Error.{Error}
-use Rattle.postscript_compact1.specs.FontSet.Causes.{NoFirst, NoOffset, NoBounds}
-use Rattle.postscript_compact1.specs.FontSet.Layout.{HasFirst, HasTwo, HasPrivate, IsSlice}
+use Rattle.postscript_compact1.specs.FontSet.PartCauses.{NoFirst, NoOffset, NoBounds}
+use Rattle.postscript_compact1.specs.FontSet.Parts.{HasFirst, HasTwo, HasPrivate, IsSlice}
 use Rattle.postscript_base.specs.Index.{number_at, opened, IsOpened}
 use Rattle.postscript_view.specs.Layout.{NamesIndex, AreTables, AreCharStrings, IsPart}
 use Rattle.postscript_view.specs.Contents.{Tables, PrivateDict}

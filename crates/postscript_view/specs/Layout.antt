@@ -7,7 +7,7 @@ use Rattle.postscript_base.specs.Compact1.Dictionary.{Dictionary, dictionary_of}
 use Rattle.postscript_base.specs.Compact1.DictionaryLaw.{IsDictionary}
 use Rattle.postscript_base.specs.declared.compact1.operator.Operator.{Operator}
 use Rattle.postscript_base.specs.declared.compact1.operator.Operator.TheVariants as operators
-use Rattle.postscript_compact1.specs.FontSet.Layout.{HasFirst, HasPrivate, IsPlace}
+use Rattle.postscript_compact1.specs.FontSet.Parts.{HasFirst, HasPrivate, IsPlace}
 use Rattle.postscript_base.specs.Index.{number_at, IsOpened}
 use Rattle.postscript_view.specs.Order.{view_of}
 use Rattle.postscript_view.specs.Contents.{Tables, PrivateDict, View}

@@ -1,7 +1,7 @@
 -- The encoding of a font set, beside the same one in place (Technical Note 5176, section 12, "Encodings").
 use Rattle.std.specs.Prelude.{◌≡◌, ℕ, [], Some, slice_get}
 use Rattle.postscript_compact1.specs.FontSet.Font.{Font}
-use Rattle.postscript_compact1.specs.FontSet.Layout.{HasEncoding}
+use Rattle.postscript_compact1.specs.FontSet.Parts.{HasEncoding}
 use Rattle.postscript_compact1.specs.declared.encoding.Encoding.{Encoding}
 use Rattle.postscript_view.specs.declared.encoding.Codes.TheVariants.{Predefined}
 use Rattle.postscript_view.specs.declared.encoding.EncodingView.{EncodingView}

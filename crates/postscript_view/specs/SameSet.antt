@@ -1,7 +1,7 @@
 -- The char set of a font set, beside the same one in place (Technical Note 5176, section 13, "Charsets").
 use Rattle.std.specs.Prelude.{◌≡◌, ℕ, ◌+◌, ◌/◌, ◌<◌, List, length, Some, slice_get}
 use Rattle.postscript_compact1.specs.FontSet.Font.{Font}
-use Rattle.postscript_compact1.specs.FontSet.Layout.{HasCharSet}
+use Rattle.postscript_compact1.specs.FontSet.Parts.{HasCharSet}
 use Rattle.postscript_compact1.specs.declared.char_set.CharSet.{CharSet}
 use Rattle.postscript_compact1.specs.declared.char_set.CharSet.TheVariants as sets
 use Rattle.postscript_base.specs.Index.Lent.{items_of}

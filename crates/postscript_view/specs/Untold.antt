@@ -1,13 +1,14 @@
 -- Why a font has no char set, or no encoding (Technical Note 5176, section 12, "Encodings", and section 13, "Charsets").
 use Rattle.std.specs.Prelude.{◌≡◌, ◌⊎◌, ℕ, ◌+◌, ◌-◌, ◌*◌, ◌%◌, ◌<◌, ◌≤◌, negsuc, List, length, Some}
 use Rattle.postscript_base.specs.Compact1.Dictionary.{Dictionary}
-use Rattle.postscript_base.specs.Refusal.{refusal_of, OfPart, out_of_range_offset, unexpected_eof, unknown_char_set_format}
+use Rattle.postscript_base.specs.Refusal.{OfPart, out_of_range_offset, unexpected_eof, unknown_char_set_format}
+use Rattle.postscript_base.specs.RefusalOf.{refusal_of}
 use Rattle.postscript_base.specs.declared.compact1.operator.Operator.{Operator}
 use Rattle.postscript_base.specs.declared.compact1.operator.Operator.TheVariants as operators
 use Rattle.postscript_base.specs.declared.error.Error.{Error}
 use Rattle.postscript_base.specs.declared.error.Part.TheVariants as unsupported
-use Rattle.postscript_compact1.specs.FontSet.Causes.{NoFirst}
-use Rattle.postscript_compact1.specs.FontSet.Layout.{HasFirst}
+use Rattle.postscript_compact1.specs.FontSet.PartCauses.{NoFirst}
+use Rattle.postscript_compact1.specs.FontSet.Parts.{HasFirst}
 use Rattle.postscript_base.specs.Index.{number_at}
 use Rattle.postscript_view.specs.Encodings.{AreCodesAt}
 use Rattle.postscript_view.specs.Select.{offset_of}

@@ -1,7 +1,7 @@
 //! Advances of glyphs.
 ghost use Rattle.std.specs.Prelude.{◌≡◌, ◌⊎◌, ◌≤◌, ◌^◌, Some, None, IfOk, IfErr, IfSome, OnOk};
 ghost use Rattle.std.specs.Int.RustNames.{unsigned_abs};
-ghost use Rattle.postscript_base.specs.Refusal.{refusal_of};
+ghost use Rattle.postscript_base.specs.RefusalOf.{refusal_of};
 ghost use Rattle.postscript_base.specs.declared.error.Error.TheVariants as errors;
 ghost use Rattle.postscript_type2.specs.Program.Runs.{fault_of, width_by};
 ghost use Rattle.postscript_view.specs.Advances.{whole_bits};

@@ -12,7 +12,7 @@ use Rattle.postscript_base.specs.Compact1.Dictionary.{Dictionary}
 use Rattle.postscript_base.specs.Index.{IsOpened}
 use Rattle.postscript_base.specs.declared.compact1.operator.Operator.{Operator}
 use Rattle.postscript_base.specs.declared.compact1.operator.Operator.TheVariants as operators
-use Rattle.postscript_compact1.specs.FontSet.Layout.{HasFirst}
+use Rattle.postscript_compact1.specs.FontSet.Parts.{HasFirst}
 use Rattle.postscript_view.specs.Layout.{AreParts, ArePartsOf, NamesIndex}
 use Rattle.postscript_view.specs.Layout.AreParts.{OfFont, OfFontDictionaries}
 use Rattle.postscript_view.specs.Contents.{PrivateDict}

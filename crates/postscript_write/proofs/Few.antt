@@ -13,7 +13,7 @@ use Rattle.postscript_view.specs.Layout.AreParts.{OfFont, OfFontDictionaries}
 use Rattle.postscript_view.specs.Sizes.{HoldFew, IsKeyed, private_bytes, private_size, size_named, size_of}
 use Rattle.postscript_view.specs.Value.{part_shown, parts_shown}
 use Rattle.postscript_view.specs.declared.private_dict.PrivateDict.{PrivateDict}
-use Rattle.postscript_write.specs.Arrangement.{AreSizedFor}
+use Rattle.postscript_write.specs.ArrangedText.{AreSizedFor}
 use Rattle.postscript_write.specs.Index.{Fits, index_text}
 use Rattle.postscript_write.specs.Privates.{private_text, privates_text}
 use Rattle.postscript_write.specs.declared.layout.Private.{Private}

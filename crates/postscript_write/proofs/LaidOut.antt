@@ -13,7 +13,7 @@ use Rattle.postscript_base.specs.Index.Lent.{items_of}
 use Rattle.postscript_base.specs.Numbers.{big_endian}
 use Rattle.postscript_base.specs.declared.compact1.operator.Operator.TheVariants as operators
 use Rattle.postscript_base.specs.declared.compact1.operator.Operator.TheVariants.{CharStrings, Encoding, FDSelect, CharSet}
-use Rattle.postscript_compact1.specs.FontSet.Layout.{HasFirst}
+use Rattle.postscript_compact1.specs.FontSet.Parts.{HasFirst}
 use Rattle.postscript_type2.specs.Program.Routines.{texts}
 use Rattle.postscript_view.specs.Contents.{PrivateDict}
 use Rattle.postscript_view.specs.Layout.{AreCharStrings, AreParts, ArePartsOf, AreTables, NamesIndex}

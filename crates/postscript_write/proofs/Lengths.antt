@@ -9,8 +9,9 @@ use Rattle.std.proofs.lemmas.List.Sums.{sum_by-append}
 use Rattle.postscript_base.specs.Compact1.Dictionary.{Dictionary}
 use Rattle.postscript_base.specs.declared.compact1.operator.Operator.{Operator}
 use Rattle.postscript_base.specs.declared.compact1.operator.Operator.TheVariants.{CharSet, Encoding, FDArray, FDSelect}
-use Rattle.postscript_write.specs.Arrangement.{AreSizedFor, PartsStand, beginnings, dictionaries_place, dictionaries_text, only_place, parts_text, place_if, places_of, tables_text, text_of}
-use Rattle.postscript_write.specs.Dictionaries.{HasSize, place_size, places_size}
+use Rattle.postscript_write.specs.Arrangement.{beginnings, dictionaries_place, only_place, place_if, places_of, text_of}
+use Rattle.postscript_write.specs.ArrangedText.{AreSizedFor, PartsStand, dictionaries_text, parts_text, tables_text}
+use Rattle.postscript_write.specs.DictionarySizes.{HasSize, place_size, places_size}
 use Rattle.postscript_write.specs.Index.{index_text, offset_behind, size_of}
 use Rattle.postscript_write.specs.Privates.{AreSized, place_of_private, privates_text}
 use Rattle.postscript_write.specs.declared.dictionaries.Place.{Place}

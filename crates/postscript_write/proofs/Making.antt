@@ -2,7 +2,7 @@
 use Rattle.std.proofs.Common.{◌≡◌, refl, sym, subst, ap, ◌∙◌, ℕ, ◌<◌, List, [], length, slice_get, slice_index_or, inl, inr}
 use Rattle.std.specs.Prelude.{◌≢◌, ◌⊎◌, Option, Some, None, Result, Ok, Err, IfOk, IfErr}
 use Rattle.std.proofs.lemmas.Option.{slice_get-get_or}
-use Rattle.postscript_base.specs.Refusal.{refusal_of}
+use Rattle.postscript_base.specs.RefusalOf.{refusal_of}
 use Rattle.postscript_base.specs.Tape.Outcome.{Got}
 use Rattle.postscript_base.specs.declared.error.Error as base
 use Rattle.postscript_base.specs.declared.error.Error.TheVariants as causes
@@ -21,7 +21,8 @@ use Rattle.postscript_view.specs.declared.font.FontView.{FontView}
 use Rattle.postscript_write.specs.Fonts.{IsMade}
 use Rattle.postscript_write.specs.Glyphs.{AreCodesOf, AreNumbersOf, HasPart, HasPartFor, IsCodeFor, Sources, run_in}
 use Rattle.postscript_write.specs.Parts.{SameParts}
-use Rattle.postscript_write.specs.Refusals.{AreSound, FontRefusedBy, IsFaultless, IsRefusedBy}
+use Rattle.postscript_write.specs.Refusals.{FontRefusedBy, IsRefusedBy}
+use Rattle.postscript_write.specs.RefusedGlyphs.{AreSound, IsFaultless}
 use Rattle.postscript_write.specs.Sizes.{IsLarge}
 use Rattle.postscript_write.specs.Steps.{IsLate, IsNotOpened, RefusedBy, RefusedFor}
 use Rattle.postscript_write.specs.declared.error.Error.{Error}

@@ -9,10 +9,11 @@ use Rattle.postscript_base.specs.Tape.Outcome.{Outcome, Got, Fault, Past, Readin
 use Rattle.postscript_base.specs.Numbers.{slice, number as unsigned, big_endian, two_sided, small, above, below}
 use Rattle.postscript_base.specs.Compact1.Decimal.{Decimal, operand_of}
 use Rattle.postscript_base.specs.Compact1.Number.{begun, number, whole}
-use Rattle.postscript_base.specs.Compact1.Reals.{Real, ended_by, end_nibble, is_in_text, nibbles, operand_if, real, real_of, symbols, text_of_real, valued, value_of}
+use Rattle.postscript_base.specs.Compact1.Reals.{Real, real_of, value_of}
+use Rattle.postscript_base.specs.Compact1.Nibbles.{ended_by, end_nibble, is_in_text, nibbles, operand_if, real, symbols, text_of_real, valued}
 use Rattle.postscript_base.specs.Compact1.Operation.{Operation, known, operator_begun}
 use Rattle.postscript_base.specs.Compact1.Operators.{operator_of}
-use Rattle.postscript_base.specs.Compact1.DictionaryLaw.{OperandsAt, OperationAt, operator}
+use Rattle.postscript_base.specs.Compact1.OperationLaw.{OperandsAt, OperationAt, operator}
 use Rattle.postscript_base.specs.declared.compact1.operator.Operator.{Operator}
 
 -- the outcome so many places on

@@ -6,13 +6,14 @@ use Rattle.std.proofs.Math.Seq.{drop-length}
 use Rattle.postscript_base.specs.Numbers.{number as unsigned, big_endian, two_sided}
 use Rattle.postscript_base.specs.Tape.Outcome.{Got, after}
 use Rattle.postscript_base.specs.Compact1.Dictionary.{dictionary_of}
-use Rattle.postscript_base.specs.Compact1.DictionaryLaw.{IsDictionary, OperandsAt, OperationAt, OperationsAt, operator, is_cut}
+use Rattle.postscript_base.specs.Compact1.DictionaryLaw.{IsDictionary, OperationsAt, is_cut}
+use Rattle.postscript_base.specs.Compact1.OperationLaw.{OperandsAt, OperationAt, operator}
 use Rattle.postscript_base.specs.Compact1.Number.{number, begun, whole}
 use Rattle.postscript_base.specs.Compact1.Operation.{Operation, operator_begun, known}
 use Rattle.postscript_base.specs.Compact1.Operators.{operator_of}
 use Rattle.postscript_base.specs.declared.compact1.operator.Operator.{Operator}
 use Rattle.postscript_base.proofs.DictionaryIs.{get_last}
-use Rattle.postscript_compact1.specs.IndexLaw.{NumberAt}
+use Rattle.postscript_compact1.specs.IndexAt.{NumberAt}
 use Rattle.postscript_write.specs.Dictionaries.{integer_text, integers_text, operation_text, operands_of, escaped_text, AreHeld, IsCode, IsEscaped, WritesOperations}
 use Rattle.postscript_write.specs.Texts.{number_text, Stands}
 use Rattle.postscript_write.proofs.Locality.{slice_is, operations_local}

@@ -10,12 +10,13 @@ use Rattle.postscript_base.specs.declared.compact1.operator.Operator.{Operator}
 use Rattle.postscript_base.specs.declared.compact1.operator.Operator.TheVariants as operators
 use Rattle.postscript_base.specs.declared.compact1.operator.Operator.TheVariants.{DefaultWidthX, NominalWidthX, Subrs}
 use Rattle.postscript_base.proofs.DictionaryIs.{get_last}
-use Rattle.postscript_compact1.specs.FontSet.Layout.{HasTwo, IsSlice}
+use Rattle.postscript_compact1.specs.FontSet.Parts.{HasTwo, IsSlice}
 use Rattle.postscript_view.specs.Contents.{PrivateDict}
 use Rattle.postscript_view.specs.Layout.{AreParts, ArePartsOf, HasLocals, IsPart, NamesIndex}
 use Rattle.postscript_view.specs.Layout.AreParts.{OfFont, OfFontDictionaries}
 use Rattle.postscript_view.specs.Layout.HasLocals.{WithoutPrivate, WithoutSubrs}
-use Rattle.postscript_write.specs.Dictionaries.{IsHeld, IsLess}
+use Rattle.postscript_write.specs.Dictionaries.{IsHeld}
+use Rattle.postscript_write.specs.LeftOut.{IsLess}
 use Rattle.postscript_write.specs.Parts.{SameBut, SameFont, SamePart, SameParts}
 use Rattle.postscript_write.specs.Privates.{AreFontDictionaries, AreOwnPrivates, IsOwnPrivate, NoneIsNamed, place_of_private, private_offset, private_text}
 use Rattle.postscript_write.specs.Texts.{Stands}

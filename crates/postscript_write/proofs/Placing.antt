@@ -17,8 +17,9 @@ use Rattle.postscript_base.specs.Compact1.Operators.{operator_cmp}
 use Rattle.postscript_base.specs.declared.compact1.operator.Operator.{Operator}
 use Rattle.postscript_base.proofs.DictionaryIs.{get_last}
 use Rattle.postscript_base.proofs.DictionaryMaps.{exact, operators_total}
-use Rattle.postscript_write.specs.Dictionaries.{AreLeft, IsLess, IsPlaced, IsWithout, operation_of}
-use Rattle.postscript_write.specs.Dictionaries.AreLeft.{none, kept, gone}
+use Rattle.postscript_write.specs.Dictionaries.{IsPlaced, operation_of}
+use Rattle.postscript_write.specs.LeftOut.{AreLeft, IsLess, IsWithout}
+use Rattle.postscript_write.specs.LeftOut.AreLeft.{none, kept, gone}
 use Rattle.postscript_write.specs.declared.dictionaries.Place.{Place}
 use Rattle.postscript_write.proofs.OperationsStand.{writes_operations}
 use Rattle.postscript_write.proofs.WholeEnd.{one_map}

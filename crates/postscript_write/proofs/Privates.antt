@@ -7,7 +7,7 @@ use Rattle.postscript_base.specs.Compact1.DictionaryLaw.{IsDictionary}
 use Rattle.postscript_base.specs.Tape.Outcome.{Got, RefusedAs, end}
 use Rattle.postscript_base.specs.declared.compact1.operator.Operator.TheVariants as operators
 use Rattle.postscript_base.specs.declared.error.Error.{Error}
-use Rattle.postscript_compact1.specs.FontSet.Layout.{HasPrivate}
+use Rattle.postscript_compact1.specs.FontSet.Parts.{HasPrivate}
 use Rattle.postscript_compact1.specs.FontSet.Operands.{bounds}
 use Rattle.postscript_compact1.proofs.OperandLaws.{bounds_has, bounds_is}
 use Rattle.postscript_view.specs.Layout.{AreParts, ArePartsOf, HasLocals, IsPart}

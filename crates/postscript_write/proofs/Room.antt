@@ -9,7 +9,8 @@ use Rattle.postscript_base.specs.Compact1.Dictionary.{Dictionary}
 use Rattle.postscript_base.specs.declared.compact1.operator.Operator.{Operator}
 use Rattle.postscript_base.specs.declared.compact1.operator.Operator.TheVariants.{CharSet, CharStrings, Encoding, FDSelect}
 use Rattle.postscript_write.specs.Arrangement.{beginnings, dictionaries_place, only_place, place_at, place_if, places_of, standard_place, text_of}
-use Rattle.postscript_write.specs.Dictionaries.{IsHeld, IsWritable, operator_size, place_size, places_size}
+use Rattle.postscript_write.specs.Dictionaries.{IsHeld, IsWritable}
+use Rattle.postscript_write.specs.DictionarySizes.{operator_size, place_size, places_size}
 use Rattle.postscript_write.specs.Index.{Fits, index_text, offset_behind, size_of}
 use Rattle.postscript_write.specs.Parts.{naming}
 use Rattle.postscript_write.specs.Privates.{AreSized, place_of_private, private_text, privates_text}

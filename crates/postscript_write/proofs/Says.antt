@@ -14,7 +14,8 @@ use Rattle.postscript_base.specs.Compact1.Operators.{operator_cmp}
 use Rattle.postscript_base.specs.declared.compact1.operator.Operator.{Operator}
 use Rattle.postscript_base.specs.declared.compact1.operator.Operator.TheVariants.{CharSet, CharStrings, Encoding, FDArray, FDSelect, Private, Subrs}
 use Rattle.postscript_write.specs.Arrangement.{beginnings, dictionaries_place, only_place, place_at, place_if, places_of, standard_place}
-use Rattle.postscript_write.specs.Dictionaries.{IsLess, IsPlaced, operation_of}
+use Rattle.postscript_write.specs.Dictionaries.{IsPlaced, operation_of}
+use Rattle.postscript_write.specs.LeftOut.{IsLess}
 use Rattle.postscript_write.specs.Parts.{IsAmong, SameBut, naming, placing}
 use Rattle.postscript_write.specs.Privates.{place_of_private}
 use Rattle.postscript_write.specs.Renumbered.{all_renamed, new_identifier, renamed_if}

@@ -6,7 +6,7 @@ use Rattle.postscript_base.specs.Compact1.Dictionary.{Dictionary}
 use Rattle.postscript_base.specs.Compact1.DictionaryLaw.{IsDictionary}
 use Rattle.postscript_base.specs.Index.{IsIndex, IsOpened}
 use Rattle.postscript_view.specs.Layout.{AreTables, IsIndexAt}
-use Rattle.postscript_write.specs.Arrangement.{dictionaries_text, tables_text}
+use Rattle.postscript_write.specs.ArrangedText.{dictionaries_text, tables_text}
 use Rattle.postscript_write.specs.Fonts.{HasHeader}
 use Rattle.postscript_write.specs.Index.{Fits, index_text}
 use Rattle.postscript_write.specs.Texts.{Stands}

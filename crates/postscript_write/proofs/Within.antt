@@ -4,8 +4,10 @@ use Rattle.std.specs.Prelude.{All}
 use Rattle.postscript_base.specs.Index.Lent.{items_of}
 use Rattle.postscript_type2.specs.Program.Routines.{texts}
 use Rattle.postscript_view.specs.declared.font.FontView.{FontView}
-use Rattle.postscript_write.specs.Arrangement.{beginnings, places_of, tables_text}
-use Rattle.postscript_write.specs.Dictionaries.{HasSize, IsHeld, places_size}
+use Rattle.postscript_write.specs.Arrangement.{beginnings, places_of}
+use Rattle.postscript_write.specs.ArrangedText.{tables_text}
+use Rattle.postscript_write.specs.Dictionaries.{IsHeld}
+use Rattle.postscript_write.specs.DictionarySizes.{HasSize, places_size}
 use Rattle.postscript_write.specs.Index.{Fits, index_text}
 use Rattle.postscript_write.specs.Privates.{privates_text}
 use Rattle.postscript_write.specs.Renumbered.{all_renamed}

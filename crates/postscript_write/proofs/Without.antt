@@ -6,7 +6,8 @@ use Rattle.postscript_base.specs.Refusal.{Refusal}
 use Rattle.postscript_base.specs.Tape.Loops.{is_end}
 use Rattle.postscript_base.specs.Tape.Outcome.{Outcome, Got, Fault, Past, RefusedAs}
 use Rattle.postscript_base.specs.Compact1.Dictionary.{Dictionary}
-use Rattle.postscript_base.specs.Compact1.DictionaryLaw.{IsDictionary, IsRefused, OperationAt, OperationsAt}
+use Rattle.postscript_base.specs.Compact1.DictionaryLaw.{IsDictionary, IsRefused, OperationsAt}
+use Rattle.postscript_base.specs.Compact1.OperationLaw.{OperationAt}
 use Rattle.postscript_base.specs.Compact1.Operation.{Operation, operation}
 use Rattle.postscript_base.specs.declared.compact1.operator.Operator.{Operator}
 use Rattle.postscript_base.specs.declared.error.Error.{Error}
@@ -16,10 +17,12 @@ use Rattle.postscript_base.proofs.DictionaryIs.{reads_dictionaries}
 use Rattle.postscript_base.proofs.Onward.{Goes}
 use Rattle.postscript_base.proofs.OperationIs.{IsOperation, is_at, operation_is}
 use Rattle.postscript_base.proofs.OperationSteps.{operation_goes}
-use Rattle.postscript_write.specs.Dictionaries.{AreHeld, AreLeft, HasSize, IsHeld, IsLeftText, IsWritable, numbers_of, places_size}
+use Rattle.postscript_write.specs.Dictionaries.{AreHeld, IsHeld, IsWritable, numbers_of}
+use Rattle.postscript_write.specs.DictionarySizes.{HasSize, places_size}
+use Rattle.postscript_write.specs.LeftOut.{AreLeft, IsLeftText}
 use Rattle.postscript_write.specs.declared.dictionaries.Place.{Place}
-use Rattle.postscript_write.specs.Dictionaries.AreLeft.{none, kept, gone}
-use Rattle.postscript_write.specs.Dictionaries.IsLeftText.{ends, keeps, leaves}
+use Rattle.postscript_write.specs.LeftOut.AreLeft.{none, kept, gone}
+use Rattle.postscript_write.specs.LeftOut.IsLeftText.{ends, keeps, leaves}
 use Rattle.postscript_write.proofs.Locality.{operation_local, operations_local}
 use Rattle.postscript_write.proofs.Moving.{operation_back, operation_moved}
 use Rattle.postscript_write.proofs.OperationsStand.{one_more}

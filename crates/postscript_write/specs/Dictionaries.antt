@@ -1,22 +1,20 @@
 -- Operations of dictionaries as they are written: integers in five bytes, and an operator of one byte or of two (Technical Note
 -- 5176, "DICT Data").
-use Rattle.std.specs.Prelude.{◌≡◌, ◌≢◌, ◌⊎◌, ℕ, pos, ◌+◌, ◌-◌, ◌*◌, take, drop, ◌^◌, ◌<◌, List, [], ◌∷◌, ◌++◌, length, map, Option, Some, None}
-use Rattle.std.specs.List.{Contains, sum_by}
-use Rattle.std.specs.FinMap.{get}
+use Rattle.std.specs.Prelude.{◌≡◌, ◌≢◌, ◌⊎◌, ℕ, pos, ◌+◌, ◌^◌, ◌<◌, List, [], ◌∷◌, ◌++◌, length, map, Option, Some, None}
 use Rattle.std.specs.Option.{option_or}
-use Rattle.postscript_base.specs.Tape.Outcome.{Got}
 use Rattle.postscript_base.specs.Compact1.Decimal.{Decimal}
 use Rattle.postscript_base.specs.Compact1.Defaults.{look}
 use Rattle.postscript_base.specs.Compact1.Dictionary.{Dictionary, dictionary_of}
-use Rattle.postscript_base.specs.Compact1.DictionaryLaw.{IsDictionary, OperationsAt, UnfinishedAt, last_of}
+use Rattle.postscript_base.specs.Compact1.DictionaryLaw.{IsDictionary, OperationsAt, last_of}
 use Rattle.postscript_base.specs.Compact1.Number.{whole}
-use Rattle.postscript_base.specs.Compact1.Operation.{Operation, operation}
+use Rattle.postscript_base.specs.Compact1.Operation.{Operation}
 use Rattle.postscript_base.specs.Compact1.Operators.{operator_of}
 use Rattle.postscript_base.specs.declared.compact1.operator.Operator.{Operator}
 use Rattle.postscript_base.specs.declared.compact1.operator.Operator.TheVariants.{BaseFontName, CharSet, CharStrings, Copyright, Encoding, FDArray, FDSelect, FamilyName, FontName, FullName, Notice, PostScript, Private, Subrs, Version, Weight}
 use Rattle.postscript_write.specs.Parts.{IsAmong}
 use Rattle.postscript_write.specs.Texts.{number_text}
 use Rattle.postscript_write.specs.declared.dictionaries.Place.{Place}
+use Rattle.postscript_write.specs.LeftOut.{kept}
 
 abbrev pub integer_text : ℕ → List ℕ
 integer_text n = number_text 1 0x1d ++ number_text 4 n
@@ -69,26 +67,6 @@ numbers_of (Some size) offset = size ∷ offset ∷ []
 abbrev pub operation_of : Place → Operation
 operation_of place = (place.operator, operands_of (numbers_of place.size place.offset))
 
--- some operators have two bytes, all others one
-abbrev pub operator_size : Operator → ℕ
-operator_size Copyright = 2
-operator_size PostScript = 2
-operator_size BaseFontName = 2
-operator_size FDArray = 2
-operator_size FDSelect = 2
-operator_size FontName = 2
-operator_size _ = 1
-
--- how many bytes an operation has: five for each number
-abbrev pub operation_size : List ℕ → Operator → ℕ
-operation_size numbers operator = 5 * length numbers + operator_size operator
-
-abbrev pub place_size : Place → ℕ
-place_size place = operation_size (numbers_of place.size place.offset) place.operator
-
-abbrev pub places_size : List Place → ℕ
-places_size places = sum_by place_size places
-
 -- it can be written
 abbrev pub IsHeld : Place → Type 0
 IsHeld place = IsWritable place.operator × AreHeld (numbers_of place.size place.offset)
@@ -102,37 +80,6 @@ IsPlaced old places new =
 abbrev pub IsWithPlaces : (text : List ℕ) → List Place → (out : List ℕ) → Type 0
 IsWithPlaces text places out = (old : Dictionary) → IsDictionary text 0 old →
     (new : Dictionary) × IsDictionary out 0 new × IsPlaced old places new
-
--- The operations of a dictionary but those of some operators, in their order.
-pub data AreLeft (left_out : List Operator) : (all left : List Operation) → Type 0 where
-  none : AreLeft left_out [] []
-  kept : (operation : Operation) (all left : List Operation) → (Contains left_out operation.0 → ⊥) → AreLeft left_out all left →
-      AreLeft left_out (operation ∷ all) (operation ∷ left)
-  gone : (operation : Operation) (all left : List Operation) → Contains left_out operation.0 → AreLeft left_out all left →
-      AreLeft left_out (operation ∷ all) left
-
--- Bytes are the whole operations of a dictionary but those of some operators.
-abbrev pub IsWithout : List ℕ → List Operator → (out : List ℕ) → Type 0
-IsWithout text left_out out = (all : List Operation) × (left : List Operation) × (end : ℕ) × OperationsAt text 0 all end
-    × UnfinishedAt text end × AreLeft left_out all left × OperationsAt out 0 left (length out)
-
--- What is left of bytes from a place on: the text of each operation but those of some operators, up to where no operation stands.
-pub data IsLeftText (text : List ℕ) (left_out : List Operator) : (place : ℕ) (out : List ℕ) → Type 0 where
-  ends : (place : ℕ) → ((o : Operation) (next : ℕ) → operation text place ≡ Got o next → ⊥) → IsLeftText text left_out place []
-  keeps : (place next : ℕ) (o : Operation) (rest out : List ℕ) → operation text place ≡ Got o next → (Contains left_out o.0 → ⊥) →
-      IsLeftText text left_out next rest → out ≡ take (next - place) (drop place text) ++ rest → IsLeftText text left_out place out
-  leaves : (place next : ℕ) (o : Operation) (out : List ℕ) → operation text place ≡ Got o next → Contains left_out o.0 →
-      IsLeftText text left_out next out → IsLeftText text left_out place out
-
--- so many bytes has a dictionary with places, whatever their offsets
-abbrev pub HasSize : (text : List ℕ) → List Place → ℕ → Type 0
-HasSize text places size = (rest : List ℕ) × IsLeftText text (map (λ place. place.operator) places) 0 rest
-    × (size ≡ length rest + places_size places)
-
--- A dictionary says nothing of some operators, and of all others what another one says.
-pub record IsLess (left_out : List Operator) (old new : Dictionary) : Type 0 where
-  pub gone : (operator : Operator) → Contains left_out operator → get new operator ≡ None
-  pub stays : (operator : Operator) → (Contains left_out operator → ⊥) → get new operator ≡ get old operator
 
 -- Laws: an operation that is written behind operations is one more of them; and whole operations are a dictionary, in
 -- which the last of each operator counts.

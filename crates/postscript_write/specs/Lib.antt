@@ -4,8 +4,11 @@ pub mod Local
 pub mod Glyphs
 pub mod Parts
 pub mod Dictionaries
+pub mod DictionarySizes
+pub mod LeftOut
 pub mod Privates
 pub mod Arrangement
+pub mod ArrangedText
 pub mod Naming
 pub mod Strings
 pub mod Renumbered
@@ -22,4 +25,5 @@ pub mod Drawings
 pub mod Readings
 pub mod Sizes
 pub mod Refusals
+pub mod RefusedGlyphs
 pub mod Steps

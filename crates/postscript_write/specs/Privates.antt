@@ -7,7 +7,9 @@ use Rattle.postscript_base.specs.Compact1.DictionaryLaw.{IsDictionary}
 use Rattle.postscript_base.specs.declared.compact1.operator.Operator.TheVariants.{Subrs}
 use Rattle.postscript_base.specs.declared.compact1.operator.Operator.TheVariants as operators
 use Rattle.postscript_view.specs.Contents.{PrivateDict}
-use Rattle.postscript_write.specs.Dictionaries.{HasSize, IsHeld, IsLess, IsPlaced}
+use Rattle.postscript_write.specs.Dictionaries.{IsHeld, IsPlaced}
+use Rattle.postscript_write.specs.DictionarySizes.{HasSize}
+use Rattle.postscript_write.specs.LeftOut.{IsLess}
 use Rattle.postscript_write.specs.declared.dictionaries.Place.{Place}
 use Rattle.postscript_write.specs.declared.layout.Private.{Private}
 

@@ -6,7 +6,8 @@ use Rattle.postscript_write.specs.Glyphs.{Sources}
 use Rattle.postscript_view.specs.Contents.{View}
 use Rattle.postscript_view.specs.declared.char_set.CharSetView.{CharSetView}
 use Rattle.postscript_view.specs.declared.font.FontView.{FontView}
-use Rattle.postscript_write.specs.Refusals.{HasOtherFonts, IsFirstPast, IsFirstRefused, IsRefusedAs, IsRunRefused}
+use Rattle.postscript_write.specs.Refusals.{HasOtherFonts, IsFirstPast, IsRefusedAs}
+use Rattle.postscript_write.specs.RefusedGlyphs.{IsFirstRefused, IsRunRefused}
 use Rattle.postscript_write.specs.declared.error.Error.{Error}
 use Rattle.postscript_write.specs.declared.error.Error.TheVariants.{Refused, Glyph, SeveralFonts, MissingGlyph, NotReadBack}
 

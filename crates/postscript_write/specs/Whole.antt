@@ -7,7 +7,7 @@ use Rattle.postscript_base.specs.Compact1.Dictionary.{Dictionary}
 use Rattle.postscript_base.specs.Tape.Outcome.{Got}
 use Rattle.postscript_base.specs.declared.compact1.operator.Operator.{Operator}
 use Rattle.postscript_base.specs.declared.compact1.operator.Operator.TheVariants as operators
-use Rattle.postscript_compact1.specs.FontSet.Layout.{HasTwo}
+use Rattle.postscript_compact1.specs.FontSet.Parts.{HasTwo}
 use Rattle.postscript_base.specs.Index.{number_at, IsIndex}
 use Rattle.postscript_view.specs.CharSet.{covered}
 use Rattle.postscript_view.specs.Cids.{IsCidKeyed}

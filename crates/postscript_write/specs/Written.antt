@@ -8,7 +8,8 @@ use Rattle.postscript_type2.specs.Program.Routines.{texts}
 use Rattle.postscript_view.specs.Layout.{AreParts, AreTables, IsIndexAt}
 use Rattle.postscript_view.specs.Value.{parts_shown, view_shown}
 use Rattle.postscript_view.specs.declared.font.FontView.{FontView}
-use Rattle.postscript_write.specs.Arrangement.{NameParts, PartsStand, beginnings, parts_text, places_of, tables_text}
+use Rattle.postscript_write.specs.Arrangement.{beginnings, places_of}
+use Rattle.postscript_write.specs.ArrangedText.{NameParts, PartsStand, parts_text, tables_text}
 use Rattle.postscript_write.specs.Dictionaries.{IsHeld, IsPlaced, IsWithPlaces}
 use Rattle.postscript_write.specs.Fonts.{HasHeader}
 use Rattle.postscript_write.specs.Index.{Fits, index_text}

@@ -2,7 +2,7 @@
 ghost use Rattle.std.specs.Prelude.{◌≡◌, ◌⊎◌, ◌++◌, ℕ, List, Option, Some, IfOk, IfErr, OnOk, MatchOption, option_to_list};
 ghost use Rattle.postscript_drawing.specs.Accents.{IsAccent, run_by};
 ghost use Rattle.postscript_drawing.specs.declared.accent.Accent.{Accent as AnAccent};
-ghost use Rattle.postscript_base.specs.Refusal.{refusal_of};
+ghost use Rattle.postscript_base.specs.RefusalOf.{refusal_of};
 ghost use Rattle.postscript_base.specs.declared.error.Error.TheVariants as causes;
 ghost use Rattle.postscript_type2.specs.Program.Programs.{told_at_end};
 ghost use Rattle.postscript_type2.specs.Program.Runs.{fault_of, taken_by};

@@ -8,7 +8,9 @@ ghost use Rattle.postscript_base.specs.Compact1.DictionaryLaw.{IsDictionary, Ope
 ghost use Rattle.postscript_base.specs.Compact1.Operation.{Operation, operation};
 ghost use Rattle.postscript_base.specs.declared.error.Error.TheVariants as errors;
 ghost use Rattle.postscript_write.specs.Parts.{IsAmong};
-ghost use Rattle.postscript_write.specs.Dictionaries.{integer_text, integers_text, operands_of, AreHeld, HasSize, IsCode, IsEscaped, IsHeld, IsLeftText, IsPlaced, IsWithout, IsWritable, escaped, operation_of, operation_size, operator_size, place_size, places_size, short};
+ghost use Rattle.postscript_write.specs.Dictionaries.{integer_text, integers_text, operands_of, AreHeld, IsCode, IsEscaped, IsHeld, IsPlaced, IsWritable, escaped, operation_of, short};
+ghost use Rattle.postscript_write.specs.DictionarySizes.{HasSize, operation_size, operator_size, place_size, places_size};
+ghost use Rattle.postscript_write.specs.LeftOut.{IsLeftText, IsWithout};
 
 use crate::number::put_number;
 use crate::same::is_among;

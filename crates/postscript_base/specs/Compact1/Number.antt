@@ -4,7 +4,7 @@ use Rattle.postscript_base.specs.Refusal.{malformed_number}
 use Rattle.postscript_base.specs.Tape.Outcome.{Reading, ◌>>=◌, pure, fault}
 use Rattle.postscript_base.specs.Numbers.{number as unsigned, two_sided, small, above, below}
 use Rattle.postscript_base.specs.Compact1.Decimal.{Decimal, canonical}
-use Rattle.postscript_base.specs.Compact1.Reals.{real}
+use Rattle.postscript_base.specs.Compact1.Nibbles.{real}
 use Rattle.postscript_base.specs.Tape.{TapeState, IsHonest}
 
 -- the operand of a whole number

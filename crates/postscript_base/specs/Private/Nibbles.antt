@@ -3,7 +3,7 @@ use Rattle.std.specs.Prelude.{ℕ, ◌/◌, ◌%◌, Bool, true, false, List, �
 use Rattle.postscript_base.specs.Numbers.{number}
 use Rattle.postscript_base.specs.Refusal.{malformed_number}
 use Rattle.postscript_base.specs.Tape.Outcome.{Reading, ◌>>=◌, pure, fault}
-use Rattle.postscript_base.specs.Compact1.Reals.{symbols, end_nibble, reserved_nibble}
+use Rattle.postscript_base.specs.Compact1.Nibbles.{symbols, end_nibble, reserved_nibble}
 
 -- a text and one nibble more, and whether the text is at its end
 abbrev pub one_nibble : List ℕ → ℕ → Option (Bool × List ℕ)

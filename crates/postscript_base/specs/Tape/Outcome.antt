@@ -1,7 +1,8 @@
 -- What a reading gives, by the bytes and the place alone, and how readings follow one another.
 use Rattle.std.specs.Prelude.{◌≡◌, ◌≢◌, ℕ, ◌≤◌, List, Result, Ok, Err}
 use Rattle.postscript_base.specs.Error.{code}
-use Rattle.postscript_base.specs.Refusal.{Refusal, refusal_of, unexpected_eof}
+use Rattle.postscript_base.specs.Refusal.{Refusal, unexpected_eof}
+use Rattle.postscript_base.specs.RefusalOf.{refusal_of}
 use Rattle.postscript_base.specs.declared.error.Error.{Error}
 use Rattle.postscript_base.specs.declared.error.Error.TheVariants.{Memory}
 

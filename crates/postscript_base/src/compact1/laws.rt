@@ -1,7 +1,8 @@
 //! What equality and hash of operands say, and what dictionaries are.
 ghost use Rattle.std.specs.Prelude.{◌≡◌, ◌↔◌, IsTrue};
 ghost use Rattle.postscript_base.specs.Compact1.Decimal.{AreEqual, Decimal, HasOperand};
-ghost use Rattle.postscript_base.specs.Compact1.DictionaryLaw.{ReadsDictionaries, ReadsOperations};
+ghost use Rattle.postscript_base.specs.Compact1.DictionaryLaw.{ReadsDictionaries};
+ghost use Rattle.postscript_base.specs.Compact1.OperationLaw.{ReadsOperations};
 
 use super::operand::Operand;
 use std::hash::Hash;

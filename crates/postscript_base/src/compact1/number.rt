@@ -6,7 +6,8 @@ ghost use Rattle.postscript_base.specs.Tape.Outcome.{same};
 ghost use Rattle.postscript_base.specs.Tape.{Reads};
 ghost use Rattle.postscript_base.specs.Tape.Onward.{TakesBytes};
 ghost use Rattle.postscript_base.specs.Compact1.Integers.{ReadsIntegers};
-ghost use Rattle.postscript_base.specs.Compact1.Reals.{ReadsSpellings, real as the_real};
+ghost use Rattle.postscript_base.specs.Compact1.Reals.{ReadsSpellings};
+ghost use Rattle.postscript_base.specs.Compact1.Nibbles.{real as the_real};
 ghost use Rattle.postscript_base.specs.Compact1.Number.{number as the_number, BeginsNoReal, begun as the_begun, whole as the_whole};
 
 use super::operand::Operand;
@@ -74,7 +75,7 @@ fn integer<T: Tape>(tape: &mut T, first: u8) -> Result<Operand>
 }
 
 /// Reads a real behind its first byte.
-#[tactic(auto, unfolding(crate::specs::Compact1::Reals::real))]
+#[tactic(auto, unfolding(crate::specs::Compact1::Nibbles::real))]
 fn real<T: Tape>(alloc: Global, tape: &mut T) -> Result<Operand>
     ensures exact { Reads same (T.state tape.old) result (T.state tape.new) the_real }
     ensures listed { IsListed (1 ∷ 2 ∷ 3 ∷ 7 ∷ 8 ∷ []) result }

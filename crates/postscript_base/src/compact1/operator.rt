@@ -3,7 +3,8 @@ ghost use Rattle.std.specs.Prelude.{◌≡◌};
 ghost use Rattle.std.specs.Option.{ok_or};
 ghost use Rattle.postscript_base.specs.declared.error.Error.TheVariants as errors;
 ghost use Rattle.postscript_base.specs.Compact1.Defaults.{default_of};
-ghost use Rattle.postscript_base.specs.Compact1.Operators.{operator_of, name_of};
+ghost use Rattle.postscript_base.specs.Compact1.Operators.{operator_of};
+ghost use Rattle.postscript_base.specs.Compact1.OperatorNames.{name_of};
 
 use super::{Operand, Operands};
 use crate::{Error, Result};

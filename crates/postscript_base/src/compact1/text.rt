@@ -7,7 +7,8 @@ ghost use Rattle.postscript_base.specs.Tape.Outcome.{Answers, same};
 ghost use Rattle.postscript_base.specs.Tape.{Reads};
 ghost use Rattle.postscript_base.specs.declared.error.Error.TheVariants as errors;
 ghost use Rattle.postscript_base.specs.Private.Nibbles.{one_nibble, step as the_step};
-ghost use Rattle.postscript_base.specs.Compact1.Reals.{after_digits, digits_of, is_exponent_negative, is_digit, fraction_at, fraction_digits, exponent_at, exponent_digits, real_of, after_sign, text_of_real, valued};
+ghost use Rattle.postscript_base.specs.Compact1.Reals.{after_digits, digits_of, is_exponent_negative, is_digit, fraction_at, fraction_digits, exponent_at, exponent_digits, real_of, after_sign};
+ghost use Rattle.postscript_base.specs.Compact1.Nibbles.{text_of_real, valued};
 
 use super::digits::of_real;
 use super::operand::Operand;

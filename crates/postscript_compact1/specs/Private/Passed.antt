@@ -9,8 +9,9 @@ use Rattle.postscript_base.specs.Compact1.Dictionary.{Dictionary}
 use Rattle.postscript_base.specs.Compact1.Header.{header}
 use Rattle.postscript_base.specs.declared.compact1.operator.Operator.TheVariants as operators
 use Rattle.postscript_compact1.specs.Index.{offsets}
-use Rattle.postscript_compact1.specs.IndexLaw.{last_of}
-use Rattle.postscript_compact1.specs.Computed.Order.{encoding, char_set, locals, behind}
+use Rattle.postscript_compact1.specs.IndexAt.{last_of}
+use Rattle.postscript_compact1.specs.Computed.Order.{behind}
+use Rattle.postscript_compact1.specs.Computed.Parts.{encoding, char_set, locals}
 use Rattle.postscript_compact1.specs.declared.font_set.manner.Manner.{Manner}
 use Rattle.postscript_compact1.specs.FontSet.Operands.{place_at, type_two}
 

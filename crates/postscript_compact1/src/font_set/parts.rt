@@ -3,7 +3,8 @@ ghost use Rattle.std.specs.Prelude.{◌≡◌, ℕ, List, [], ◌∷◌, IfErr, 
 ghost use Rattle.postscript_base.specs.Error.{IsListed};
 ghost use Rattle.postscript_base.specs.Tape.{Reads};
 ghost use Rattle.postscript_base.specs.Tape.Outcome.{Answers, same};
-ghost use Rattle.postscript_compact1.specs.Computed.Order.{encoding as the_encoding, char_strings as the_char_strings, char_set as the_char_set, char_set_offset as the_char_set_offset, own_char_set as the_own_char_set, glyphs as the_glyphs, locals as the_locals, own_locals as the_own_locals, own_subroutines as the_own_subroutines, private as the_private, subroutines as the_subroutines, part, parts};
+ghost use Rattle.postscript_compact1.specs.Computed.Order.{parts};
+ghost use Rattle.postscript_compact1.specs.Computed.Parts.{encoding as the_encoding, char_strings as the_char_strings, char_set as the_char_set, char_set_offset as the_char_set_offset, own_char_set as the_own_char_set, glyphs as the_glyphs, locals as the_locals, own_locals as the_own_locals, own_subroutines as the_own_subroutines, private as the_private, subroutines as the_subroutines, part};
 ghost use Rattle.postscript_compact1.specs.FontSet.Font.{columns, more};
 ghost use Rattle.postscript_compact1.specs.FontSet.Value.{part_shown, parts_shown};
 
@@ -32,7 +33,7 @@ pub(super) struct Part {
 }
 
 /// Reads what a font has for one of its dictionaries.
-#[tactic(auto, using(crate::proofs::Outcomes::refused_after), unfolding(crate::specs::Computed::Order::part))]
+#[tactic(auto, using(crate::proofs::Outcomes::refused_after), unfolding(crate::specs::Computed::Parts::part))]
 pub(super) fn read_part<T: Tape>(
     alloc: Global,
     tape: &mut T,
@@ -58,7 +59,7 @@ pub(super) fn read_part<T: Tape>(
 /// The encoding of a dictionary.
 ///
 /// Refused: `MissingOperation`, `MalformedOperation`, `Unsupported` for another than Standard and Expert.
-#[tactic(auto, unfolding(crate::specs::Computed::Order::encoding))]
+#[tactic(auto, unfolding(crate::specs::Computed::Parts::encoding))]
 fn encoding(dictionary: &Operations) -> Result<Encoding>
     ensures exact { (bytes : List ℕ) (place : ℕ) → Answers same result place (the_encoding dictionary.now bytes place) }
     ensures listed { IsListed (13 ∷ 14 ∷ 16 ∷ []) result }
@@ -71,7 +72,7 @@ fn encoding(dictionary: &Operations) -> Result<Encoding>
 }
 
 /// The char strings of a dictionary, and its char set.
-#[tactic(auto, unfolding(crate::specs::Computed::Order::glyphs))]
+#[tactic(auto, unfolding(crate::specs::Computed::Parts::glyphs))]
 fn glyphs<T: Tape>(
     alloc: Global,
     tape: &mut T,
@@ -87,7 +88,7 @@ fn glyphs<T: Tape>(
 }
 
 /// The char strings of a dictionary.
-#[tactic(auto, using(crate::proofs::IndexIs::char_strings_need), unfolding(crate::specs::Computed::Order::char_strings, crate::specs::Kinds::char_strings))]
+#[tactic(auto, using(crate::proofs::IndexIs::char_strings_need), unfolding(crate::specs::Computed::Parts::char_strings, crate::specs::Kinds::char_strings))]
 fn char_strings<T: Tape>(
     alloc: Global,
     tape: &mut T,
@@ -105,7 +106,7 @@ fn char_strings<T: Tape>(
 /// The char set of a dictionary, for so many glyphs.
 ///
 /// Refused: `MissingOperation`, `MalformedOperation`, `OutOfRangeOffset`, and as a `CharSet` is.
-#[tactic(auto, unfolding(crate::specs::Computed::Order::char_set))]
+#[tactic(auto, unfolding(crate::specs::Computed::Parts::char_set))]
 fn char_set<T: Tape>(
     alloc: Global,
     tape: &mut T,
@@ -125,7 +126,7 @@ fn char_set<T: Tape>(
 }
 
 /// The offset of the char set, or the number of a predefined one.
-#[tactic(auto, unfolding(crate::specs::Computed::Order::char_set_offset))]
+#[tactic(auto, unfolding(crate::specs::Computed::Parts::char_set_offset))]
 fn char_set_offset(dictionary: &Operations) -> Result<u32>
     ensures exact { (bytes : List ℕ) (place : ℕ) → Answers same result place (the_char_set_offset dictionary.now bytes place) }
     ensures listed { IsListed (13 ∷ 14 ∷ 15 ∷ []) result }
@@ -135,7 +136,7 @@ fn char_set_offset(dictionary: &Operations) -> Result<u32>
 }
 
 /// The char set at an offset, for so many glyphs.
-#[tactic(auto, using(crate::proofs::CharSetIs::char_set_needs), unfolding(crate::specs::Computed::Order::own_char_set))]
+#[tactic(auto, using(crate::proofs::CharSetIs::char_set_needs), unfolding(crate::specs::Computed::Parts::own_char_set))]
 fn own_char_set<T: Tape>(
     alloc: Global,
     tape: &mut T,
@@ -154,7 +155,7 @@ fn own_char_set<T: Tape>(
 
 /// The private dictionary of a dictionary and the local subroutines; empty ones where the private dictionary is
 /// lacking.
-#[tactic(auto, unfolding(crate::specs::Computed::Order::locals))]
+#[tactic(auto, unfolding(crate::specs::Computed::Parts::locals))]
 fn locals<T: Tape>(
     alloc: Global,
     tape: &mut T,
@@ -172,7 +173,7 @@ fn locals<T: Tape>(
 }
 
 /// The private dictionary of a dictionary, and the local subroutines.
-#[tactic(auto, unfolding(crate::specs::Computed::Order::own_locals))]
+#[tactic(auto, unfolding(crate::specs::Computed::Parts::own_locals))]
 fn own_locals<T: Tape>(
     alloc: Global,
     tape: &mut T,
@@ -189,7 +190,7 @@ fn own_locals<T: Tape>(
 }
 
 /// The private dictionary, and its offset.
-#[tactic(auto, unfolding(crate::specs::Computed::Order::private))]
+#[tactic(auto, unfolding(crate::specs::Computed::Parts::private))]
 fn private<T: Tape>(
     alloc: Global,
     tape: &mut T,
@@ -206,7 +207,7 @@ fn private<T: Tape>(
 }
 
 /// The local subroutines of a private dictionary at an offset; none where they are lacking.
-#[tactic(auto, unfolding(crate::specs::Computed::Order::own_subroutines))]
+#[tactic(auto, unfolding(crate::specs::Computed::Parts::own_subroutines))]
 fn own_subroutines<T: Tape>(
     alloc: Global,
     tape: &mut T,
@@ -225,7 +226,7 @@ fn own_subroutines<T: Tape>(
 }
 
 /// The local subroutines of a private dictionary at an offset.
-#[tactic(auto, using(crate::proofs::IndexIs::needs), unfolding(crate::specs::Computed::Order::subroutines))]
+#[tactic(auto, using(crate::proofs::IndexIs::needs), unfolding(crate::specs::Computed::Parts::subroutines))]
 fn subroutines<T: Tape>(
     alloc: Global,
     tape: &mut T,

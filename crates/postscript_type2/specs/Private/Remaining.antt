@@ -1,7 +1,7 @@
 -- What a program in the middle of its run still answers.
 use Rattle.std.specs.Prelude.{ℕ, zero, suc, Bool, true, ◌&&◌, not, List, [], ◌∷◌, if◌then◌else◌}
 use Rattle.postscript_base.specs.Refusal.{return_without_caller, trailing_data, too_deep}
-use Rattle.postscript_type2.specs.Program.Effects.{State}
+use Rattle.postscript_type2.specs.Program.States.{State}
 use Rattle.postscript_type2.specs.Program.Evaluation.{at_end, with_phrase, with_any_answer, followed, is_empty, after_call, Stride, On, Into, Back, Over, Faults, mean}
 use Rattle.postscript_type2.specs.Program.Routines.{Lists}
 use Rattle.postscript_type2.specs.Program.Runs.{Finished, Fault, Run}

@@ -2,7 +2,7 @@
 use Rattle.std.specs.Prelude.{◌≡◌, ◌↔◌, ℕ, zero, suc, ◌+◌, ◌-◌, ◌≤◌, ℤ, int_div, Bool, true, false, List, ◌++◌, length}
 use Rattle.postscript_base.specs.Refusal.{Refusal}
 use Rattle.postscript_type2.specs.declared.operation.Operator.{Operator}
-use Rattle.postscript_type2.specs.Program.Effects.{State}
+use Rattle.postscript_type2.specs.Program.States.{State}
 use Rattle.postscript_type2.specs.Program.Evaluation.{mean, run_of}
 use Rattle.postscript_type2.specs.Program.FixedPoint.{cut}
 use Rattle.postscript_type2.specs.Program.Meaning.{MeansRun, IsRunOf}

@@ -1,36 +1,12 @@
 -- What each operator does.
 use Rattle.std.specs.Option.{ok_or}
-use Rattle.std.specs.Prelude.{ℕ, ◌+◌, ◌-◌, ◌/◌, ◌%◌, ◌^◌, ℤ, pos, ◌+ℤ◌, nat_lt, ◌==◌, List, [], ◌++◌, drop, length, slice_get, replicate, Option, Some, None, Result, Ok, Err, if◌then◌else◌}
+use Rattle.std.specs.Prelude.{ℕ, ◌+◌, ◌-◌, ◌/◌, ◌%◌, ◌^◌, ℤ, pos, ◌+ℤ◌, nat_lt, List, [], drop, length, Option, Some, None, Result, Ok, Err, if◌then◌else◌}
 use Rattle.postscript_base.specs.Refusal.{Refusal, OfPart, unexpected_eof, malformed_operands, missing_subroutine, too_many_stems}
 use Rattle.postscript_type2.specs.declared.operation.Operator.{Operator}
 use Rattle.postscript_type2.specs.Operation.Kinds.{Kind, Draws, DeclaresStems, Masks, Works, Stores, CallsFrom, GoesBack, EndsGlyph, IsRefused, kind, taken}
 use Rattle.postscript_type2.specs.Program.Routines.{Lists}
-use Rattle.postscript_type2.specs.Program.StackWork.{Work, ◌>>=◌, given, whole_operand, at}
-
--- the operands, the top last; the stems so far; the width, once it is settled; and the stored numbers, which last for the
--- whole run
-pub record State : Type 0 where
-  pub stack : List ℤ
-  pub stems : ℕ
-  pub width : Option (Option ℤ)
-  pub stored : List ℤ
-
--- the note leaves open what is stored at the start: 32 zeros
-abbrev pub start : State
-start = record { stack = []; stems = 0; width = None; stored = replicate 32 (pos 0) }
-
--- the state with numbers on its stack, with another stack, with other stored numbers too, and after a clearing operator
-abbrev pub pushed : List ℤ → State → State
-pushed numbers st = record { stack = st.stack ++ numbers; stems = st.stems; width = st.width; stored = st.stored }
-
-abbrev pub stacked : List ℤ → State → State
-stacked stack st = record { stack = stack; stems = st.stems; width = st.width; stored = st.stored }
-
-abbrev pub holding : (stack stored : List ℤ) → State → State
-holding stack stored st = record { stack = stack; stems = st.stems; width = st.width; stored = stored }
-
-abbrev pub cleared : (stems : ℕ) → Option ℤ → State → State
-cleared stems width st = record { stack = []; stems = stems; width = Some width; stored = st.stored }
+use Rattle.postscript_type2.specs.Program.StackWork.{Work, given, whole_operand, at}
+use Rattle.postscript_type2.specs.Program.States.{State, settled, stems_after}
 
 -- What an operator does: it leaves a stack and stored numbers; it clears the stack, is answered with the operands taken, those of
 -- the stems that a mask implies are its own, and so many bytes of the mask; it calls a routine; it returns; it ends the run, with
@@ -43,12 +19,6 @@ pub data Effect : Type 0 where
   Ends : (taken : List ℤ) (width : Option ℤ) → Effect
   Refuses : Refusal → Effect
 
--- The width is settled once: the operand beneath the last u of the stack, or none where they are the whole stack
--- (Technical Note 5177, "Type 2 Charstring Organization").
-abbrev pub settled : Option (Option ℤ) → (stack : List ℤ) → (u : ℕ) → Option ℤ
-settled (Some width) stack u = width
-settled None stack u = if u == length stack then None else slice_get stack (length stack - u - 1)
-
 -- the last n items
 abbrev pub last_of : {A : Type 0} → List A → ℕ → List A
 last_of xs n = drop (length xs - n) xs
@@ -57,10 +27,6 @@ last_of xs n = drop (length xs - n) xs
 abbrev pub clearing : State → (stems : ℕ) → (taken : Option ℕ) → Effect
 clearing st stems (Some n) = Clears (last_of st.stack n) [] stems (settled st.width st.stack n) 0
 clearing st stems None = Refuses malformed_operands
-
--- each two operands are a stem ("Hint Operators")
-abbrev pub stems_after : State → ℕ
-stems_after st = st.stems + length st.stack / 2
 
 -- a move of so many stems, where 32 bits count them
 abbrev pub with_stems : ℕ → Effect → Effect

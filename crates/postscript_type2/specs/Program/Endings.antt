@@ -1,7 +1,7 @@
 -- How runs end.
 use Rattle.std.specs.Prelude.{◌≡◌, ◌⊎◌, ℕ, ℤ, List, [], ◌∷◌, length}
 use Rattle.postscript_base.specs.Error.{IsOneOf}
-use Rattle.postscript_base.specs.Refusal.{number_of}
+use Rattle.postscript_base.specs.RefusalOf.{number_of}
 use Rattle.postscript_type2.specs.Program.Evaluation.{run_of}
 use Rattle.postscript_type2.specs.Program.Routines.{Lists}
 use Rattle.postscript_type2.specs.Program.Runs.{End, UsedUp, Returned, Finished, Fault}

@@ -1,17 +1,16 @@
 -- Inlined text: the phrases of a run in their order, without its calls, their numbers and its returns (Technical Note 5177,
 -- "Subroutine Operators").
-use Rattle.std.specs.List.{flat_map, filter}
+use Rattle.std.specs.List.{flat_map}
 use Rattle.std.specs.Option.{option_map}
-use Rattle.std.specs.Prelude.{◌≡◌, ◌↔◌, ℕ, zero, suc, ◌-◌, ◌^◌, ◌≤◌, ℤ, true, false, nat_lt, ◌==◌, List, [], ◌∷◌, ◌++◌, length, map, min, Option, Some, None, All, if◌then◌else◌}
+use Rattle.std.specs.Prelude.{◌≡◌, ℕ, zero, suc, ◌-◌, ◌^◌, ℤ, true, nat_lt, ◌==◌, List, [], ◌∷◌, ◌++◌, length, min, Option, Some, None, if◌then◌else◌}
 use Rattle.postscript_type2.specs.declared.operation.Operator.{Operator}
 use Rattle.postscript_type2.specs.declared.operation.Operator.TheVariants.{Drop}
 use Rattle.postscript_type2.specs.Operation.Kinds.{Kind, Draws, DeclaresStems, Masks, Works, Stores, CallsFrom, GoesBack, EndsGlyph, IsRefused, kind}
-use Rattle.postscript_type2.specs.Program.Evaluation.{run_of}
-use Rattle.postscript_type2.specs.Program.Flat.{without_operator, dropping, flat_text}
-use Rattle.postscript_type2.specs.Program.Inlining.{is_flat, KeepsMeaning}
-use Rattle.postscript_type2.specs.Program.Phrases.{IsNumber, IsPhrase}
+use Rattle.postscript_type2.specs.Program.Flat.{without_operator, dropping}
+use Rattle.postscript_type2.specs.Program.Inlining.{is_flat}
+use Rattle.postscript_type2.specs.Program.Phrases.{IsNumber}
 use Rattle.postscript_type2.specs.Program.Routines.{Lists}
-use Rattle.postscript_type2.specs.Program.Runs.{Phrase, by, Run, fault_of}
+use Rattle.postscript_type2.specs.Program.Runs.{Phrase, by}
 
 -- what stays of a phrase: a phrase that stands, or numbers for the phrase behind it
 pub data Piece : Type 0 where
@@ -102,35 +101,3 @@ inlined_text trace = text (inlined trace)
 
 abbrev pub inlined_len : List Phrase → ℕ
 inlined_len trace = min (length (inlined_text trace)) (2 ^ 64 - 1)
-
--- A law of the definitions: what stays of a phrase is what is computed.
-abbrev pub StaysIsComputed : Type 0
-StaysIsComputed = (op : Operator) (bytes : List ℕ) → (is_flat op ≡ false → (numbers : List ℤ) × IsPhrase bytes numbers op) →
-    (p : Piece) → Stays op bytes p ↔ (piece (by op bytes) ≡ p)
-
--- A law of the definitions: the inlined text of a run that no fault ends keeps its meaning over any lists.
-abbrev pub InlinedTextKeepsMeaning : Type 0
-InlinedTextKeepsMeaning = (lists other : Lists) (code : List ℕ) → fault_of (run_of lists code).end ≡ None →
-    KeepsMeaning other (inlined_text (run_of lists code).trace) (run_of lists code)
-
--- and its run's phrases are the inlined ones
-abbrev pub InlinedRunIsInlined : Type 0
-InlinedRunIsInlined = (lists other : Lists) (code : List ℕ) → fault_of (run_of lists code).end ≡ None →
-    (run_of other (inlined_text (run_of lists code).trace)).trace ≡ inlined (run_of lists code).trace
-
--- a law: it has no more bytes than the flat text
-abbrev pub InlinedIsNoLonger : Type 0
-InlinedIsNoLonger = (trace : List Phrase) → length (inlined_text trace) ≤ length (flat_text trace)
-
--- the number of a call is spelled right before its operator
-abbrev pub SpellsItsNumber : Phrase → Type 0
-SpellsItsNumber said = (routines : Lists → List (List ℕ)) → kind said.operator ≡ CallsFrom routines →
-    (numbers : List ℤ) × (number : ℤ) × IsPhrase said.bytes (numbers ++ number ∷ []) said.operator
-
-abbrev pub operators : List Phrase → List Operator
-operators phrases = map (λ said. said.operator) phrases
-
--- Where each call of a run spells its number, the operators of a code's run over these lists are those of the run without its
--- calls and returns: none is added.
-abbrev pub AddsNoOperator : Lists → (code : List ℕ) → Run → Type 0
-AddsNoOperator lists code run = All SpellsItsNumber run.trace → operators (run_of lists code).trace ≡ filter is_flat (operators run.trace)

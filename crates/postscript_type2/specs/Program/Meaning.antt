@@ -3,7 +3,8 @@
 use Rattle.std.specs.Prelude.{◌≡◌, ◌≢◌, ℕ, suc, ◌<◌, ◌≤◌, ℤ, List, [], ◌∷◌, ◌++◌, length, Option}
 use Rattle.postscript_base.specs.Refusal.{Refusal, return_without_caller, trailing_data, too_deep}
 use Rattle.postscript_type2.specs.declared.operation.Operator.{Operator}
-use Rattle.postscript_type2.specs.Program.Effects.{State, start, Effect, Keeps, Clears, Calls, Returns, Ends, Refuses, effect, pushed, stacked, holding, cleared}
+use Rattle.postscript_type2.specs.Program.Effects.{Effect, Keeps, Clears, Calls, Returns, Ends, Refuses, effect}
+use Rattle.postscript_type2.specs.Program.States.{State, start, pushed, stacked, holding, cleared}
 use Rattle.postscript_type2.specs.Program.Phrases.{IsPhrase, HasNoPhrase}
 use Rattle.postscript_type2.specs.Program.Routines.{Lists}
 use Rattle.postscript_type2.specs.Program.Runs.{Answer, Hints, Phrase, by, End, UsedUp, Returned, Finished, Fault, Run}

@@ -2,7 +2,7 @@
 use Rattle.std.specs.Prelude.{ℕ, ℤ, List, [], ◌∷◌, Option, Some, None}
 use Rattle.postscript_base.specs.Refusal.{Refusal}
 use Rattle.postscript_type2.specs.declared.operation.Operator.{Operator}
-use Rattle.postscript_type2.specs.Program.Effects.{State}
+use Rattle.postscript_type2.specs.Program.States.{State}
 
 -- what a mask says: the operands of the stems that it implies, and its bytes (Technical Note 5177, "Hint Operators")
 pub record Hints : Type 0 where

@@ -1,7 +1,8 @@
 -- The width of a glyph, over a whole run (Technical Note 5177, "Type 2 Charstring Organization").
 use Rattle.std.specs.Prelude.{◌≡◌, ℕ, suc, ◌<◌, ℤ, ◌⊎◌, List, [], ◌++◌, Option, None, All}
 use Rattle.postscript_type2.specs.declared.operation.Operator.{Operator}
-use Rattle.postscript_type2.specs.Program.Effects.{State, start, Keeps, Clears, Calls, Ends, stacked, holding}
+use Rattle.postscript_type2.specs.Program.Effects.{Keeps, Clears, Calls, Ends}
+use Rattle.postscript_type2.specs.Program.States.{State, start, stacked, holding}
 use Rattle.postscript_type2.specs.Program.Meaning.{Moves, Means, IsRunOf}
 use Rattle.postscript_type2.specs.Program.Routines.{Lists}
 use Rattle.postscript_type2.specs.Program.Runs.{Phrase, End, UsedUp, Returned, Finished, Fault, Run, width_of}

@@ -2,11 +2,12 @@
 ghost use Rattle.std.specs.Prelude.{◌≡◌, ◌≢◌, ◌⊎◌, ◌<◌, ◌≤◌, length, OnOk, IfOk, IfErr, IfSome, MatchResult};
 ghost use Rattle.postscript_base.specs.declared.error.Error.TheVariants as errors;
 ghost use Rattle.postscript_base.specs.Error.{code as number, IsOneOf, IsListed};
-ghost use Rattle.postscript_base.specs.Refusal.{refusal_of};
+ghost use Rattle.postscript_base.specs.RefusalOf.{refusal_of};
 ghost use Rattle.postscript_type2.specs.Program.Charstrings.{run_from, IsRunFrom};
 ghost use Rattle.postscript_type2.specs.Program.Endings.{run_refusals, flatten_refusals};
 ghost use Rattle.postscript_type2.specs.Program.Flat.{flat_text, flat_len as the_flat_len};
-ghost use Rattle.postscript_type2.specs.Program.Inlined.{inlined_text, inlined_len as the_inlined_len, AddsNoOperator};
+ghost use Rattle.postscript_type2.specs.Program.Inlined.{inlined_text, inlined_len as the_inlined_len};
+ghost use Rattle.postscript_type2.specs.Program.InlinedLaws.{AddsNoOperator};
 ghost use Rattle.postscript_type2.specs.Program.Inlining.{KeepsMeaning, FlatTextKeepsMeaning};
 ghost use Rattle.postscript_type2.specs.Program.Limit.{cost};
 ghost use Rattle.postscript_type2.specs.Program.Programs.{begun};

@@ -1,7 +1,7 @@
 //! Inlined code: the phrases of a run without its calls, their numbers and its returns.
 ghost use Rattle.std.specs.Prelude.{◌≡◌, ◌⊎◌, ◌∷◌, ◌≤◌, [], List, length, OnOk, IfOk, IfErr};
 ghost use Rattle.postscript_base.specs.declared.error.Error.TheVariants as errors;
-ghost use Rattle.postscript_base.specs.Refusal.{refusal_of};
+ghost use Rattle.postscript_base.specs.RefusalOf.{refusal_of};
 ghost use Rattle.postscript_type2.specs.declared.refused.Refused.TheVariants as cases;
 ghost use Rattle.postscript_type2.specs.Program.Inlined.{behind_first, piece as the_piece, inlined_text, inlined_len};
 ghost use Rattle.postscript_type2.specs.Private.Machines.{IsNested, said_of, still_of};

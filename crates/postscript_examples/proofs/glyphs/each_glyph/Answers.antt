@@ -1,6 +1,6 @@
 use Rattle.std.proofs.Common.{rules, arith, inl, inr}
 use Rattle.std.proofs.lemmas.Grind.{common_steps}
-use Rattle.postscript_base.specs.Refusal.{refusal_of}
+use Rattle.postscript_base.specs.RefusalOf.{refusal_of}
 use Rattle.postscript_type2.specs.Program.Routines.{subroutines}
 use Rattle.postscript_examples.proofs.Refused.{none_so_far, first_so_far}
 use Rattle.postscript_examples.proofs.glyphs.each_glyph.Goals as goal

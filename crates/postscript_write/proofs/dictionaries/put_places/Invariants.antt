@@ -1,7 +1,8 @@
 use Rattle.std.proofs.Common.{◌≡◌, ◌+◌, ◌<◌, ℕ, get_or, List, ◌++◌, length, map, take}
 use Rattle.postscript_base.specs.Compact1.DictionaryLaw.{OperationsAt}
 use Rattle.postscript_base.specs.Compact1.Operation.{Operation}
-use Rattle.postscript_write.specs.Dictionaries.{IsHeld, operation_of, places_size}
+use Rattle.postscript_write.specs.Dictionaries.{IsHeld, operation_of}
+use Rattle.postscript_write.specs.DictionarySizes.{places_size}
 use Rattle.postscript_write.specs.declared.dictionaries.Place.{Place}
 use Rattle.postscript_write.proofs.dictionaries.put_places.Given as goal
 

@@ -1,7 +1,7 @@
 use Rattle.std.proofs.Common.{◌∙◌, subst, List, map}
 use Rattle.std.proofs.lemmas.Result.{err_from_is_err_and}
 use Rattle.postscript_base.specs.declared.compact1.operator.Operator.{Operator}
-use Rattle.postscript_write.specs.Dictionaries.{IsLeftText, IsWithout}
+use Rattle.postscript_write.specs.LeftOut.{IsLeftText, IsWithout}
 use Rattle.postscript_write.proofs.Making.{if_err, if_ok}
 use Rattle.postscript_write.proofs.Placing.{placed}
 use Rattle.postscript_write.proofs.dictionaries.with_places.Goals as goal

@@ -2,9 +2,9 @@ use Rattle.std.proofs.Common.{length, ◌≡◌, refl, sym, ap, subst, ◌∙◌
 use Rattle.std.proofs.lemmas.Result.{err_from_is_err_and}
 use Rattle.postscript_base.specs.Tape.Outcome.{Got, RefusedAs}
 use Rattle.postscript_base.specs.Compact1.Operation.{Operation, operation}
-use Rattle.postscript_write.specs.Dictionaries.{IsLeftText}
-use Rattle.postscript_write.specs.Dictionaries.AreLeft.{none}
-use Rattle.postscript_write.specs.Dictionaries.IsLeftText.{ends}
+use Rattle.postscript_write.specs.LeftOut.{IsLeftText}
+use Rattle.postscript_write.specs.LeftOut.AreLeft.{none}
+use Rattle.postscript_write.specs.LeftOut.IsLeftText.{ends}
 use Rattle.std.proofs.lemmas.List.{append-nil}
 use Rattle.postscript_write.proofs.Without.{left_more, no_dictionary, one_more_so}
 use Rattle.postscript_write.proofs.dictionaries.without.Goals as goal

@@ -1,5 +1,5 @@
 use Rattle.std.proofs.Common.{◌≡◌, ◌≤◌, ◌-◌, ◌++◌, ℕ, List, length}
-use Rattle.postscript_write.specs.Dictionaries.{IsLeftText}
+use Rattle.postscript_write.specs.LeftOut.{IsLeftText}
 use Rattle.postscript_write.proofs.Without.{IsSoFar}
 use Rattle.postscript_write.proofs.dictionaries.without.Given as goal
 

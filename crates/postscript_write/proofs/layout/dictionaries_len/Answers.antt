@@ -4,7 +4,7 @@ use Rattle.std.specs.declared.alloc.Global.{Global}
 use Rattle.std.proofs.lemmas.Result.{err_from_is_err_and}
 use Rattle.std.specs.Option.{is_none}
 use Rattle.postscript_type2.specs.Program.Routines.{texts}
-use Rattle.postscript_write.specs.Arrangement.{AreSizedFor}
+use Rattle.postscript_write.specs.ArrangedText.{AreSizedFor}
 use Rattle.postscript_write.specs.Index.{Fits, index_text}
 use Rattle.postscript_write.proofs.Few.{are_few, few_fit, few_most}
 use Rattle.postscript_write.proofs.Lengths.{none_text, some_text}

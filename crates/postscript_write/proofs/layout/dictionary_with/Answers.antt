@@ -4,7 +4,8 @@ use Rattle.std.proofs.lemmas.Result.{IfOk-weaker}
 use Rattle.postscript_base.specs.Compact1.Dictionary.{Dictionary}
 use Rattle.postscript_base.specs.Compact1.DictionaryLaw.{IsDictionary}
 use Rattle.postscript_view.specs.Value.{view_shown}
-use Rattle.postscript_write.specs.Dictionaries.{HasSize, IsHeld, IsPlaced}
+use Rattle.postscript_write.specs.Dictionaries.{IsHeld, IsPlaced}
+use Rattle.postscript_write.specs.DictionarySizes.{HasSize}
 use Rattle.postscript_write.specs.Renumbered.{all_renamed}
 use Rattle.postscript_write.specs.declared.dictionaries.Place.{Place}
 use Rattle.postscript_write.proofs.Making.{if_err}

@@ -4,7 +4,8 @@ use Rattle.postscript_base.specs.Compact1.Dictionary.{Dictionary}
 use Rattle.postscript_base.specs.Compact1.DictionaryLaw.{IsDictionary}
 use Rattle.postscript_base.specs.declared.compact1.operator.Operator.TheVariants as operators
 use Rattle.postscript_base.specs.declared.error.Error.TheVariants as errors
-use Rattle.postscript_write.specs.Dictionaries.{HasSize, IsHeld, IsPlaced}
+use Rattle.postscript_write.specs.Dictionaries.{IsHeld, IsPlaced}
+use Rattle.postscript_write.specs.DictionarySizes.{HasSize}
 use Rattle.postscript_write.specs.Privates.{place_of_private}
 use Rattle.postscript_write.specs.declared.dictionaries.Place.{Place}
 use Rattle.postscript_write.proofs.layout.font_dictionary.Goals as goal

@@ -5,7 +5,8 @@ use Rattle.std.specs.Prelude.{All}
 use Rattle.postscript_base.specs.Compact1.Dictionary.{Dictionary}
 use Rattle.postscript_base.specs.Compact1.DictionaryLaw.{IsDictionary}
 use Rattle.postscript_base.specs.Index.Lent.{items_of}
-use Rattle.postscript_write.specs.Dictionaries.{HasSize, IsHeld}
+use Rattle.postscript_write.specs.Dictionaries.{IsHeld}
+use Rattle.postscript_write.specs.DictionarySizes.{HasSize}
 use Rattle.postscript_write.specs.Privates.{IsFontDictionary, IsSomeDictionary, place_of_private, private_offset}
 use Rattle.postscript_write.proofs.Agree.{text_more}
 use Rattle.postscript_write.proofs.Rests.{texts_many}

@@ -3,7 +3,8 @@ use Rattle.std.specs.Prelude.{All}
 use Rattle.postscript_base.specs.Compact1.Dictionary.{Dictionary}
 use Rattle.postscript_base.specs.Compact1.DictionaryLaw.{IsDictionary}
 use Rattle.postscript_base.specs.Index.Lent.{items_of}
-use Rattle.postscript_write.specs.Dictionaries.{HasSize, IsHeld}
+use Rattle.postscript_write.specs.Dictionaries.{IsHeld}
+use Rattle.postscript_write.specs.DictionarySizes.{HasSize}
 use Rattle.postscript_write.specs.Privates.{IsFontDictionary, place_of_private, private_offset, privates_text}
 use Rattle.postscript_type2.specs.Program.Routines.{texts}
 use Rattle.postscript_write.proofs.layout.placed_dictionaries.Given as goal

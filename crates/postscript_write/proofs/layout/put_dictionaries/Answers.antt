@@ -8,7 +8,7 @@ use Rattle.postscript_write.specs.Index.{index_text}
 use Rattle.postscript_write.specs.Index.{Fits}
 use Rattle.postscript_write.specs.Privates.{AreFontDictionaries, AreOwnPrivates, privates_text}
 use Rattle.postscript_type2.specs.Program.Routines.{texts}
-use Rattle.postscript_write.specs.Arrangement.{AreSizedFor}
+use Rattle.postscript_write.specs.ArrangedText.{AreSizedFor}
 use Rattle.postscript_write.proofs.Few.{are_few, few_fit}
 use Rattle.postscript_write.proofs.Lengths.{some_text}
 use Rattle.postscript_write.proofs.layout.put_dictionaries.Goals as goal

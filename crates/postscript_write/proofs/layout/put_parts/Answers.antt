@@ -1,7 +1,8 @@
 use Rattle.std.proofs.Common.{◌≡◌, ◌∙◌, ap, subst, ◌+◌, ◌<◌, ◌^◌, ◌++◌, List, ℕ, length, length-append, arith}
 use Rattle.std.proofs.lemmas.List.{append_assoc}
 use Rattle.std.proofs.lemmas.Result.{err_from_is_err_and, on_ok_weaker}
-use Rattle.postscript_write.specs.Arrangement.{NameParts, dictionaries_text, text_of}
+use Rattle.postscript_write.specs.Arrangement.{text_of}
+use Rattle.postscript_write.specs.ArrangedText.{NameParts, dictionaries_text}
 use Rattle.postscript_write.specs.Privates.{privates_text}
 use Rattle.postscript_write.proofs.layout.put_parts.Goals as goal
 

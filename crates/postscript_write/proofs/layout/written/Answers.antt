@@ -4,8 +4,10 @@ use Rattle.std.specs.declared.alloc.Global.{Global}
 use Rattle.std.proofs.lemmas.Result.{err_from_is_err_and}
 use Rattle.postscript_base.specs.Index.Lent.{items_of}
 use Rattle.postscript_type2.specs.Program.Routines.{texts}
-use Rattle.postscript_write.specs.Arrangement.{AreSizedFor, beginnings, dictionaries_text, parts_text, places_of, tables_text}
-use Rattle.postscript_write.specs.Dictionaries.{HasSize, IsHeld, IsWithPlaces, places_size}
+use Rattle.postscript_write.specs.Arrangement.{beginnings, places_of}
+use Rattle.postscript_write.specs.ArrangedText.{AreSizedFor, dictionaries_text, parts_text, tables_text}
+use Rattle.postscript_write.specs.Dictionaries.{IsHeld, IsWithPlaces}
+use Rattle.postscript_write.specs.DictionarySizes.{HasSize, places_size}
 use Rattle.postscript_write.specs.Index.{Fits, index_text}
 use Rattle.postscript_write.specs.Privates.{AreOwnPrivates, IsSomeDictionary, privates_text}
 use Rattle.postscript_view.specs.Value.{parts_shown}

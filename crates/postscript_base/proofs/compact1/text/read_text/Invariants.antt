@@ -1,6 +1,6 @@
 use Rattle.std.proofs.Common.{◌≡◌, ◌-◌, ◌^◌, drop, vec_len}
 use Rattle.postscript_base.specs.Tape.{IsHonest, Kept}
-use Rattle.postscript_base.specs.Compact1.Reals.{text_of_real}
+use Rattle.postscript_base.specs.Compact1.Nibbles.{text_of_real}
 use Rattle.postscript_base.proofs.Nibbles.{text_behind}
 use Rattle.postscript_base.proofs.compact1.text.read_text.Given as goal
 

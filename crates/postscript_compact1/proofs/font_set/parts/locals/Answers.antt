@@ -1,5 +1,5 @@
 use Rattle.std.proofs.Common.{rules}
-use Rattle.postscript_compact1.specs.Computed.Order.{locals}
+use Rattle.postscript_compact1.specs.Computed.Parts.{locals}
 use Rattle.postscript_compact1.proofs.font_set.parts.locals.Goals as goal
 
 pub returns-then-goes_without-clause-exact : goal.returns-then-goes_without-clause-exact

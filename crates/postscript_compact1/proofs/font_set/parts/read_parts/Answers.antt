@@ -1,7 +1,8 @@
 use Rattle.std.proofs.Common.{◌∙◌, [], ◌∷◌, ◌++◌, ap, sym, refl}
 use Rattle.std.proofs.lemmas.Result.{err_from_is_err_and}
 use Rattle.postscript_compact1.specs.FontSet.Font.{more}
-use Rattle.postscript_compact1.specs.Computed.Order.{part, parts}
+use Rattle.postscript_compact1.specs.Computed.Order.{parts}
+use Rattle.postscript_compact1.specs.Computed.Parts.{part}
 use Rattle.postscript_compact1.specs.FontSet.Value.{part_shown}
 use Rattle.postscript_compact1.proofs.EachPart.{goes_on, ends, is_done, columns_more}
 use Rattle.postscript_compact1.proofs.Outcomes.{refused_after}

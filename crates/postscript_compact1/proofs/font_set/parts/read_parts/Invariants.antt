@@ -2,7 +2,7 @@ use Rattle.std.proofs.Common.{◌≡◌, List, drop}
 use Rattle.postscript_base.specs.Tape.{IsHonest, Kept}
 use Rattle.postscript_base.specs.Tape.Loops.{each}
 use Rattle.postscript_compact1.specs.FontSet.Font.{Part, columns}
-use Rattle.postscript_compact1.specs.Computed.Order.{part}
+use Rattle.postscript_compact1.specs.Computed.Parts.{part}
 use Rattle.postscript_compact1.specs.FontSet.Value.{parts_shown}
 use Rattle.postscript_compact1.proofs.EachPart.{with_front}
 use Rattle.postscript_compact1.proofs.font_set.parts.read_parts.Given as goal

@@ -1,5 +1,5 @@
 use Rattle.std.proofs.Common.{rules}
-use Rattle.postscript_compact1.specs.Computed.Order.{subroutines}
+use Rattle.postscript_compact1.specs.Computed.Parts.{subroutines}
 use Rattle.postscript_compact1.proofs.font_set.parts.subroutines.Goals as goal
 
 pub returns-in_err-place-clause-exact : goal.returns-in_err-place-clause-exact

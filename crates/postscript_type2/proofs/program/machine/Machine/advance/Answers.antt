@@ -1,7 +1,8 @@
 use Rattle.std.proofs.Common.{eqb-true, arith, ◌≡◌, ◌∙◌, ◌-◌, ap, sym, refl, rules, take, length, inr, add-one, ◌<◌, ◌≤◌}
 use Rattle.std.proofs.lemmas.List.{drop_all}
 use Rattle.std.proofs.lemmas.Result.{err_from_is_err_and}
-use Rattle.postscript_type2.specs.Program.Effects.{State, Clears, cleared, stacked, settled, last_of}
+use Rattle.postscript_type2.specs.Program.Effects.{Clears, last_of}
+use Rattle.postscript_type2.specs.Program.States.{State, cleared, stacked, settled}
 use Rattle.postscript_type2.specs.Program.Evaluation.{at_end, with_phrase}
 use Rattle.postscript_type2.specs.Program.Runs.{by, Finished, UsedUp}
 use Rattle.postscript_type2.specs.Private.Machines.{still_of}

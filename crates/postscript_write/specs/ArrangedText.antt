@@ -1,0 +1,57 @@
+-- The bytes of the tables and of the parts of a font, as they are written (Technical Note 5176, "CFF Data Layout").
+use Rattle.std.specs.Prelude.{ℕ, ◌+◌, List, [], ◌∷◌, ◌++◌, Option, Some, None, IsSome, Vec}
+use Rattle.std.specs.declared.alloc.Global.{Global}
+use Rattle.postscript_base.specs.declared.compact1.operator.Operator.TheVariants.{FDArray}
+use Rattle.postscript_base.specs.Compact1.Dictionary.{Dictionary}
+use Rattle.postscript_view.specs.Layout.{NamesIndex}
+use Rattle.postscript_write.specs.Index.{index_text}
+use Rattle.postscript_write.specs.Texts.{Stands}
+use Rattle.postscript_write.specs.Privates.{AreFontDictionaries, AreSized, privates_text}
+use Rattle.postscript_write.specs.declared.layout.Parts.{Parts}
+use Rattle.postscript_write.specs.declared.layout.Private.{Private}
+use Rattle.postscript_write.specs.Arrangement.{text_of, Beginnings}
+
+-- a font with an FDSelect has an INDEX of font dictionaries
+abbrev pub dictionaries_text : (select : Option (Vec ℕ Global)) → (dictionaries : List (List ℕ)) → List ℕ
+dictionaries_text (Some select) dictionaries = index_text dictionaries
+dictionaries_text None dictionaries = []
+
+-- The font dictionaries of a font with an FDSelect: those that FDArray names, but with the private dictionaries of the parts, the first of
+-- which stands at a place.
+abbrev pub NameParts : (bytes : List ℕ) → Dictionary → Parts → (place : ℕ) → (dictionaries : List (List ℕ)) → Type 0
+NameParts bytes map parts place dictionaries =
+    IsSome parts.glyphs.now.select → (items : List (List ℕ)) → NamesIndex bytes map FDArray items →
+    AreFontDictionaries items parts.privates.items place dictionaries
+
+-- they have the sizes of those that FDArray names, with these private dictionaries
+abbrev pub AreSizedFor : (bytes : List ℕ) → Dictionary → List (Option Private) → (dictionaries : List (List ℕ)) → Type 0
+AreSizedFor bytes map privates dictionaries =
+    (items : List (List ℕ)) × NamesIndex bytes map FDArray items × AreSized items privates dictionaries
+
+-- the parts, with these font dictionaries
+abbrev pub parts_text : Parts → (dictionaries : List (List ℕ)) → List ℕ
+parts_text parts dictionaries =
+    text_of parts.glyphs.now.encoding
+    ++ (text_of parts.glyphs.now.select
+    ++ (parts.char_strings.items
+    ++ (privates_text parts.privates.items
+    ++ (dictionaries_text parts.glyphs.now.select dictionaries
+    ++ text_of parts.glyphs.now.char_set))))
+
+-- each part stands where it begins
+pub record PartsStand (parts : Parts) (dictionaries : List (List ℕ)) (out : List ℕ) (at : Beginnings) : Type 0 where
+  pub encoding : Stands (text_of parts.glyphs.now.encoding) out at.encoding
+  pub select : Stands (text_of parts.glyphs.now.select) out at.select
+  pub char_strings : Stands parts.char_strings.items out at.char_strings
+  pub privates : Stands (privates_text parts.privates.items) out at.privates
+  pub font_dictionaries : Stands (dictionaries_text parts.glyphs.now.select dictionaries) out at.dictionaries
+  pub char_set : Stands (text_of parts.glyphs.now.char_set) out at.char_set
+
+-- The tables: the header, of version 1.0, with places of four bytes; names, the dictionary of the font, strings, and no subroutines.
+abbrev pub tables_text : (names : List (List ℕ)) (dictionary : List ℕ) (strings : List (List ℕ)) → List ℕ
+tables_text names dictionary strings =
+    (1 ∷ 0 ∷ 4 ∷ 4 ∷ [])
+    ++ (index_text names
+    ++ (index_text (dictionary ∷ [])
+    ++ (index_text strings
+    ++ index_text [])))

@@ -1,0 +1,75 @@
+-- What is wrong with glyphs of a font that can not be written.
+use Rattle.std.specs.Prelude.{◌≡◌, ℕ, ◌<◌, List, Option, Some, None, length, slice_get, slice_index_or}
+use Rattle.postscript_base.specs.RefusalOf.{refusal_of}
+use Rattle.postscript_base.specs.declared.error.Error as causes
+use Rattle.postscript_type2.specs.Program.Runs.{fault_of}
+use Rattle.postscript_view.specs.CharSets.{IsCharSetOf}
+use Rattle.postscript_view.specs.Encodings.{IsEncodingOf}
+use Rattle.postscript_view.specs.Naming.{Names}
+use Rattle.postscript_view.specs.Contents.{View, PrivateDict}
+use Rattle.postscript_view.specs.declared.char_set.CharSetView.{CharSetView}
+use Rattle.postscript_view.specs.declared.encoding.EncodingView.{EncodingView}
+use Rattle.postscript_write.specs.Glyphs.{AreNumbersOf, HasPart, Sources, run_in}
+use Rattle.postscript_write.specs.declared.error.Error.{Error}
+
+-- the run of a glyph with the part of a number is refused with this cause
+pub record IsRunRefused (font : View) (glyph number : ℕ) (cause : causes.Error) : Type 0 where
+  pub code : List ℕ
+  pub part : PrivateDict
+  pub has_code : slice_get font.char_strings glyph ≡ Some code
+  pub has_part : slice_get font.parts number ≡ Some part
+  pub fault : fault_of (run_in font part code).end ≡ Some (refusal_of cause)
+
+-- no fault ends the run of a glyph with the part of a number
+pub record IsRunFaultless (font : View) (glyph number : ℕ) : Type 0 where
+  pub code : List ℕ
+  pub part : PrivateDict
+  pub has_code : slice_get font.char_strings glyph ≡ Some code
+  pub has_part : slice_get font.parts number ≡ Some part
+  pub faultless : fault_of (run_in font part code).end ≡ None
+
+abbrev pub IsFaultless : View → Option ℕ → (number : ℕ) → Type 0
+IsFaultless font None number = Unit {0}
+IsFaultless font (Some glyph) number = IsRunFaultless font glyph number
+
+-- Of these glyphs this is the first one whose run is refused, and it is refused with this cause.
+pub record IsFirstRefused (font : View) (sources : Sources) (numbers : List ℕ) (glyph : ℕ) (cause : causes.Error) : Type 0 where
+  pub place : ℕ
+  pub there : place < length sources
+  pub is : slice_index_or sources place None ≡ Some glyph
+  pub refused : IsRunRefused font glyph (slice_index_or numbers place 0) cause
+  pub before : (i : ℕ) → i < place → IsFaultless font (slice_index_or sources i None) (slice_index_or numbers i 0)
+
+-- the first refused one of these glyphs of a font, each with its part
+abbrev pub IsFirst : List ℕ → View → Sources → (glyph : ℕ) → causes.Error → Type 0
+IsFirst bytes font sources glyph cause = (numbers : List ℕ) × AreNumbersOf bytes font sources numbers
+    × IsFirstRefused font sources numbers glyph cause
+
+-- one of these glyphs
+abbrev pub IsOneOf : Sources → (glyph : ℕ) → Type 0
+IsOneOf sources glyph = (place : ℕ) × (place < length sources) × (slice_index_or sources place None ≡ Some glyph)
+
+-- one of these glyphs, which has no part
+pub record IsPartless (bytes : List ℕ) (font : View) (sources : Sources) (glyph : ℕ) : Type 0 where
+  pub one : IsOneOf sources glyph
+  pub partless : glyph < length font.char_strings → (number : ℕ) → HasPart bytes font glyph number → ⊥
+
+-- one of these glyphs, which the char set of the font does not name
+pub record IsNameless (bytes : List ℕ) (font : View) (sources : Sources) (glyph : ℕ) : Type 0 where
+  pub one : IsOneOf sources glyph
+  pub set : CharSetView
+  pub has_set : IsCharSetOf set bytes font.tables.dictionary (length font.char_strings)
+  pub nameless : (identifier : ℕ) → Names set glyph identifier → ⊥
+
+-- the font has a char set; it has an encoding
+abbrev pub HasSet : List ℕ → View → Type 0
+HasSet bytes font = (set : CharSetView) × IsCharSetOf set bytes font.tables.dictionary (length font.char_strings)
+
+abbrev pub HasEncoding : List ℕ → View → Type 0
+HasEncoding bytes font = (encoding : EncodingView) × IsEncodingOf encoding bytes font.tables.dictionary
+
+-- Each of these glyphs has its part, and no fault ends its run.
+abbrev pub AreSound : List ℕ → View → Sources → Type 0
+AreSound bytes font sources =
+    (numbers : List ℕ) × AreNumbersOf bytes font sources numbers
+    × ((i : ℕ) → i < length sources → IsFaultless font (slice_index_or sources i None) (slice_index_or numbers i 0))
