@@ -5,7 +5,7 @@ use Rattle.postscript_base.specs.Refusal.{Refusal, OfPart, unexpected_eof, malfo
 use Rattle.postscript_type2.specs.declared.operation.Operator.{Operator}
 use Rattle.postscript_type2.specs.Operation.Kinds.{Kind, Draws, DeclaresStems, Masks, Works, Stores, CallsFrom, GoesBack, EndsGlyph, IsRefused, kind, taken}
 use Rattle.postscript_type2.specs.Program.Routines.{Lists}
-use Rattle.postscript_type2.specs.Program.StackWork.{Work, given, whole_operand, at}
+use Rattle.postscript_type2.specs.Program.StackWork.{Work, ◌>>=◌, given, whole_operand, at}
 use Rattle.postscript_type2.specs.Program.States.{State, settled, stems_after}
 
 -- What an operator does: it leaves a stack and stored numbers; it clears the stack, is answered with the operands taken, those of
