@@ -1,16 +1,14 @@
 -- What is told of the components of glyphs.
-use Rattle.std.proofs.Common.{◌≡◌, ◌≢◌, refl, sym, ap, subst, ◌∙◌, inl, inr, ℕ, zero, suc, ◌<◌, ℤ, List, [], ◌∷◌, ◌++◌, append_assoc, length, slice_index_or, slice_set, Option, Some, None, Result, Ok, Err, true, false, Bool, arith}
+use Rattle.std.proofs.Common.{◌≡◌, refl, sym, ap, subst, ◌∙◌, inl, inr, ℕ, zero, suc, ◌<◌, List, [], ◌∷◌, ◌++◌, append_assoc, length, slice_index_or, slice_set, Option, Some, None, Result, Ok, Err, true, false, Bool, arith}
 use Rattle.std.specs.Prelude.{◌⊎◌, ◌||◌, ◌==◌, IfOk, OnOk, option_to_list}
 use Rattle.std.specs.List.{Contains}
 use Rattle.std.proofs.lemmas.Bool.{eqb-true}
 use Rattle.std.proofs.lemmas.List.{get_or-set_same, get_or-set_other, length-set}
 use Rattle.std.proofs.lemmas.List.Elements.{Contains-append_left, Contains-append_right, Contains-append_cases}
-use Rattle.postscript_drawing.specs.Accents.{IsAccent, IsAccentOf, run_by}
-use Rattle.postscript_drawing.specs.Components.{HasNoComponent, IsComponent, glyphs_of}
+use Rattle.postscript_drawing.specs.Accents.{IsAccentOf, run_by}
+use Rattle.postscript_drawing.specs.Components.{IsComponent, glyphs_of}
 use Rattle.postscript_drawing.specs.Refused.{IsAccented}
 use Rattle.postscript_drawing.specs.declared.accent.Accent.{Accent}
-use Rattle.postscript_drawing.specs.declared.error.Error as accents
-use Rattle.postscript_drawing.specs.declared.error.Error.TheVariants.{Font, Full, TooLong, NoSuchGlyph, NoCode, NoAccents, MissingComponent, NestedAccent}
 use Rattle.postscript_base.specs.Refusal.{Refusal}
 use Rattle.postscript_base.specs.Index.Lent.{items_of}
 use Rattle.postscript_type2.specs.Program.Evaluation.{run_of}
@@ -23,7 +21,7 @@ use Rattle.postscript_view.specs.declared.font.Glyph.{Glyph}
 use Rattle.postscript_write.specs.Components.{AreComponentsOf, AreKnown, IsComponentOf, IsFound, IsSaid, IsSaidOf}
 use Rattle.postscript_write.specs.declared.error.Error.{Error}
 use Rattle.postscript_write.proofs.Marks.{apart}
-use Rattle.postscript_write.proofs.Uniqueness.{first-of, one-accent, one-component, one-run}
+use Rattle.postscript_write.proofs.Uniqueness.{one-accent, one-component, one-run}
 
 -- nothing is named where a run is refused
 pub none-taken : (end : End) (refusal : Refusal) → fault_of end ≡ Some refusal → taken_by end ≡ []
@@ -31,9 +29,6 @@ none-taken UsedUp refusal h = refl
 none-taken (Returned st) refusal h = refl
 none-taken (Finished taken width) refusal h = let never : None ≡ Some refusal = h in absurd (cc)
 none-taken (Fault e) refusal h = refl
-
-pub names-none : (operands : List ℤ) → operands ≡ [] → (accent : Accent) → IsAccent operands accent → ⊥
-names-none operands none accent is = let never : [] ≡ accent.dx ∷ accent.dy ∷ is.bchar ∷ is.achar ∷ [] = sym none ∙ is.four in absurd (cc)
 
 pub has-run : (font : FontView) (i : ℕ) (glyph : Glyph) → HasGlyph font i glyph.code.now glyph.part.now → items_of glyph.global_subroutines ≡ items_of font.global_subroutines → HasRun font i glyph.part.now (run_by glyph)
 has-run font i glyph has same = record {
@@ -50,19 +45,6 @@ said-so font i glyph (Some accent) has said = record { part = glyph.part.now; ru
 pub said-if : (r : Result (Option Accent) Error) (font : FontView) (i : ℕ) (glyph : Glyph) → HasRun font i glyph.part.now (run_by glyph) → IfOk r (λ found. IsSaid found (run_by glyph)) → IfOk r (λ found. IsSaidOf font i found)
 said-if (Ok found) font i glyph has said = said-so font i glyph found has said
 said-if (Err e) font i glyph has said = tt
-
--- no glyph is found where none is told
-pub none-found : (e : accents.Error) (font : FontView) (code : ℕ) → ((cause : _) → e ≢ Font cause) → HasNoComponent e font code → (glyph : ℕ) → IsComponent font code glyph → ⊥
-none-found NoAccents font code other why glyph is = is.not_keyed why
-none-found (MissingComponent missing) font code other why glyph is =
-    let first = first-of is.set why.1.set font.bytes.now font.dictionary (glyphs_of font) _ glyph is.is_set why.1.is_set is.first in
-    why.1.none glyph first.there first.names
-none-found (Font e) font code other why glyph is = absurd (other e refl)
-none-found Full font code other why glyph is = why
-none-found TooLong font code other why glyph is = why
-none-found NoCode font code other why glyph is = why
-none-found (NoSuchGlyph missing) font code other why glyph is = why
-none-found (NestedAccent nested) font code other why glyph is = why
 
 -- the components of a plain glyph: none
 pub none-of : (font : FontView) (from : ℕ) → IsSaidOf font from None → AreComponentsOf font from []

@@ -1,6 +1,6 @@
 -- Lists that agree at every place so far.
-use Rattle.std.proofs.Common.{◌≡◌, refl, sym, ap, subst, ◌∙◌, ℕ, zero, suc, ◌+◌, ◌≤◌, ◌<◌, List, [], ◌∷◌, ◌++◌, length, get_or, arith, below_more, Vec, Bool, true, false, not, eqb}
-use Rattle.std.proofs.lemmas.List.{ext_get_or, get_or_default, get_or_push, same_lists}
+use Rattle.std.proofs.Common.{◌≡◌, refl, sym, ap, subst, ◌∙◌, ℕ, zero, suc, ◌+◌, ◌<◌, List, [], ◌∷◌, ◌++◌, length, get_or, arith, below_more, Vec, Bool, true, false, not, eqb}
+use Rattle.std.proofs.lemmas.List.{get_or_default, get_or_push}
 use Rattle.std.proofs.lemmas.Slice.Eq.{bytes_eq-Decides}
 use Rattle.std.specs.Cmp.Lexicographic.{pointwise}
 use Rattle.std.specs.declared.alloc.Global.{Global}
@@ -11,17 +11,6 @@ use Rattle.postscript_type2.specs.Program.Routines.{texts}
 texts_push : (flats : List (Vec ℕ Global)) (flat : Vec ℕ Global) → texts (flats ++ flat ∷ []) ≡ texts flats ++ flat.items ∷ []
 texts_push [] flat = refl
 texts_push (x ∷ flats) flat = ap (λ xs. x.items ∷ xs) (texts_push flats flat)
-
-pub agree_more : (xs ys : List (List ℕ)) (i : ℕ) (x y : List ℕ) → x ≡ get_or xs i x → y ≡ get_or ys i y → x ≡ y → i < length xs → i < length ys →
-    ((k : ℕ) → k < i → get_or ys k [] ≡ get_or xs k []) → (k : ℕ) → k < i + 1 → get_or ys k [] ≡ get_or xs k []
-agree_more xs ys i x y ex ey e lx ly before =
-    below_more (λ k. get_or ys k [] ≡ get_or xs k []) i before (get_or_default ys i [] y ly ∙ sym ey ∙ sym e ∙ ex ∙ get_or_default xs i x [] lx)
-
-pub agree_all : {A : Type 0} (d : A) (xs ys : List A) (i : ℕ) → length xs ≡ length ys → length xs ≤ i → ((k : ℕ) → k < i → get_or ys k d ≡ get_or xs k d) → ys ≡ xs
-agree_all d xs ys i many past before = ext_get_or d ys xs (sym many) (λ k h. before k (omega arith))
-
-pub agree_each : {A : Type 0} (xs ys : List A) (i : ℕ) → length xs ≡ length ys → length xs ≤ i → ((k : ℕ) (d : A) → k < i → get_or ys k d ≡ get_or xs k d) → ys ≡ xs
-agree_each xs ys i many past before = sym (same_lists xs ys many (λ k d h. sym (before k d (omega arith))))
 
 -- what is not unequal is equal
 pub alike : (xs ys : List ℕ) (b : Bool) → b ≡ not (pointwise eqb xs ys) → b ≡ false → xs ≡ ys

@@ -3,10 +3,8 @@ use Rattle.std.proofs.Common.{◌≡◌, ◌∙◌, sym, ℕ, ◌≤◌, List, l
 use Rattle.postscript_base.specs.Compact1.Dictionary.{Dictionary}
 use Rattle.postscript_base.specs.declared.compact1.operator.Operator.{Operator}
 use Rattle.postscript_base.specs.declared.compact1.operator.Operator.TheVariants.{CharSet, FDArray, FDSelect}
-use Rattle.postscript_view.specs.Cids.{IsCidKeyed}
 use Rattle.postscript_view.specs.Contents.{View}
-use Rattle.postscript_view.specs.Select.{offset_of}
-use Rattle.postscript_write.specs.Whole.{CharSetEnds, EncodingEnds, IndexEnds, KeyedEnds, OwnEnds, PartsEnd, SelectEnds, SupplementsEnd}
+use Rattle.postscript_write.specs.Whole.{CharSetEnds, IndexEnds, KeyedEnds, OwnEnds, PartsEnd, SelectEnds, SupplementsEnd}
 use Rattle.postscript_write.proofs.Successive.{past_all}
 
 -- an answer is one
@@ -18,27 +16,10 @@ pub behind_codes : (bytes : List ℕ) (format codes next : ℕ) → SupplementsE
 behind_codes bytes format codes next (inl (low, is)) = omega (arith, is)
 behind_codes bytes format codes next (inr (high, is)) = omega (arith, is)
 
--- where an offset is not below the least, a part of the font's own stands at it
-pub own_ends : (map : Dictionary) (operator : Operator) (least : ℕ) (ends : ℕ → ℕ → Type 0) (place next offset : ℕ) → offset_of map operator ≡ Some offset → least ≤ offset →
-    OwnEnds map operator least ends place next → ends place next
-own_ends map operator least ends place next offset named past (inl (other, is, low, same)) =
-    let one = one_some named is in
-    absurd (omega (arith, low, past, one))
-own_ends map operator least ends place next offset named past (inr (most, is, end)) = end
-
--- a part that a CID-keyed font has
-pub keyed_ends : (map : Dictionary) (operator : Operator) (ends : ℕ → ℕ → Type 0) (place next : ℕ) → IsCidKeyed map → KeyedEnds map operator ends place next → ends place next
-keyed_ends map operator ends place next keyed (inl (none, same)) = absurd (none keyed)
-keyed_ends map operator ends place next keyed (inr (is, named, end)) = end
-
 -- each part ends behind where it begins
 pub past_index : (bytes : List ℕ) (place next : ℕ) → IndexEnds bytes place next → place ≤ next
 past_index bytes place next (items, inl empty) = let is = empty.behind in omega (arith, is)
 past_index bytes place next (items, inr filled) = let is = filled.laid.behind in omega (arith, is)
-
-past_encoding : (bytes : List ℕ) (place next : ℕ) → EncodingEnds bytes place next → place ≤ next
-past_encoding bytes place next (codes, inl (format, is), more) = let behind = behind_codes bytes _ codes next more in omega (arith, is, behind)
-past_encoding bytes place next (codes, inr (format, is), more) = let behind = behind_codes bytes _ codes next more in omega (arith, is, behind)
 
 past_select : (bytes : List ℕ) (glyphs place next : ℕ) → SelectEnds bytes glyphs place next → place ≤ next
 past_select bytes glyphs place next (inl (format, is)) = omega (arith, is)

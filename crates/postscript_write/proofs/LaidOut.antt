@@ -38,16 +38,16 @@ use Rattle.postscript_write.proofs.PartsWritten.{HasPartsLike, keyed_parts, plai
 use Rattle.postscript_write.proofs.Says.{font_says}
 use Rattle.postscript_write.proofs.PlacesNamed.{array_other, named_by, none_named, of_char_strings, of_dictionaries, private_other, private_stays, ros_apart, ros_stays, stays, type_apart, type_stays, whole_is}
 
-all_left : {X : Type 0} (P : X → Type 0) (xs ys : List X) → All P (xs ++ ys) → All P xs
+pub all_left : {X : Type 0} (P : X → Type 0) (xs ys : List X) → All P (xs ++ ys) → All P xs
 all_left P xs ys all k d less = subst P (get_or-append xs ys d k less) (all k d (omega (arith, less, length-append xs ys)))
 
-all_right : {X : Type 0} (P : X → Type 0) (xs ys : List X) → All P (xs ++ ys) → All P ys
+pub all_right : {X : Type 0} (P : X → Type 0) (xs ys : List X) → All P (xs ++ ys) → All P ys
 all_right P xs ys all k d less =
     let back : length xs + k - length xs ≡ k = omega arith in
     subst P (get_or-append_right xs ys (length xs) (length xs + k) d refl (omega arith) ∙ ap (λ n. get_or ys n d) back) (all (length xs + k) d (omega (arith, less, length-append xs ys)))
 
 -- the places behind those of encoding and FDSelect can be written, where all can
-behind_held : (start : ℕ) (parts : Parts) → All IsHeld (places_of start parts) →
+pub behind_held : (start : ℕ) (parts : Parts) → All IsHeld (places_of start parts) →
     All IsHeld (
     place_at CharStrings (beginnings start parts).char_strings
     ∷ (dictionaries_place parts.glyphs.now.select parts.privates.items (beginnings start parts).privates (beginnings start parts).dictionaries ++ place_if CharSet parts.glyphs.now.char_set (beginnings start parts).char_set)
@@ -64,7 +64,7 @@ behind_held start parts all =
     all_right IsHeld d rest (all_right IsHeld b (d ++ rest) (all_right IsHeld a (b ++ (d ++ rest)) all))
 
 -- those of dictionaries among them
-dictionaries_held : (start : ℕ) (parts : Parts) → All IsHeld (places_of start parts) →
+pub dictionaries_held : (start : ℕ) (parts : Parts) → All IsHeld (places_of start parts) →
     All IsHeld (dictionaries_place parts.glyphs.now.select parts.privates.items (beginnings start parts).privates (beginnings start parts).dictionaries)
 dictionaries_held start parts all =
     let glyphs = parts.glyphs.now in
@@ -83,14 +83,14 @@ array_first (Some select) privates m n old new some held is =
     (whole (pos n), ap first_of is, whole_is n one.1.0)
 
 -- a font that is not CID-keyed names its only private dictionary
-only_one : (select : Option (Vec ℕ Global)) (privates : List (Option Private)) (m n : ℕ) → (IsSome select → ⊥) → length privates ≡ 1 → dictionaries_place select privates m n ≡ place_of_private (get_or privates 0 None) m
+pub only_one : (select : Option (Vec ℕ Global)) (privates : List (Option Private)) (m n : ℕ) → (IsSome select → ⊥) → length privates ≡ 1 → dictionaries_place select privates m n ≡ place_of_private (get_or privates 0 None) m
 only_one (Some select) privates m n none many = absurd (none refl)
 only_one None [] m n none many = absurd (omega (arith, many))
 only_one None (p ∷ []) m n none many = refl
 only_one None (p ∷ q ∷ ps) m n none many = absurd (omega (arith, many))
 
 module _ (font : FontView) (glyphs : Glyphs) (codes : List (List ℕ)) (out : List ℕ) (w : IsWritten font glyphs codes out) (t : TablesStand font glyphs w.parts (length w.tables) out) where
-  ros_is : look t.new operators.ROS ≡ look font.dictionary operators.ROS
+  pub ros_is : look t.new operators.ROS ≡ look font.dictionary operators.ROS
   ros_is =
       stays t.named t.new (places_of (length w.tables) w.parts) operators.ROS t.placed (none_named (length w.tables) w.parts operators.ROS ros_apart)
       ∙ stays font.dictionary t.named (all_renamed glyphs.strings font.dictionary) operators.ROS t.renamed (ros_stays glyphs.strings font.dictionary)
@@ -146,7 +146,7 @@ module _ (font : FontView) (glyphs : Glyphs) (codes : List (List ℕ)) (out : Li
         named = (at.char_strings, (whole (pos at.char_strings), ap first_of is, whole_is at.char_strings char_strings_held), w.codes_stand);
       }
 
-header_there : (out : List ℕ) → HasHeader out → (3 ≤ length out) × (number_at out 2 1 ≡ 4)
+pub header_there : (out : List ℕ) → HasHeader out → (3 ≤ length out) × (number_at out 2 1 ≡ 4)
 unfolding number_at
 header_there [] h = absurd (cc)
 header_there (a ∷ []) h = absurd (cc)

@@ -1,8 +1,8 @@
 -- What is found alike.
-use Rattle.std.proofs.Common.{◌≡◌, ◌≢◌, ◌⊎◌, inl, inr, refl, sym, ap, subst, ◌∙◌, ℕ, ◌+◌, ◌<◌, ◌≤◌, List, [], ◌∷◌, length, get_or, arith, below_more, slice_get}
+use Rattle.std.proofs.Common.{◌≡◌, inl, inr, refl, sym, ap, subst, ◌∙◌, ℕ, ◌<◌, List, [], ◌∷◌, length, get_or, slice_get}
 use Rattle.std.specs.Prelude.{Option, Some, None, ℤ, option_map}
 use Rattle.std.proofs.lemmas.List.{length-map}
-use Rattle.std.proofs.lemmas.Option.{slice_get-map, slice_get_read, slice_get_within}
+use Rattle.std.proofs.lemmas.Option.{slice_get-map, slice_get_read}
 use Rattle.postscript_base.specs.Compact1.Defaults.{look, first_of}
 use Rattle.postscript_base.specs.Compact1.Dictionary.{Dictionary}
 use Rattle.postscript_base.specs.declared.compact1.operator.Operator.TheVariants.{DefaultWidthX, NominalWidthX, Private}
@@ -11,7 +11,6 @@ use Rattle.postscript_view.specs.Advances.{advance_of}
 use Rattle.postscript_view.specs.Glyphs.{HasPartNumber}
 use Rattle.postscript_view.specs.Naming.{Names}
 use Rattle.postscript_view.specs.Contents as contents
-use Rattle.postscript_view.specs.Select.{IsSelected}
 use Rattle.postscript_view.specs.Value.{part_shown, parts_shown, view_shown}
 use Rattle.postscript_view.specs.declared.font.FontView.{FontView}
 use Rattle.postscript_view.specs.declared.advance.Advance.TheVariants.{Default, Nominal}
@@ -25,9 +24,6 @@ use Rattle.postscript_write.specs.Parts.{SameBut, SameFont, SamePart, SameParts}
 
 pub same_font_by : (old new : Option Dictionary) (a b : Dictionary) → old ≡ Some a → new ≡ Some b → SameBut (Private ∷ []) a b → SameFont old new
 same_font_by old new a b e f h = subst (λ o. SameFont o new) (sym e) (subst (λ n. SameFont (Some a) n) (sym f) h)
-
-pub same_font_back : (old new : Option Dictionary) (a b : Dictionary) → old ≡ Some a → new ≡ Some b → SameFont old new → SameBut (Private ∷ []) a b
-same_font_back old new a b e f h = subst (λ n. SameFont (Some a) n) f (subst (λ o. SameFont o new) e h)
 
 -- where the widths are the same, advances are
 pub same_advance : (old new : Dictionary) → look new DefaultWidthX ≡ look old DefaultWidthX → look new NominalWidthX ≡ look old NominalWidthX → (width : Option ℤ) → advance_of new width ≡ advance_of old width
@@ -48,23 +44,6 @@ found_at parts i part shown less is at =
 pub part_of : (old new : List PrivateDict) (i : ℕ) (a b : PrivateDict) → i < length old → i < length new → a ≡ get_or old i a → b ≡ get_or new i b → SameParts (parts_shown old) (parts_shown new) → SamePart (part_shown a) (part_shown b)
 part_of old new i a b lo ln ea eb all = all.each i (part_shown a) (part_shown b) (shown_at old i a lo ea) (shown_at new i b ln eb)
 
-pub same_more : (old new : List PrivateDict) (i : ℕ) (a b : PrivateDict) → i < length old → i < length new → a ≡ get_or old i a → b ≡ get_or new i b → SamePart (part_shown a) (part_shown b) →
-    ((k : ℕ) → k < i → (x y : contents.PrivateDict) → slice_get (parts_shown old) k ≡ Some x → slice_get (parts_shown new) k ≡ Some y → SamePart x y) →
-    (k : ℕ) → k < i + 1 → (x y : contents.PrivateDict) → slice_get (parts_shown old) k ≡ Some x → slice_get (parts_shown new) k ≡ Some y → SamePart x y
-same_more old new i a b lo ln ea eb same before =
-    below_more (λ k. (x y : contents.PrivateDict) → slice_get (parts_shown old) k ≡ Some x → slice_get (parts_shown new) k ≡ Some y → SamePart x y) i before
-    (λ x y ex ey. subst (λ p. SamePart p y) (found_at old i a x lo ea ex) (subst (λ p. SamePart (part_shown a) p) (found_at new i b y ln eb ey) same))
-
-pub same_all : (old new : List PrivateDict) (i : ℕ) → length old ≡ length new → length old ≤ i →
-    ((k : ℕ) → k < i → (x y : contents.PrivateDict) → slice_get (parts_shown old) k ≡ Some x → slice_get (parts_shown new) k ≡ Some y → SamePart x y) → SameParts (parts_shown old) (parts_shown new)
-same_all old new i many past before = record {
-  many = length-map new part_shown ∙ sym many ∙ sym (length-map old part_shown);
-  each = λ number x y ex ey.
-      let within : number < length (parts_shown old) = slice_get_within (parts_shown old) number x ex in
-      let long : length (parts_shown old) ≡ length old = length-map old part_shown in
-      before number (omega (arith, within, long, past)) x y ex ey;
-}
-
 -- a glyph has one part
 pub one_part : (font : FontView) (glyph a b : ℕ) → HasPartNumber font glyph a → HasPart font.bytes.now (view_shown font) glyph b → a ≡ b
 one_part font glyph a b one has = elim one.selected [
@@ -77,15 +56,6 @@ one_part font glyph a b one has = elim one.selected [
     | inr other ↦ one_named font.bytes.now font.dictionary (length (items_of font.char_strings)) glyph a b several.1 other.1
   ]
 ]
-
-pub some_part : (font : FontView) (glyph number : ℕ) → glyph < length (items_of font.char_strings) → HasPart font.bytes.now (view_shown font) glyph number → HasPartNumber font glyph number
-some_part font glyph number less has =
-    let many : length (parts_shown font.parts.items) ≡ length font.parts.items = length-map font.parts.items part_shown in
-    record {
-      glyph_there = less;
-      part_there = subst (λ n. number < n) many has.there;
-      selected = subst (λ n. ((n ≡ 1) × (number ≡ 0)) ⊎ ((n ≢ 1) × IsSelected font.bytes.now font.dictionary (length (items_of font.char_strings)) glyph number)) many has.selected;
-    }
 
 -- glyphs with the same one have one
 pub one_name : (old new : CharSetView) (glyph i a b : ℕ) → Names old glyph a → Names new i b → SameName old (Some glyph) new i → a ≡ b

@@ -108,13 +108,13 @@ nameless font set sources i e has less h = subst (λ e. FontRefusedBy font.bytes
 })
 
 -- writing is refused where nothing is wrong with the font
-pub late_refused : (bytes : List ℕ) (font : View) (sources : Sources) (numbers : List ℕ) (flats : List (List ℕ)) (e : Error) → AreNumbersOf bytes font sources numbers → AreCodesOf font sources numbers flats → IsLate e → FontRefusedBy bytes font sources e
+pub late_refused : (bytes : List ℕ) (font : View) (sources : Sources) (numbers : List ℕ) (flats : List (List ℕ)) (e : Error) → AreNumbersOf bytes font sources numbers → AreCodesOf font sources numbers flats → IsLate bytes e → FontRefusedBy bytes font sources e
 late_refused bytes font sources numbers flats e are codes h = by e h
   where
     sound : AreSound bytes font sources
     sound = (numbers, are, λ i less. faultless_for font (slice_index_or sources i None) (slice_index_or numbers i 0) (slice_index_or flats i []) (codes.each i less))
 
-    by : (e : Error) → IsLate e → FontRefusedBy bytes font sources e
+    by : (e : Error) → IsLate bytes e → FontRefusedBy bytes font sources e
     by (Glyph glyph cause) h = absurd h
     by (Refused cause) h = λ n. absurd (n h)
     by SeveralFonts h = absurd h
@@ -123,7 +123,7 @@ late_refused bytes font sources numbers flats e are codes h = by e h
     by (MissingName glyph) h = absurd h
     by NoGlyphs h = absurd h
     by TooLarge h = absurd h
-    by NotReadBack h = sound
+    by NotReadBack h = (sound, h)
 
 -- the font is too large with the codes
 pub too_large : (bytes : List ℕ) (font : View) (sources : Sources) (numbers : List ℕ) (flats : List (List ℕ)) → AreNumbersOf bytes font sources numbers → AreCodesOf font sources numbers flats → IsLarge bytes font flats → FontRefusedBy bytes font sources TooLarge
@@ -131,9 +131,6 @@ too_large bytes font sources numbers flats are codes large = (
   (numbers, are, λ i less. faultless_for font (slice_index_or sources i None) (slice_index_or numbers i 0) (slice_index_or flats i []) (codes.each i less)),
   record { numbers = numbers; codes = flats; are_numbers = are; are_codes = codes; large = large },
 )
-
-pub memory_font : (bytes : List ℕ) (font : View) (sources : Sources) (e : Error) → e ≡ Refused causes.Memory → FontRefusedBy bytes font sources e
-memory_font bytes font sources e is = subst (FontRefusedBy bytes font sources) (sym is) (λ n. absurd (n refl))
 
 pub memory_bytes : (sources : (glyphs : ℕ) → Sources) (bytes : List ℕ) (e : Error) → e ≡ Refused causes.Memory → IsRefusedBy sources bytes e
 memory_bytes sources bytes e is = subst (IsRefusedBy sources bytes) (sym is) (λ n. absurd (n refl))

@@ -106,14 +106,14 @@ collected out (text ∷ texts) R each =
     }
 
 -- the font dictionary of a number, and its part
-record HasFontDictionary (items : List (List ℕ)) (parts : List PrivateDict) (k : ℕ) : Type 0 where
-  map : Dictionary
-  part : PrivateDict
-  is : IsDictionary (get_or items k []) 0 map
-  there : slice_get parts k ≡ Some part
-  font : part.font ≡ Some map
+pub record HasFontDictionary (items : List (List ℕ)) (parts : List PrivateDict) (k : ℕ) : Type 0 where
+  pub map : Dictionary
+  pub part : PrivateDict
+  pub is : IsDictionary (get_or items k []) 0 map
+  pub there : slice_get parts k ≡ Some part
+  pub font : part.font ≡ Some map
 
-has_dictionary : (bytes : List ℕ) (items : List (List ℕ)) (parts : List PrivateDict) (k : ℕ) → ArePartsOf bytes items parts → k < length items → HasFontDictionary items parts k
+pub has_dictionary : (bytes : List ℕ) (items : List (List ℕ)) (parts : List PrivateDict) (k : ℕ) → ArePartsOf bytes items parts → k < length items → HasFontDictionary items parts k
 has_dictionary bytes [] parts k are less = absurd (omega (arith, less))
 has_dictionary bytes (item ∷ items) [] k are less = absurd are
 has_dictionary bytes (item ∷ items) (part ∷ parts) zero are less = record { map = are.0; part = part; is = are.1; there = refl; font = are.2.1 }

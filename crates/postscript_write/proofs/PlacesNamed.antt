@@ -58,7 +58,7 @@ or_assoc : {A : Type 0} (x y z : Option A) → option_or (option_or x y) z ≡ o
 or_assoc None y z = refl
 or_assoc (Some a) y z = refl
 
-last_append : (xs ys : List Operation) (operator : Operator) → last_of (xs ++ ys) operator ≡ option_or (last_of ys operator) (last_of xs operator)
+pub last_append : (xs ys : List Operation) (operator : Operator) → last_of (xs ++ ys) operator ≡ option_or (last_of ys operator) (last_of xs operator)
 last_append [] ys operator = or_none (last_of ys operator)
   where
     or_none : {A : Type 0} (x : Option A) → x ≡ option_or x None
@@ -69,7 +69,7 @@ last_append (x ∷ xs) ys operator =
     ap (λ y. option_or y own) (last_append xs ys operator) ∙ or_assoc (last_of ys operator) (last_of xs operator) own
 
 -- places of other operators, behind or before, name nothing for it
-before : (xs ys : List Place) (operator : Operator) → named_by xs operator ≡ None → named_by (xs ++ ys) operator ≡ named_by ys operator
+pub before : (xs ys : List Place) (operator : Operator) → named_by xs operator ≡ None → named_by (xs ++ ys) operator ≡ named_by ys operator
 before xs ys operator none =
     ap (λ os. last_of os operator) (map-append operation_of xs ys) ∙ last_append (map operation_of xs) (map operation_of ys) operator ∙ ap (option_or (named_by ys operator)) none ∙ or_nothing (named_by ys operator)
   where
@@ -77,14 +77,14 @@ before xs ys operator none =
     or_nothing None = refl
     or_nothing (Some a) = refl
 
-behind : (xs ys : List Place) (operator : Operator) → named_by ys operator ≡ None → named_by (xs ++ ys) operator ≡ named_by xs operator
+pub behind : (xs ys : List Place) (operator : Operator) → named_by ys operator ≡ None → named_by (xs ++ ys) operator ≡ named_by xs operator
 behind xs ys operator none = ap (λ os. last_of os operator) (map-append operation_of xs ys) ∙ last_append (map operation_of xs) (map operation_of ys) operator ∙ ap (λ x. option_or x (named_by xs operator)) none
 
-if_other : (operator other : Operator) (text : Option (Vec ℕ Global)) (n : ℕ) → eq_by_cmp operator_cmp operator other ≡ false → named_by (place_if other text n) operator ≡ None
+pub if_other : (operator other : Operator) (text : Option (Vec ℕ Global)) (n : ℕ) → eq_by_cmp operator_cmp operator other ≡ false → named_by (place_if other text n) operator ≡ None
 if_other operator other None n different = refl
 if_other operator other (Some text) n different = ap (λ b. if b then Some (operation_of (place_at other n)).1 else None) different
 
-standard_other : (operator : Operator) (standard : Bool) → eq_by_cmp operator_cmp operator Encoding ≡ false → named_by (standard_place standard) operator ≡ None
+pub standard_other : (operator : Operator) (standard : Bool) → eq_by_cmp operator_cmp operator Encoding ≡ false → named_by (standard_place standard) operator ≡ None
 standard_other operator true different = ap (λ b. if b then Some (operation_of (place_at Encoding 0)).1 else None) different
 standard_other operator false different = refl
 
@@ -134,7 +134,7 @@ only_apart operator [] n different = refl
 only_apart operator (private ∷ []) n different = private_apart operator private n different
 only_apart operator (p ∷ q ∷ ps) n different = refl
 
-dictionaries_apart : (operator : Operator) (select : Option (Vec ℕ Global)) (privates : List (Option OwnPrivate)) (m n : ℕ) → eq_by_cmp operator_cmp operator Private ≡ false → eq_by_cmp operator_cmp operator FDArray ≡ false →
+pub dictionaries_apart : (operator : Operator) (select : Option (Vec ℕ Global)) (privates : List (Option OwnPrivate)) (m n : ℕ) → eq_by_cmp operator_cmp operator Private ≡ false → eq_by_cmp operator_cmp operator FDArray ≡ false →
     named_by (dictionaries_place select privates m n) operator ≡ None
 dictionaries_apart operator (Some select) privates m n private array = ap (λ b. if b then Some (operation_of (place_at FDArray n)).1 else None) array
 dictionaries_apart operator None privates m n private array = only_apart operator privates m private
@@ -172,7 +172,7 @@ DifferFrom : Operator → List Operator → Type 0
 DifferFrom operator [] = Unit {0}
 DifferFrom operator (other ∷ others) = (eq_by_cmp operator_cmp operator other ≡ false) × DifferFrom operator others
 
-one_renamed : (strings : Strings) (operator other : Operator) (old : Option ℕ) → eq_by_cmp operator_cmp operator other ≡ false → named_by (renamed_if strings other old) operator ≡ None
+pub one_renamed : (strings : Strings) (operator other : Operator) (old : Option ℕ) → eq_by_cmp operator_cmp operator other ≡ false → named_by (renamed_if strings other old) operator ≡ None
 one_renamed strings operator other None different = refl
 one_renamed strings operator other (Some old) different = by (new_identifier strings old == old)
   where
@@ -199,6 +199,14 @@ ros_stays strings names = none_renamed strings names ROS naming (refl, (refl, (r
 pub type_stays : (strings : Strings) (names : Dictionary) → named_by (all_renamed strings names) CharStringType ≡ None
 unfolding DifferFrom
 type_stays strings names = none_renamed strings names CharStringType naming (refl, (refl, (refl, (refl, (refl, (refl, (refl, (refl, (refl, tt)))))))))
+
+pub encoding_stays : (strings : Strings) (names : Dictionary) → named_by (all_renamed strings names) Encoding ≡ None
+unfolding DifferFrom
+encoding_stays strings names = none_renamed strings names Encoding naming (refl, (refl, (refl, (refl, (refl, (refl, (refl, (refl, (refl, tt)))))))))
+
+pub set_stays : (strings : Strings) (names : Dictionary) → named_by (all_renamed strings names) CharSet ≡ None
+unfolding DifferFrom
+set_stays strings names = none_renamed strings names CharSet naming (refl, (refl, (refl, (refl, (refl, (refl, (refl, (refl, (refl, tt)))))))))
 
 -- a dictionary with places says of an operator that none of them names what it said
 pub stays : (old new : Dictionary) (places : List Place) (operator : Operator) → IsPlaced old places new → named_by places operator ≡ None → look new operator ≡ look old operator

@@ -46,15 +46,6 @@ last_range ranges size glyphs r left more is enough are =
 within : (width k n : ℕ) → 0 < width → k * width ≤ n → k ≤ n / width
 within width k n some less = (le-div_iff_mul-le some).1 less
 
-pub all_ranges : (ranges : List ℕ) (size glyphs r left : ℕ) → length ranges / (2 + size) ≤ r →
-    AreLeft ranges size glyphs r left → RangesEnd ranges size glyphs (length ranges)
-all_ranges ranges size glyphs r left past are = record {
-  needed = λ k less.
-      let most : k ≤ length ranges / (2 + size) = within (2 + size) k (length ranges) (omega arith) (omega (arith, less)) in
-      are.before k (omega (arith, most, past));
-  enough = inr refl;
-}
-
 pub no_range : (ranges : List ℕ) (size : ℕ) → RangesEnd ranges size 0 0
 no_range ranges size = record {
   needed = λ k less. absurd (omega (arith, less));

@@ -11,7 +11,7 @@ use Rattle.postscript_write.specs.Closure.{AreMarkedAs, AreReached, Grow, unmark
 use Rattle.postscript_write.specs.Components.{AreComponentsOf, IsComponentOf, IsReached, is_named, is_drawn_with}
 use Rattle.postscript_write.specs.Components.{IsUntold}
 use Rattle.postscript_write.specs.Sources.{AreThere, is_kept}
-use Rattle.postscript_write.specs.Steps.{IsNotChosen, IsNotClosed}
+use Rattle.postscript_write.specs.Steps.{IsNotChosen}
 use Rattle.postscript_write.specs.declared.error.Error.{Error}
 use Rattle.postscript_write.specs.declared.error.Error.TheVariants.{Refused, Glyph, SeveralFonts, MissingGlyph, MissingPart, MissingName, NoGlyphs, TooLarge, NotReadBack}
 use Rattle.postscript_write.proofs.Accented.{component-there, or-left, or-right, or-split}
@@ -204,16 +204,6 @@ reached-from : (font : FontView) (start named : List ℕ) → ((glyph : ℕ) →
 reached-from font start named holds _ (is_named glyph h) = is_named glyph (holds glyph h)
 reached-from font start named holds _ (is_drawn_with from glyph r is) = is_drawn_with from glyph (reached-from font start named holds from r) is
 
--- none is marked at first
-pub unmarked-as : (marks : List Bool) (n : ℕ) → length marks ≡ n → ((glyph : ℕ) → glyph < n → get_or marks glyph false ≡ false) → AreMarkedAs marks []
-unmarked-as marks n many none glyph = (
-  λ set.
-      let past : n ≤ glyph → ⊥ = λ far. (let off : get_or marks glyph false ≡ false = get_or_past marks glyph false (omega (arith, many, far)) in let never : true ≡ false = sym set ∙ off in absurd (cc)) in
-      let within : glyph < n → ⊥ = λ less. (let never : true ≡ false = sym set ∙ none glyph less in absurd (cc)) in
-      absurd (omega (arith, past, within)),
-  λ has. (let less = has.1 in absurd (omega (arith, less))),
-)
-
 -- Of those that are named and .notdef, what is reached is what is reached from those that are named.
 pub closed-of : (font : FontView) (a b : List Bool) (start named closed : List ℕ) → Grow a [] (named ++ 0 ∷ []) b start → AreReached font start closed →
     (glyph : ℕ) → (is_kept closed glyph ≡ true) ↔ IsReached font named glyph
@@ -258,28 +248,6 @@ untold-of font from added (MissingName glyph) are h = absurd h
 untold-of font from added NoGlyphs are h = absurd h
 untold-of font from added TooLarge are h = absurd h
 untold-of font from added NotReadBack are h = absurd h
-
-pub not-named : (font : FontView) (named : List ℕ) (e : Error) → IsNotChosen named (glyphs_of font) e → IsNotClosed font named e
-not-named font named (Refused cause) h = λ n. absurd (n h)
-not-named font named (MissingGlyph glyph) h = h
-not-named font named (Glyph glyph cause) h = h
-not-named font named SeveralFonts h = h
-not-named font named (MissingPart glyph) h = h
-not-named font named (MissingName glyph) h = h
-not-named font named NoGlyphs h = h
-not-named font named TooLarge h = h
-not-named font named NotReadBack h = h
-
-pub not-followed : (font : FontView) (named : List ℕ) (e : Error) → IsUntold font e → IsNotClosed font named e
-not-followed font named (Refused cause) h = h
-not-followed font named (MissingGlyph glyph) h = absurd h
-not-followed font named (Glyph glyph cause) h = h
-not-followed font named SeveralFonts h = h
-not-followed font named (MissingPart glyph) h = h
-not-followed font named (MissingName glyph) h = h
-not-followed font named NoGlyphs h = h
-not-followed font named TooLarge h = h
-not-followed font named NotReadBack h = h
 
 pub on_ok : {E : Type 0} {P Q : Type 0} (r : Result (Unit {0}) E) → (P → Q) → OnOk r P → OnOk r Q
 on_ok (Ok done) f h = f h

@@ -36,12 +36,6 @@ pub named_by : (old new : CharSetView) (old_strings new_strings : List (List ℕ
 named_by old new old_strings new_strings source glyph i was is e names_old names_new same =
     subst (λ s. IsNamedAs old old_strings s new new_strings i) (sym e) (was, is, names_old, names_new, same)
 
-pub named_back : (old new : CharSetView) (old_strings new_strings : List (List ℕ)) (source : Option ℕ) (glyph i was is : ℕ) → source ≡ Some glyph → Names old glyph was → Names new i is →
-    IsNamedAs old old_strings source new new_strings i → SameString old_strings was new_strings is
-named_back old new old_strings new_strings source glyph i was is e names_old names_new named =
-    let h = subst (λ s. IsNamedAs old old_strings s new new_strings i) e named in
-    subst (λ n. SameString old_strings n new_strings is) (named_once old glyph h.0 was h.2 names_old) (subst (λ n. SameString old_strings h.0 new_strings n) (named_once new i h.1 is h.3 names_new) h.4)
-
 -- where identifiers name the same string, glyphs have the same name
 pub same_text_by : (old new : CharSetView) (old_strings new_strings : List (List ℕ)) (source : Option ℕ) (glyph i was is : ℕ) → source ≡ Some glyph → Names old glyph was → Names new i is → SameString old_strings was new_strings is →
     SameText old old_strings source new new_strings i

@@ -1,5 +1,5 @@
 -- The parts of a font, one behind another.
-use Rattle.std.proofs.Common.{◌≡◌, ◌∙◌, refl, sym, ap, subst, ℕ, suc, ◌+◌, ◌^◌, ◌≤◌, ◌<◌, List, [], ◌∷◌, inl, inr, length, drop, get_or, Option, Some, None, IfSome, add-one, arith}
+use Rattle.std.proofs.Common.{◌≡◌, ◌∙◌, refl, sym, ap, subst, ℕ, suc, ◌+◌, ◌^◌, ◌≤◌, ◌<◌, List, [], ◌∷◌, inl, inr, length, drop, get_or, add-one, arith}
 use Rattle.std.specs.Option.{unwrap_or}
 use Rattle.std.proofs.Math.ListN.{drop_of_length-le}
 use Rattle.std.proofs.Math.Seq.{drop-cons}
@@ -8,10 +8,6 @@ use Rattle.postscript_view.specs.Contents as Contents
 use Rattle.postscript_view.specs.Value.{parts_shown}
 use Rattle.postscript_view.specs.declared.private_dict.PrivateDict.{PrivateDict}
 use Rattle.postscript_write.specs.Whole.{PrivateEnds, PrivatesEnd}
-
-pub if_some : {A : Type 0} {P Q : A → Type 0} (x : Option A) → ((a : A) → P a → Q a) → IfSome x P → IfSome x Q
-if_some None f h = h
-if_some (Some a) f h = f a h
 
 -- the parts from part i on
 split : (parts : List PrivateDict) (i : ℕ) (part : PrivateDict) → i < length parts → part ≡ get_or parts i part → drop i parts ≡ part ∷ drop (i + 1) parts
@@ -45,21 +41,6 @@ past_all map (part ∷ parts) place end (behind, ends, rest) =
 abbrev pub LeftEnd : Dictionary → List PrivateDict → (i place next : ℕ) → Type 0
 LeftEnd map parts i place next =
     (end : ℕ) → end < 2 ^ 63 → PrivatesEnd map (parts_shown parts) place end → PrivatesEnd map (parts_shown (drop i parts)) next end
-
--- of these the first ends in range
-pub first_left : (map : Dictionary) (parts : List PrivateDict) (i place next end : ℕ) (part : PrivateDict) → i < length parts → part ≡ get_or parts i part → end < 2 ^ 63 →
-    PrivatesEnd map (parts_shown parts) place end → LeftEnd map parts i place next →
-    (behind : ℕ) × (behind < 2 ^ 63) × PrivateEnds (unwrap_or part.font_dictionary map) next behind × PrivatesEnd map (parts_shown (drop (i + 1) parts)) behind end
-first_left map parts i place next end part less is small all left =
-    let cut = subst (λ (ps : List PrivateDict). PrivatesEnd map (parts_shown ps) next end) (split parts i part less is) (left end small all) in
-    let past = past_all map (parts_shown (drop (i + 1) parts)) cut.0 end cut.2 in
-    (cut.0, omega (arith, past, small), cut.1, cut.2)
-
-pub more_left : (map : Dictionary) (parts : List PrivateDict) (i place next behind : ℕ) (part : PrivateDict) → i < length parts → part ≡ get_or parts i part →
-    ((n : ℕ) → n < 2 ^ 63 → PrivateEnds (unwrap_or part.font_dictionary map) next n → n ≡ behind) → LeftEnd map parts i place next → LeftEnd map parts (i + 1) place behind
-more_left map parts i place next behind part less is found left end small all =
-    let first = first_left map parts i place next end part less is small all left in
-    subst (λ n. PrivatesEnd map (parts_shown (drop (i + 1) parts)) n end) (found first.0 first.1 first.2) first.3
 
 pub no_more : (map : Dictionary) (parts : List PrivateDict) (i place next end : ℕ) → length parts ≤ i → end < 2 ^ 63 → PrivatesEnd map (parts_shown parts) place end →
     LeftEnd map parts i place next → end ≡ next

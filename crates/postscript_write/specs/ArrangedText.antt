@@ -1,5 +1,5 @@
 -- The bytes of the tables and of the parts of a font, as they are written (Technical Note 5176, "CFF Data Layout").
-use Rattle.std.specs.Prelude.{ℕ, ◌+◌, List, [], ◌∷◌, ◌++◌, Option, Some, None, IsSome, Vec}
+use Rattle.std.specs.Prelude.{ℕ, List, [], ◌∷◌, ◌++◌, Option, Some, None, IsSome, Vec}
 use Rattle.std.specs.declared.alloc.Global.{Global}
 use Rattle.postscript_base.specs.declared.compact1.operator.Operator.TheVariants.{FDArray}
 use Rattle.postscript_base.specs.Compact1.Dictionary.{Dictionary}

@@ -14,7 +14,6 @@ use Rattle.postscript_base.specs.declared.compact1.operator.Operator.TheVariants
 use Rattle.postscript_write.specs.Parts.{IsAmong}
 use Rattle.postscript_write.specs.Texts.{number_text}
 use Rattle.postscript_write.specs.declared.dictionaries.Place.{Place}
-use Rattle.postscript_write.specs.LeftOut.{kept}
 
 abbrev pub integer_text : ℕ → List ℕ
 integer_text n = number_text 1 0x1d ++ number_text 4 n

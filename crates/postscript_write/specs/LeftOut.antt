@@ -1,5 +1,5 @@
 -- What is left of a dictionary without some operators (Technical Note 5176, "DICT Data").
-use Rattle.std.specs.Prelude.{◌≡◌, ℕ, ◌+◌, ◌-◌, take, drop, List, [], ◌∷◌, ◌++◌, length, None}
+use Rattle.std.specs.Prelude.{◌≡◌, ℕ, ◌-◌, take, drop, List, [], ◌∷◌, ◌++◌, length, None}
 use Rattle.std.specs.List.{Contains}
 use Rattle.std.specs.FinMap.{get}
 use Rattle.postscript_base.specs.Tape.Outcome.{Got}

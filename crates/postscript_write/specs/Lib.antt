@@ -12,11 +12,18 @@ pub mod ArrangedText
 pub mod Naming
 pub mod Strings
 pub mod Renumbered
+pub mod NewStrings
 pub mod Room
 pub mod LaidOut
 pub mod Written
 pub mod Fonts
 pub mod Whole
+pub mod Own
+pub mod Selected
+pub mod Numbered
+pub mod Given
+pub mod GivenNumbers
+pub mod ReadBack
 pub mod Sources
 pub mod Components
 pub mod Closure
@@ -27,3 +34,4 @@ pub mod Sizes
 pub mod Refusals
 pub mod RefusedGlyphs
 pub mod Steps
+pub mod Identified

@@ -10,7 +10,6 @@ use Rattle.postscript_view.specs.Contents.{View, PrivateDict}
 use Rattle.postscript_view.specs.declared.char_set.CharSetView.{CharSetView}
 use Rattle.postscript_view.specs.declared.encoding.EncodingView.{EncodingView}
 use Rattle.postscript_write.specs.Glyphs.{AreNumbersOf, HasPart, Sources, run_in}
-use Rattle.postscript_write.specs.declared.error.Error.{Error}
 
 -- the run of a glyph with the part of a number is refused with this cause
 pub record IsRunRefused (font : View) (glyph number : ℕ) (cause : causes.Error) : Type 0 where

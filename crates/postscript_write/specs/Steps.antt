@@ -6,6 +6,7 @@ use Rattle.postscript_write.specs.Glyphs.{Sources}
 use Rattle.postscript_view.specs.Contents.{View}
 use Rattle.postscript_view.specs.declared.char_set.CharSetView.{CharSetView}
 use Rattle.postscript_view.specs.declared.font.FontView.{FontView}
+use Rattle.postscript_write.specs.Readings.{HasLenientFont}
 use Rattle.postscript_write.specs.Refusals.{HasOtherFonts, IsFirstPast, IsRefusedAs}
 use Rattle.postscript_write.specs.RefusedGlyphs.{IsFirstRefused, IsRunRefused}
 use Rattle.postscript_write.specs.declared.error.Error.{Error}
@@ -41,8 +42,8 @@ RefusedBy font sources numbers (Glyph glyph cause) = IsFirstRefused font sources
 RefusedBy font sources numbers (Refused cause) = cause ≡ Memory
 RefusedBy font sources numbers _ = ⊥
 
--- of writing and reading back, when the codes are there
-abbrev pub IsLate : Error → Type 0
-IsLate (Refused cause) = cause ≡ Memory
-IsLate NotReadBack = Unit {0}
-IsLate _ = ⊥
+-- of what is written, when the codes are there: the reading of whole fonts takes the old font
+abbrev pub IsLate : (bytes : List ℕ) → Error → Type 0
+IsLate bytes (Refused cause) = cause ≡ Memory
+IsLate bytes NotReadBack = HasLenientFont bytes
+IsLate bytes _ = ⊥

@@ -1,5 +1,5 @@
 -- The strings of a font that is made of glyphs of another one, and what names them (Technical Note 5176, sections 9, 10 and 13).
-use Rattle.std.specs.Prelude.{◌≡◌, ◌↔◌, ◌⊎◌, ℕ, ◌+◌, ◌<◌, ℤ, pos, List, Option, Some, None, Bool, true, false, ◌||◌, length, nat_lt, slice_index_or, All, Any, MatchBool, if◌then◌else◌}
+use Rattle.std.specs.Prelude.{◌≡◌, ◌↔◌, ◌⊎◌, ℕ, ◌+◌, ◌<◌, ℤ, pos, List, Option, Some, None, Bool, ◌||◌, length, nat_lt, slice_index_or, All, Any, MatchBool, if◌then◌else◌}
 use Rattle.std.specs.Option.{option_and_then, is_some}
 use Rattle.postscript_base.specs.Compact1.Decimal.{to_i32}
 use Rattle.postscript_base.specs.Compact1.Defaults.{look, first_of}
@@ -75,10 +75,6 @@ IsNeeded font set number =
 
 abbrev pub AreNeeded : View → CharSetView → Type 0
 AreNeeded font set = (number : ℕ) → number < length font.tables.strings → IsNeeded font set number
-
--- marks, which are set at needed strings alone
-abbrev pub AreNeededMarks : View → CharSetView → List Bool → Type 0
-AreNeededMarks font set marks = (number : ℕ) → slice_index_or marks number false ≡ true → IsNeeded font set number
 
 -- Strings stay as they are, and so do the identifiers that name them, in the dictionary and of glyphs.
 pub record KeepsStrings (sources : Sources) (old : View) (old_set : CharSetView) (new : View) (new_set : CharSetView) : Type 0 where

@@ -9,7 +9,7 @@ use Rattle.postscript_view.specs.Layout.{AreParts, AreTables, IsIndexAt}
 use Rattle.postscript_view.specs.Value.{parts_shown, view_shown}
 use Rattle.postscript_view.specs.declared.font.FontView.{FontView}
 use Rattle.postscript_write.specs.Arrangement.{beginnings, places_of}
-use Rattle.postscript_write.specs.ArrangedText.{NameParts, PartsStand, parts_text, tables_text}
+use Rattle.postscript_write.specs.ArrangedText.{NameParts, PartsStand, dictionaries_text, parts_text, tables_text}
 use Rattle.postscript_write.specs.Dictionaries.{IsHeld, IsPlaced, IsWithPlaces}
 use Rattle.postscript_write.specs.Fonts.{HasHeader}
 use Rattle.postscript_write.specs.Index.{Fits, index_text}
@@ -45,6 +45,7 @@ pub record IsWritten (font : FontView) (glyphs : Glyphs) (codes : List (List ℕ
   pub are_tables : tables ≡ tables_text (items_of font.names) placed (texts glyphs.strings.texts.items)
   pub text : out ≡ tables ++ parts_text parts dictionaries
   pub of_glyphs : parts.glyphs.now ≡ glyphs
+  pub counted : parts.dictionaries ≡ length (dictionaries_text parts.glyphs.now.select dictionaries)
   pub names_fit : Fits (items_of font.names)
   pub dictionary_fits : Fits (placed ∷ [])
   pub strings_fit : Fits (texts glyphs.strings.texts.items)

@@ -1,5 +1,5 @@
 //! Dictionaries, written (Technical Note 5176, "DICT Data").
-ghost use Rattle.std.specs.Prelude.{All, ◌≡◌, ◌≢◌, ◌⊎◌, None, ◌≤◌, ◌<◌, ◌+◌, ◌*◌, ◌^◌, ◌++◌, List, [], ◌∷◌, length, IfErr, IfOk, IfSome, OnOk, ℕ, map};
+ghost use Rattle.std.specs.Prelude.{All, ◌≡◌, ◌↔◌, ◌≢◌, ◌⊎◌, IsTrue, None, ◌≤◌, ◌<◌, ◌+◌, ◌*◌, ◌^◌, ◌++◌, List, [], ◌∷◌, length, IfErr, IfOk, IfSome, OnOk, ℕ, map};
 ghost use Rattle.std.specs.List.{Contains};
 ghost use Rattle.postscript_base.specs.Tape.Outcome.{Got, RefusedAs};
 ghost use Rattle.postscript_base.specs.Compact1.Decimal.{Decimal};
@@ -13,7 +13,6 @@ ghost use Rattle.postscript_write.specs.DictionarySizes.{HasSize, operation_size
 ghost use Rattle.postscript_write.specs.LeftOut.{IsLeftText, IsWithout};
 
 use crate::number::put_number;
-use crate::same::is_among;
 use postscript_base::compact1::{Operation, Operator};
 use postscript_base::{Error, Result, Value};
 use std::alloc::Global;
@@ -190,6 +189,18 @@ fn put_places(out: &mut Vec<u8>, places: &[Place]) -> Result<()>
         put_place(out, place)?;
     }
     Ok(())
+}
+
+/// Whether an operator is one of these.
+fn is_among(operator: Operator, operators: &[Operator]) -> bool
+    ensures { IsTrue result ↔ Contains operators.now operator }
+{
+    for i in 0..operators.len() {
+        if operators[i] == operator {
+            return true;
+        }
+    }
+    false
 }
 
 /// Appends an operation, where its operator is none of these.

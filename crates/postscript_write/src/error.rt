@@ -1,5 +1,5 @@
 //! What writing is refused with.
-ghost use Rattle.std.specs.Prelude.{◌≡◌};
+ghost use Rattle.std.specs.Prelude.{◌≡◌, ◌≢◌};
 ghost use Rattle.postscript_write.specs.Steps.{IsLate};
 ghost use Rattle.postscript_base.specs.declared.error.Error.TheVariants as causes;
 ghost use Rattle.postscript_write.specs.declared.error.Error.TheVariants as errors;
@@ -39,7 +39,7 @@ pub enum Error {
     /// 2,000,000,000 bytes or more together.
     #[error("the font is too large to be written")]
     TooLarge,
-    /// What was written is not read back as the font that was to be written. No contract says that this never comes.
+    /// `FontSet::read_lenient` reads the font, and would not read what is written: as where a glyph has no byte without its calls.
     #[error("the font is not read back as it was written")]
     NotReadBack,
 }
@@ -71,9 +71,9 @@ impl<T: Drop> From<AllocFailed<T>> for Error {
     }
 }
 
-/// The refusal where writing is refused, or a font that was written: `NotReadBack`, running out of memory aside.
+/// The refusal where nothing but memory can be refused.
 pub(crate) fn not_back(fault: Cause) -> Error
-    ensures { IsLate result }
+    ensures memory { (fault ≢ causes.Memory → ⊥) → result ≡ errors.Refused causes.Memory }
 {
     match fault {
         Cause::Memory => Error::Refused(Cause::Memory),

@@ -1,5 +1,6 @@
 //! Fonts that are made of glyphs of other fonts.
-ghost use Rattle.std.specs.Prelude.{◌≡◌, [], true, false, Err, length, IfOk, IfErr, OnOk};
+ghost use Rattle.std.specs.Prelude.{◌≡◌, ◌<◌, ◌^◌, [], true, false, Err, length, IfOk, IfErr, OnOk};
+ghost use Rattle.postscript_base.specs.Index.Lent.{items_of};
 ghost use Rattle.postscript_base.specs.Tape.Outcome.{Got};
 ghost use Rattle.postscript_view.specs.Order.{fonts as the_fonts, view as the_view};
 ghost use Rattle.postscript_view.specs.Contents.{View};
@@ -8,6 +9,8 @@ ghost use Rattle.postscript_write.specs.Components.{AreKept, IsSubset};
 ghost use Rattle.postscript_write.specs.Drawings.{DrawsKept, KeepsDrawings};
 ghost use Rattle.postscript_write.specs.Readings.{HasLenientFont};
 ghost use Rattle.postscript_write.specs.Refusals.{IsChoiceRefusedBy, IsRefusedBy, IsSubsetRefusedBy};
+ghost use Rattle.postscript_write.specs.Room.{IsRead};
+ghost use Rattle.postscript_write.specs.Selected.{AreLow};
 ghost use Rattle.postscript_write.specs.Sizes.{IsSmall};
 ghost use Rattle.postscript_write.specs.Sources.{AreThere, IsWritten, chosen as the_chosen, every as the_every, keeping as the_keeping};
 ghost use Rattle.postscript_write.specs.Steps.{IsNotOpened};
@@ -25,6 +28,9 @@ use std::alloc::Global;
 fn only_font<'l>(alloc: Global, bytes: &'l [u8]) -> Result<FontView<'l>>
     ensures is { IfOk result (λ font. the_view bytes.now 0 ≡ Got (view_shown font) 0) }
     ensures bytes { IfOk result (λ font. font.bytes.now ≡ bytes.now) }
+    ensures read { IfOk result (λ font. IsRead font) }
+    ensures low { IfOk result (λ font. AreLow font.bytes.now) }
+    ensures few { IfOk result (λ font. length (items_of font.char_strings) < 2 ^ 16) }
     ensures one { OnOk result (the_fonts bytes.now 0 ≡ Got 1 0) }
     ensures refused { IfErr result (λ e. IsNotOpened bytes.now e) }
 {
@@ -42,7 +48,7 @@ fn only_font<'l>(alloc: Global, bytes: &'l [u8]) -> Result<FontView<'l>>
 /// Refused: `Glyph` with the first glyph whose run is refused, and why; `Refused` where the font, its char set or its encoding is
 /// refused, or where memory is; `MissingPart` where FDSelect gives a glyph no font dictionary; `SeveralFonts` where there is
 /// not one font; `TooLarge` where the new codes, the names and the strings, and four times the bytes that the font is read from, are
-/// 2,000,000,000 bytes or more together; `NotReadBack` where it is not read back as this font.
+/// 2,000,000,000 bytes or more together; `NotReadBack` where `FontSet::read_lenient` reads the font, and would not read what is written.
 pub fn flat_font(alloc: Global, bytes: &[u8]) -> Result<Vec<u8>>
     ensures drawn { IfOk result (λ flat. KeepsDrawings the_every bytes.now flat.items) }
     ensures written { IfOk result (λ flat. IsWritten true the_every bytes.now flat.items) }

@@ -1,5 +1,5 @@
 //! The parts of a font, and where they stand (Technical Note 5176, "CFF Data Layout").
-ghost use Rattle.std.specs.Prelude.{◌≡◌, ◌≢◌, None, ◌≤◌, ◌<◌, ◌+◌, ◌^◌, ◌++◌, ℕ, pos, List, [], ◌∷◌, IsSome, length, All, Option, IfErr, IfOk, OnOk};
+ghost use Rattle.std.specs.Prelude.{◌≡◌, ◌≢◌, Bool, Some, None, option_map, ◌≤◌, ◌<◌, ◌+◌, ◌^◌, ◌++◌, ℕ, pos, List, [], ◌∷◌, IsSome, length, All, Option, IfErr, IfOk, OnOk};
 ghost use Rattle.std.specs.Option.{unwrap_or};
 ghost use Rattle.postscript_base.specs.Compact1.Defaults.{first_two_of, look};
 ghost use Rattle.postscript_base.specs.Compact1.Dictionary.{Dictionary};
@@ -10,26 +10,38 @@ ghost use Rattle.postscript_base.specs.Index.{number_at};
 ghost use Rattle.postscript_base.specs.Index.Lent.{items_of};
 ghost use Rattle.postscript_compact1.specs.FontSet.Parts.{HasFirst};
 ghost use Rattle.postscript_type2.specs.Program.Routines.{texts};
-ghost use Rattle.postscript_view.specs.Layout.{AreParts, AreTables, IsPart, NamesIndex};
-ghost use Rattle.postscript_view.specs.Contents.{PrivateDict as Part, Tables};
+ghost use Rattle.postscript_view.specs.Layout.{AreParts, AreTables, IsPart, NamesIndex, IsLaidOut};
+ghost use Rattle.postscript_view.specs.Contents.{PrivateDict as Part, Tables, View};
+ghost use Rattle.postscript_view.specs.CharSets.{IsCharSetOf};
+ghost use Rattle.postscript_view.specs.Encodings.{IsEncodingOf};
+ghost use Rattle.postscript_view.specs.Select.{offset_of};
 ghost use Rattle.postscript_view.specs.Sizes.{IsKeyed, size_named};
 ghost use Rattle.postscript_view.specs.Value.{parts_shown, view_shown};
+ghost use Rattle.postscript_view.specs.declared.encoding.EncodingView.{EncodingView};
 ghost use Rattle.postscript_write.specs.Arrangement.{beginnings, dictionaries_place, only_place, place_if, places_of, standard_place, text_of};
 ghost use Rattle.postscript_write.specs.ArrangedText.{AreSizedFor, NameParts, dictionaries_text, parts_text, tables_text};
 ghost use Rattle.postscript_write.specs.Dictionaries.{IsHeld, IsPlaced, IsWithPlaces};
 ghost use Rattle.postscript_write.specs.DictionarySizes.{HasSize, places_size};
+ghost use Rattle.postscript_write.specs.Given.{AreGiven};
+ghost use Rattle.postscript_write.specs.GivenNumbers.{AreTheirNumbers, GivesWayTo, StaysEncoded};
 ghost use Rattle.postscript_write.specs.Index.{Fits, index_text};
 ghost use Rattle.postscript_write.specs.LaidOut.{IsLaidOutOf, SelectsExactly};
+ghost use Rattle.postscript_view.specs.declared.char_set.CharSetView.{CharSetView as Set};
+ghost use Rattle.postscript_view.specs.declared.encoding.EncodingView.{EncodingView as Encodings};
+ghost use Rattle.postscript_write.specs.Own.{IsCut, IsOwnCharSet, IsOwnEncoding};
 ghost use Rattle.postscript_write.specs.Privates.{AreFontDictionaries, AreSized, AreOwnPrivates, IsFontDictionary, IsOwnPrivate, IsSomeDictionary, NoneIsNamed, place_of_private, private_text, privates_text};
+ghost use Rattle.postscript_write.specs.Glyphs.{Sources};
+ghost use Rattle.postscript_write.specs.Identified.{AreNamesFor, Identifiers};
+ghost use Rattle.postscript_write.specs.ReadBack.{HasNames, HasOtherCodes, HasSameCodes, IsAsWritten};
 ghost use Rattle.postscript_write.specs.Renumbered.{all_renamed, renamed_if};
 ghost use Rattle.postscript_write.specs.Room.{HasRoom, IsRead, SelectsOnlyIfKeyed};
-ghost use Rattle.postscript_write.specs.Strings.{identifier_in as the_identifier};
+ghost use Rattle.postscript_write.specs.Strings.{identifier_in as the_identifier, keeps_strings};
+ghost use Rattle.postscript_write.specs.Whole.{IsWhole};
 ghost use Rattle.postscript_write.specs.Written.{IsWritten};
 
 use crate::dictionaries::{Place, with_places, without};
 use crate::indices::put_index;
-use crate::kept::SID_OPERATORS;
-use crate::naming::identifier_in;
+use crate::naming::{SID_OPERATORS, identifier_in};
 use crate::spans::{char_set_end, encoding_end};
 use crate::strings::Strings;
 use postscript_base::compact1::{Operations, Operator};
@@ -42,7 +54,7 @@ use postscript_view::{FontView, PrivateDict};
 use std::alloc::Global;
 
 /// The items, copied.
-fn copied(alloc: Global, items: &IndexView<'_>) -> Result<Vec<Vec<u8>>>
+pub(crate) fn copied(alloc: Global, items: &IndexView<'_>) -> Result<Vec<Vec<u8>>>
     ensures items { IfOk result (λ all. texts all.items ≡ items_of items.now) }
     ensures memory { IfErr result (λ e. e ≡ errors.Memory) }
 {
@@ -56,9 +68,12 @@ fn copied(alloc: Global, items: &IndexView<'_>) -> Result<Vec<Vec<u8>>>
 }
 
 /// The first operand of an operator, as a place.
+#[tactic(auto, unfolding(postscript_view::specs::Select::offset_of))]
 fn place_of(dictionary: &Operations, operator: Operator) -> Result<usize>
     ensures first { IfOk result (λ place. HasFirst dictionary.now operator (pos place)) }
     ensures refused { IfErr result (λ e. (place : ℕ) → HasFirst dictionary.now operator (pos place) → ⊥) }
+    ensures offset { IfOk result (λ place. offset_of dictionary.now operator ≡ Some place) }
+    ensures none { IfErr result (λ e. offset_of dictionary.now operator ≡ None) }
 {
     let operand = dictionary
         .get_single(operator)
@@ -85,36 +100,44 @@ fn first_dictionary(bytes: &[u8]) -> Result<&[u8]>
 }
 
 /// The bytes from one place to another, where they stand.
-fn bytes_to(bytes: &[u8], from: usize, to: Option<usize>) -> Result<&[u8]> {
+fn bytes_to(bytes: &[u8], from: usize, to: Option<usize>) -> Result<&[u8]>
+    ensures cut { IfOk result (λ cut. (next : ℕ) × (to ≡ Some next) × IsCut bytes.now from next cut.now) }
+    ensures refused { IfErr result (λ e. (next : ℕ) → to ≡ Some next → from ≤ next → next ≤ length bytes.now → ⊥) }
+{
     match to {
         Some(to) if from <= to && to <= bytes.len() => Ok(&bytes[from..to]),
         _ => Err(Error::UnexpectedEof),
     }
 }
 
-/// The char set of a font, where it is its own.
+/// The char set of a font of so many glyphs, where it is its own.
 pub(crate) fn own_char_set<'l>(
     bytes: &'l [u8],
     dictionary: &Operations,
     glyphs: usize,
-) -> Result<Option<&'l [u8]>> {
+) -> Result<Option<&'l [u8]>>
+    ensures own { IfOk result (λ own. IsOwnCharSet bytes.now dictionary.now glyphs (option_map (λ own. own.now) own)) }
+    ensures refused { IfErr result (λ e. (set : Set) → IsCharSetOf set bytes.now dictionary.now glyphs → ⊥) }
+{
     let place = place_of(dictionary, Operator::CharSet)?;
     if place < 3 {
         return Ok(None);
     }
-    Ok(Some(bytes_to(bytes, place, char_set_end(bytes, place, glyphs))?))
+    let own = bytes_to(bytes, place, char_set_end(bytes, place, glyphs))?;
+    Ok(Some(own))
 }
 
 /// The encoding of a font, where it is its own.
-pub(crate) fn own_encoding<'l>(
-    bytes: &'l [u8],
-    dictionary: &Operations,
-) -> Result<Option<&'l [u8]>> {
+pub(crate) fn own_encoding<'l>(bytes: &'l [u8], dictionary: &Operations) -> Result<Option<&'l [u8]>>
+    ensures own { IfOk result (λ own. IsOwnEncoding bytes.now dictionary.now (option_map (λ own. own.now) own)) }
+    ensures refused { IfErr result (λ e. (encoding : Encodings) → IsEncodingOf encoding bytes.now dictionary.now → ⊥) }
+{
     let place = place_of(dictionary, Operator::Encoding)?;
     if place < 2 {
         return Ok(None);
     }
-    Ok(Some(bytes_to(bytes, place, encoding_end(bytes, place))?))
+    let own = bytes_to(bytes, place, encoding_end(bytes, place))?;
+    Ok(Some(own))
 }
 
 /// A private dictionary as it is written: it names no subroutines.
@@ -621,6 +644,26 @@ pub(crate) fn written(
     ensures written { IfOk result (λ out. IsWritten font.now glyphs.now (texts codes.now) out.items) }
     ensures laid_out { IfOk result (λ out. IsRead font.now → SelectsExactly font.now glyphs.now →
         IsLaidOutOf font.now glyphs.now (texts codes.now) out.items) }
+    ensures whole { IfOk result (λ out. IsRead font.now → SelectsExactly font.now glyphs.now →
+        AreGiven font.now glyphs.now (length (texts codes.now)) → IsWhole out.items) }
+    ensures back { IfOk result (λ out. IsRead font.now → SelectsExactly font.now glyphs.now →
+        AreGiven font.now glyphs.now (length (texts codes.now)) → (numbers : List ℕ) →
+        AreTheirNumbers font.now glyphs.now (length (texts codes.now)) numbers → (new : View) → IsLaidOut out.items 0 new →
+        IsAsWritten numbers (texts codes.now) (view_shown font.now) out.items new) }
+    ensures same_codes { IfOk result (λ out. IsRead font.now → (encoding : EncodingView) →
+        IsEncodingOf encoding font.now.bytes.now font.now.dictionary →
+        StaysEncoded font.now.bytes.now font.now.dictionary glyphs.now.encoding glyphs.now.standard → (new : View) →
+        IsLaidOut out.items 0 new → HasSameCodes encoding out.items new.tables.dictionary) }
+    ensures other_codes { IfOk result (λ out. IsRead font.now → (encoding : EncodingView) →
+        IsEncodingOf encoding font.now.bytes.now font.now.dictionary →
+        GivesWayTo font.now.dictionary glyphs.now.encoding glyphs.now.standard → (new : View) →
+        IsLaidOut out.items 0 new → HasOtherCodes encoding out.items new.tables.dictionary) }
+    ensures names { IfOk result (λ out. IsRead font.now → SelectsExactly font.now glyphs.now → (kept : Bool) (sources : Sources)
+        (identifiers : Identifiers) (set : Set) →
+        IsCharSetOf set font.now.bytes.now font.now.dictionary (length (items_of font.now.char_strings)) →
+        AreNamesFor kept font.now set sources identifiers glyphs.now → length (texts codes.now) ≡ length sources → (new : View) →
+        IsLaidOut out.items 0 new →
+        HasNames (keeps_strings kept font.now.dictionary) sources (view_shown font.now) set out.items new) }
     ensures refused { IfErr result (λ e. e ≢ errors.Memory → IsRead font.now → SelectsOnlyIfKeyed font.now glyphs.now →
         HasRoom font.now glyphs.now (texts codes.now) → ⊥) }
 {

@@ -1,24 +1,19 @@
 //! Fonts of the Compact Font Format, written (Adobe Technical Note 5176).
 #![tactic(auto)]
 
-mod alike;
 mod closure;
 mod components;
 mod dictionaries;
-mod ends;
 mod error;
 mod fonts;
 mod glyphs;
 mod indices;
-mod kept;
 pub mod laws;
 mod layout;
 mod naming;
-mod needed;
 mod number;
 mod numbering;
 mod readings;
-mod same;
 mod sizes;
 mod sources;
 mod spans;

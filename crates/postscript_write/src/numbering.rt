@@ -1,13 +1,21 @@
 //! Char sets, encodings and FDSelect of the glyphs that are written (Technical Note 5176, sections 12, 13 and 19).
-ghost use Rattle.std.specs.Prelude.{◌≡◌, ◌↔◌, ℕ, IfErr, IfOk, IsSome, Some, length};
+ghost use Rattle.std.specs.Prelude.{◌≡◌, ◌≢◌, ◌⊎◌, ◌↔◌, ◌++◌, ◌-◌, ◌<◌, ℕ, IfErr, IfOk, IsSome, OnOk, Some, length, option_map, slice_index_or};
+ghost use Rattle.std.specs.Bool.{OnFalse, OnTrue};
 ghost use Rattle.postscript_base.specs.Index.Lent.{items_of};
+ghost use Rattle.postscript_base.specs.declared.error.Error.TheVariants as causes;
 ghost use Rattle.postscript_view.specs.CharSets.{IsCharSetOf};
 ghost use Rattle.postscript_view.specs.Naming.{Names};
 ghost use Rattle.postscript_view.specs.Sizes.{IsKeyed};
 ghost use Rattle.postscript_view.specs.Value.{view_shown};
 ghost use Rattle.postscript_write.specs.LaidOut.{SelectsExactly};
+ghost use Rattle.postscript_write.specs.Glyphs.{AreGlyphs};
+ghost use Rattle.postscript_write.specs.Identified.{AreIdentified, AreRenewed};
+ghost use Rattle.postscript_write.specs.NewStrings.{names_text};
+ghost use Rattle.postscript_write.specs.Numbered.{AreStringsFor, IsCharSetFor, IsEncodingFor, IsSelectFor, IsSelectText, items_if};
+ghost use Rattle.postscript_write.specs.Own.{IsOwnCharSet, IsOwnEncoding};
+ghost use Rattle.postscript_write.specs.RefusedGlyphs.{HasEncoding, HasSet};
 ghost use Rattle.postscript_write.specs.Refusals.{FontRefusedBy};
-ghost use Rattle.postscript_write.specs.Steps.{IsLate};
+ghost use Rattle.postscript_write.specs.Selected.{AreFirsts, listed_text, range_text, ranges_text};
 ghost use Rattle.postscript_write.specs.declared.error.Error.TheVariants as errors;
 
 use crate::error::{Error, Result, not_back};
@@ -18,23 +26,50 @@ use postscript_base::compact1::StringID;
 use postscript_view::{CharSetView, FontView};
 use std::alloc::Global;
 
-/// The bytes that a reading answers, copied, if there are any.
-fn copied(alloc: Global, bytes: postscript_base::Result<Option<&[u8]>>) -> Result<Option<Vec<u8>>>
-    ensures { IfErr result (λ e. IsLate e) }
+/// Bytes, copied, if there are any.
+fn copied(alloc: Global, bytes: Option<&[u8]>) -> Result<Option<Vec<u8>>>
+    ensures copied { IfOk result (λ copy. items_if copy ≡ option_map (λ lent. lent.now) bytes.entry) }
+    ensures memory { IfErr result (λ e. e ≡ errors.Refused causes.Memory) }
 {
     match bytes {
-        Ok(Some(bytes)) => {
-            let mut out = Vec::new(alloc);
-            out.extend_from_slice(bytes)?;
-            Ok(Some(out))
+        Some(bytes) => {
+            let mut copy = Vec::new(alloc);
+            copy.extend_from_slice(bytes)?;
+            Ok(Some(copy))
         }
-        Ok(None) => Ok(None),
+        None => Ok(None),
+    }
+}
+
+/// The encoding of the font's own, if it has one.
+fn encoding_of(alloc: Global, font: &FontView<'_>) -> Result<Option<Vec<u8>>>
+    requires { HasEncoding font.now.bytes.now (view_shown font.now) }
+    ensures own { IfOk result (λ own. IsOwnEncoding font.now.bytes.now font.now.dictionary (items_if own)) }
+    ensures memory { IfErr result (λ e. e ≡ errors.Refused causes.Memory) }
+{
+    match own_encoding(font.bytes, &font.dictionary) {
+        Ok(own) => copied(alloc, own),
+        Err(fault) => Err(not_back(fault)),
+    }
+}
+
+/// The char set of the font's own, if it has one.
+fn char_set_of(alloc: Global, font: &FontView<'_>) -> Result<Option<Vec<u8>>>
+    requires { HasSet font.now.bytes.now (view_shown font.now) }
+    ensures own { IfOk result
+        (λ own. IsOwnCharSet font.now.bytes.now font.now.dictionary (length (items_of font.now.char_strings)) (items_if own)) }
+    ensures memory { IfErr result (λ e. e ≡ errors.Refused causes.Memory) }
+{
+    match own_char_set(font.bytes, &font.dictionary, font.char_strings.len()) {
+        Ok(own) => copied(alloc, own),
         Err(fault) => Err(not_back(fault)),
     }
 }
 
 /// The identifier that names what a glyph is made of; 0, that of `.notdef`, of an empty one.
 fn identifier_of(set: &CharSetView<'_>, source: Option<usize>) -> Result<u16>
+    ensures named { IfOk result (λ identifier. (glyph : ℕ) → source ≡ Some glyph → Names set.now glyph identifier) }
+    ensures low { IfOk result (λ identifier. identifier < 65536) }
     ensures refused { IfErr result (λ e. (glyph : ℕ) × (source ≡ Some glyph) × (e ≡ errors.MissingName glyph)
         × ((identifier : ℕ) → Names set.now glyph identifier → ⊥)) }
 {
@@ -54,7 +89,10 @@ pub(crate) fn identifiers_of(
     set: &CharSetView<'_>,
     sources: &[Option<usize>],
 ) -> Result<Vec<StringID>>
-    requires { IsCharSetOf set.now font.now.bytes.now font.now.dictionary (length (items_of font.now.char_strings)) }
+    requires set { IsCharSetOf set.now font.now.bytes.now font.now.dictionary (length (items_of font.now.char_strings)) }
+    requires renewed { AreRenewed sources.now }
+    requires there { AreGlyphs sources.now (length (items_of font.now.char_strings)) }
+    ensures identified { IfOk result (λ identifiers. AreIdentified set.now sources.now identifiers.items) }
     ensures refused { IfErr result (λ e. FontRefusedBy font.now.bytes.now (view_shown font.now) sources.now e) }
 {
     let mut identifiers = Vec::new(alloc);
@@ -70,12 +108,13 @@ pub(crate) fn identifiers_of(
 
 /// A char set of format 0 of glyphs with these identifiers, by which strings are written under new ones.
 fn listed(alloc: Global, identifiers: &[StringID], strings: &Strings) -> Result<Vec<u8>>
-    ensures { IfErr result (λ e. IsLate e) }
+    ensures text { IfOk result (λ out. out.items ≡ names_text strings.now identifiers.now) }
+    ensures memory { IfErr result (λ e. e ≡ errors.Refused causes.Memory) }
 {
     let mut out = Vec::new(alloc);
     put_number(&mut out, 1, 0)?;
-    for identifier in identifiers {
-        put_number(&mut out, 2, strings.identifier(usize::from(*identifier)))?;
+    for i in 0..identifiers.len() {
+        put_number(&mut out, 2, strings.identifier(usize::from(identifiers[i])))?;
     }
     Ok(out)
 }
@@ -86,51 +125,74 @@ fn strings_of(
     font: &FontView<'_>,
     identifiers: &Option<Vec<StringID>>,
 ) -> Result<Strings>
-    ensures { IfErr result (λ e. IsLate e) }
+    ensures strings { IfOk result (λ strings. AreStringsFor font.now identifiers.now strings) }
+    ensures memory { IfErr result (λ e. e ≡ errors.Refused causes.Memory) }
 {
-    let strings = match identifiers {
-        Some(identifiers) if !font.is_cid_keyed() => Strings::needed(alloc, font, identifiers),
-        _ => Strings::every(alloc, font),
+    let Some(identifiers) = identifiers else {
+        return Ok(Strings::every(alloc, font)?);
     };
-    match strings {
-        Ok(strings) => Ok(strings),
-        Err(fault) => Err(not_back(fault)),
+    if font.is_cid_keyed() {
+        return Ok(Strings::every(alloc, font)?);
     }
+    Ok(Strings::needed(alloc, font, identifiers)?)
 }
 
-/// How many ranges of glyphs have the same number.
-fn ranges_of(numbers: &[usize]) -> usize {
-    let mut count = 0usize;
+/// Whether a glyph begins a range: it is the first one, or the one before it has another number.
+fn begins(numbers: &[usize], i: usize) -> bool
+    requires { i < length numbers.now }
+    ensures other { OnTrue result ((i ≡ 0) ⊎ (slice_index_or numbers.now i 0 ≢ slice_index_or numbers.now (i - 1) 0)) }
+    ensures same { OnFalse result ((0 < i) × (slice_index_or numbers.now i 0 ≡ slice_index_or numbers.now (i - 1) 0)) }
+{
+    i == 0 || numbers[i] != numbers[i - 1]
+}
+
+/// The glyphs that begin the ranges of glyphs that have the same number.
+fn firsts_of(alloc: Global, numbers: &[usize]) -> Result<Vec<usize>>
+    ensures firsts { IfOk result (λ firsts. AreFirsts numbers.now firsts.items (length numbers.now)) }
+    ensures memory { IfErr result (λ e. e ≡ errors.Refused causes.Memory) }
+{
+    let mut firsts = Vec::new(alloc);
     for i in 0..numbers.len() {
-        if i == 0 || numbers[i] != numbers[i - 1] {
-            count = count.saturating_add(1);
+        if begins(numbers, i) {
+            firsts.push(i)?;
         }
     }
-    count
+    Ok(firsts)
 }
 
 /// FDSelect of format 0.
 fn put_bytes(out: &mut Vec<u8>, numbers: &[usize]) -> Result<()>
-    ensures { IfErr result (λ e. IsLate e) }
+    ensures text { OnOk result (out.new.items ≡ out.old.items ++ listed_text numbers.now) }
+    ensures memory { IfErr result (λ e. e ≡ errors.Refused causes.Memory) }
 {
     put_number(out, 1, 0)?;
-    for number in numbers {
-        put_number(out, 1, *number)?;
+    for i in 0..numbers.len() {
+        put_number(out, 1, numbers[i])?;
     }
     Ok(())
 }
 
-/// FDSelect of format 3.
-fn put_ranges(out: &mut Vec<u8>, numbers: &[usize], count: usize) -> Result<()>
-    ensures { IfErr result (λ e. IsLate e) }
+/// A range of FDSelect of format 3: the glyph that begins it, and its number.
+fn put_range(out: &mut Vec<u8>, numbers: &[usize], first: usize) -> Result<()>
+    requires { first < length numbers.now }
+    ensures text { OnOk result (out.new.items ≡ out.old.items ++ range_text numbers.now first) }
+    ensures memory { IfErr result (λ e. e ≡ errors.Refused causes.Memory) }
+{
+    put_number(out, 2, first)?;
+    put_number(out, 1, numbers[first])?;
+    Ok(())
+}
+
+/// FDSelect of format 3, of the ranges that these glyphs begin.
+fn put_ranges(out: &mut Vec<u8>, numbers: &[usize], firsts: &[usize]) -> Result<()>
+    requires { AreFirsts numbers.now firsts.now (length numbers.now) }
+    ensures text { OnOk result (out.new.items ≡ out.old.items ++ ranges_text numbers.now firsts.now) }
+    ensures memory { IfErr result (λ e. e ≡ errors.Refused causes.Memory) }
 {
     put_number(out, 1, 3)?;
-    put_number(out, 2, count)?;
-    for i in 0..numbers.len() {
-        if i == 0 || numbers[i] != numbers[i - 1] {
-            put_number(out, 2, i)?;
-            put_number(out, 1, numbers[i])?;
-        }
+    put_number(out, 2, firsts.len())?;
+    for r in 0..firsts.len() {
+        put_range(out, numbers, firsts[r])?;
     }
     put_number(out, 2, numbers.len())?;
     Ok(())
@@ -138,22 +200,24 @@ fn put_ranges(out: &mut Vec<u8>, numbers: &[usize], count: usize) -> Result<()>
 
 /// FDSelect of glyphs with font dictionaries of these numbers, in the format that has fewer bytes.
 fn select(alloc: Global, numbers: &[usize]) -> Result<Vec<u8>>
-    ensures { IfErr result (λ e. IsLate e) }
+    ensures selects { IfOk result (λ text. IsSelectText numbers.now text.items) }
+    ensures memory { IfErr result (λ e. e ≡ errors.Refused causes.Memory) }
 {
     let mut out = Vec::new(alloc);
-    let count = ranges_of(numbers);
-    if count.saturating_mul(3).saturating_add(4) < numbers.len() {
-        put_ranges(&mut out, numbers, count)?;
-    } else {
-        put_bytes(&mut out, numbers)?;
+    let firsts = firsts_of(alloc, numbers)?;
+    if firsts.len().saturating_mul(3).saturating_add(4) < numbers.len() {
+        put_ranges(&mut out, numbers, &firsts)?;
+        return Ok(out);
     }
+    put_bytes(&mut out, numbers)?;
     Ok(out)
 }
 
 /// FDSelect of a CID-keyed font with font dictionaries of these numbers. None of another font.
 fn select_of(alloc: Global, font: &FontView<'_>, numbers: &[usize]) -> Result<Option<Vec<u8>>>
     ensures keyed { IfOk result (λ select. IsSome select ↔ IsKeyed font.now.dictionary) }
-    ensures late { IfErr result (λ e. IsLate e) }
+    ensures selects { IfOk result (λ select. IsSelectFor numbers.now select) }
+    ensures memory { IfErr result (λ e. e ≡ errors.Refused causes.Memory) }
 {
     if !font.is_cid_keyed() {
         return Ok(None);
@@ -169,11 +233,17 @@ pub(crate) fn numbered(
     numbers: &[usize],
     identifiers: &Option<Vec<StringID>>,
 ) -> Result<Glyphs>
+    requires set { HasSet font.now.bytes.now (view_shown font.now) }
+    requires encoding { HasEncoding font.now.bytes.now (view_shown font.now) }
     ensures selects { IfOk result (λ glyphs. SelectsExactly font.now glyphs) }
-    ensures late { IfErr result (λ e. IsLate e) }
+    ensures select { IfOk result (λ glyphs. IsSelectFor numbers.now glyphs.select) }
+    ensures strings { IfOk result (λ glyphs. AreStringsFor font.now identifiers.now glyphs.strings) }
+    ensures char_set { IfOk result (λ glyphs. IsCharSetFor font.now identifiers.now glyphs) }
+    ensures encoding { IfOk result (λ glyphs. IsEncodingFor font.now identifiers.now glyphs) }
+    ensures memory { IfErr result (λ e. e ≡ errors.Refused causes.Memory) }
 {
     let select = select_of(alloc, font, numbers)?;
-    let encoding = copied(alloc, own_encoding(font.bytes, &font.dictionary))?;
+    let encoding = encoding_of(alloc, font)?;
     let strings = strings_of(alloc, font, identifiers)?;
     if let Some(identifiers) = identifiers {
         return Ok(Glyphs {
@@ -184,9 +254,8 @@ pub(crate) fn numbered(
             strings,
         });
     }
-    let own = own_char_set(font.bytes, &font.dictionary, numbers.len());
     Ok(Glyphs {
-        char_set: copied(alloc, own)?,
+        char_set: char_set_of(alloc, font)?,
         encoding,
         standard: false,
         select,

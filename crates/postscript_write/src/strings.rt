@@ -1,9 +1,16 @@
 //! The strings that are written, and the identifiers that name them (Technical Note 5176, sections 9 and 10).
-ghost use Rattle.std.specs.Prelude.{◌≡◌};
+ghost use Rattle.std.specs.Prelude.{◌≡◌, ◌++◌, ◌+◌, ◌<◌, ◌⊎◌, ℕ, [], ◌∷◌, Some, None, IfOk, IfErr, OnOk, length, slice_set};
+ghost use Rattle.std.specs.List.{filter_map};
+ghost use Rattle.postscript_base.specs.Index.Lent.{items_of};
+ghost use Rattle.postscript_base.specs.declared.error.Error.TheVariants as errors;
+ghost use Rattle.postscript_type2.specs.Program.Routines.{texts};
+ghost use Rattle.postscript_write.specs.NewStrings.{AreAdded, AreNamed, AreRenumbered, HasNew};
+ghost use Rattle.postscript_write.specs.Parts.{naming};
 ghost use Rattle.postscript_write.specs.Renumbered.{new_identifier};
+ghost use Rattle.postscript_write.specs.Strings.{identifier_in as the_identifier};
 
-use crate::kept::SID_OPERATORS;
-use crate::naming::identifier_in;
+use crate::layout::copied;
+use crate::naming::{SID_OPERATORS, identifier_in};
 use postscript_base::Result;
 use postscript_base::compact1::{Operations, StringID};
 use postscript_base::index::IndexView;
@@ -20,29 +27,45 @@ pub(crate) struct Strings {
 }
 
 impl Strings {
-    /// No strings, of so many.
-    fn none(alloc: Global, strings: usize) -> Result<Strings> {
+    /// No strings, of those of a font.
+    fn none(alloc: Global, own: &IndexView<'_>) -> Result<Strings>
+        ensures renumbered { IfOk result
+            (λ strings. AreRenumbered (items_of own.now) (texts strings.texts.items) strings.renumbered.items) }
+        ensures none { IfOk result (λ strings. (number : ℕ) → HasNew strings.renumbered.items number → ⊥) }
+        ensures memory { IfErr result (λ e. e ≡ errors.Memory) }
+    {
         Ok(Strings {
             texts: Vec::new(alloc),
-            renumbered: vec![in alloc; None; strings]?,
+            renumbered: vec![in alloc; None; own.len()]?,
         })
     }
 
-    /// Appends a string.
-    fn push(&mut self, alloc: Global, text: &[u8]) -> Result<()> {
+    /// Appends the string of a number, under a new identifier.
+    fn push(&mut self, alloc: Global, number: usize, text: &[u8]) -> Result<()>
+        requires { number < length self.now.renumbered.items }
+        ensures texts { OnOk result (texts self.new.texts.items ≡ texts self.old.texts.items ++ text.now ∷ []) }
+        ensures renumbered { OnOk result (self.new.renumbered.items
+            ≡ slice_set self.old.renumbered.items number (Some (391 + length (texts self.old.texts.items)))) }
+        ensures memory { IfErr result (λ e. e ≡ errors.Memory) }
+    {
+        let new = 391 + self.texts.len();
         let mut copy = Vec::new(alloc);
         copy.extend_from_slice(text)?;
         self.texts.push(copy)?;
+        self.renumbered[number] = Some(new);
         Ok(())
     }
 
     /// All strings of a font, which keep their identifiers.
-    pub(crate) fn every(alloc: Global, font: &FontView<'_>) -> Result<Strings> {
-        let mut strings = Strings::none(alloc, 0)?;
-        for i in 0..font.strings.len() {
-            strings.push(alloc, font.strings.item(i))?;
-        }
-        Ok(strings)
+    pub(crate) fn every(alloc: Global, font: &FontView<'_>) -> Result<Strings>
+        ensures texts { IfOk result (λ strings. texts strings.texts.items ≡ items_of font.now.strings) }
+        ensures stay { IfOk result (λ strings. strings.renumbered.items ≡ []) }
+        ensures memory { IfErr result (λ e. e ≡ errors.Memory) }
+    {
+        Ok(Strings {
+            texts: copied(alloc, &font.strings)?,
+            renumbered: Vec::new(alloc),
+        })
     }
 
     /// The strings that operators of the dictionary name, and then those that these identifiers name, each once.
@@ -50,9 +73,15 @@ impl Strings {
         alloc: Global,
         font: &FontView<'_>,
         identifiers: &[StringID],
-    ) -> Result<Strings> {
-        let mut strings = Strings::none(alloc, font.strings.len())?;
-        strings.add_all(alloc, &font.strings, &named(alloc, &font.dictionary)?)?;
+    ) -> Result<Strings>
+        ensures renumbered { IfOk result
+            (λ strings. AreRenumbered (items_of font.now.strings) (texts strings.texts.items) strings.renumbered.items) }
+        ensures named { IfOk result (λ strings. AreNamed font.now.dictionary identifiers.now strings.renumbered.items) }
+        ensures memory { IfErr result (λ e. e ≡ errors.Memory) }
+    {
+        let named = named(alloc, &font.dictionary)?;
+        let mut strings = Strings::none(alloc, &font.strings)?;
+        strings.add_all(alloc, &font.strings, &named)?;
         strings.add_all(alloc, &font.strings, identifiers)?;
         Ok(strings)
     }
@@ -63,25 +92,37 @@ impl Strings {
         alloc: Global,
         own: &IndexView<'_>,
         identifiers: &[StringID],
-    ) -> Result<()> {
-        for identifier in identifiers {
-            self.add(alloc, own, usize::from(*identifier))?;
+    ) -> Result<()>
+        requires { AreRenumbered (items_of own.now) (texts self.now.texts.items) self.now.renumbered.items }
+        ensures renumbered { OnOk result (AreRenumbered (items_of own.now) (texts self.new.texts.items) self.new.renumbered.items) }
+        ensures added { OnOk result
+            (AreAdded self.old.renumbered.items identifiers.now (length identifiers.now) self.new.renumbered.items) }
+        ensures memory { IfErr result (λ e. e ≡ errors.Memory) }
+    {
+        for i in 0..identifiers.len() {
+            self.add(alloc, own, usize::from(identifiers[i]))?;
         }
         Ok(())
     }
 
     /// Adds the string of an identifier, where it is one of the font's own, and is not there yet.
-    fn add(&mut self, alloc: Global, own: &IndexView<'_>, identifier: usize) -> Result<()> {
+    fn add(&mut self, alloc: Global, own: &IndexView<'_>, identifier: usize) -> Result<()>
+        requires { AreRenumbered (items_of own.now) (texts self.now.texts.items) self.now.renumbered.items }
+        ensures renumbered { OnOk result (AreRenumbered (items_of own.now) (texts self.new.texts.items) self.new.renumbered.items) }
+        ensures named { OnOk result ((number : ℕ) → identifier ≡ 391 + number → number < length self.new.renumbered.items →
+            HasNew self.new.renumbered.items number) }
+        ensures kept { OnOk result ((number : ℕ) → HasNew self.old.renumbered.items number → HasNew self.new.renumbered.items number) }
+        ensures only { OnOk result ((number : ℕ) → HasNew self.new.renumbered.items number →
+            HasNew self.old.renumbered.items number ⊎ (identifier ≡ 391 + number)) }
+        ensures memory { IfErr result (λ e. e ≡ errors.Memory) }
+    {
         if identifier < 391 || identifier - 391 >= self.renumbered.len() {
             return Ok(());
         }
-        let Some(text) = own.get(identifier - 391) else {
+        if self.renumbered[identifier - 391].is_some() {
             return Ok(());
-        };
-        if self.renumbered[identifier - 391].is_none() {
-            self.renumbered[identifier - 391] = Some(self.texts.len().saturating_add(391));
-            self.push(alloc, text)?;
         }
+        self.push(alloc, identifier - 391, own.item(identifier - 391))?;
         Ok(())
     }
 
@@ -100,7 +141,10 @@ impl Strings {
 }
 
 /// The identifiers that operators of a dictionary name strings by.
-fn named(alloc: Global, dictionary: &Operations) -> Result<Vec<StringID>> {
+fn named(alloc: Global, dictionary: &Operations) -> Result<Vec<StringID>>
+    ensures named { IfOk result (λ identifiers. identifiers.items ≡ filter_map (the_identifier dictionary.now) naming) }
+    ensures memory { IfErr result (λ e. e ≡ errors.Memory) }
+{
     let mut identifiers = Vec::new(alloc);
     for operator in &SID_OPERATORS {
         if let Some(identifier) = identifier_in(dictionary, *operator) {

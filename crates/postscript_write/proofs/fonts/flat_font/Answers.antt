@@ -1,4 +1,4 @@
-use Rattle.std.proofs.Common.{◌≡◌, ◌∙◌, ap, subst, List, length}
+use Rattle.std.proofs.Common.{sym, ◌≡◌, ◌∙◌, ap, subst, List, length, arith}
 use Rattle.std.specs.Prelude.{IfOk, Option, true, ℕ}
 use Rattle.postscript_view.specs.Value.{view_shown}
 use Rattle.postscript_write.specs.Fonts.{IsFontOf}
@@ -8,6 +8,9 @@ use Rattle.postscript_write.specs.Sources.{every}
 use Rattle.std.proofs.lemmas.Result.{err_from_is_err_and}
 use Rattle.postscript_write.proofs.Drawings.{flat-drawn}
 use Rattle.postscript_write.proofs.Making.{if_ok, if_err, is_refused, memory_bytes, not_opened}
+use Rattle.postscript_base.specs.Index.Lent.{items_of}
+use Rattle.postscript_write.specs.Identified.{KeepNumbers}
+use Rattle.postscript_write.proofs.Sourced.{every_kept, every_long}
 use Rattle.postscript_write.proofs.fonts.flat_font.Goals as goal
 
 pub returns-clause-written : goal.returns-clause-written
@@ -48,3 +51,15 @@ returns-clause-drawn c = flat-drawn c.font_of.result c.args.bytes.now (returns-c
 
 pub returns-clause-lenient : goal.returns-clause-lenient
 returns-clause-lenient c = subst (λ (bs : List ℕ). IfOk c.font_of.result (λ flat. HasLenientFont bs → HasLenientFont flat.items)) c.in_ok-font.ensures.bytes c.font_of.ensures.lenient
+
+pub font_of-requires-clause-few : goal.font_of-requires-clause-few
+font_of-requires-clause-few c =
+    let is = c.deref.ensures.value ∙ c.in_ok-sources.ensures.sources in
+    let few = c.in_ok-font.ensures.few in
+    omega (arith, ap length is, every_long c.len.result, c.len.ensures, few)
+
+pub font_of-requires-clause-sources : goal.font_of-requires-clause-sources
+font_of-requires-clause-sources c =
+    let glyphs = length (items_of c.in_ok-font.font.char_strings) in
+    let is = c.deref.ensures.value ∙ c.in_ok-sources.ensures.sources ∙ ap (λ n. every n) c.len.ensures in
+    subst (λ (s : List (Option ℕ)). KeepNumbers s glyphs) (sym is) (every_kept glyphs)

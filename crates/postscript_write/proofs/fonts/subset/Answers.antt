@@ -1,4 +1,4 @@
-use Rattle.std.proofs.Common.{◌≡◌, ◌∙◌, ap, subst, sym, List, length, ℕ}
+use Rattle.std.proofs.Common.{◌<◌, ◌≡◌, ◌∙◌, ap, subst, sym, List, length, ℕ, arith}
 use Rattle.std.specs.Prelude.{false}
 use Rattle.std.proofs.lemmas.Result.{err_from_is_err_and}
 use Rattle.postscript_base.specs.Tape.Outcome.{Got}
@@ -13,6 +13,9 @@ use Rattle.postscript_write.specs.declared.error.Error.{Error}
 use Rattle.postscript_write.proofs.Making.{if_ok}
 use Rattle.postscript_write.proofs.Drawings.{subset-drawn}
 use Rattle.postscript_write.proofs.Subsets.{closed-so, not-chosen, not-closed, not-opened, subset-made, subset-refused}
+use Rattle.postscript_base.specs.Index.Lent.{items_of}
+use Rattle.postscript_write.specs.Identified.{AreRenewed}
+use Rattle.postscript_write.proofs.Sourced.{chosen_renewed, chosen_long}
 use Rattle.postscript_write.proofs.fonts.subset.Goals as goal
 
 pub returns-clause-written : goal.returns-clause-written
@@ -63,3 +66,17 @@ returns-clause-drawn c = subset-drawn c.font_of.result c.args.named.now c.args.b
 pub returns-clause-lenient : goal.returns-clause-lenient
 returns-clause-lenient c =
     if_ok c.font_of.result (λ flat stays. subst (λ (bs : List ℕ). HasLenientFont bs → HasLenientFont flat.items) c.in_ok-font.ensures.bytes stays) c.font_of.ensures.lenient
+
+pub font_of-requires-clause-few : goal.font_of-requires-clause-few
+font_of-requires-clause-few c =
+    let is = c.deref-2.ensures.value ∙ c.in_ok-sources.ensures.sources in
+    let few = c.in_ok-font.ensures.few in
+    omega (arith, ap length is, chosen_long c.deref.result.now c.len.result, c.len.ensures, few)
+
+pub font_of-requires-clause-sources : goal.font_of-requires-clause-sources
+font_of-requires-clause-sources c =
+    let glyphs = length (items_of c.in_ok-font.font.char_strings) in
+    let is = c.deref-2.ensures.value ∙ c.in_ok-sources.ensures.sources ∙ ap (λ n. chosen c.deref.result.now n) c.len.ensures in
+    let named : 0 < length c.args.named.now = omega (arith, c.if-named-eq0.false) in
+    let there = c.in_ok-closed.ensures.named 0 named in
+    subst AreRenewed (sym is) (chosen_renewed c.deref.result.now glyphs (omega (arith, there)))

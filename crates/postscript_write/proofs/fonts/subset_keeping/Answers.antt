@@ -1,5 +1,5 @@
-use Rattle.std.proofs.Common.{◌≡◌, ◌∙◌, ap, subst, sym, List, length, ℕ}
-use Rattle.std.specs.Prelude.{true}
+use Rattle.std.proofs.Common.{◌≡◌, ◌∙◌, ap, subst, sym, List, length, ℕ, arith}
+use Rattle.std.specs.Prelude.{Option, true}
 use Rattle.std.proofs.lemmas.Result.{err_from_is_err_and}
 use Rattle.postscript_base.specs.Tape.Outcome.{Got}
 use Rattle.postscript_view.specs.Contents.{View}
@@ -13,6 +13,9 @@ use Rattle.postscript_write.specs.declared.error.Error.{Error}
 use Rattle.postscript_write.proofs.Making.{if_ok}
 use Rattle.postscript_write.proofs.Drawings.{keeping-drawn}
 use Rattle.postscript_write.proofs.Subsets.{closed-so, not-chosen, not-closed, not-opened, subset-made, subset-refused}
+use Rattle.postscript_base.specs.Index.Lent.{items_of}
+use Rattle.postscript_write.specs.Identified.{KeepNumbers}
+use Rattle.postscript_write.proofs.Sourced.{keeping_kept, keeping_long}
 use Rattle.postscript_write.proofs.fonts.subset_keeping.Goals as goal
 
 pub returns-clause-written : goal.returns-clause-written
@@ -63,3 +66,15 @@ returns-clause-drawn c = keeping-drawn c.font_of.result c.args.named.now c.args.
 pub returns-clause-lenient : goal.returns-clause-lenient
 returns-clause-lenient c =
     if_ok c.font_of.result (λ flat stays. subst (λ (bs : List ℕ). HasLenientFont bs → HasLenientFont flat.items) c.in_ok-font.ensures.bytes stays) c.font_of.ensures.lenient
+
+pub font_of-requires-clause-few : goal.font_of-requires-clause-few
+font_of-requires-clause-few c =
+    let is = c.deref-2.ensures.value ∙ c.in_ok-sources.ensures.sources in
+    let few = c.in_ok-font.ensures.few in
+    omega (arith, ap length is, keeping_long c.deref.result.now c.len.result, c.len.ensures, few)
+
+pub font_of-requires-clause-sources : goal.font_of-requires-clause-sources
+font_of-requires-clause-sources c =
+    let glyphs = length (items_of c.in_ok-font.font.char_strings) in
+    let is = c.deref-2.ensures.value ∙ c.in_ok-sources.ensures.sources ∙ ap (λ n. keeping c.deref.result.now n) c.len.ensures in
+    subst (λ (s : List (Option ℕ)). KeepNumbers s glyphs) (sym is) (keeping_kept c.deref.result.now glyphs)

@@ -1,6 +1,6 @@
 use Rattle.postscript_write.specs.Renumbered.{renamed_if}
 use Rattle.postscript_write.specs.Strings.{identifier_in}
-use Rattle.postscript_write.specs.declared.kept.TheConstants.{SID_OPERATORS}
+use Rattle.postscript_write.specs.declared.naming.TheConstants.{SID_OPERATORS}
 use Rattle.postscript_write.proofs.Arranged.{further}
 use Rattle.postscript_write.proofs.layout.renamed.Goals as goal
 

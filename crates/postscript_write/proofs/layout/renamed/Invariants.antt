@@ -2,7 +2,7 @@ use Rattle.std.proofs.Common.{◌≡◌, take}
 use Rattle.std.specs.Prelude.{flat_map}
 use Rattle.postscript_write.specs.Renumbered.{renamed_if}
 use Rattle.postscript_write.specs.Strings.{identifier_in}
-use Rattle.postscript_write.specs.declared.kept.TheConstants.{SID_OPERATORS}
+use Rattle.postscript_write.specs.declared.naming.TheConstants.{SID_OPERATORS}
 use Rattle.postscript_write.proofs.layout.renamed.Given as goal
 
 abbrev pub invariant-loop-operator : goal.invariant-loop-operator

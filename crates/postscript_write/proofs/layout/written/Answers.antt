@@ -18,6 +18,9 @@ use Rattle.postscript_write.proofs.Arranged.{private_there}
 use Rattle.postscript_write.proofs.TablesStand.{dictionaries_there, header_is, index_there, tables_are}
 use Rattle.postscript_write.proofs.Within.{all_held, codes_fit, dictionary_within, end_within, HasFew, names_fit, strings_fit, tables_room, tables_within}
 use Rattle.postscript_write.proofs.LaidOut.{laid_out}
+use Rattle.postscript_write.proofs.NoByteBeside.{whole_out}
+use Rattle.postscript_write.proofs.WrittenBack.{as_written, codes_there, other_codes_there}
+use Rattle.postscript_write.proofs.NamesBack.{names_back}
 use Rattle.postscript_write.proofs.layout.written.Goals as goal
 
 pub returns-clause-written : goal.returns-clause-written
@@ -73,6 +76,7 @@ returns-clause-written c =
       are_tables = are_tables;
       text = behind.1;
       of_glyphs = refl;
+      counted = len;
       names_fit = c.in_ok-put_tables-2.ensures.names_fit;
       dictionary_fits = put.4;
       strings_fit = strings_fit;
@@ -104,6 +108,25 @@ returns-clause-written c =
 
 pub returns-clause-laid_out : goal.returns-clause-laid_out
 returns-clause-laid_out c = λ read exactly. laid_out c.args.font.now c.args.glyphs.now (texts c.args.codes.now) c.put_parts.new.out.items (returns-clause-written c) read exactly
+
+pub returns-clause-whole : goal.returns-clause-whole
+returns-clause-whole c = λ read exactly given. whole_out c.args.font.now c.args.glyphs.now (texts c.args.codes.now) c.put_parts.new.out.items (returns-clause-written c) read exactly given
+
+pub returns-clause-back : goal.returns-clause-back
+returns-clause-back c = λ read exactly given. as_written c.args.font.now c.args.glyphs.now (texts c.args.codes.now) c.put_parts.new.out.items (returns-clause-written c) read exactly given
+
+pub returns-clause-names : goal.returns-clause-names
+returns-clause-names c = λ read exactly. names_back c.args.font.now c.args.glyphs.now (texts c.args.codes.now) c.put_parts.new.out.items (returns-clause-written c) read exactly
+
+pub returns-clause-same_codes : goal.returns-clause-same_codes
+returns-clause-same_codes c = λ read encoding was stays new laid.
+    let w = returns-clause-written c in
+    codes_there c.args.font.now c.args.glyphs.now (texts c.args.codes.now) c.put_parts.new.out.items w (w.tables_stand read.laid.tables) new laid encoding was stays
+
+pub returns-clause-other_codes : goal.returns-clause-other_codes
+returns-clause-other_codes c = λ read encoding was gives new laid.
+    let w = returns-clause-written c in
+    other_codes_there c.args.font.now c.args.glyphs.now (texts c.args.codes.now) c.put_parts.new.out.items w (w.tables_stand read.laid.tables) new laid encoding was gives
 
 pub returns-in_err-put_index-clause-refused : goal.returns-in_err-put_index-clause-refused
 returns-in_err-put_index-clause-refused c =

@@ -8,4 +8,4 @@ use Rattle.postscript_write.proofs.readings.is_read.Goals as goal
 pub returns-in-Err : goal.returns-in-Err
 returns-in-Err c =
     let only : c.in-Err.field-0 ≢ Memory → (font : Font) → IsLenientFont c.args.bytes.now 0 font → ⊥ = rw (sym c.new-tape.ensures.inner, sym c.new-tape.ensures.position) (c.in-Err.ensures.only (search rules)) in
-    record { read = λ has. only (search rules) has.0 has.1; late = tt }
+    record { read = λ has. only (search rules) has.0 has.1; memory = tt }

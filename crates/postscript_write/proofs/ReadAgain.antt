@@ -1,0 +1,78 @@
+-- What is written is the font that it was to be.
+use Rattle.std.proofs.Common.{◌≡◌, sym, ap, subst, ◌∙◌, ℕ, List, [], length, slice_get, slice_index_or, Bool, true, false, None, arith}
+use Rattle.std.proofs.lemmas.Option.{slice_get-get_or}
+use Rattle.std.specs.Prelude.{IsTrue}
+use Rattle.postscript_base.specs.Tape.Outcome.{Got}
+use Rattle.postscript_view.specs.CharSets.{IsCharSetOf}
+use Rattle.postscript_view.specs.Contents.{View}
+use Rattle.postscript_view.specs.Encodings.{IsEncodingOf}
+use Rattle.postscript_view.specs.Layout.{IsLaidOut}
+use Rattle.postscript_view.specs.Order.{view}
+use Rattle.postscript_view.specs.declared.char_set.CharSetView.{CharSetView}
+use Rattle.postscript_view.specs.declared.encoding.EncodingView.{EncodingView}
+use Rattle.postscript_view.proofs.LayoutLaws.{reads_layout}
+use Rattle.postscript_write.specs.Fonts.{IsFontOf}
+use Rattle.postscript_write.specs.Glyphs.{AreCodesOf, AreNumbersOf, Sources}
+use Rattle.postscript_write.specs.Naming.{GivesWay, KeepsCodes, SameName, SameNames}
+use Rattle.postscript_write.specs.ReadBack.{AreStrings, HasCodes, IsReadAs}
+use Rattle.postscript_write.specs.Strings.{SameStrings, keeps_strings}
+use Rattle.postscript_write.proofs.Encoded.{keeps_code}
+use Rattle.postscript_write.proofs.Making.{made}
+use Rattle.postscript_write.proofs.Renamed.{texts_of}
+
+same_got : {A : Type 0} (x y : A) (n : ℕ) → Got x n ≡ Got y n → x ≡ y
+same_got x y n e = cc
+
+pub one_view : (flat : List ℕ) (a b : View) → view flat 0 ≡ Got a 0 → IsLaidOut flat 0 b → b ≡ a
+one_view flat a b found laid = same_got b a 0 (sym ((reads_layout flat 0 b).1 laid) ∙ found)
+
+strings_as : (keeps : Bool) (sources : Sources) (old : View) (old_set : CharSetView) (new : View) (new_set : CharSetView) → AreStrings keeps sources old old_set new new_set → SameStrings keeps sources old old_set new new_set
+strings_as true sources old old_set new new_set are = are
+strings_as false sources old old_set new new_set are = record {
+  operators = are.operators;
+  glyphs = texts_of old_set new_set old.tables.strings new.tables.strings sources are.glyphs;
+  needed = are.needed;
+}
+
+module _ (sources : Sources) (bytes : List ℕ) (old : View) (old_set : CharSetView) (encoding : EncodingView) (numbers : List ℕ) (codes : List (List ℕ)) (flat : List ℕ) (new : View) (was : IsEncodingOf encoding bytes old.tables.dictionary) where
+  codes_as : (new_set : CharSetView) → SameNames old_set sources new_set → HasCodes true encoding flat new.tables.dictionary → KeepsCodes sources bytes old flat new old_set new_set
+  codes_as new_set names has = record {
+    old_encoding = encoding;
+    new_encoding = has.encoding;
+    was = was;
+    is = has.is;
+    codes = λ code glyph less same.
+        keeps_code encoding has.encoding (has.same has.encoding has.is) old_set new_set code glyph (subst (λ source. SameName old_set source new_set glyph) same (names glyph less));
+  }
+
+  way_as : HasCodes false encoding flat new.tables.dictionary → GivesWay bytes old flat new
+  way_as has = record { old_encoding = encoding; new_encoding = has.encoding; was = was; is = has.is; codes = has.same has.encoding has.is }
+
+  pub font_as : (kept : Bool) → IsCharSetOf old_set bytes old.tables.dictionary (length old.char_strings) → AreNumbersOf bytes old sources numbers → AreCodesOf old sources numbers codes → IsReadAs kept sources old old_set encoding numbers codes flat new → IsFontOf kept sources bytes old flat new
+  font_as kept has_set numbers_are codes_are is =
+      let written = is.written in
+      let names = is.names in
+      let set = names.set in
+      let strings = names.same set names.is in
+      record {
+        header = written.header;
+        repeats = written.repeats;
+        many = ap length written.char_strings ∙ codes_are.many;
+        glyphs = λ i less.
+            let code = slice_index_or codes i [] in
+            let numbered = numbers_are.many in
+            let many = codes_are.many in
+            let there = ap (λ (cs : List (List ℕ)). slice_get cs i) written.char_strings ∙ slice_get-get_or codes i [] (omega (arith, less, many)) in
+            made bytes flat old new (slice_index_or sources i None) i (slice_index_or numbers i 0) code written.repeats.parts there (numbers_are.each i less) (codes_are.each i less) (written.parts i (omega (arith, less, numbered)));
+        naming = record { old_set = old_set; new_set = set; was = has_set; is = names.is; strings = strings_as (keeps_strings kept old.tables.dictionary) sources old old_set new set strings };
+        codes = keeps kept set strings is.same_codes;
+        encoding = gives kept is.same_codes;
+      }
+    where
+      keeps : (kept : Bool) (set : CharSetView) → AreStrings (keeps_strings kept old.tables.dictionary) sources old old_set new set → HasCodes kept encoding flat new.tables.dictionary → IsTrue kept → KeepsCodes sources bytes old flat new old_set set
+      keeps true set strings has is = codes_as set strings.glyphs has
+      keeps false set strings has is = absurd (cc)
+
+      gives : (kept : Bool) → HasCodes kept encoding flat new.tables.dictionary → kept ≡ false → GivesWay bytes old flat new
+      gives true has is = absurd (cc)
+      gives false has is = way_as has

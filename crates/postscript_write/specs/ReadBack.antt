@@ -1,0 +1,62 @@
+-- What is written is the font that it was to be (Technical Note 5176, sections 7, 10, 12, 13 and 19).
+use Rattle.std.specs.Prelude.{◌≡◌, ℕ, ◌<◌, List, Bool, MatchBool, length, slice_index_or}
+use Rattle.postscript_base.specs.Compact1.Dictionary.{Dictionary}
+use Rattle.postscript_view.specs.CharSets.{IsCharSetOf}
+use Rattle.postscript_view.specs.Contents.{View}
+use Rattle.postscript_view.specs.Encodings.{IsEncodingOf}
+use Rattle.postscript_view.specs.Layout.{IsLaidOut}
+use Rattle.postscript_view.specs.declared.char_set.CharSetView.{CharSetView}
+use Rattle.postscript_view.specs.declared.encoding.EncodingView.{EncodingView}
+use Rattle.postscript_write.specs.Fonts.{HasHeader, Repeats}
+use Rattle.postscript_write.specs.Glyphs.{HasPart, Sources}
+use Rattle.postscript_write.specs.Naming.{SameEncoding, codes_for}
+use Rattle.postscript_write.specs.Strings.{AreNamedAs, AreNeeded, KeepsStrings, NameSame, keeps_strings}
+use Rattle.postscript_write.specs.Whole.{HasNoByteBeside}
+
+-- Operators and glyphs name the same strings, glyphs by identifiers of both fonts, and each string is needed.
+pub record AreCut (sources : Sources) (old : View) (old_set : CharSetView) (new : View) (new_set : CharSetView) : Type 0 where
+  pub operators : NameSame old.tables new.tables
+  pub glyphs : AreNamedAs old_set old.tables.strings sources new_set new.tables.strings
+  pub needed : AreNeeded new new_set
+
+abbrev pub AreStrings : (keeps : Bool) → Sources → View → CharSetView → View → CharSetView → Type 0
+AreStrings keeps sources old old_set new new_set =
+    MatchBool keeps (KeepsStrings sources old old_set new new_set) (AreCut sources old old_set new new_set)
+
+-- the new font has a char set, and by it strings and what names them are as they are to be
+pub record HasNames (keeps : Bool) (sources : Sources) (old : View) (old_set : CharSetView) (flat : List ℕ) (new : View) : Type 0 where
+  pub set : CharSetView
+  pub is : IsCharSetOf set flat new.tables.dictionary (length new.char_strings)
+  pub same : (set : CharSetView) → IsCharSetOf set flat new.tables.dictionary (length new.char_strings) →
+      AreStrings keeps sources old old_set new set
+
+-- it has an encoding that says what another one says
+pub record HasSameCodes (old : EncodingView) (flat : List ℕ) (map : Dictionary) : Type 0 where
+  pub encoding : EncodingView
+  pub is : IsEncodingOf encoding flat map
+  pub same : (encoding : EncodingView) → IsEncodingOf encoding flat map → SameEncoding old encoding
+
+-- or the one that takes the place of another one
+pub record HasOtherCodes (old : EncodingView) (flat : List ℕ) (map : Dictionary) : Type 0 where
+  pub encoding : EncodingView
+  pub is : IsEncodingOf encoding flat map
+  pub same : (encoding : EncodingView) → IsEncodingOf encoding flat map → encoding.codes ≡ codes_for old.codes
+
+abbrev pub HasCodes : (kept : Bool) → EncodingView → List ℕ → Dictionary → Type 0
+HasCodes kept old flat map = MatchBool kept (HasSameCodes old flat map) (HasOtherCodes old flat map)
+
+-- The new font has the header, says what the old one says, has these codes and numbers of parts, and no byte stands beside its parts.
+pub record IsAsWritten (numbers : List ℕ) (codes : List (List ℕ)) (old : View) (flat : List ℕ) (new : View) : Type 0 where
+  pub header : HasHeader flat
+  pub repeats : Repeats old new
+  pub char_strings : new.char_strings ≡ codes
+  pub parts : (i : ℕ) → i < length numbers → HasPart flat new i (slice_index_or numbers i 0)
+  pub whole : HasNoByteBeside flat new
+
+-- The new font is laid out in the bytes, and is as it was to be written, with its names and codes.
+pub record IsReadAs (kept : Bool) (sources : Sources) (old : View) (old_set : CharSetView) (encoding : EncodingView) (numbers : List ℕ)
+    (codes : List (List ℕ)) (flat : List ℕ) (new : View) : Type 0 where
+  pub laid : IsLaidOut flat 0 new
+  pub written : IsAsWritten numbers codes old flat new
+  pub names : HasNames (keeps_strings kept old.tables.dictionary) sources old old_set flat new
+  pub same_codes : HasCodes kept encoding flat new.tables.dictionary

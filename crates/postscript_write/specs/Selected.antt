@@ -1,0 +1,43 @@
+-- FDSelect as it is written (Technical Note 5176, section 19, "FDSelect").
+use Rattle.std.specs.Prelude.{◌≡◌, ℕ, ◌+◌, ◌<◌, ◌≤◌, List, ◌++◌, flat_map, length, slice_index_or}
+use Rattle.postscript_view.specs.Select.{Selects}
+use Rattle.postscript_write.specs.Texts.{number_text, Stands}
+use Rattle.postscript_write.specs.Whole.{SelectEnds}
+
+-- numbers of one byte
+abbrev pub AreLow : List ℕ → Type 0
+AreLow numbers = (i : ℕ) → i < length numbers → slice_index_or numbers i 0 < 256
+
+-- Wherever the text stands, an FDSelect stands that gives each glyph the number in its place, and it ends behind the text.
+pub record SelectsAll (text numbers : List ℕ) : Type 0 where
+  pub gives : (bytes : List ℕ) (place i : ℕ) → Stands text bytes place → i < length numbers →
+      Selects bytes place (length numbers) i (slice_index_or numbers i 0)
+  pub ends : (bytes : List ℕ) (place : ℕ) → Stands text bytes place → SelectEnds bytes (length numbers) place (place + length text)
+
+-- format 0: a byte for each glyph
+abbrev pub listed_text : (numbers : List ℕ) → List ℕ
+listed_text numbers = number_text 1 0 ++ flat_map (number_text 1) numbers
+
+-- A glyph, of so many, lies in a range that one of these begins, which has the same number.
+pub record LiesInOne (numbers firsts : List ℕ) (glyphs glyph : ℕ) : Type 0 where
+  pub range : ℕ
+  pub there : range < length firsts
+  pub from : slice_index_or firsts range glyphs ≤ glyph
+  pub to : glyph < slice_index_or firsts (range + 1) glyphs
+  pub same : slice_index_or numbers glyph 0 ≡ slice_index_or numbers (slice_index_or firsts range glyphs) 0
+
+-- These begin the ranges of so many glyphs, in ascending order. Behind the last range stands the number of glyphs.
+pub record AreFirsts (numbers firsts : List ℕ) (glyphs : ℕ) : Type 0 where
+  pub few : length firsts ≤ glyphs
+  pub below : (r : ℕ) → r < length firsts → slice_index_or firsts r glyphs < glyphs
+  pub rise : (r : ℕ) → r < length firsts → slice_index_or firsts r glyphs < slice_index_or firsts (r + 1) glyphs
+  pub each : (glyph : ℕ) → glyph < glyphs → LiesInOne numbers firsts glyphs glyph
+
+-- a range: its first glyph in two bytes, and the number in one
+abbrev pub range_text : (numbers : List ℕ) → (first : ℕ) → List ℕ
+range_text numbers first = number_text 2 first ++ number_text 1 (slice_index_or numbers first 0)
+
+-- format 3: how many ranges there are, the ranges, and how many glyphs
+abbrev pub ranges_text : (numbers firsts : List ℕ) → List ℕ
+ranges_text numbers firsts =
+    number_text 1 3 ++ (number_text 2 (length firsts) ++ (flat_map (range_text numbers) firsts ++ number_text 2 (length numbers)))
