@@ -14,7 +14,7 @@ use std::io::Write;
 /// The tag of the table that is written anew.
 const CFF: u32 = 0x43464620;
 
-/// How often the run of a glyph is gone through: it is asked, measured and written, and its bytes are read back.
+/// How often the run of a glyph is gone through: it is asked, measured and written, and its bytes are passed over.
 pub const RUNS: u64 = 4;
 
 /// The tag of the signature of the file, which does not hold any more.

@@ -18,7 +18,7 @@ use std::alloc::{AllocError, Global};
 use std::io::Write;
 
 /// How often the run of a glyph is gone through: it is asked, looked at twice for what it is drawn with, measured and written, and
-/// its bytes are read back.
+/// its bytes are passed over.
 pub const RUNS: u64 = 6;
 
 /// The new number of a glyph: how many of those that are kept stand before it.
