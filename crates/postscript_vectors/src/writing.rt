@@ -126,6 +126,19 @@ fn fonts_that_are_not_written(rt: HostRuntime) {
     holds(&rt, written.is_ok(), "without glyph 2");
 }
 
+/// The only glyph calls a subroutine that returns, so that its code without calls has no byte: an item that `FontSet` does not read.
+#[test]
+fn a_code_of_no_byte(rt: HostRuntime) {
+    let alloc = rt.alloc();
+    let bytes = bytes_of(
+        &rt,
+        alloc,
+        "01000401 000101010241 00010101051c001b11 0000 00010101020b 0001010103201d",
+    );
+    let refused = flat_font(alloc, bytes.as_slice());
+    holds(&rt, matches!(refused, Err(Error::NotReadBack)), "no byte");
+}
+
 #[test]
 fn an_index_written(rt: HostRuntime) {
     let alloc = rt.alloc();
