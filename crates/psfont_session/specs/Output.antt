@@ -3,7 +3,7 @@ use Rattle.std.specs.Prelude.{◌≡◌, ◌⊎◌, ℕ, List, Option, Some, Non
 use Rattle.std.specs.Io.KnownBytes.{Appends}
 use Rattle.hex.specs.Hex.{decode_of}
 use Rattle.postscript.specs.FontSet.Value.{font_shown}
-use Rattle.postscript.specs.Refusal.{refusal_of}
+use Rattle.postscript.specs.RefusalOf.{refusal_of}
 use Rattle.postscript.specs.Tape.Outcome.{Answers as Answered}
 use Rattle.postscript.specs.Program.Evaluation.{run_of}
 use Rattle.postscript.specs.Program.Flat.{flat_text}

@@ -1,7 +1,7 @@
 //! What a run is given.
 ghost use Rattle.std.specs.Prelude.{◌≡◌, ◌⊎◌, ℕ, [], OnOk, OnErr, ◌∷◌, map, vec_items, IfOk, IfErr, MatchResult};
 ghost use Rattle.postscript.specs.Error.{IsListed};
-ghost use Rattle.postscript.specs.Refusal.{refusal_of};
+ghost use Rattle.postscript.specs.RefusalOf.{refusal_of};
 ghost use Rattle.postscript.specs.Program.Endings.{flatten_refusals};
 ghost use Rattle.postscript.specs.Program.Evaluation.{run_of};
 ghost use Rattle.postscript.specs.Program.Flat.{flat_text};
