@@ -92,7 +92,7 @@ enum {
     PSF_SEVERAL_FONTS = 41,               /* the font set has several fonts, or none */
     PSF_NO_PART = 42,                     /* FDSelect gives a glyph of a CID-keyed font no font dictionary that is there */
     PSF_NO_GLYPHS = 43,                   /* no glyphs are named */
-    PSF_NOT_READ_BACK = 44,               /* the lenient reader takes the font, not what is written */
+    PSF_NOT_READ_BACK = 44,               /* only where the lenient reader takes the font */
     PSF_TOO_LARGE = 45,                   /* what is to be written is too large */
     PSF_TOO_LONG = 46,                    /* the run of a glyph, or the runs of all, do not come to their ends within the limit */
     PSF_NO_CODE = 47,                     /* an accented glyph names no codes, whole numbers from 0 to 255 */

@@ -103,7 +103,7 @@ pub enum Error {
     NoPart = 42,
     /// No glyphs are named.
     NoGlyphs = 43,
-    /// The lenient reader of whole fonts takes the font, and would not take what is written: as where a glyph has no byte without its calls.
+    /// Comes only where the lenient reader of whole fonts takes the font: as where a glyph has no byte without its calls.
     NotReadBack = 44,
     /// What is to be written is too large.
     TooLarge = 45,
