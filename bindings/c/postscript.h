@@ -92,7 +92,6 @@ enum {
     PSF_SEVERAL_FONTS = 41,               /* the font set has several fonts, or none */
     PSF_NO_PART = 42,                     /* FDSelect gives a glyph of a CID-keyed font no font dictionary that is there */
     PSF_NO_GLYPHS = 43,                   /* no glyphs are named */
-    PSF_NOT_READ_BACK = 44,               /* only where the lenient reader takes the font */
     PSF_TOO_LARGE = 45,                   /* what is to be written is too large */
     PSF_TOO_LONG = 46,                    /* the run of a glyph, or the runs of all, do not come to their ends within the limit */
     PSF_NO_CODE = 47,                     /* an accented glyph names no codes, whole numbers from 0 to 255 */
@@ -296,7 +295,7 @@ int32_t psf_glyph_operations(const uint8_t *cff, size_t length, const psf_font *
  * with the same advance, name or CID, and codes. The runs of all glyphs share the limit; a good one is twenty times that of psf_font_open.
  * On PSF_TOO_LONG they take more, as psf_font_fits tells.
  * On PSF_OK and PSF_NO_ROOM *count is how many bytes it has, and *refusal is as it was. Else *refusal is told.
- * Also answered: PSF_REFUSED_GLYPH, PSF_SEVERAL_FONTS, PSF_NO_PART, PSF_TOO_LARGE, PSF_NOT_READ_BACK, and errors from 1 to 16. */
+ * Also answered: PSF_REFUSED_GLYPH, PSF_SEVERAL_FONTS, PSF_NO_PART, PSF_TOO_LARGE, and errors from 1 to 16. */
 int32_t psf_font_flat(const uint8_t *cff, size_t length, uint64_t limit, uint8_t *flat, size_t room, size_t *count,
                       psf_refusal *refusal);
 

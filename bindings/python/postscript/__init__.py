@@ -166,7 +166,6 @@ class Status(enum.IntEnum):
     SEVERAL_FONTS = 41
     NO_PART = 42
     NO_GLYPHS = 43
-    NOT_READ_BACK = 44
     TOO_LARGE = 45
     TOO_LONG = 46
     NO_CODE = 47

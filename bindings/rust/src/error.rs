@@ -103,8 +103,6 @@ pub enum Error {
     NoPart = 42,
     /// No glyphs are named.
     NoGlyphs = 43,
-    /// Comes only where the lenient reader of whole fonts takes the font: as where a glyph has no byte without its calls.
-    NotReadBack = 44,
     /// What is to be written is too large.
     TooLarge = 45,
     /// The run of a glyph, or the runs of all, do not come to their ends within the limit.
@@ -201,7 +199,6 @@ const ERRORS: [Error; 64] = [
     Error::SeveralFonts,
     Error::NoPart,
     Error::NoGlyphs,
-    Error::NotReadBack,
     Error::TooLarge,
     Error::TooLong,
     Error::NoCode,

@@ -49,7 +49,7 @@ texts =
     codes "the font set has not one font" ∷
     codes "a glyph has no font dictionary" ∷
     codes "no glyphs are named" ∷
-    codes "the font is not read back as it was written" ∷
+    codes "a status that is not answered" ∷
     codes "the font is too large to be written" ∷
     codes "the run takes longer than the limit" ∷
     codes "an accented glyph names no codes" ∷

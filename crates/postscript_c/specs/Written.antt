@@ -14,7 +14,7 @@ use Rattle.postscript_write.specs.Glyphs.{Sources}
 use Rattle.postscript_write.specs.Refusals.{IsRefusedBy, IsSubsetRefusedBy}
 use Rattle.postscript_write.specs.Sources.{AreThere, IsWritten, every}
 use Rattle.postscript_write.specs.declared.error.Error.{Error}
-use Rattle.postscript_write.specs.declared.error.Error.TheVariants.{Refused, Glyph, SeveralFonts, MissingGlyph, MissingPart, MissingName, NoGlyphs, TooLarge, NotReadBack}
+use Rattle.postscript_write.specs.declared.error.Error.TheVariants.{Refused, Glyph, SeveralFonts, MissingGlyph, MissingPart, MissingName, NoGlyphs, TooLarge}
 
 -- the number of a refusal: that of the cause where the font is refused
 abbrev pub written_code : Error → ℕ
@@ -25,7 +25,6 @@ written_code (MissingGlyph glyph) = 31
 written_code (MissingPart glyph) = 42
 written_code (MissingName glyph) = 38
 written_code NoGlyphs = 43
-written_code NotReadBack = 44
 written_code TooLarge = 45
 
 abbrev pub refusal : (glyph : ℕ) → (cause : ℤ) → PsfRefusal
@@ -40,7 +39,6 @@ refusal_of (MissingName glyph) = refusal glyph (pos 0)
 refusal_of (Refused cause) = refusal 0 (pos 0)
 refusal_of SeveralFonts = refusal 0 (pos 0)
 refusal_of NoGlyphs = refusal 0 (pos 0)
-refusal_of NotReadBack = refusal 0 (pos 0)
 refusal_of TooLarge = refusal 0 (pos 0)
 
 -- the font is handed over, or a refusal is told by its number, its glyph and its cause; what is not told is as it was

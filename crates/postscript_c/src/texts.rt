@@ -72,7 +72,7 @@ const TEXTS: [&str; 70] = [
     "the font set has not one font",
     "a glyph has no font dictionary",
     "no glyphs are named",
-    "the font is not read back as it was written",
+    "a status that is not answered",
     "the font is too large to be written",
     "the run takes longer than the limit",
     "an accented glyph names no codes",

@@ -5,7 +5,7 @@ ghost use Rattle.postscript_c.specs.Written.{IsFlat, IsSubset, TellsWritten, ref
 ghost use Rattle.postscript_write.specs.Sources.{chosen, keeping};
 
 use crate::status::{
-    NO_GLYPH, NO_GLYPHS, NO_NAME, NO_PART, NOT_READ_BACK, REFUSED_GLYPH, SEVERAL_FONTS, TOO_LARGE,
+    NO_GLYPH, NO_GLYPHS, NO_NAME, NO_PART, REFUSED_GLYPH, SEVERAL_FONTS, TOO_LARGE,
 };
 use crate::texts::hand_over;
 use crate::told::status;
@@ -34,7 +34,6 @@ fn written_status(e: &Error) -> i32
         Error::MissingPart(_) => NO_PART,
         Error::MissingName(_) => NO_NAME,
         Error::NoGlyphs => NO_GLYPHS,
-        Error::NotReadBack => NOT_READ_BACK,
         Error::TooLarge => TOO_LARGE,
     }
 }

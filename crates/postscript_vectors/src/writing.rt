@@ -2,10 +2,12 @@
 use crate::checks::{bytes_of, holds, holds_at, is_text};
 use crate::views::rows::{CID, PLAIN, SELECTIONS};
 use crate::views::{codes_of, joined, told};
+use postscript::compact1::FontSet;
 use postscript_drawing::{LIMIT, outline_of};
 use postscript_view::FontView;
 use postscript_write::{Error, flat_font, index, kept_glyphs, subset, subset_keeping};
 use std::alloc::Global;
+use std::io::Cursor;
 use std::process::Abort;
 
 /// What is told of each glyph of the CID-keyed font without subroutines: what was told with them, but for the bytes of the codes
@@ -126,7 +128,8 @@ fn fonts_that_are_not_written(rt: HostRuntime) {
     holds(&rt, written.is_ok(), "without glyph 2");
 }
 
-/// The only glyph calls a subroutine that returns, so that its code without calls has no byte: an item that `FontSet` does not read.
+/// The only glyph calls a subroutine that returns, so that its code without calls has no byte. It is written as `0 drop`, since
+/// `FontSet` reads no item of no bytes.
 #[test]
 fn a_code_of_no_byte(rt: HostRuntime) {
     let alloc = rt.alloc();
@@ -135,8 +138,35 @@ fn a_code_of_no_byte(rt: HostRuntime) {
         alloc,
         "01000401 000101010241 00010101051c001b11 0000 00010101020b 0001010103201d",
     );
-    let refused = flat_font(alloc, bytes.as_slice());
-    holds(&rt, matches!(refused, Err(Error::NotReadBack)), "no byte");
+    let wanted = bytes_of(
+        &rt,
+        alloc,
+        "01000404 000101010241 00010101071d0000001911 0000 0000 00010101048b0c12",
+    );
+    let flat = flat_font(alloc, bytes.as_slice()).expect(&rt, "a font");
+    holds(&rt, flat == wanted, "0 drop");
+    let read = FontSet::check_lenient(alloc, &mut Cursor::new(flat.as_slice()));
+    holds(&rt, read.is_ok(), "read as a whole");
+}
+
+/// The dictionary of a CID-keyed font names a private dictionary of its own, which only its font dictionaries are to do. It is left out.
+#[test]
+fn a_private_dictionary_of_no_glyph(rt: HostRuntime) {
+    let alloc = rt.alloc();
+    let bytes = bytes_of(
+        &rt,
+        alloc,
+        "01000401 000101010241 0001010117 8c8c8b0c1e 1c00310c24 1c00290c25 1c002b11 8b8b12 \
+            0000 0000 0000 00010101020e 00010101048b8b12",
+    );
+    let wanted = bytes_of(
+        &rt,
+        alloc,
+        "01000404 000101010241 000101011a 8c8c8b0c1e 1d0000002c0c25 1d0000002e11 1d000000340c24 \
+            0000 0000 0000 00010101020e 000101010c1d000000001d0000003412",
+    );
+    let flat = flat_font(alloc, bytes.as_slice()).expect(&rt, "a font");
+    holds(&rt, flat == wanted, "no Private beside ROS");
 }
 
 #[test]

@@ -20,15 +20,18 @@ alike xs ys b e f = by (pointwise eqb xs ys) refl
     by true p = (bytes_eq-Decides xs ys).0 p
     by false p = let g : true ≡ false = ap not (sym p) ∙ sym e ∙ f in absurd (cc)
 
-pub text_at : (codes : List (Vec ℕ Global)) (i : ℕ) (item : Vec ℕ Global) → item ≡ get_or codes i item → (text : List ℕ) → text ≡ item.items → i < length codes → text ≡ get_or (texts codes) i text
+pub text_at : (codes : List (Vec ℕ Global)) (i : ℕ) (item : Vec ℕ Global) → item ≡ get_or codes i item → (text : List ℕ) →
+    text ≡ item.items → i < length codes → text ≡ get_or (texts codes) i text
 text_at [] i item e text is h = absurd (omega arith)
 text_at (code ∷ codes) zero item e text is h = is ∙ ap (λ (v : Vec ℕ Global). v.items) e
 text_at (code ∷ codes) (suc i) item e text is h = text_at codes i item e text is (omega arith)
 
 -- Lists of items differ where items in one place do.
-pub differ : (xs ys : List (List ℕ)) (i : ℕ) (x y : List ℕ) (b : Bool) → x ≡ get_or xs i x → y ≡ get_or ys i y → i < length xs → b ≡ not (pointwise eqb x y) → b ≡ true → ys ≡ xs → ⊥
+pub differ : (xs ys : List (List ℕ)) (i : ℕ) (x y : List ℕ) (b : Bool) → x ≡ get_or xs i x → y ≡ get_or ys i y → i < length xs →
+    b ≡ not (pointwise eqb x y) → b ≡ true → ys ≡ xs → ⊥
 differ xs ys i x y b ex ey less e t same =
-    let one : x ≡ y = ex ∙ sym (ap (λ zs. get_or zs i x) same) ∙ get_or_default ys i x y (subst (λ zs. i < length zs) (sym same) less) ∙ sym ey in
+    let one : x ≡ y = ex ∙ sym (ap (λ zs. get_or zs i x) same) ∙ get_or_default ys i x y (subst (λ zs. i < length zs) (sym same) less)
+    ∙ sym ey in
     let equal : pointwise eqb x y ≡ true = (bytes_eq-Decides x y).1 one in
     let g : true ≡ false = sym t ∙ e ∙ ap not equal in
     absurd (cc)
@@ -46,7 +49,8 @@ one_more d P xs more x i many e here before =
     (λ k h. subst (P k) (sym (get_or-append xs (x ∷ []) d k (omega arith))) (before k h))
     (subst (P i) (sym (get_or_push xs x d i many)) here))
 
-pub text_more : (P : ℕ → List ℕ → Type 0) (flats more : List (Vec ℕ Global)) (flat : Vec ℕ Global) (i : ℕ) → length flats ≡ i → more ≡ flats ++ flat ∷ [] → P i flat.items →
+pub text_more : (P : ℕ → List ℕ → Type 0) (flats more : List (Vec ℕ Global)) (flat : Vec ℕ Global) (i : ℕ) → length flats ≡ i →
+    more ≡ flats ++ flat ∷ [] → P i flat.items →
     ((k : ℕ) → k < i → P k (get_or (texts flats) k [])) → (k : ℕ) → k < i + 1 → P k (get_or (texts more) k [])
 text_more P flats more flat i many e here before =
     one_more [] P (texts flats) (texts more) flat.items i (texts_many flats ∙ many) (ap texts e ∙ texts_push flats flat) here before

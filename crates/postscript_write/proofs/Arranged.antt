@@ -23,8 +23,11 @@ use Rattle.postscript_write.proofs.Heads.{same_open}
 use Rattle.postscript_write.specs.Dictionaries.{IsHeld}
 use Rattle.postscript_write.specs.declared.layout.Private.{Private}
 
-pub further : {X A : Type 0} (f : X → List A) (xs : List X) (i : ℕ) (d : X) (old new : List A) → i < length xs → old ≡ flat_map f (take i xs) → new ≡ old ++ f (get_or xs i d) → new ≡ flat_map f (take (i + 1) xs)
-further f xs i d old new less so_far more = more ∙ ap (λ ys. ys ++ f (get_or xs i d)) so_far ∙ flat_map_more f [] (take i xs) (get_or xs i d) ∙ ap (flat_map f) (sym (take_more xs i d less))
+pub further : {X A : Type 0} (f : X → List A) (xs : List X) (i : ℕ) (d : X) (old new : List A) → i < length xs →
+    old ≡ flat_map f (take i xs) → new ≡ old ++ f (get_or xs i d) → new ≡ flat_map f (take (i + 1) xs)
+further f xs i d old new less so_far more =
+    more ∙ ap (λ ys. ys ++ f (get_or xs i d)) so_far ∙ flat_map_more f [] (take i xs) (get_or xs i d)
+    ∙ ap (flat_map f) (sym (take_more xs i d less))
 
 -- one more has its bytes behind those so far, and all have no fewer
 pub record IsNext (ps : List (Option Private)) (i : ℕ) (p : Option Private) : Type 0 where
@@ -33,7 +36,8 @@ pub record IsNext (ps : List (Option Private)) (i : ℕ) (p : Option Private) : 
 
 pub is_next : (ps : List (Option Private)) (i : ℕ) (p : Option Private) → i < length ps → p ≡ get_or ps i p → IsNext ps i p
 is_next ps i p less is =
-    let text : privates_text (take i ps) ++ private_text (get_or ps i p) ≡ privates_text (take (i + 1) ps) = further private_text ps i p _ _ less refl refl in
+    let text : privates_text (take i ps) ++ private_text (get_or ps i p) ≡ privates_text
+    (take (i + 1) ps) = further private_text ps i p _ _ less refl refl in
     let more = sym (ap length text) ∙ length-append (privates_text (take i ps)) (private_text (get_or ps i p)) in
     let same = ap (λ p. length (private_text p)) is in
     let within = length-flat_map-take private_text ps i p less in
@@ -52,7 +56,8 @@ one_first map operator m n x y =
     cc
 
 -- the INDEX that an operator names is what is opened there
-pub named_opened : (bytes : List ℕ) (map : Dictionary) (operator : Operator) (place next : ℕ) (items other : List (List ℕ)) → HasFirst map operator (pos place) → IsOpened bytes place items next →
+pub named_opened : (bytes : List ℕ) (map : Dictionary) (operator : Operator) (place next : ℕ) (items other : List (List ℕ)) →
+    HasFirst map operator (pos place) → IsOpened bytes place items next →
     NamesIndex bytes map operator other → items ≡ other
 named_opened bytes map operator place next items other first opens names =
     let at : names.0 ≡ place = one_first map operator names.0 place names.1 first in
@@ -64,7 +69,8 @@ pub keyed_items : (bytes : List ℕ) (map : Dictionary) (parts : List PrivateDic
 keyed_items bytes map parts keyed (OfFont own plain is one) = let never = subst IsSome plain keyed in absurd (cc)
 keyed_items bytes map parts keyed (OfFontDictionaries items again named are) = (items, named, are)
 
-pub all_dictionaries : (bytes : List ℕ) (items : List (List ℕ)) (parts : List PrivateDict) → ArePartsOf bytes items parts → All IsSomeDictionary items × (length items ≡ length parts)
+pub all_dictionaries : (bytes : List ℕ) (items : List (List ℕ)) (parts : List PrivateDict) → ArePartsOf bytes items parts →
+    All IsSomeDictionary items × (length items ≡ length parts)
 all_dictionaries bytes [] [] are = (All-nil IsSomeDictionary, refl)
 all_dictionaries bytes [] (part ∷ parts) are = absurd are
 all_dictionaries bytes (item ∷ items) [] are = absurd are
@@ -73,12 +79,14 @@ all_dictionaries bytes (item ∷ items) (part ∷ parts) are =
     (All-cons IsSomeDictionary item items (are.0, are.1) rest.0, ap suc rest.1)
 
 -- each private dictionary stands where those before it end
-pub private_there : (ps : List (Option Private)) (number : ℕ) (bytes : List ℕ) (place : ℕ) → number < length ps → Stands (privates_text ps) bytes place →
+pub private_there : (ps : List (Option Private)) (number : ℕ) (bytes : List ℕ) (place : ℕ) → number < length ps →
+    Stands (privates_text ps) bytes place →
     Stands (private_text (get_or ps number None)) bytes (private_offset place ps number)
 private_there ps number bytes place less stands =
     let front : List ℕ = privates_text (take number ps) in
     let own : List ℕ = private_text (get_or ps number None) in
     let behind : List ℕ = privates_text (drop (suc number) ps) in
     let parted : privates_text ps ≡ front ++ (own ++ behind) =
-    ap privates_text (sym (take-append-drop number ps)) ∙ flat_map-append private_text (take number ps) (drop number ps) ∙ ap (λ xs. front ++ privates_text xs) (drop-cons ps number None less) in
+    ap privates_text (sym (take-append-drop number ps)) ∙ flat_map-append private_text (take number ps) (drop number ps)
+    ∙ ap (λ xs. front ++ privates_text xs) (drop-cons ps number None less) in
     stands_first own behind (stands_second front (own ++ behind) (subst (λ text. Stands text bytes place) parted stands))

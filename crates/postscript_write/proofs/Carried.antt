@@ -26,7 +26,14 @@ pub record SameRuns (run other : Run) : Type 0 where
   pub other_faultless : fault_of other.end ≡ None
 
 pub turned : (run other : Run) → SameRuns run other → SameRuns other run
-turned run other s = record { answers = sym s.answers; width = sym s.width; taken = sym s.taken; faultless = s.other_faultless; other_faultless = s.faultless }
+turned run other s =
+    record {
+      answers = sym s.answers;
+      width = sym s.width;
+      taken = sym s.taken;
+      faultless = s.other_faultless;
+      other_faultless = s.faultless;
+    }
 
 -- a glyph has a run that says the same
 pub record HasSame (font : FontView) (glyph : ℕ) (run : Run) : Type 0 where
@@ -45,7 +52,9 @@ CarriesCode old new code glyph = (i : ℕ) × IsComponent new code i × Carries 
 
 -- the components that a glyph names are carried over
 abbrev pub CarriesComponents : (old new : FontView) → (glyph : ℕ) → Type 0
-CarriesComponents old new glyph = (accent : Accent) (code one : ℕ) → IsAccented old glyph accent → (code ≡ accent.base) ⊎ (code ≡ accent.accent) → IsComponent old code one → CarriesCode old new code one
+CarriesComponents old new glyph =
+    (accent : Accent) (code one : ℕ) → IsAccented old glyph accent → (code ≡ accent.base) ⊎ (code ≡ accent.accent) → IsComponent old code
+    one → CarriesCode old new code one
 
 finished-same : (a b : End) (d : Drawing) → fault_of a ≡ None → fault_of b ≡ None → finished b d ≡ finished a d
 finished-same a b d x y = so b y ∙ sym (so a x)
@@ -60,12 +69,14 @@ then-same : (r : Result Drawing Refusal) (a b : End) → fault_of a ≡ None →
 then-same (Ok d) a b x y = finished-same a b d x y
 then-same (Err e) a b x y = refl
 
-draws-same : (origin : Point) (run other : Run) (segments : List Segment) → SameRuns run other → DrawsAt origin run segments → DrawsAt origin other segments
+draws-same : (origin : Point) (run other : Run) (segments : List Segment) → SameRuns run other → DrawsAt origin run segments →
+    DrawsAt origin other segments
 draws-same origin run other segments s draws =
     ap (λ answers. drawing_of answers (blank_at origin) >>= finished other.end) s.answers
     ∙ then-same (drawing_of run.answers (blank_at origin)) run.end other.end s.faultless s.other_faultless ∙ draws
 
-draws-component : (old new : FontView) (code : ℕ) (origin : Point) (segments : List Segment) → ((one : ℕ) → IsComponent old code one → CarriesCode old new code one) →
+draws-component : (old new : FontView) (code : ℕ) (origin : Point) (segments : List Segment) →
+    ((one : ℕ) → IsComponent old code one → CarriesCode old new code one) →
     DrawsComponent old code origin segments → DrawsComponent new code origin segments
 draws-component old new code origin segments codes d =
     let at = codes d.glyph d.component in
@@ -80,7 +91,8 @@ draws-component old new code origin segments codes d =
       draws = draws-same origin d.run run.other segments run.same d.draws;
     }
 
-pub carried : (old new : FontView) (glyph i : ℕ) (segments : List Segment) (width : Option ℤ) → Carries old new glyph i → CarriesComponents old new glyph →
+pub carried : (old new : FontView) (glyph i : ℕ) (segments : List Segment) (width : Option ℤ) → Carries old new glyph i →
+    CarriesComponents old new glyph →
     IsDrawnAs old glyph segments width → IsDrawnAs new i segments width
 carried old new glyph i segments width runs codes d =
     let run = runs d.part d.run d.has in
@@ -89,9 +101,13 @@ carried old new glyph i segments width runs codes d =
       run = run.other;
       has = run.has;
       drawn = elim d.drawn [
-        | inl plain ↦ inl (record { plain = run.same.taken ∙ plain.plain; draws = draws-same zero_point d.run run.other segments run.same plain.draws })
+        | inl plain ↦ inl (record {
+          plain = run.same.taken ∙ plain.plain;
+          draws = draws-same zero_point d.run run.other segments run.same plain.draws;
+        })
         | inr more ↦ inr (
-            let accented : IsAccented old glyph more.accent = record { part = d.part; run = d.run; has = d.has; accented = more.accented } in
+            let accented : IsAccented old glyph
+            more.accent = record { part = d.part; run = d.run; has = d.has; accented = more.accented } in
             record {
               accent = more.accent;
               own = more.own;
@@ -101,8 +117,10 @@ carried old new glyph i segments width runs codes d =
               draws_more = record {
                 base = more.draws_more.base;
                 above = more.draws_more.above;
-                draws_base = draws-component old new more.accent.base zero_point more.draws_more.base (λ one is. codes more.accent more.accent.base one accented (inl refl) is) more.draws_more.draws_base;
-                draws_accent = draws-component old new more.accent.accent (point more.accent.dx more.accent.dy) more.draws_more.above (λ one is. codes more.accent more.accent.accent one accented (inr refl) is) more.draws_more.draws_accent;
+                draws_base = draws-component old new more.accent.base zero_point more.draws_more.base
+                    (λ one is. codes more.accent more.accent.base one accented (inl refl) is) more.draws_more.draws_base;
+                draws_accent = draws-component old new more.accent.accent (point more.accent.dx more.accent.dy) more.draws_more.above
+                    (λ one is. codes more.accent more.accent.accent one accented (inr refl) is) more.draws_more.draws_accent;
                 all = more.draws_more.all;
               };
               all = more.all;

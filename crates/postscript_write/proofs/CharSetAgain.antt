@@ -32,20 +32,23 @@ abbrev set_of : Identifiers → (glyphs : ℕ) → CharSetView
 set_of own glyphs = record { identifiers = own; glyphs = glyphs; marks = no_marks; marked = unmarked own }
 
 -- what a dictionary names at an offset
-at_offset : (own : Identifiers) (bytes : List ℕ) (map : Dictionary) (glyphs offset : ℕ) → offset_of map CharSet ≡ Some offset → AreNamedIn own bytes map glyphs → IsNamedBy own bytes offset glyphs
+at_offset : (own : Identifiers) (bytes : List ℕ) (map : Dictionary) (glyphs offset : ℕ) → offset_of map CharSet ≡ Some offset →
+    AreNamedIn own bytes map glyphs → IsNamedBy own bytes offset glyphs
 at_offset own bytes map glyphs offset e is =
     let other = is.1 in
     let same : is.0 ≡ offset = cc in
     subst (λ o. IsNamedBy own bytes o glyphs) same is.2
 
-predefined_stays : (own : Identifiers) (bytes out : List ℕ) (offset glyphs : ℕ) → offset < 3 → IsNamedBy own bytes offset glyphs → IsNamedBy own out offset glyphs
+predefined_stays : (own : Identifiers) (bytes out : List ℕ) (offset glyphs : ℕ) → offset < 3 → IsNamedBy own bytes offset glyphs →
+    IsNamedBy own out offset glyphs
 predefined_stays own bytes out offset glyphs low (inl is) = inl is
 predefined_stays own bytes out offset glyphs low (inr (inl is)) = inr (inl is)
 predefined_stays own bytes out offset glyphs low (inr (inr (inl is))) = inr (inr (inl is))
 predefined_stays own bytes out offset glyphs low (inr (inr (inr is))) = absurd (omega (arith, is.0, low))
 
 -- a predefined set is named by its offset alone
-predefined_alike : (one other : Identifiers) (bytes out : List ℕ) (offset glyphs : ℕ) → offset < 3 → IsNamedBy one bytes offset glyphs → IsNamedBy other out offset glyphs → other ≡ one
+predefined_alike : (one other : Identifiers) (bytes out : List ℕ) (offset glyphs : ℕ) → offset < 3 → IsNamedBy one bytes offset glyphs →
+    IsNamedBy other out offset glyphs → other ≡ one
 predefined_alike one other bytes out offset glyphs low (inl a) (inl b) = b.1 ∙ sym a.1
 predefined_alike one other bytes out offset glyphs low (inr (inl a)) (inr (inl b)) = b.1 ∙ sym a.1
 predefined_alike one other bytes out offset glyphs low (inr (inr (inl a))) (inr (inr (inl b))) = b.1 ∙ sym a.1
@@ -58,7 +61,8 @@ predefined_alike one other bytes out offset glyphs low (inr (inl a)) (inr (inr (
 predefined_alike one other bytes out offset glyphs low (inr (inr (inl a))) (inl b) = absurd (omega (arith, a.0, b.0))
 predefined_alike one other bytes out offset glyphs low (inr (inr (inl a))) (inr (inl b)) = absurd (omega (arith, a.0, b.0))
 
-own_stands : (own : Identifiers) (bytes : List ℕ) (offset glyphs : ℕ) → 3 ≤ offset → IsNamedBy own bytes offset glyphs → StandsAt own bytes offset glyphs
+own_stands : (own : Identifiers) (bytes : List ℕ) (offset glyphs : ℕ) → 3 ≤ offset → IsNamedBy own bytes offset glyphs →
+    StandsAt own bytes offset glyphs
 own_stands own bytes offset glyphs high (inl is) = absurd (omega (arith, is.0, high))
 own_stands own bytes offset glyphs high (inr (inl is)) = absurd (omega (arith, is.0, high))
 own_stands own bytes offset glyphs high (inr (inr (inl is))) = absurd (omega (arith, is.0, high))
@@ -70,8 +74,12 @@ NameAlike old new = (glyph identifier : ℕ) → Names old glyph identifier ↔ 
 
 -- the same identifiers behind the first glyph, for as many glyphs
 names_alike : (old new : CharSetView) → new.glyphs ≡ old.glyphs →
-    ((glyph identifier : ℕ) → glyph < old.glyphs - 1 → NamesBehind old.identifiers glyph identifier ↔ NamesBehind new.identifiers glyph identifier) → NameAlike old new
-names_alike old new same behind glyph identifier = (λ is. record { there = there is.there; told = to is.there is.told }, λ is. let less = is.there in record { there = omega (arith, less, same); told = from (omega (arith, less, same)) is.told })
+    ((glyph identifier : ℕ) → glyph < old.glyphs - 1 → NamesBehind old.identifiers glyph identifier ↔ NamesBehind new.identifiers glyph
+    identifier) → NameAlike old new
+names_alike old new same behind glyph identifier = (
+  λ is. record { there = there is.there; told = to is.there is.told },
+  λ is. let less = is.there in record { there = omega (arith, less, same); told = from (omega (arith, less, same)) is.told },
+)
   where
     there : glyph < old.glyphs → glyph < new.glyphs
     there less = omega (arith, less, same)
@@ -89,14 +97,26 @@ pub record IsKept (old : CharSetView) (out : List ℕ) (new : Dictionary) (glyph
   pub some : (again : CharSetView) × IsCharSetOf again out new glyphs
   pub alike : (again : CharSetView) → IsCharSetOf again out new glyphs → NameAlike old again
 
-pub set_kept : (old : CharSetView) (bytes out : List ℕ) (map new : Dictionary) (glyphs : ℕ) (char_set : Option (Vec ℕ Global)) (place : ℕ) → IsCharSetOf old bytes map glyphs →
+pub set_kept : (old : CharSetView) (bytes out : List ℕ) (map new : Dictionary) (glyphs : ℕ) (char_set : Option (Vec ℕ Global))
+    (place : ℕ) → IsCharSetOf old bytes map glyphs →
     look new CharSet ≡ option_or (named_by (place_if CharSet char_set place) CharSet) (look map CharSet) →
-    All IsHeld (place_if CharSet char_set place) → 3 ≤ place → Stands (text_of char_set) out place → drop place out ≡ text_of char_set → IsOwnCharSet bytes map glyphs (items_if char_set) → IsKept old out new glyphs
+    All IsHeld (place_if CharSet char_set place) → 3 ≤ place → Stands
+    (text_of char_set) out place → drop place out ≡ text_of char_set → IsOwnCharSet bytes map glyphs
+    (items_if char_set) → IsKept old out new glyphs
 set_kept old bytes out map new glyphs None place is look_is held past stands last own = record {
-  some = (old, record { identifiers = (own.0, there, predefined_stays old.identifiers bytes out own.0 glyphs own.2 named); counted = is.counted });
+  some = (
+    old,
+    record {
+      identifiers = (own.0, there, predefined_stays old.identifiers bytes out own.0 glyphs own.2 named);
+      counted = is.counted;
+    },
+  );
   alike = λ again has.
-      let same : again.identifiers ≡ old.identifiers = predefined_alike old.identifiers again.identifiers bytes out own.0 glyphs own.2 named (at_offset again.identifiers out new glyphs own.0 there has.identifiers) in
-      names_alike old again (has.counted ∙ sym is.counted) (λ glyph identifier less. subst (λ ids. NamesBehind old.identifiers glyph identifier ↔ NamesBehind ids glyph identifier) (sym same) (λ h. h, λ h. h));
+      let same : again.identifiers ≡ old.identifiers = predefined_alike old.identifiers again.identifiers bytes out own.0 glyphs own.2
+      named (at_offset again.identifiers out new glyphs own.0 there has.identifiers) in
+      names_alike old again (has.counted ∙ sym is.counted)
+      (λ glyph identifier less. subst (λ ids. NamesBehind old.identifiers glyph identifier ↔ NamesBehind ids glyph identifier)
+      (sym same) (λ h. h, λ h. h));
 }
   where
     there : offset_of new CharSet ≡ Some own.0
@@ -111,7 +131,9 @@ set_kept old bytes out map new glyphs (Some text) place is look_is held past sta
   alike = λ again has.
       let counted = is.counted in
       names_alike old again (has.counted ∙ sym is.counted) (λ glyph identifier less.
-      names_same text.items bytes out offset place glyphs front stands last all old.identifiers again.identifiers glyph identifier own (own_stands again.identifiers out place glyphs past (at_offset again.identifiers out new glyphs place there has.identifiers)) (omega (arith, less, counted)));
+      names_same text.items bytes out offset place glyphs front stands last all old.identifiers again.identifiers glyph identifier own
+      (own_stands again.identifiers out place glyphs past (at_offset again.identifiers out new glyphs place there has.identifiers))
+      (omega (arith, less, counted)));
 }
   where
     front : Stands text.items bytes offset
@@ -132,15 +154,23 @@ set_kept old bytes out map new glyphs (Some text) place is look_is held past sta
 -- The first glyph is named by 0, and each other one by the new identifier in its place.
 pub record IsListed (strings : Strings) (identifiers : List ℕ) (again : CharSetView) : Type 0 where
   pub first : Names again 0 0
-  pub each : (i identifier : ℕ) → i < length identifiers → Names again (i + 1) identifier ↔ (new_identifier strings (get_or identifiers i 0) ≡ identifier)
+  pub each : (i identifier : ℕ) → i < length identifiers →
+      Names again (i + 1) identifier ↔ (new_identifier strings (get_or identifiers i 0) ≡ identifier)
 
 -- New identifiers are listed: there is such a char set, and each one names the glyphs so.
 pub record AreListed (strings : Strings) (identifiers : List ℕ) (out : List ℕ) (new : Dictionary) (glyphs : ℕ) : Type 0 where
   pub some : (again : CharSetView) × IsCharSetOf again out new glyphs
   pub names : (again : CharSetView) → IsCharSetOf again out new glyphs → IsListed strings identifiers again
 
-behind_first : (again : CharSetView) (i identifier value : ℕ) → i + 1 < again.glyphs → NamesBehind again.identifiers i identifier ↔ (value ≡ identifier) → Names again (i + 1) identifier ↔ (value ≡ identifier)
-behind_first again i identifier value less both = (λ is. to is.told, λ is. record { there = less; told = inr (omega arith, subst (λ n. NamesBehind again.identifiers n identifier) back (both.1 is)) })
+behind_first : (again : CharSetView) (i identifier value : ℕ) → i + 1 < again.glyphs →
+    NamesBehind again.identifiers i identifier ↔ (value ≡ identifier) → Names again (i + 1) identifier ↔ (value ≡ identifier)
+behind_first again i identifier value less both = (
+  λ is. to is.told,
+  λ is. record {
+    there = less;
+    told = inr (omega arith, subst (λ n. NamesBehind again.identifiers n identifier) back (both.1 is));
+  },
+)
   where
     back : i ≡ i + 1 - 1
     back = omega arith
@@ -149,19 +179,27 @@ behind_first again i identifier value less both = (λ is. to is.told, λ is. rec
     to (inl first) = absurd (omega (arith, first.0))
     to (inr more) = both.0 (subst (λ n. NamesBehind again.identifiers n identifier) (sym back) more.1)
 
-pub set_listed : (lent : Bor (List ℕ)) (strings : Strings) (identifiers : List ℕ) (out : List ℕ) (map new : Dictionary) (glyphs : ℕ) (char_set : Option (Vec ℕ Global)) (place : ℕ) →
+pub set_listed : (lent : Bor (List ℕ)) (strings : Strings) (identifiers : List ℕ) (out : List ℕ) (map new : Dictionary) (glyphs : ℕ)
+    (char_set : Option (Vec ℕ Global)) (place : ℕ) →
     look new CharSet ≡ option_or (named_by (place_if CharSet char_set place) CharSet) (look map CharSet) →
-    All IsHeld (place_if CharSet char_set place) → 3 ≤ place → Stands (text_of char_set) out place → items_if char_set ≡ Some (names_text strings identifiers) → glyphs ≡ 1 + length identifiers →
-    ((i : ℕ) → i < length identifiers → new_identifier strings (get_or identifiers i 0) < 65536) → AreListed strings identifiers out new glyphs
+    All IsHeld (place_if CharSet char_set place) → 3 ≤ place → Stands (text_of char_set) out place → items_if char_set ≡ Some
+    (names_text strings identifiers) → glyphs ≡ 1 + length identifiers →
+    ((i : ℕ) → i < length identifiers → new_identifier strings (get_or identifiers i 0) < 65536) → AreListed strings identifiers out new
+    glyphs
 set_listed lent strings identifiers out map new glyphs None place look_is held past stands own many low = absurd (cc)
 set_listed lent strings identifiers out map new glyphs (Some text) place look_is held past stands own many low = record {
-  some = let again = list_stands (new_identifier strings) identifiers out place there glyphs many lent in (set_of again.0 glyphs, record { identifiers = (place, names, inr (inr (inr (past, again.1)))); counted = refl });
+  some = let again = list_stands (new_identifier strings) identifiers out place there glyphs many lent in
+      (set_of again.0 glyphs, record { identifiers = (place, names, inr (inr (inr (past, again.1)))); counted = refl });
   names = λ again has.
       let counted = has.counted in
-      let own_set = own_stands again.identifiers out place glyphs past (at_offset again.identifiers out new glyphs place names has.identifiers) in
+      let own_set = own_stands again.identifiers out place glyphs past
+      (at_offset again.identifiers out new glyphs place names has.identifiers) in
       record {
         first = record { there = omega (arith, counted, many); told = inl (refl, refl) };
-        each = λ i identifier less. behind_first again i identifier (new_identifier strings (get_or identifiers i 0)) (omega (arith, less, counted, many)) (list_names (new_identifier strings) identifiers out place there glyphs many again.identifiers i identifier own_set less (low i less));
+        each = λ i identifier less. behind_first again i identifier (new_identifier strings (get_or identifiers i 0))
+            (omega (arith, less, counted, many))
+            (list_names (new_identifier strings) identifiers out place there glyphs many again.identifiers i identifier own_set less
+            (low i less));
       };
 }
   where

@@ -27,7 +27,9 @@ covered_mono ranges size k (suc m) =
     omega (arith, before, more, ap (covered ranges size) e)
 
 among : (size r n : ℕ) → r < n / (2 + size) → r * (2 + size) + (2 + size) ≤ n
-among size r n less = let up : (r + 1) * (2 + size) ≤ n = (le-div_iff_mul-le {k = 2 + size} {x = r + 1} {y = n} (omega arith)).0 (omega (arith, less)) in omega (arith, up)
+among size r n less =
+    let up : (r + 1) * (2 + size) ≤ n = (le-div_iff_mul-le {k = 2 + size} {x = r + 1} {y = n} (omega arith)).0 (omega (arith, less)) in
+    omega (arith, up)
 
 fits : (size r n : ℕ) → r * (2 + size) + (2 + size) ≤ n → r < n / (2 + size)
 fits size r n most =
@@ -63,7 +65,8 @@ module _ (text bytes : List ℕ) (size : ℕ) (s : Stands text bytes 0) where
       }
 
   -- and where those of the text cover the glyph, so does one of the bytes
-  of_bytes : (last glyph identifier : ℕ) → length text ≡ last * (2 + size) → glyph < covered bytes size last → IsNamed bytes size glyph identifier → IsNamed text size glyph identifier
+  of_bytes : (last glyph identifier : ℕ) → length text ≡ last * (2 + size) → glyph < covered bytes size last →
+      IsNamed bytes size glyph identifier → IsNamed text size glyph identifier
   of_bytes last glyph identifier long less is = named
     where
       r : ℕ
@@ -107,22 +110,27 @@ nothing_behind xs [] same = append-nil xs
 nothing_behind xs (y ∷ ys) same = absurd (omega (arith, same, length-append xs (y ∷ ys)))
 
 -- what ranges name stays, where the text of them is all
-ranges_same : (text bytes : List ℕ) (size glyphs glyph identifier : ℕ) → Stands text bytes 0 → RangesEnd bytes size glyphs (length text) → glyph < glyphs →
+ranges_same : (text bytes : List ℕ) (size glyphs glyph identifier : ℕ) → Stands text bytes 0 → RangesEnd bytes size glyphs (length text) →
+    glyph < glyphs →
     IsNamed bytes size glyph identifier ↔ IsNamed text size glyph identifier
-ranges_same text bytes size glyphs glyph identifier s ends less = (there ends.enough, λ is. of_text text bytes size s glyph identifier is longer)
+ranges_same text bytes size glyphs glyph identifier s ends less =
+    (there ends.enough, λ is. of_text text bytes size s glyph identifier is longer)
   where
     longer : length text ≤ length bytes
     longer = let e = ap length s.there in omega (arith, e, length-append text s.behind)
 
-    there : ((r : ℕ) × (length text ≡ r * (2 + size)) × (glyphs ≤ covered bytes size r)) ⊎ (length text ≡ length bytes) → IsNamed bytes size glyph identifier → IsNamed text size glyph identifier
-    there (inl enough) is = let all = enough.2 in of_bytes text bytes size s enough.0 glyph identifier enough.1 (omega (arith, all, less)) is
+    there : ((r : ℕ) × (length text ≡ r * (2 + size)) × (glyphs ≤ covered bytes size r)) ⊎ (length text ≡ length bytes) →
+        IsNamed bytes size glyph identifier → IsNamed text size glyph identifier
+    there (inl enough) is =
+        let all = enough.2 in of_bytes text bytes size s enough.0 glyph identifier enough.1 (omega (arith, all, less)) is
     there (inr all) is = subst (λ xs. IsNamed xs size glyph identifier) (whole) is
       where
         whole : bytes ≡ text
         whole = s.there ∙ nothing_behind text s.behind (all ∙ ap length s.there)
 
 -- Two char sets stand at the ends of bytes, where their text is the same: they give each glyph the same identifier.
-module _ (text a b : List ℕ) (p q glyphs : ℕ) (sa : Stands text a p) (sb : Stands text b q) (last : drop q b ≡ text) (ends : CharSetEnds a glyphs p (p + length text)) where
+module _ (text a b : List ℕ) (p q glyphs : ℕ) (sa : Stands text a p) (sb : Stands text b q) (last : drop q b ≡ text)
+    (ends : CharSetEnds a glyphs p (p + length text)) where
   rest_is : drop (q + 1) b ≡ drop 1 text
   rest_is = sym (drop-drop 1 q b) ∙ ap (drop 1) last
 
@@ -147,16 +155,20 @@ module _ (text a b : List ℕ) (p q glyphs : ℕ) (sa : Stands text a p) (sb : S
   }
 
   -- ranges of this size
-  of_ranges : (size glyph identifier : ℕ) → number_at a p 1 ≡ size → 1 ≤ size → glyph < glyphs - 1 → IsNamed (drop (p + 1) a) size glyph identifier ↔ IsNamed (drop (q + 1) b) size glyph identifier
+  of_ranges : (size glyph identifier : ℕ) → number_at a p 1 ≡ size → 1 ≤ size → glyph < glyphs - 1 →
+      IsNamed (drop (p + 1) a) size glyph identifier ↔ IsNamed (drop (q + 1) b) size glyph identifier
   of_ranges size glyph identifier is least less = by ends
     where
-      by : CharSetEnds a glyphs p (p + length text) → IsNamed (drop (p + 1) a) size glyph identifier ↔ IsNamed (drop (q + 1) b) size glyph identifier
+      by : CharSetEnds a glyphs p (p + length text) →
+          IsNamed (drop (p + 1) a) size glyph identifier ↔ IsNamed (drop (q + 1) b) size glyph identifier
       by (inl listed) = absurd (omega (arith, listed.0, is, least))
       by (inr ranges) =
           let same : ranges.0 ≡ size = sym ranges.2 ∙ is in
           let long : ranges.1 ≡ length (drop 1 text) = let e = ranges.6 in omega (arith, e, length-drop 1 text) in
-          let own = subst (λ n. RangesEnd (drop (p + 1) a) size (glyphs - 1) n) long (subst (λ n. RangesEnd (drop (p + 1) a) n (glyphs - 1) ranges.1) same ranges.5) in
-          subst (λ xs. IsNamed (drop (p + 1) a) size glyph identifier ↔ IsNamed xs size glyph identifier) (sym rest_is) (ranges_same (drop 1 text) (drop (p + 1) a) size (glyphs - 1) glyph identifier behind own less)
+          let own = subst (λ n. RangesEnd (drop (p + 1) a) size (glyphs - 1) n) long
+          (subst (λ n. RangesEnd (drop (p + 1) a) n (glyphs - 1) ranges.1) same ranges.5) in
+          subst (λ xs. IsNamed (drop (p + 1) a) size glyph identifier ↔ IsNamed xs size glyph identifier) (sym rest_is)
+          (ranges_same (drop 1 text) (drop (p + 1) a) size (glyphs - 1) glyph identifier behind own less)
 
   -- identifiers of two bytes each
   listed_long : number_at a p 1 ≡ 0 → 1 + 2 * (glyphs - 1) ≤ length text
@@ -177,10 +189,13 @@ module _ (text a b : List ℕ) (p q glyphs : ℕ) (sa : Stands text a p) (sb : S
   stands_again Expert is = absurd is
   stands_again ExpertSubset is = absurd is
   stands_again (Listed xs) is = (Listed xs, (format ∙ is.0, omega (arith, listed_long is.0, room), is.2 ∙ sym (listed is.0)))
-  stands_again (Ranges1 xs) is = (Ranges1 (record { ref_ptr = xs.ref_ptr; now = drop (q + 1) b }), (format ∙ is.0, omega (arith, some, room), refl))
-  stands_again (Ranges2 xs) is = (Ranges2 (record { ref_ptr = xs.ref_ptr; now = drop (q + 1) b }), (format ∙ is.0, omega (arith, some, room), refl))
+  stands_again (Ranges1 xs) is =
+      (Ranges1 (record { ref_ptr = xs.ref_ptr; now = drop (q + 1) b }), (format ∙ is.0, omega (arith, some, room), refl))
+  stands_again (Ranges2 xs) is =
+      (Ranges2 (record { ref_ptr = xs.ref_ptr; now = drop (q + 1) b }), (format ∙ is.0, omega (arith, some, room), refl))
 
-  pub names_same : (old new : Identifiers) (glyph identifier : ℕ) → StandsAt old a p glyphs → StandsAt new b q glyphs → glyph < glyphs - 1 → NamesBehind old glyph identifier ↔ NamesBehind new glyph identifier
+  pub names_same : (old new : Identifiers) (glyph identifier : ℕ) → StandsAt old a p glyphs → StandsAt new b q glyphs →
+      glyph < glyphs - 1 → NamesBehind old glyph identifier ↔ NamesBehind new glyph identifier
   names_same ISOAdobe new glyph identifier is now less = absurd is
   names_same Expert new glyph identifier is now less = absurd is
   names_same ExpertSubset new glyph identifier is now less = absurd is
@@ -198,7 +213,9 @@ module _ (text a b : List ℕ) (p q glyphs : ℕ) (sa : Stands text a p) (sb : S
   names_same (Ranges2 xs) (Ranges1 ys) glyph identifier is now less = absurd (omega (arith, is.0, now.0, format))
   names_same (Ranges1 xs) (Ranges1 ys) glyph identifier is now less =
       subst (λ zs. IsNamed zs 1 glyph identifier ↔ IsNamed ys.now 1 glyph identifier) (sym is.2)
-      (subst (λ zs. IsNamed (drop (p + 1) a) 1 glyph identifier ↔ IsNamed zs 1 glyph identifier) (sym now.2) (of_ranges 1 glyph identifier is.0 (omega arith) less))
+      (subst (λ zs. IsNamed (drop (p + 1) a) 1 glyph identifier ↔ IsNamed zs 1 glyph identifier) (sym now.2)
+      (of_ranges 1 glyph identifier is.0 (omega arith) less))
   names_same (Ranges2 xs) (Ranges2 ys) glyph identifier is now less =
       subst (λ zs. IsNamed zs 2 glyph identifier ↔ IsNamed ys.now 2 glyph identifier) (sym is.2)
-      (subst (λ zs. IsNamed (drop (p + 1) a) 2 glyph identifier ↔ IsNamed zs 2 glyph identifier) (sym now.2) (of_ranges 2 glyph identifier is.0 (omega arith) less))
+      (subst (λ zs. IsNamed (drop (p + 1) a) 2 glyph identifier ↔ IsNamed zs 2 glyph identifier) (sym now.2)
+      (of_ranges 2 glyph identifier is.0 (omega arith) less))

@@ -37,7 +37,8 @@ two_low bytes place low within =
     omega (arith, of_two bytes place within, high, next)
 
 -- an INDEX counts its items in two bytes
-opened_few : (bytes : List ℕ) (place next : ℕ) (items : List (List ℕ)) → AreLow bytes → IsOpened bytes place items next → length items < 2 ^ 16
+opened_few : (bytes : List ℕ) (place next : ℕ) (items : List (List ℕ)) → AreLow bytes → IsOpened bytes place items next →
+    length items < 2 ^ 16
 opened_few bytes place next items low (inl empty) = omega (arith, ap length empty.no_items)
 opened_few bytes place next items low (inr spread) =
     let offsets = spread.laid.offsets in
@@ -48,14 +49,16 @@ pub names_few : (font : FontView) → IsRead font → AreLow font.bytes.now → 
 names_few font read low = opened_few font.bytes.now _ read.laid.tables.names_next (items_of font.names) low read.laid.tables.are_names
 
 pub strings_few : (font : FontView) → IsRead font → AreLow font.bytes.now → length (items_of font.strings) < 2 ^ 16
-strings_few font read low = opened_few font.bytes.now _ read.laid.tables.strings_next (items_of font.strings) low read.laid.tables.are_strings
+strings_few font read low =
+    opened_few font.bytes.now _ read.laid.tables.strings_next (items_of font.strings) low read.laid.tables.are_strings
 
 pub glyphs_few : (font : FontView) → IsRead font → AreLow font.bytes.now → length (items_of font.char_strings) < 2 ^ 16
 glyphs_few font read low =
     let named = read.laid.char_strings.named in
     opened_few font.bytes.now named.0 named.2.0 (items_of font.char_strings) low named.2.2
 
-some_parts : (bytes : List ℕ) (map : Dictionary) (parts : List PrivateDict) → AreLow bytes → AreParts bytes map parts → length parts < 2 ^ 16
+some_parts : (bytes : List ℕ) (map : Dictionary) (parts : List PrivateDict) → AreLow bytes → AreParts bytes map parts →
+    length parts < 2 ^ 16
 some_parts bytes map parts low (OfFont part plain is one) = omega (arith, ap length one)
 some_parts bytes map parts low (OfFontDictionaries items keyed named are) =
     let few = opened_few bytes named.0 named.2.0 items low named.2.2 in
@@ -63,11 +66,16 @@ some_parts bytes map parts low (OfFontDictionaries items keyed named are) =
 
 pub parts_few : (font : FontView) → IsRead font → AreLow font.bytes.now → length font.parts.items < 2 ^ 16
 parts_few font read low =
-    omega (arith, some_parts font.bytes.now font.dictionary (parts_shown font.parts.items) low read.laid.parts, length-map font.parts.items part_shown)
+    omega (
+      arith,
+      some_parts font.bytes.now font.dictionary (parts_shown font.parts.items) low read.laid.parts,
+      length-map font.parts.items part_shown,
+    )
 
 -- the number that an FDSelect gives has one byte
 given_low : (bytes : List ℕ) (place glyphs glyph fd : ℕ) → AreLow bytes → Selects bytes place glyphs glyph fd → fd < 256
-given_low bytes place glyphs glyph fd low (inl listed) = let is = listed.dictionary in omega (arith, is, one_low bytes (place + 1 + glyph) low)
+given_low bytes place glyphs glyph fd low (inl listed) =
+    let is = listed.dictionary in omega (arith, is, one_low bytes (place + 1 + glyph) low)
 given_low bytes place glyphs glyph fd low (inr ranges) =
     let one = ranges.range in
     let is = one.dictionary in
@@ -79,11 +87,13 @@ part_low bytes font glyph number low has = elim has.selected [
   | inr several ↦ (let selected = several.1 in given_low bytes selected.0 (length font.char_strings) glyph number low selected.2)
 ]
 
-number_low : (bytes : List ℕ) (font : View) (source : Option ℕ) (number : ℕ) → AreLow bytes → HasPartFor bytes font source number → number < 256
+number_low : (bytes : List ℕ) (font : View) (source : Option ℕ) (number : ℕ) → AreLow bytes → HasPartFor bytes font source number →
+    number < 256
 number_low bytes font None number low is = omega (arith, is)
 number_low bytes font (Some glyph) number low has = part_low bytes font glyph number low has
 
-pub numbers_low : (bytes : List ℕ) (font : View) (sources : Sources) (numbers : List ℕ) → AreLow bytes → AreNumbersOf bytes font sources numbers → AreLow numbers
+pub numbers_low : (bytes : List ℕ) (font : View) (sources : Sources) (numbers : List ℕ) → AreLow bytes →
+    AreNumbersOf bytes font sources numbers → AreLow numbers
 numbers_low bytes font sources numbers low are i less =
     let many = are.many in
     number_low bytes font (get_or sources i None) (get_or numbers i 0) low (are.each i (omega (arith, less, many)))

@@ -51,7 +51,8 @@ pub record RunAt (bytes : List ℕ) (font : View) (glyph : ℕ) (run : Run) : Ty
   pub has : HasGlyph bytes font glyph code number part
   pub runs : run ≡ run_in font part code
 
-to-shown : (font : FontView) (glyph : ℕ) (part : PrivateDict) (run : Run) → HasRun font glyph part run → RunAt font.bytes.now (view_shown font) glyph run
+to-shown : (font : FontView) (glyph : ℕ) (part : PrivateDict) (run : Run) → HasRun font glyph part run →
+    RunAt font.bytes.now (view_shown font) glyph run
 to-shown font glyph part run h =
     let many : length (parts_shown font.parts.items) ≡ length font.parts.items = length-map font.parts.items part_shown in
     let number = h.has.number in
@@ -64,22 +65,27 @@ to-shown font glyph part run h =
         has_part = slice_get-map part_shown font.parts.items number ∙ ap (option_map part_shown) h.has.has_part;
         is_its = record {
           there = subst (λ n. number < n) (sym many) h.has.has_number.part_there;
-          selected = subst (λ n. ((n ≡ 1) × (number ≡ 0)) ⊎ ((n ≡ 1 → ⊥) × IsSelected font.bytes.now font.dictionary (glyphs_of font) glyph number)) (sym many) h.has.has_number.selected;
+          selected = subst (λ n. ((n ≡ 1) × (number ≡ 0)) ⊎ ((n ≡ 1 → ⊥) × IsSelected font.bytes.now font.dictionary
+              (glyphs_of font) glyph number)) (sym many) h.has.has_number.selected;
         };
       };
       runs = h.runs;
     }
 
-from-shown : (font : FontView) (glyph : ℕ) (run : Run) → RunAt font.bytes.now (view_shown font) glyph run → (part : PrivateDict) × HasRun font glyph part run
+from-shown : (font : FontView) (glyph : ℕ) (run : Run) → RunAt font.bytes.now (view_shown font) glyph run →
+    (part : PrivateDict) × HasRun font glyph part run
 from-shown font glyph run h = by (slice_get font.parts.items h.number) refl
   where
     many : length (parts_shown font.parts.items) ≡ length font.parts.items
     many = length-map font.parts.items part_shown
 
     by : (o : Option PrivateDict) → slice_get font.parts.items h.number ≡ o → (part : PrivateDict) × HasRun font glyph part run
-    by None e = let never : None ≡ Some h.part = sym (slice_get-map part_shown font.parts.items h.number ∙ ap (option_map part_shown) e) ∙ h.has.has_part in absurd (cc)
+    by None e =
+        let never : None ≡ Some h.part = sym (slice_get-map part_shown font.parts.items h.number ∙ ap (option_map part_shown) e)
+        ∙ h.has.has_part in absurd (cc)
     by (Some part) e =
-        let both : Some (part_shown part) ≡ Some h.part = sym (slice_get-map part_shown font.parts.items h.number ∙ ap (option_map part_shown) e) ∙ h.has.has_part in
+        let both : Some (part_shown part) ≡ Some h.part = sym
+        (slice_get-map part_shown font.parts.items h.number ∙ ap (option_map part_shown) e) ∙ h.has.has_part in
         let same : part_shown part ≡ h.part = cc in (
           part,
           record {
@@ -89,7 +95,8 @@ from-shown font glyph run h = by (slice_get font.parts.items h.number) refl
               has_number = record {
                 glyph_there = slice_get_within (items_of font.char_strings) glyph h.code h.has.has_code;
                 part_there = subst (λ n. h.number < n) many h.has.is_its.there;
-                selected = subst (λ n. ((n ≡ 1) × (h.number ≡ 0)) ⊎ ((n ≡ 1 → ⊥) × IsSelected font.bytes.now font.dictionary (glyphs_of font) glyph h.number)) many h.has.is_its.selected;
+                selected = subst (λ n. ((n ≡ 1) × (h.number ≡ 0)) ⊎ ((n ≡ 1 → ⊥) × IsSelected font.bytes.now font.dictionary
+                    (glyphs_of font) glyph h.number)) many h.has.is_its.selected;
               };
               has_part = e;
               has_code = h.has.has_code;
@@ -102,13 +109,18 @@ from-shown font glyph run h = by (slice_get font.parts.items h.number) refl
 shows : (bytes : List ℕ) (font : FontView) (v : View) → IsOpened bytes font → the_view bytes 0 ≡ Got v 0 → view_shown font ≡ v
 shows bytes font v opened is = let both : Got (view_shown font) 0 ≡ Got v 0 = sym opened.shown ∙ is in cc
 
-run-at : (bytes : List ℕ) (font : FontView) (v : View) (glyph : ℕ) (part : PrivateDict) (run : Run) → IsOpened bytes font → the_view bytes 0 ≡ Got v 0 → HasRun font glyph part run → RunAt bytes v glyph run
+run-at : (bytes : List ℕ) (font : FontView) (v : View) (glyph : ℕ) (part : PrivateDict) (run : Run) → IsOpened bytes font →
+    the_view bytes 0 ≡ Got v 0 → HasRun font glyph part run → RunAt bytes v glyph run
 run-at bytes font v glyph part run opened is has =
-    subst (λ (v : View). RunAt bytes v glyph run) (shows bytes font v opened is) (subst (λ (bs : List ℕ). RunAt bs (view_shown font) glyph run) opened.there (to-shown font glyph part run has))
+    subst (λ (v : View). RunAt bytes v glyph run) (shows bytes font v opened is)
+    (subst (λ (bs : List ℕ). RunAt bs (view_shown font) glyph run) opened.there (to-shown font glyph part run has))
 
-run-from : (bytes : List ℕ) (font : FontView) (v : View) (glyph : ℕ) (run : Run) → IsOpened bytes font → the_view bytes 0 ≡ Got v 0 → RunAt bytes v glyph run → (part : PrivateDict) × HasRun font glyph part run
+run-from : (bytes : List ℕ) (font : FontView) (v : View) (glyph : ℕ) (run : Run) → IsOpened bytes font → the_view bytes 0 ≡ Got v 0 →
+    RunAt bytes v glyph run → (part : PrivateDict) × HasRun font glyph part run
 run-from bytes font v glyph run opened is at =
-    from-shown font glyph run (subst (λ (bs : List ℕ). RunAt bs (view_shown font) glyph run) (sym opened.there) (subst (λ (v : View). RunAt bytes v glyph run) (sym (shows bytes font v opened is)) at))
+    from-shown font glyph run
+    (subst (λ (bs : List ℕ). RunAt bs (view_shown font) glyph run) (sym opened.there)
+    (subst (λ (v : View). RunAt bytes v glyph run) (sym (shows bytes font v opened is)) at))
 
 -- the glyph of a code in the shown font
 record ComponentAt (bytes : List ℕ) (font : View) (code glyph : ℕ) : Type 0 where
@@ -117,13 +129,18 @@ record ComponentAt (bytes : List ℕ) (font : View) (code glyph : ℕ) : Type 0 
   pub is_set : IsCharSetOf set bytes font.tables.dictionary (length font.char_strings)
   pub first : IsFirstNamed set (standard_identifier code) (length font.char_strings) glyph
 
-component-at : (bytes : List ℕ) (font : FontView) (v : View) (code glyph : ℕ) → IsOpened bytes font → the_view bytes 0 ≡ Got v 0 → IsComponent font code glyph → ComponentAt bytes v code glyph
+component-at : (bytes : List ℕ) (font : FontView) (v : View) (code glyph : ℕ) → IsOpened bytes font → the_view bytes 0 ≡ Got v 0 →
+    IsComponent font code glyph → ComponentAt bytes v code glyph
 component-at bytes font v code glyph opened is c =
-    subst (λ (v : View). ComponentAt bytes v code glyph) (shows bytes font v opened is) (subst (λ (bs : List ℕ). ComponentAt bs (view_shown font) code glyph) opened.there
+    subst (λ (v : View). ComponentAt bytes v code glyph) (shows bytes font v opened is)
+    (subst (λ (bs : List ℕ). ComponentAt bs (view_shown font) code glyph) opened.there
     (record { not_keyed = c.not_keyed; set = c.set; is_set = c.is_set; first = c.first }))
 
-component-from : (bytes : List ℕ) (font : FontView) (v : View) (code glyph : ℕ) → IsOpened bytes font → the_view bytes 0 ≡ Got v 0 → ComponentAt bytes v code glyph → IsComponent font code glyph
-component-from bytes font v code glyph opened is at = by (subst (λ (bs : List ℕ). ComponentAt bs (view_shown font) code glyph) (sym opened.there) (subst (λ (v : View). ComponentAt bytes v code glyph) (sym (shows bytes font v opened is)) at))
+component-from : (bytes : List ℕ) (font : FontView) (v : View) (code glyph : ℕ) → IsOpened bytes font → the_view bytes 0 ≡ Got v 0 →
+    ComponentAt bytes v code glyph → IsComponent font code glyph
+component-from bytes font v code glyph opened is at =
+    by (subst (λ (bs : List ℕ). ComponentAt bs (view_shown font) code glyph) (sym opened.there)
+    (subst (λ (v : View). ComponentAt bytes v code glyph) (sym (shows bytes font v opened is)) at))
   where
     by : ComponentAt font.bytes.now (view_shown font) code glyph → IsComponent font code glyph
     by c = record { not_keyed = c.not_keyed; set = c.set; is_set = c.is_set; first = c.first }
@@ -138,11 +155,14 @@ record MadeRuns (old new : FontView) (glyph i : ℕ) : Type 0 where
   pub is : HasRun new i new_part other
   pub same : SameRuns run other
 
-made-runs : (bytes flat : List ℕ) (old new : FontView) (ov nv : View) (glyph i : ℕ) → IsOpened bytes old → IsOpened flat new → the_view bytes 0 ≡ Got ov 0 → the_view flat 0 ≡ Got nv 0 →
+made-runs : (bytes flat : List ℕ) (old new : FontView) (ov nv : View) (glyph i : ℕ) → IsOpened bytes old → IsOpened flat new →
+    the_view bytes 0 ≡ Got ov 0 → the_view flat 0 ≡ Got nv 0 →
     IsMadeOf bytes ov glyph flat nv i → MadeRuns old new glyph i
 made-runs bytes flat old new ov nv glyph i o n was is m =
-    let first = run-from bytes old ov glyph (run_in ov m.old_part m.old_code) o was (record { code = m.old_code; number = m.number; part = m.old_part; has = m.was; runs = refl }) in
-    let second = run-from flat new nv i (run_in nv m.new_part m.new_code) n is (record { code = m.new_code; number = m.number; part = m.new_part; has = m.is; runs = refl }) in
+    let first = run-from bytes old ov glyph (run_in ov m.old_part m.old_code) o was
+    (record { code = m.old_code; number = m.number; part = m.old_part; has = m.was; runs = refl }) in
+    let second = run-from flat new nv i (run_in nv m.new_part m.new_code) n is
+    (record { code = m.new_code; number = m.number; part = m.new_part; has = m.is; runs = refl }) in
     let draws = m.draws (lent nv.tables.subroutines m.new_part.subroutines) in
     record {
       old_part = first.0;
@@ -151,7 +171,13 @@ made-runs bytes flat old new ov nv glyph i o n was is m =
       other = run_in nv m.new_part m.new_code;
       was = first.1;
       is = second.1;
-      same = record { answers = draws.answers; width = draws.width; taken = draws.taken; faultless = m.faultless; other_faultless = draws.faultless };
+      same = record {
+        answers = draws.answers;
+        width = draws.width;
+        taken = draws.taken;
+        faultless = m.faultless;
+        other_faultless = draws.faultless;
+      };
     }
 
 carries-forth : (old new : FontView) (glyph i : ℕ) → MadeRuns old new glyph i → Carries old new glyph i
@@ -171,23 +197,32 @@ carries-back old new glyph i m part run has = record {
 }
 
 -- a glyph that is accented is accented in the other font
-accented-so : (old new : FontView) (glyph i : ℕ) (accent : Accent) → Carries old new glyph i → IsAccented old glyph accent → IsAccented new i accent
+accented-so : (old new : FontView) (glyph i : ℕ) (accent : Accent) → Carries old new glyph i → IsAccented old glyph accent →
+    IsAccented new i accent
 accented-so old new glyph i accent carries is =
     let run = carries is.part is.run is.has in
-    record { part = run.part; run = run.other; has = run.has; accented = subst (λ taken. IsAccent taken accent) (sym run.same.taken) is.accented }
+    record {
+      part =
+          run.part;
+      run = run.other;
+      has = run.has;
+      accented = subst (λ taken. IsAccent taken accent) (sym run.same.taken) is.accented;
+    }
 
 -- each identifier of the standard encoding is that of a standard string
 and-both : (a b : Bool) → (a && b) ≡ true → (a ≡ true) × (b ≡ true)
 and-both true b h = (refl, h)
 and-both false b h = let never : false ≡ true = h in absurd (cc)
 
-in-run : (run : EncodingRun) (runs : List EncodingRun) (code : ℕ) (b : Bool) → has_code code run ≡ b → run.2 + (run.1 - run.0) < 391 → in_runs runs code < 391 → in_runs (run ∷ runs) code < 391
+in-run : (run : EncodingRun) (runs : List EncodingRun) (code : ℕ) (b : Bool) → has_code code run ≡ b → run.2 + (run.1 - run.0) < 391 →
+    in_runs runs code < 391 → in_runs (run ∷ runs) code < 391
 in-run run runs code true e small rest =
     let within = and-both (nat_le run.0 code) (nat_le code run.1) e in
     let from = leb-true run.0 code within.0 in
     let to = leb-true code run.1 within.1 in
     subst (λ n. n < 391) (sym (ap (λ b. if b then run.2 + (code - run.0) else in_runs runs code) e)) (omega (arith, from, to, small))
-in-run run runs code false e small rest = subst (λ n. n < 391) (sym (ap (λ b. if b then run.2 + (code - run.0) else in_runs runs code) e)) rest
+in-run run runs code false e small rest =
+    subst (λ n. n < 391) (sym (ap (λ b. if b then run.2 + (code - run.0) else in_runs runs code) e)) rest
 
 in-runs : (runs : List EncodingRun) (code : ℕ) → are_standard runs ≡ true → in_runs runs code < 391
 in-runs [] code h = omega arith
@@ -200,19 +235,23 @@ standard code = in-runs (runs_of Standard) code refl
 
 -- what names glyphs of the standard strings
 abbrev pub NamesKept : (sources : Sources) (old_set new_set : CharSetView) (origin : ℕ → ℕ) → Type 0
-NamesKept sources old_set new_set origin = (identifier i : ℕ) → identifier < 391 → i < length sources → Names old_set (origin i) identifier ↔ Names new_set i identifier
+NamesKept sources old_set new_set origin =
+    (identifier i : ℕ) → identifier < 391 → i < length sources → Names old_set (origin i) identifier ↔ Names new_set i identifier
 
 -- a component is one in each view of the font
-pub component-moved : (bytes : List ℕ) (a b : FontView) (from one : ℕ) → IsOpened bytes a → IsOpened bytes b → IsComponentOf a from one → IsComponentOf b from one
+pub component-moved : (bytes : List ℕ) (a b : FontView) (from one : ℕ) → IsOpened bytes a → IsOpened bytes b → IsComponentOf a from one →
+    IsComponentOf b from one
 component-moved bytes a b from one was is c =
     let v = view_shown a in
-    let run = run-from bytes b v from c.accented.run is was.shown (run-at bytes a v from c.accented.part c.accented.run was was.shown c.accented.has) in
+    let run = run-from bytes b v from c.accented.run is was.shown
+    (run-at bytes a v from c.accented.part c.accented.run was was.shown c.accented.has) in
     record {
       accent = c.accent;
       accented = record { part = run.0; run = c.accented.run; has = run.1; accented = c.accented.accented };
       named = elim c.named [
         | inl h ↦ inl (component-from bytes b v c.accent.base one is was.shown (component-at bytes a v c.accent.base one was was.shown h))
-        | inr h ↦ inr (component-from bytes b v c.accent.accent one is was.shown (component-at bytes a v c.accent.accent one was was.shown h))
+        | inr h ↦ inr (component-from bytes b v c.accent.accent one is was.shown
+            (component-at bytes a v c.accent.accent one was was.shown h))
       ];
     }
 
@@ -225,21 +264,28 @@ closes bytes named closed are font from one opened kept is =
     (are.all one).1 (is_drawn_with from one ((are.all from).0 kept) (component-moved bytes font are.font from one opened are.opened is))
 
 -- What a font draws that is made of these glyphs, where each place stands for one of the old font.
-draws : (kept_numbers : Bool) (kept : ℕ → Type 0) (bytes flat : List ℕ) (ov nv : View) (sources : Sources) → the_view bytes 0 ≡ Got ov 0 → the_view flat 0 ≡ Got nv 0 →
-    (made : IsFontOf kept_numbers sources bytes ov flat nv) → Closes bytes kept → (origin : ℕ → ℕ) → Placed kept sources (length ov.char_strings) origin →
+draws : (kept_numbers : Bool) (kept : ℕ → Type 0) (bytes flat : List ℕ) (ov nv : View) (sources : Sources) → the_view bytes 0 ≡ Got ov 0 →
+    the_view flat 0 ≡ Got nv 0 →
+    (made : IsFontOf kept_numbers sources bytes ov flat nv) → Closes bytes kept → (origin : ℕ → ℕ) → Placed kept sources
+    (length ov.char_strings) origin →
     NamesKept sources made.naming.old_set made.naming.new_set origin →
     (old new : FontView) (glyph i : ℕ) → IsOpened bytes old → IsOpened flat new → StandsAt sources i glyph → DrawsTheSame old new glyph i
-draws kept_numbers kept bytes flat ov nv sources shown_old shown_new made all origin placed names old new glyph i was is at segments width =
-    (carried old new glyph i segments width (carries-forth old new glyph i (runs glyph i at)) codes-forth, carried new old i glyph segments width (carries-back old new glyph i (runs glyph i at)) codes-back)
+draws kept_numbers kept bytes flat ov nv sources shown_old shown_new made all origin placed names old new glyph i was is at segments width = (
+  carried old new glyph i segments width (carries-forth old new glyph i (runs glyph i at)) codes-forth,
+  carried new old i glyph segments width (carries-back old new glyph i (runs glyph i at)) codes-back,
+)
   where
     n : ℕ
     n = length ov.char_strings
 
     runs : (g j : ℕ) → StandsAt sources j g → MadeRuns old new g j
-    runs g j there = made-runs bytes flat old new ov nv g j was is shown_old shown_new (subst (λ o. IsMade bytes ov o flat nv j) there.is (made.glyphs j there.there))
+    runs g j there =
+        made-runs bytes flat old new ov nv g j was is shown_old shown_new
+        (subst (λ o. IsMade bytes ov o flat nv j) there.is (made.glyphs j there.there))
 
     -- the glyph of a code that a glyph names is kept
-    kept-one : (accent : Accent) (code one : ℕ) → IsAccented old glyph accent → (code ≡ accent.base) ⊎ (code ≡ accent.accent) → ComponentAt bytes ov code one → kept one
+    kept-one : (accent : Accent) (code one : ℕ) → IsAccented old glyph accent → (code ≡ accent.base) ⊎ (code ≡ accent.accent) →
+        ComponentAt bytes ov code one → kept one
     kept-one accent code one accented is_code component =
         let here = component-from bytes old ov code one was shown_old component in
         all old glyph one was (placed.own i glyph at) (record {
@@ -275,8 +321,10 @@ draws kept_numbers kept bytes flat ov nv sources shown_old shown_new made all or
     codes-forth accent code one accented is_code component =
         let c = component-at bytes old ov code one was shown_old component in
         let place = placed.all one (kept-one accent code one accented is_code c) c.first.there in
-        let first = first-of c.set made.naming.old_set bytes ov.tables.dictionary n (standard_identifier code) one c.is_set made.naming.was c.first in
-        let new_first = first-forth kept made.naming.old_set made.naming.new_set (standard_identifier code) n (length sources) origin one place.0 (takes code) place.1.there place.2 first in
+        let first = first-of c.set made.naming.old_set bytes ov.tables.dictionary n
+        (standard_identifier code) one c.is_set made.naming.was c.first in
+        let new_first = first-forth kept made.naming.old_set made.naming.new_set (standard_identifier code) n
+        (length sources) origin one place.0 (takes code) place.1.there place.2 first in
         let there : ComponentAt flat nv code place.0 = record {
           not_keyed = λ h. c.not_keyed (keyed h);
           set = made.naming.new_set;
@@ -288,20 +336,28 @@ draws kept_numbers kept bytes flat ov nv sources shown_old shown_new made all or
     codes-back : CarriesComponents new old i
     codes-back accent code j accented is_code component =
         let c = component-at flat new nv code j is shown_new component in
-        let before : IsAccented old glyph accent = accented-so new old i glyph accent (carries-back old new glyph i (runs glyph i at)) accented in
-        let first = first-of c.set made.naming.new_set flat nv.tables.dictionary (length nv.char_strings) (standard_identifier code) j c.is_set made.naming.is c.first in
+        let before : IsAccented old glyph accent = accented-so new old i glyph accent
+        (carries-back old new glyph i (runs glyph i at)) accented in
+        let first = first-of c.set made.naming.new_set flat nv.tables.dictionary (length nv.char_strings)
+        (standard_identifier code) j c.is_set made.naming.is c.first in
         let first_m = subst (λ m. IsFirstNamed made.naming.new_set (standard_identifier code) m j) made.many first in
         let here : (g : ℕ) → IsFirstNamed made.naming.old_set (standard_identifier code) n g → ComponentAt bytes ov code g =
         λ g f. record { not_keyed = λ h. c.not_keyed (unkeyed h); set = made.naming.old_set; is_set = made.naming.was; first = f } in
-        let closing = λ (g : ℕ) (f : IsFirstNamed made.naming.old_set (standard_identifier code) n g). kept-one accent code g before is_code (here g f) in
-        let old_first = first-back kept made.naming.old_set made.naming.new_set (standard_identifier code) n (length sources) origin j (takes code) closing first_m in
+        let closing = λ (g : ℕ) (f : IsFirstNamed made.naming.old_set (standard_identifier code) n g). kept-one accent code g before
+        is_code (here g f) in
+        let old_first = first-back kept made.naming.old_set made.naming.new_set (standard_identifier code) n (length sources) origin j
+        (takes code) closing first_m in
         let one = origin j in
         let place = placed.all one (closing one old_first) old_first.there in
-        let same : place.0 ≡ j = one-place kept sources n place.0 j origin placed place.1.there first_m.there place.2 in
-        (one, component-from bytes old ov code one was shown_old (here one old_first), carries-back old new one j (runs one j (subst (λ k. StandsAt sources k one) same place.1)))
+        let same : place.0 ≡ j = one-place kept sources n place.0 j origin placed place.1.there first_m.there place.2 in (
+          one,
+          component-from bytes old ov code one was shown_old (here one old_first),
+          carries-back old new one j (runs one j (subst (λ k. StandsAt sources k one) same place.1)),
+        )
 
 -- The number of glyphs of an opened font.
-pub many-of : (bytes : List ℕ) (font : FontView) (v : View) → IsOpened bytes font → the_view bytes 0 ≡ Got v 0 → glyphs_of font ≡ length v.char_strings
+pub many-of : (bytes : List ℕ) (font : FontView) (v : View) → IsOpened bytes font → the_view bytes 0 ≡ Got v 0 →
+    glyphs_of font ≡ length v.char_strings
 many-of bytes font v opened is = ap (λ (v : View). length v.char_strings) (shows bytes font v opened is)
 
 pub subset-draws : (named bytes flat : List ℕ) → IsSubset false chosen named bytes flat → DrawsKept chosen named bytes flat
@@ -309,7 +365,9 @@ subset-draws named bytes flat s = (
   s.closed,
   s.are,
   λ old new glyph i was is at.
-      draws false (λ g. is_kept s.closed g ≡ true) bytes flat s.written.old s.written.new (chosen s.closed n) s.written.was s.written.is s.written.made (closes bytes named s.closed s.are) (λ j. glyph_or (get_or (chosen s.closed n) j None)) (chosen-placed s.closed n) names old new glyph i was is
+      draws false (λ g. is_kept s.closed g ≡ true) bytes flat s.written.old s.written.new
+      (chosen s.closed n) s.written.was s.written.is s.written.made (closes bytes named s.closed s.are)
+      (λ j. glyph_or (get_or (chosen s.closed n) j None)) (chosen-placed s.closed n) names old new glyph i was is
       (subst (λ m. StandsAt (chosen s.closed m) i glyph) (many-of bytes old s.written.old was s.written.was) at),
 )
   where
@@ -319,14 +377,19 @@ subset-draws named bytes flat s = (
     names-at : (keeps : Bool) (identifier i : ℕ) → identifier < 391 → (one : (g : ℕ) × StandsAt (chosen s.closed n) i g) →
         SameStrings keeps (chosen s.closed n) s.written.old s.written.made.naming.old_set s.written.new s.written.made.naming.new_set →
         Names s.written.made.naming.old_set one.0 identifier ↔ Names s.written.made.naming.new_set i identifier
-    names-at true identifier i small one same = subst (λ o. SameName s.written.made.naming.old_set o s.written.made.naming.new_set i) one.1.is (same.glyphs i one.1.there) identifier
+    names-at true identifier i small one same =
+        subst (λ o. SameName s.written.made.naming.old_set o s.written.made.naming.new_set i) one.1.is
+        (same.glyphs i one.1.there) identifier
     names-at false identifier i small one same =
-        (subst (λ o. SameText s.written.made.naming.old_set s.written.old.tables.strings o s.written.made.naming.new_set s.written.new.tables.strings i) one.1.is (same.glyphs i one.1.there)).standard identifier small
+        (subst (λ o. SameText s.written.made.naming.old_set s.written.old.tables.strings o s.written.made.naming.new_set
+        s.written.new.tables.strings i) one.1.is (same.glyphs i one.1.there)).standard identifier small
 
-    names : NamesKept (chosen s.closed n) s.written.made.naming.old_set s.written.made.naming.new_set (λ j. glyph_or (get_or (chosen s.closed n) j None))
+    names : NamesKept (chosen s.closed n) s.written.made.naming.old_set s.written.made.naming.new_set
+        (λ j. glyph_or (get_or (chosen s.closed n) j None))
     names identifier i small less =
         let one = (chosen-rises s.closed n).some i less in
-        subst (λ g. Names s.written.made.naming.old_set g identifier ↔ Names s.written.made.naming.new_set i identifier) (sym (ap glyph_or one.1.is))
+        subst (λ g. Names s.written.made.naming.old_set g identifier ↔ Names s.written.made.naming.new_set i identifier)
+        (sym (ap glyph_or one.1.is))
         (names-at (keeps_strings false s.written.old.tables.dictionary) identifier i small one s.written.made.naming.strings)
 
 pub keeping-draws : (named bytes flat : List ℕ) → IsSubset true keeping named bytes flat → DrawsKept keeping named bytes flat
@@ -334,17 +397,22 @@ keeping-draws named bytes flat s = (
   s.closed,
   s.are,
   λ old new glyph i was is at.
-      draws true (λ g. is_kept s.closed g ≡ true) bytes flat s.written.old s.written.new (keeping s.closed n) s.written.was s.written.is s.written.made (closes bytes named s.closed s.are) (λ j. j) (keeping-placed s.closed n) names old new glyph i was is
+      draws true (λ g. is_kept s.closed g ≡ true) bytes flat s.written.old s.written.new
+      (keeping s.closed n) s.written.was s.written.is s.written.made (closes bytes named s.closed s.are) (λ j. j)
+      (keeping-placed s.closed n) names old new glyph i was is
       (subst (λ m. StandsAt (keeping s.closed m) i glyph) (many-of bytes old s.written.old was s.written.was) at),
 )
   where
     n : ℕ
     n = length s.written.old.char_strings
 
-    named-at : (o : Option ℕ) (i identifier : ℕ) → (o ≡ Some i) ⊎ (o ≡ None) → SameName s.written.made.naming.old_set o s.written.made.naming.new_set i →
+    named-at : (o : Option ℕ) (i identifier : ℕ) → (o ≡ Some i) ⊎ (o ≡ None) →
+        SameName s.written.made.naming.old_set o s.written.made.naming.new_set i →
         Names s.written.made.naming.old_set i identifier ↔ Names s.written.made.naming.new_set i identifier
-    named-at o i identifier (inl e) same = subst (λ o. SameName s.written.made.naming.old_set o s.written.made.naming.new_set i) e same identifier
-    named-at o i identifier (inr e) same = subst (λ o. SameName s.written.made.naming.old_set o s.written.made.naming.new_set i) e same identifier
+    named-at o i identifier (inl e) same =
+        subst (λ o. SameName s.written.made.naming.old_set o s.written.made.naming.new_set i) e same identifier
+    named-at o i identifier (inr e) same =
+        subst (λ o. SameName s.written.made.naming.old_set o s.written.made.naming.new_set i) e same identifier
 
     either : (b : Bool) (i : ℕ) → ((if b then Some i else None) ≡ Some i) ⊎ ((if b then Some i else None) ≡ None)
     either true i = inl refl
@@ -354,31 +422,37 @@ keeping-draws named bytes flat s = (
     names identifier i small less =
         let at = keeping-at s.closed n i (subst (λ m. i < m) (keeping-many s.closed n) less) in
         named-at (kept_or_none s.closed i) i identifier (either (is_kept s.closed i) i)
-        (subst (λ o. SameName s.written.made.naming.old_set o s.written.made.naming.new_set i) at (s.written.made.naming.strings.glyphs i less))
+        (subst (λ o. SameName s.written.made.naming.old_set o s.written.made.naming.new_set i) at (s.written.made.naming.strings.glyphs i
+        less))
 
 pub flat-draws : (bytes flat : List ℕ) → IsWritten true every bytes flat → KeepsDrawings every bytes flat
 flat-draws bytes flat w old new glyph i was is at =
-    draws true (λ g. g < n) bytes flat w.old w.new (every n) w.was w.is w.made all (λ j. j) (every-placed n) names old new glyph i was is (subst (λ m. StandsAt (every m) i glyph) (many-of bytes old w.old was w.was) at)
+    draws true (λ g. g < n) bytes flat w.old w.new (every n) w.was w.is w.made all (λ j. j) (every-placed n) names old new glyph i was is
+    (subst (λ m. StandsAt (every m) i glyph) (many-of bytes old w.old was w.was) at)
   where
     n : ℕ
     n = length w.old.char_strings
 
     all : Closes bytes (λ g. g < n)
-    all font from one opened less component = subst (λ m. one < m) (many-of bytes font w.old opened w.was) (component-there font from one component)
+    all font from one opened less component =
+        subst (λ m. one < m) (many-of bytes font w.old opened w.was) (component-there font from one component)
 
     names : NamesKept (every n) w.made.naming.old_set w.made.naming.new_set (λ j. j)
     names identifier j small less =
         let at = every-at n j (subst (λ m. j < m) (every-many n) less) in
         subst (λ o. SameName w.made.naming.old_set o w.made.naming.new_set j) at (w.made.naming.strings.glyphs j less) identifier
 
-pub subset-drawn : (r : Result (Vec ℕ Global) Error) (named bytes : List ℕ) → IfOk r (λ flat. IsSubset false chosen named bytes flat.items) → IfOk r (λ flat. DrawsKept chosen named bytes flat.items)
+pub subset-drawn : (r : Result (Vec ℕ Global) Error) (named bytes : List ℕ) →
+    IfOk r (λ flat. IsSubset false chosen named bytes flat.items) → IfOk r (λ flat. DrawsKept chosen named bytes flat.items)
 subset-drawn (Ok flat) named bytes h = subset-draws named bytes flat.items h
 subset-drawn (Err e) named bytes h = tt
 
-pub keeping-drawn : (r : Result (Vec ℕ Global) Error) (named bytes : List ℕ) → IfOk r (λ flat. IsSubset true keeping named bytes flat.items) → IfOk r (λ flat. DrawsKept keeping named bytes flat.items)
+pub keeping-drawn : (r : Result (Vec ℕ Global) Error) (named bytes : List ℕ) →
+    IfOk r (λ flat. IsSubset true keeping named bytes flat.items) → IfOk r (λ flat. DrawsKept keeping named bytes flat.items)
 keeping-drawn (Ok flat) named bytes h = keeping-draws named bytes flat.items h
 keeping-drawn (Err e) named bytes h = tt
 
-pub flat-drawn : (r : Result (Vec ℕ Global) Error) (bytes : List ℕ) → IfOk r (λ flat. IsWritten true every bytes flat.items) → IfOk r (λ flat. KeepsDrawings every bytes flat.items)
+pub flat-drawn : (r : Result (Vec ℕ Global) Error) (bytes : List ℕ) → IfOk r (λ flat. IsWritten true every bytes flat.items) →
+    IfOk r (λ flat. KeepsDrawings every bytes flat.items)
 flat-drawn (Ok flat) bytes h = flat-draws bytes flat.items h
 flat-drawn (Err e) bytes h = tt

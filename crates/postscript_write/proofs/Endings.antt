@@ -29,22 +29,28 @@ past_char_set : (bytes : List ℕ) (glyphs place next : ℕ) → CharSetEnds byt
 past_char_set bytes glyphs place next (inl (format, is)) = omega (arith, is)
 past_char_set bytes glyphs place next (inr (size, len, format, least, most, ends, is)) = omega (arith, is)
 
-past_own : (map : Dictionary) (operator : Operator) (least : ℕ) (ends : ℕ → ℕ → Type 0) (place next : ℕ) → (ends place next → place ≤ next) → OwnEnds map operator least ends place next → place ≤ next
+past_own : (map : Dictionary) (operator : Operator) (least : ℕ) (ends : ℕ → ℕ → Type 0) (place next : ℕ) →
+    (ends place next → place ≤ next) → OwnEnds map operator least ends place next → place ≤ next
 past_own map operator least ends place next past (inl (offset, named, low, is)) = omega (arith, is)
 past_own map operator least ends place next past (inr (most, named, end)) = past end
 
-past_keyed : (map : Dictionary) (operator : Operator) (ends : ℕ → ℕ → Type 0) (place next : ℕ) → (ends place next → place ≤ next) → KeyedEnds map operator ends place next → place ≤ next
+past_keyed : (map : Dictionary) (operator : Operator) (ends : ℕ → ℕ → Type 0) (place next : ℕ) → (ends place next → place ≤ next) →
+    KeyedEnds map operator ends place next → place ≤ next
 past_keyed map operator ends place next past (inl (none, is)) = omega (arith, is)
 past_keyed map operator ends place next past (inr (keyed, named, end)) = past end
 
 -- no part ends behind the last one
-pub in_order : (flat : List ℕ) (new : View) (next : ℕ) (ends : PartsEnd flat new next) → (ends.encoding ≤ next) × (ends.select ≤ next) × (ends.privates ≤ next)
+pub in_order : (flat : List ℕ) (new : View) (next : ℕ) (ends : PartsEnd flat new next) →
+    (ends.encoding ≤ next) × (ends.select ≤ next) × (ends.privates ≤ next)
 in_order flat new next ends =
     let map = new.tables.dictionary in
     let glyphs = length new.char_strings in
-    let set = past_own map CharSet 3 (CharSetEnds flat glyphs) ends.dictionaries next (past_char_set flat glyphs ends.dictionaries next) ends.of_char_set in
-    let array = past_keyed map FDArray (IndexEnds flat) ends.privates ends.dictionaries (past_index flat ends.privates ends.dictionaries) ends.of_dictionaries in
+    let set = past_own map CharSet 3 (CharSetEnds flat glyphs) ends.dictionaries next
+    (past_char_set flat glyphs ends.dictionaries next) ends.of_char_set in
+    let array = past_keyed map FDArray (IndexEnds flat) ends.privates ends.dictionaries
+    (past_index flat ends.privates ends.dictionaries) ends.of_dictionaries in
     let privates = past_all map new.parts ends.char_strings ends.privates ends.of_privates in
     let strings = past_index flat ends.select ends.char_strings ends.of_char_strings in
-    let select = past_keyed map FDSelect (SelectEnds flat glyphs) ends.encoding ends.select (past_select flat glyphs ends.encoding ends.select) ends.of_select in
+    let select = past_keyed map FDSelect (SelectEnds flat glyphs) ends.encoding ends.select
+    (past_select flat glyphs ends.encoding ends.select) ends.of_select in
     (omega (arith, set, array, privates, strings, select), omega (arith, set, array, privates, strings), omega (arith, set, array))

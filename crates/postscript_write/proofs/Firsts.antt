@@ -22,7 +22,8 @@ grows (x ∷ xs) zero n = omega arith
 grows (x ∷ xs) (suc k) n = grows xs k n
 
 -- a glyph that has the number of the one before it lies in the range of that one
-lies_too : (numbers firsts : List ℕ) (n : ℕ) → AreFirsts numbers firsts n → 0 < n → get_or numbers n 0 ≡ get_or numbers (n - 1) 0 → LiesInOne numbers firsts (n + 1) n
+lies_too : (numbers firsts : List ℕ) (n : ℕ) → AreFirsts numbers firsts n → 0 < n → get_or numbers n 0 ≡ get_or numbers (n - 1) 0 →
+    LiesInOne numbers firsts (n + 1) n
 lies_too numbers firsts n are some same =
     let before = are.each (n - 1) (omega (arith, some)) in
     let r : ℕ = before.range in
@@ -56,7 +57,8 @@ lies_still numbers firsts n glyph lies =
       same = lies.same ∙ sym (ap (λ k. get_or numbers k 0) one);
     }
 
-pub same_range : (numbers firsts : List ℕ) (n : ℕ) → AreFirsts numbers firsts n → 0 < n → get_or numbers n 0 ≡ get_or numbers (n - 1) 0 → AreFirsts numbers firsts (n + 1)
+pub same_range : (numbers firsts : List ℕ) (n : ℕ) → AreFirsts numbers firsts n → 0 < n → get_or numbers n 0 ≡ get_or numbers (n - 1) 0 →
+    AreFirsts numbers firsts (n + 1)
 same_range numbers firsts n are some same = record {
   few = let few = are.few in omega (arith, few);
   below = λ r less. let below = are.below r less in omega (arith, below, swap firsts r (n + 1) n less);
@@ -71,10 +73,12 @@ same_range numbers firsts n are some same = record {
 more_at : (firsts : List ℕ) (r n : ℕ) → r ≤ length firsts → get_or (firsts ++ n ∷ []) r (n + 1) ≡ get_or firsts r n
 more_at firsts r n most = elim (cases_lt r (length firsts)) [
   | inl less ↦ get_or-append firsts (n ∷ []) (n + 1) r less ∙ swap firsts r (n + 1) n less
-  | inr last ↦ (let is : r ≡ length firsts = omega (arith, last, most) in ap (λ k. get_or (firsts ++ n ∷ []) k (n + 1)) is ∙ get_or-append_seam firsts n [] (n + 1) ∙ sym (past firsts r n last))
+  | inr last ↦ (let is : r ≡ length firsts = omega (arith, last, most) in ap (λ k. get_or (firsts ++ n ∷ []) k (n + 1)) is
+      ∙ get_or-append_seam firsts n [] (n + 1) ∙ sym (past firsts r n last))
 ]
 
-lies_before : (numbers firsts : List ℕ) (n glyph : ℕ) → LiesInOne numbers firsts n glyph → LiesInOne numbers (firsts ++ n ∷ []) (n + 1) glyph
+lies_before : (numbers firsts : List ℕ) (n glyph : ℕ) → LiesInOne numbers firsts n glyph → LiesInOne numbers (firsts ++ n ∷ [])
+    (n + 1) glyph
 lies_before numbers firsts n glyph lies =
     let r : ℕ = lies.range in
     let there = lies.there in
@@ -112,8 +116,10 @@ new_range numbers firsts n are =
         | inr last ↦ (let is : length firsts ≡ r = omega (arith, last, less, long) in rw (← is) (omega (arith, own)))
       ];
       rise = λ r less. elim (cases_lt r (length firsts)) [
-        | inl before ↦ (let rise = are.rise r before in omega (arith, rise, more_at firsts r n (omega (arith, before)), more_at firsts (r + 1) n (omega (arith, before))))
-        | inr last ↦ (let is : length firsts ≡ r = omega (arith, last, less, long) in rw (← is) (omega (arith, own, past (firsts ++ n ∷ []) (length firsts + 1) (n + 1) (omega (arith, long)))))
+        | inl before ↦ (let rise = are.rise r before in
+            omega (arith, rise, more_at firsts r n (omega (arith, before)), more_at firsts (r + 1) n (omega (arith, before))))
+        | inr last ↦ (let is : length firsts ≡ r = omega (arith, last, less, long) in
+            rw (← is) (omega (arith, own, past (firsts ++ n ∷ []) (length firsts + 1) (n + 1) (omega (arith, long)))))
       ];
       each = λ glyph less. elim (cases_lt glyph n) [
         | inl before ↦ lies_before numbers firsts n glyph (are.each glyph before)

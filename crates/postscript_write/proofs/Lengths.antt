@@ -23,7 +23,8 @@ use Rattle.postscript_write.specs.Texts.{Stands}
 use Rattle.postscript_write.proofs.Standing.{stands_amid, stands_first, stands_second}
 use Rattle.postscript_write.proofs.Without.{one_size}
 
-same_concat : (xs ys : List (List ℕ)) → length xs ≡ length ys → ((k : ℕ) → k < length xs → length (get_or xs k []) ≡ length (get_or ys k [])) → length (concat xs) ≡ length (concat ys)
+same_concat : (xs ys : List (List ℕ)) → length xs ≡ length ys →
+    ((k : ℕ) → k < length xs → length (get_or xs k []) ≡ length (get_or ys k [])) → length (concat xs) ≡ length (concat ys)
 same_concat [] [] many each = refl
 same_concat [] (y ∷ ys) many each = absurd (omega arith)
 same_concat (x ∷ xs) [] many each = absurd (omega arith)
@@ -33,12 +34,14 @@ same_concat (x ∷ xs) (y ∷ ys) many each =
     omega (arith, length-append x (concat xs), length-append y (concat ys), first, rest)
 
 -- indices of as many items, in as many bytes
-same_index : (xs ys : List (List ℕ)) → length xs ≡ length ys → length (concat xs) ≡ length (concat ys) → length (index_text xs) ≡ length (index_text ys)
+same_index : (xs ys : List (List ℕ)) → length xs ≡ length ys → length (concat xs) ≡ length (concat ys) →
+    length (index_text xs) ≡ length (index_text ys)
 same_index [] [] many bytes = refl
 same_index [] (y ∷ ys) many bytes = absurd (omega arith)
 same_index (x ∷ xs) [] many bytes = absurd (omega arith)
 same_index (x ∷ xs) (y ∷ ys) many bytes =
-    let behind : offset_behind 1 (x ∷ xs) ≡ offset_behind 1 (y ∷ ys) = behind_is 1 (x ∷ xs) ∙ ap (λ n. 1 + n) bytes ∙ sym (behind_is 1 (y ∷ ys)) in
+    let behind : offset_behind 1 (x ∷ xs) ≡ offset_behind 1 (y ∷ ys) = behind_is 1 (x ∷ xs) ∙ ap (λ n. 1 + n) bytes
+    ∙ sym (behind_is 1 (y ∷ ys)) in
     length-index_text x xs
     ∙ ap (λ n. 3 + (n + 1) * size_of (offset_behind 1 (x ∷ xs)) + length (concat (x ∷ xs))) many
     ∙ ap (λ b. 3 + (length (y ∷ ys) + 1) * size_of b + length (concat (x ∷ xs))) behind
@@ -48,13 +51,16 @@ same_index (x ∷ xs) (y ∷ ys) many bytes =
 pub same_single : (x y : List ℕ) → length x ≡ length y → length (index_text (x ∷ [])) ≡ length (index_text (y ∷ []))
 same_single x y same = same_index (x ∷ []) (y ∷ []) refl (omega (arith, length-append x [], length-append y [], same))
 
-same_sized : (items : List (List ℕ)) (privates : List (Option Private)) (xs ys : List (List ℕ)) → AreSized items privates xs → AreSized items privates ys → length (index_text xs) ≡ length (index_text ys)
+same_sized : (items : List (List ℕ)) (privates : List (Option Private)) (xs ys : List (List ℕ)) → AreSized items privates xs →
+    AreSized items privates ys → length (index_text xs) ≡ length (index_text ys)
 same_sized items privates xs ys a b =
     same_index xs ys (a.many ∙ sym b.many) (same_concat xs ys (a.many ∙ sym b.many) (λ k h.
     let less : k < length items = omega (arith, h, a.many) in
-    one_size (get_or items k []) (place_of_private (get_or privates k None) 0) (place_of_private (get_or privates k None) 0) _ _ (a.each k less) (b.each k less) refl refl))
+    one_size (get_or items k []) (place_of_private (get_or privates k None) 0) (place_of_private (get_or privates k None) 0) _ _
+    (a.each k less) (b.each k less) refl refl))
 
-pub one_length : (bytes : List ℕ) (map : Dictionary) (privates : List (Option Private)) (xs ys : List (List ℕ)) → AreSizedFor bytes map privates xs → AreSizedFor bytes map privates ys → length (index_text xs) ≡ length (index_text ys)
+pub one_length : (bytes : List ℕ) (map : Dictionary) (privates : List (Option Private)) (xs ys : List (List ℕ)) →
+    AreSizedFor bytes map privates xs → AreSizedFor bytes map privates ys → length (index_text xs) ≡ length (index_text ys)
 one_length bytes map privates xs ys a b =
     let same : a.0 ≡ b.0 = named_opened bytes map FDArray a.1.0 a.1.2.0 a.0 b.0 a.1.1 a.1.2.2 b.1 in
     same_sized b.0 privates xs ys (rw same at a.2) b.2
@@ -68,7 +74,8 @@ both : (xs ys us vs : List Place) → Alike xs ys → Alike us vs → Alike (xs 
 both xs ys us vs a b =
     let name : Place → Operator = λ place. place.operator in
     record {
-      names = map-append name xs us ∙ ap (λ zs. zs ++ map name us) a.names ∙ ap (λ zs. map name ys ++ zs) b.names ∙ sym (map-append name ys vs);
+      names = map-append name xs us ∙ ap (λ zs. zs ++ map name us) a.names ∙ ap (λ zs. map name ys ++ zs) b.names
+          ∙ sym (map-append name ys vs);
       sizes = omega (arith, sum_by-append place_size xs us, sum_by-append place_size ys vs, a.sizes, b.sizes);
     }
 
@@ -82,7 +89,8 @@ only_alike (None ∷ []) m n = record { names = refl; sizes = refl }
 only_alike (Some private ∷ []) m n = record { names = refl; sizes = refl }
 only_alike (p ∷ q ∷ ps) m n = record { names = refl; sizes = refl }
 
-dictionaries_alike : (select : Option (Vec ℕ Global)) (privates : List (Option Private)) (j k m n : ℕ) → Alike (dictionaries_place select privates j k) (dictionaries_place select privates m n)
+dictionaries_alike : (select : Option (Vec ℕ Global)) (privates : List (Option Private)) (j k m n : ℕ) →
+    Alike (dictionaries_place select privates j k) (dictionaries_place select privates m n)
 dictionaries_alike (Some select) privates j k m n = record { names = refl; sizes = refl }
 dictionaries_alike None privates j k m n = only_alike privates j m
 
@@ -92,27 +100,33 @@ all_alike m n parts =
     (both _ _ _ _ (record { names = refl; sizes = refl })
     (both _ _ _ _ (if_alike FDSelect parts.glyphs.now.select _ _)
     (both (_ ∷ []) (_ ∷ []) _ _ (record { names = refl; sizes = refl })
-    (both _ _ _ _ (dictionaries_alike parts.glyphs.now.select parts.privates.items _ _ _ _) (if_alike CharSet parts.glyphs.now.char_set _ _)))))
+    (both _ _ _ _ (dictionaries_alike parts.glyphs.now.select parts.privates.items _ _ _ _)
+    (if_alike CharSet parts.glyphs.now.char_set _ _)))))
 
 pub some_text : (select : Option (Vec ℕ Global)) (ds : List (List ℕ)) → is_none select ≡ false → index_text ds ≡ dictionaries_text select ds
 some_text (Some s) ds h = refl
 some_text None ds h = absurd (cc)
 
-pub none_text : (P : List (List ℕ) → Type 0) (select : Option (Vec ℕ Global)) → is_none select ≡ true → (ds : List (List ℕ)) × (0 ≡ length (dictionaries_text select ds)) × (IsSome select → P ds)
+pub none_text : (P : List (List ℕ) → Type 0) (select : Option (Vec ℕ Global)) → is_none select ≡ true →
+    (ds : List (List ℕ)) × (0 ≡ length (dictionaries_text select ds)) × (IsSome select → P ds)
 none_text P (Some s) h = absurd (cc)
 none_text P None h = ([], refl, λ some. absurd (cc))
 
-pub same_text : (bytes : List ℕ) (map : Dictionary) (privates : List (Option Private)) (select : Option (Vec ℕ Global)) (xs ys : List (List ℕ)) →
-    (IsSome select → AreSizedFor bytes map privates xs) → (IsSome select → AreSizedFor bytes map privates ys) → length (dictionaries_text select xs) ≡ length (dictionaries_text select ys)
+pub same_text : (bytes : List ℕ) (map : Dictionary) (privates : List (Option Private)) (select : Option (Vec ℕ Global))
+    (xs ys : List (List ℕ)) →
+    (IsSome select → AreSizedFor bytes map privates xs) → (IsSome select → AreSizedFor bytes map privates ys) → length
+    (dictionaries_text select xs) ≡ length (dictionaries_text select ys)
 same_text bytes map privates None xs ys a b = refl
 same_text bytes map privates (Some s) xs ys a b = one_length bytes map privates xs ys (a refl) (b refl)
 
 -- the tables have one length, wherever the parts stand
-pub same_tables : (names strings : List (List ℕ)) (dictionary : List ℕ) (parts : Parts) (m n : ℕ) (first second : List ℕ) → HasSize dictionary (places_of m parts) (length first) → HasSize dictionary (places_of n parts) (length second) →
+pub same_tables : (names strings : List (List ℕ)) (dictionary : List ℕ) (parts : Parts) (m n : ℕ) (first second : List ℕ) →
+    HasSize dictionary (places_of m parts) (length first) → HasSize dictionary (places_of n parts) (length second) →
     length (tables_text names first strings) ≡ length (tables_text names second strings)
 same_tables names strings dictionary parts m n first second a b =
     let alike = all_alike m n parts in
-    let same = same_single first second (one_size dictionary (places_of m parts) (places_of n parts) (length first) (length second) a b alike.names alike.sizes) in
+    let same = same_single first second
+    (one_size dictionary (places_of m parts) (places_of n parts) (length first) (length second) a b alike.names alike.sizes) in
     let rest : List ℕ = index_text strings ++ index_text [] in
     omega (
       arith,
@@ -124,7 +138,8 @@ same_tables names strings dictionary parts m n first second a b =
     )
 
 -- the parts end behind their bytes
-pub parts_end : (parts : Parts) (dictionaries : List (List ℕ)) (start : ℕ) → parts.dictionaries ≡ length (dictionaries_text parts.glyphs.now.select dictionaries) →
+pub parts_end : (parts : Parts) (dictionaries : List (List ℕ)) (start : ℕ) →
+    parts.dictionaries ≡ length (dictionaries_text parts.glyphs.now.select dictionaries) →
     start + length (parts_text parts dictionaries) ≡ (beginnings start parts).end
 parts_end parts dictionaries start len =
     let glyphs = parts.glyphs.now in
@@ -144,7 +159,8 @@ parts_end parts dictionaries start len =
     )
 
 -- each part stands where it begins
-pub parts_stand : (parts : Parts) (dictionaries : List (List ℕ)) (tables out : List ℕ) → parts.dictionaries ≡ length (dictionaries_text parts.glyphs.now.select dictionaries) → out ≡ tables ++ parts_text parts dictionaries →
+pub parts_stand : (parts : Parts) (dictionaries : List (List ℕ)) (tables out : List ℕ) →
+    parts.dictionaries ≡ length (dictionaries_text parts.glyphs.now.select dictionaries) → out ≡ tables ++ parts_text parts dictionaries →
     PartsStand parts dictionaries out (beginnings (length tables) parts)
 parts_stand parts dictionaries tables out len is =
     let glyphs = parts.glyphs.now in
@@ -155,7 +171,8 @@ parts_stand parts dictionaries tables out len is =
     let s : List ℕ = text_of glyphs.char_set in
     let all : List ℕ = parts_text parts dictionaries in
     let at = beginnings (length tables) parts in
-    let whole : Stands all out (length tables) = subst (λ bs. Stands all bs (length tables)) (ap (λ xs. tables ++ xs) (append-nil all) ∙ sym is) (stands_amid tables all []) in
+    let whole : Stands all out (length tables) = subst (λ bs. Stands all bs (length tables))
+    (ap (λ xs. tables ++ xs) (append-nil all) ∙ sym is) (stands_amid tables all []) in
     let second = stands_second a (b ++ (parts.char_strings.items ++ (p ++ (q ++ s)))) whole in
     let third = stands_second b (parts.char_strings.items ++ (p ++ (q ++ s))) second in
     let fourth = stands_second parts.char_strings.items (p ++ (q ++ s)) third in

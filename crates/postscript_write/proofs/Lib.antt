@@ -7,6 +7,7 @@ pub mod OperationsStand
 pub mod WholeEnd
 pub mod Moving
 pub mod Without
+pub mod Unnamed
 pub mod Placing
 pub mod Privates
 pub mod Arranged
@@ -62,7 +63,15 @@ pub mod NamedAgain
 pub mod StringsAgain
 pub mod CharSetAgain
 pub mod NamesBack
+pub mod SetStands
 pub mod OneEncoding
 pub mod WrittenBack
 pub mod GivenBack
 pub mod Identifying
+pub mod Empty
+pub mod StrictIndex
+pub mod StrictCharSet
+pub mod LenientOld
+pub mod LenientSets
+pub mod LenientNew
+pub mod WholeAgain

@@ -29,9 +29,11 @@ module _ (new : ℕ → ℕ) (identifiers : List ℕ) where
   alone = subst (λ xs. Stands rows xs 0) (append-nil rows) (stands_amid [] rows [])
 
   -- the identifier of a glyph, counted from 0 behind the first one
-  told : (i : ℕ) → i < length identifiers → new (get_or identifiers i 0) < 65536 → identifier_at rows i ≡ Some (new (get_or identifiers i 0))
+  told : (i : ℕ) → i < length identifiers → new (get_or identifiers i 0) < 65536 →
+      identifier_at rows i ≡ Some (new (get_or identifiers i 0))
   told i less small =
-      let read : number_at rows (0 + i * 2) 2 ≡ new (get_or identifiers i 0) = number_read 2 (new (get_or identifiers i 0)) small (row_stands row 2 two identifiers 0 i 0 less alone) in
+      let read : number_at rows (0 + i * 2) 2 ≡ new (get_or identifiers i 0) = number_read 2 (new (get_or identifiers i 0)) small
+      (row_stands row 2 two identifiers 0 i 0 less alone) in
       let at : 2 * i ≡ 0 + i * 2 = omega arith in
       let half : nat_lt i (length rows / 2) ≡ true = grind (arith, nat_tests, long) in
       ap (λ b. if b then Some (number_at rows (2 * i) 2) else None) half ∙ ap (λ n. Some n) (ap (λ n. number_at rows n 2) at ∙ read)
@@ -52,10 +54,14 @@ module _ (new : ℕ → ℕ) (identifiers : List ℕ) where
       count = omega (arith, many, long)
 
       pub list_stands : Bor (List ℕ) → (own : Identifiers) × StandsAt own bytes place glyphs
-      list_stands lent = (Listed (record { ref_ptr = lent.ref_ptr; now = take (2 * (glyphs - 1)) (drop (place + 1) bytes) }), (format, omega (arith, many, within), refl))
+      list_stands lent = (
+        Listed (record { ref_ptr = lent.ref_ptr; now = take (2 * (glyphs - 1)) (drop (place + 1) bytes) }),
+        (format, omega (arith, many, within), refl),
+      )
 
       -- whatever stands there names the glyphs so
-      pub list_names : (own : Identifiers) (i identifier : ℕ) → StandsAt own bytes place glyphs → i < length identifiers → new (get_or identifiers i 0) < 65536 →
+      pub list_names : (own : Identifiers) (i identifier : ℕ) → StandsAt own bytes place glyphs → i < length identifiers →
+          new (get_or identifiers i 0) < 65536 →
           NamesBehind own i identifier ↔ (new (get_or identifiers i 0) ≡ identifier)
       list_names ISOAdobe i identifier is less small = absurd is
       list_names Expert i identifier is less small = absurd is

@@ -37,7 +37,8 @@ all_few : (font : FontView) (strings : Strings) → AreAll font strings → AreF
 all_few font strings all = record {
   many = omega (arith, ap length all.texts_are);
   bytes = omega (arith, ap bytes_in all.texts_are);
-  new = λ number new some. let never : None ≡ Some new = sym (ap (λ (rs : List (Option ℕ)). get_or rs number None) all.stay) ∙ some in absurd (cc);
+  new = λ number new some. let never : None ≡ Some new = sym (ap (λ (rs : List (Option ℕ)). get_or rs number None) all.stay)
+      ∙ some in absurd (cc);
 }
 
 cut_few : (font : FontView) (identifiers : List ℕ) (strings : Strings) → AreCut font identifiers strings → AreFewStrings font strings
@@ -53,7 +54,8 @@ cut_few font identifiers strings cut =
           omega (arith, is, there);
     }
 
-strings_little : (font : FontView) (identifiers : Option (Vec ℕ Global)) (strings : Strings) → AreStringsFor font identifiers strings → AreFewStrings font strings
+strings_little : (font : FontView) (identifiers : Option (Vec ℕ Global)) (strings : Strings) → AreStringsFor font identifiers strings →
+    AreFewStrings font strings
 strings_little font None strings all = all_few font strings all
 strings_little font (Some identifiers) strings are = by (is_some (look font.dictionary operators.ROS)) are
   where
@@ -71,9 +73,15 @@ cut_within bytes cut from to is =
     range_long : (bytes : List ℕ) (from to : ℕ) → length (slice_range bytes from to) ≤ length bytes
     range_long bytes from to =
         let rest : List ℕ = drop from bytes in
-        omega (arith, ap length (take-append-drop (to - from) rest), length-append (take (to - from) rest) (drop (to - from) rest), length-drop from bytes)
+        omega (
+          arith,
+          ap length (take-append-drop (to - from) rest),
+          length-append (take (to - from) rest) (drop (to - from) rest),
+          length-drop from bytes,
+        )
 
-own_little : (bytes : List ℕ) (map : Dictionary) (operator : Operator) (least : ℕ) (ends : ℕ → ℕ → Type 0) (own : Option (Vec ℕ Global)) → IsOwn bytes map operator least ends (items_if own) → length (text_of own) ≤ length bytes
+own_little : (bytes : List ℕ) (map : Dictionary) (operator : Operator) (least : ℕ) (ends : ℕ → ℕ → Type 0) (own : Option (Vec ℕ Global)) →
+    IsOwn bytes map operator least ends (items_if own) → length (text_of own) ≤ length bytes
 own_little bytes map operator least ends None is = omega arith
 own_little bytes map operator least ends (Some own) is = cut_within bytes own.items is.0 is.1 is.5
 
@@ -81,8 +89,10 @@ nothing_long : (own : Option (Vec ℕ Global)) → own ≡ None → length (text
 nothing_long None is = refl
 nothing_long (Some own) is = absurd (cc)
 
-encoding_little : (font : FontView) (identifiers : Option (Vec ℕ Global)) (glyphs : Glyphs) → IsEncodingFor font identifiers glyphs → length (text_of glyphs.encoding) ≤ length font.bytes.now
-encoding_little font None glyphs is = own_little font.bytes.now font.dictionary operators.Encoding 2 (EncodingEnds font.bytes.now) glyphs.encoding is.0
+encoding_little : (font : FontView) (identifiers : Option (Vec ℕ Global)) (glyphs : Glyphs) → IsEncodingFor font identifiers glyphs →
+    length (text_of glyphs.encoding) ≤ length font.bytes.now
+encoding_little font None glyphs is =
+    own_little font.bytes.now font.dictionary operators.Encoding 2 (EncodingEnds font.bytes.now) glyphs.encoding is.0
 encoding_little font (Some identifiers) glyphs is = omega (arith, nothing_long glyphs.encoding is.0)
 
 two_bytes : (strings : Strings) (old : ℕ) → length (number_text 2 (new_identifier strings old)) ≡ 2
@@ -91,20 +101,36 @@ two_bytes strings old = length-number_text 2 (new_identifier strings old)
 names_long : (strings : Strings) (identifiers : List ℕ) → length (names_text strings identifiers) ≡ 1 + 2 * length identifiers
 names_long strings identifiers =
     let text : ℕ → List ℕ = λ old. number_text 2 (new_identifier strings old) in
-    omega (arith, length-append (number_text 1 0) (flat_map text identifiers), length-number_text 1 0, rows_length text 2 (two_bytes strings) identifiers)
+    omega (
+      arith,
+      length-append (number_text 1 0) (flat_map text identifiers),
+      length-number_text 1 0,
+      rows_length text 2 (two_bytes strings) identifiers,
+    )
 
 text_long : (own : Option (Vec ℕ Global)) (text : List ℕ) → items_if own ≡ Some text → length (text_of own) ≡ length text
 text_long None text is = absurd (cc)
 text_long (Some own) text is = let same : own.items ≡ text = cc in ap length same
 
-char_set_little : (font : FontView) (identifiers : Option (Vec ℕ Global)) (glyphs : Glyphs) → AreFew identifiers → IsCharSetFor font identifiers glyphs →
+char_set_little : (font : FontView) (identifiers : Option (Vec ℕ Global)) (glyphs : Glyphs) → AreFew identifiers →
+    IsCharSetFor font identifiers glyphs →
     length (text_of glyphs.char_set) ≤ length font.bytes.now + 131071
 char_set_little font None glyphs few is =
-    omega (arith, own_little font.bytes.now font.dictionary operators.CharSet 3 (CharSetEnds font.bytes.now (length (items_of font.char_strings))) glyphs.char_set is)
+    omega (
+      arith,
+      own_little font.bytes.now font.dictionary operators.CharSet 3
+          (CharSetEnds font.bytes.now (length (items_of font.char_strings))) glyphs.char_set is,
+    )
 char_set_little font (Some identifiers) glyphs few is =
-    omega (arith, few, text_long glyphs.char_set (names_text glyphs.strings identifiers.items) is, names_long glyphs.strings identifiers.items)
+    omega (
+      arith,
+      few,
+      text_long glyphs.char_set (names_text glyphs.strings identifiers.items) is,
+      names_long glyphs.strings identifiers.items,
+    )
 
-select_little : (numbers : List ℕ) (select : Option (Vec ℕ Global)) → length numbers < 2 ^ 16 → IsSelectFor numbers select → length (text_of select) ≤ 65536
+select_little : (numbers : List ℕ) (select : Option (Vec ℕ Global)) → length numbers < 2 ^ 16 → IsSelectFor numbers select →
+    length (text_of select) ≤ 65536
 select_little numbers None few is = omega arith
 select_little numbers (Some select) few is = let most = is.few in omega (arith, most, few)
 
@@ -115,7 +141,8 @@ pub record AreLittle (font : FontView) (glyphs : Glyphs) : Type 0 where
   pub select : length (text_of glyphs.select) ≤ 65536
   pub char_set : length (text_of glyphs.char_set) ≤ length font.bytes.now + 131071
 
-pub are_little : (font : FontView) (numbers : List ℕ) (identifiers : Option (Vec ℕ Global)) (glyphs : Glyphs) → length numbers < 2 ^ 16 → AreFew identifiers → AreGlyphsFor font numbers identifiers glyphs → AreLittle font glyphs
+pub are_little : (font : FontView) (numbers : List ℕ) (identifiers : Option (Vec ℕ Global)) (glyphs : Glyphs) → length numbers < 2 ^ 16 →
+    AreFew identifiers → AreGlyphsFor font numbers identifiers glyphs → AreLittle font glyphs
 are_little font numbers identifiers glyphs few less are = record {
   strings = strings_little font identifiers glyphs.strings are.strings;
   encoding = encoding_little font identifiers glyphs are.encoding;

@@ -22,15 +22,17 @@ use Rattle.postscript_write.specs.Fonts.{IsMade}
 use Rattle.postscript_write.specs.Glyphs.{AreCodesOf, AreNumbersOf, HasPart, HasPartFor, IsCodeFor, Sources, run_in}
 use Rattle.postscript_write.specs.Parts.{SameParts}
 use Rattle.postscript_write.specs.Refusals.{FontRefusedBy, IsRefusedBy}
-use Rattle.postscript_write.specs.RefusedGlyphs.{AreSound, IsFaultless}
+use Rattle.postscript_write.specs.RefusedGlyphs.{IsFaultless}
 use Rattle.postscript_write.specs.Sizes.{IsLarge}
-use Rattle.postscript_write.specs.Steps.{IsLate, IsNotOpened, RefusedBy, RefusedFor}
+use Rattle.postscript_write.specs.Steps.{IsNotOpened, RefusedBy, RefusedFor}
 use Rattle.postscript_write.specs.declared.error.Error.{Error}
-use Rattle.postscript_write.specs.declared.error.Error.TheVariants.{Refused, Glyph, SeveralFonts, MissingGlyph, MissingPart, MissingName, NoGlyphs, TooLarge, NotReadBack}
+use Rattle.postscript_write.specs.declared.error.Error.TheVariants.{Refused, Glyph, SeveralFonts, MissingGlyph, MissingPart, MissingName, NoGlyphs, TooLarge}
 
-pub made : (bytes flat : List ℕ) (old new : View) (source : Option ℕ) (i number : ℕ) (code : List ℕ) → SameParts old.parts new.parts → slice_get new.char_strings i ≡ Some code →
+pub made : (bytes flat : List ℕ) (old new : View) (source : Option ℕ) (i number : ℕ) (code : List ℕ) → SameParts old.parts new.parts →
+    slice_get new.char_strings i ≡ Some code →
     HasPartFor bytes old source number → IsCodeFor old source number code → HasPart flat new i number → IsMade bytes old source flat new i
-made bytes flat old new None i number code parts there was is again = record { code = there ∙ ap Some is; part = subst (HasPart flat new i) was again }
+made bytes flat old new None i number code parts there was is again =
+    record { code = there ∙ ap Some is; part = subst (HasPart flat new i) was again }
 made bytes flat old new (Some glyph) i number code parts there was is again =
     let within : number < length new.parts = again.there in
     let new_part : PrivateDict = slice_index_or new.parts number is.part in
@@ -49,19 +51,24 @@ made bytes flat old new (Some glyph) i number code parts there was is again =
       same = parts.each number is.part new_part is.has_part has_new;
     }
 
-faultless_for : (font : View) (source : Option ℕ) (number : ℕ) (flat : List ℕ) → IsCodeFor font source number flat → IsFaultless font source number
+faultless_for : (font : View) (source : Option ℕ) (number : ℕ) (flat : List ℕ) → IsCodeFor font source number flat →
+    IsFaultless font source number
 faultless_for font None number flat h = tt
-faultless_for font (Some glyph) number flat h = record { code = h.code; part = h.part; has_code = h.has_code; has_part = h.has_part; faultless = h.faultless }
+faultless_for font (Some glyph) number flat h =
+    record { code = h.code; part = h.part; has_code = h.has_code; has_part = h.has_part; faultless = h.faultless }
 
 -- the refusal of a glyph behind glyphs that are not refused
-pub refused_by : (font : View) (sources : Sources) (numbers : List ℕ) (flats : List (List ℕ)) (i : ℕ) (e : Error) → i < length sources → RefusedFor font (slice_index_or sources i None) (slice_index_or numbers i 0) e →
-    ((k : ℕ) → k < i → IsCodeFor font (slice_index_or sources k None) (slice_index_or numbers k 0) (slice_index_or flats k [])) → RefusedBy font sources numbers e
+pub refused_by : (font : View) (sources : Sources) (numbers : List ℕ) (flats : List (List ℕ)) (i : ℕ) (e : Error) → i < length sources →
+    RefusedFor font (slice_index_or sources i None) (slice_index_or numbers i 0) e →
+    ((k : ℕ) → k < i → IsCodeFor font (slice_index_or sources k None) (slice_index_or numbers k 0)
+    (slice_index_or flats k [])) → RefusedBy font sources numbers e
 refused_by font sources numbers flats i (Glyph glyph cause) less h before = record {
   place = i;
   there = less;
   is = h.0;
   refused = h.1;
-  before = λ k below. faultless_for font (slice_index_or sources k None) (slice_index_or numbers k 0) (slice_index_or flats k []) (before k below);
+  before = λ k below. faultless_for font (slice_index_or sources k None) (slice_index_or numbers k 0) (slice_index_or flats k [])
+      (before k below);
 }
 refused_by font sources numbers flats i (Refused cause) less h before = h
 refused_by font sources numbers flats i SeveralFonts less h before = absurd h
@@ -70,9 +77,9 @@ refused_by font sources numbers flats i (MissingPart glyph) less h before = absu
 refused_by font sources numbers flats i (MissingName glyph) less h before = absurd h
 refused_by font sources numbers flats i NoGlyphs less h before = absurd h
 refused_by font sources numbers flats i TooLarge less h before = absurd h
-refused_by font sources numbers flats i NotReadBack less h before = absurd h
 
-pub font_refused : (bytes : List ℕ) (font : View) (sources : Sources) (numbers : List ℕ) (e : Error) → AreNumbersOf bytes font sources numbers → RefusedBy font sources numbers e → FontRefusedBy bytes font sources e
+pub font_refused : (bytes : List ℕ) (font : View) (sources : Sources) (numbers : List ℕ) (e : Error) →
+    AreNumbersOf bytes font sources numbers → RefusedBy font sources numbers e → FontRefusedBy bytes font sources e
 font_refused bytes font sources numbers (Glyph glyph cause) are h = (numbers, are, h)
 font_refused bytes font sources numbers (Refused cause) are h = λ n. absurd (n h)
 font_refused bytes font sources numbers SeveralFonts are h = absurd h
@@ -81,11 +88,11 @@ font_refused bytes font sources numbers (MissingPart glyph) are h = absurd h
 font_refused bytes font sources numbers (MissingName glyph) are h = absurd h
 font_refused bytes font sources numbers NoGlyphs are h = absurd h
 font_refused bytes font sources numbers TooLarge are h = absurd h
-font_refused bytes font sources numbers NotReadBack are h = absurd h
 
 -- a glyph without a part
 pub partless : (font : FontView) (sources : Sources) (i : ℕ) (e : Error) → i < length sources →
-    ((glyph : ℕ) × (slice_index_or sources i None ≡ Some glyph) × (e ≡ MissingPart glyph) × ((part : ℕ) → HasPartNumber font glyph part → ⊥)) → FontRefusedBy font.bytes.now (view_shown font) sources e
+    ((glyph : ℕ) × (slice_index_or sources i None ≡ Some glyph) × (e ≡ MissingPart glyph) × ((part : ℕ) → HasPartNumber font glyph
+    part → ⊥)) → FontRefusedBy font.bytes.now (view_shown font) sources e
 partless font sources i e less h =
     let many : length (parts_shown font.parts.items) ≡ length font.parts.items = length-map font.parts.items part_shown in
     subst (λ e. FontRefusedBy font.bytes.now (view_shown font) sources e) (sym h.2) (record {
@@ -93,13 +100,16 @@ partless font sources i e less h =
       partless = λ there number has. h.3 number (record {
         glyph_there = there;
         part_there = subst (λ n. number < n) many has.there;
-        selected = subst (λ n. ((n ≡ 1) × (number ≡ 0)) ⊎ ((n ≢ 1) × IsSelected font.bytes.now font.dictionary (length (items_of font.char_strings)) h.0 number)) many has.selected;
+        selected = subst (λ n. ((n ≡ 1) × (number ≡ 0)) ⊎ ((n ≢ 1) × IsSelected font.bytes.now font.dictionary
+            (length (items_of font.char_strings)) h.0 number)) many has.selected;
       });
     })
 
 -- a glyph without a name
-pub nameless : (font : FontView) (set : CharSetView) (sources : Sources) (i : ℕ) (e : Error) → IsCharSetOf set font.bytes.now font.dictionary (length (items_of font.char_strings)) → i < length sources →
-    ((glyph : ℕ) × (slice_index_or sources i None ≡ Some glyph) × (e ≡ MissingName glyph) × ((identifier : ℕ) → Names set glyph identifier → ⊥)) → FontRefusedBy font.bytes.now (view_shown font) sources e
+pub nameless : (font : FontView) (set : CharSetView) (sources : Sources) (i : ℕ) (e : Error) →
+    IsCharSetOf set font.bytes.now font.dictionary (length (items_of font.char_strings)) → i < length sources →
+    ((glyph : ℕ) × (slice_index_or sources i None ≡ Some glyph) × (e ≡ MissingName glyph) × ((identifier : ℕ) → Names set glyph
+    identifier → ⊥)) → FontRefusedBy font.bytes.now (view_shown font) sources e
 nameless font set sources i e has less h = subst (λ e. FontRefusedBy font.bytes.now (view_shown font) sources e) (sym h.2) (record {
   one = (i, less, h.1);
   set = set;
@@ -107,35 +117,29 @@ nameless font set sources i e has less h = subst (λ e. FontRefusedBy font.bytes
   nameless = h.3;
 })
 
--- writing is refused where nothing is wrong with the font
-pub late_refused : (bytes : List ℕ) (font : View) (sources : Sources) (numbers : List ℕ) (flats : List (List ℕ)) (e : Error) → AreNumbersOf bytes font sources numbers → AreCodesOf font sources numbers flats → IsLate bytes e → FontRefusedBy bytes font sources e
-late_refused bytes font sources numbers flats e are codes h = by e h
-  where
-    sound : AreSound bytes font sources
-    sound = (numbers, are, λ i less. faultless_for font (slice_index_or sources i None) (slice_index_or numbers i 0) (slice_index_or flats i []) (codes.each i less))
-
-    by : (e : Error) → IsLate bytes e → FontRefusedBy bytes font sources e
-    by (Glyph glyph cause) h = absurd h
-    by (Refused cause) h = λ n. absurd (n h)
-    by SeveralFonts h = absurd h
-    by (MissingGlyph glyph) h = absurd h
-    by (MissingPart glyph) h = absurd h
-    by (MissingName glyph) h = absurd h
-    by NoGlyphs h = absurd h
-    by TooLarge h = absurd h
-    by NotReadBack h = (sound, h)
+pub memory_refused : (bytes : List ℕ) (font : View) (sources : Sources) (e : Error) → e ≡ Refused causes.Memory →
+    FontRefusedBy bytes font sources e
+memory_refused bytes font sources e is = subst (FontRefusedBy bytes font sources) (sym is) (λ n. absurd (n refl))
 
 -- the font is too large with the codes
-pub too_large : (bytes : List ℕ) (font : View) (sources : Sources) (numbers : List ℕ) (flats : List (List ℕ)) → AreNumbersOf bytes font sources numbers → AreCodesOf font sources numbers flats → IsLarge bytes font flats → FontRefusedBy bytes font sources TooLarge
+pub too_large : (bytes : List ℕ) (font : View) (sources : Sources) (numbers : List ℕ) (flats : List (List ℕ)) →
+    AreNumbersOf bytes font sources numbers → AreCodesOf font sources numbers flats → IsLarge bytes font flats →
+    FontRefusedBy bytes font sources TooLarge
 too_large bytes font sources numbers flats are codes large = (
-  (numbers, are, λ i less. faultless_for font (slice_index_or sources i None) (slice_index_or numbers i 0) (slice_index_or flats i []) (codes.each i less)),
+  (
+    numbers,
+    are,
+    λ i less. faultless_for font (slice_index_or sources i None) (slice_index_or numbers i 0) (slice_index_or flats i [])
+        (codes.each i less),
+  ),
   record { numbers = numbers; codes = flats; are_numbers = are; are_codes = codes; large = large },
 )
 
 pub memory_bytes : (sources : (glyphs : ℕ) → Sources) (bytes : List ℕ) (e : Error) → e ≡ Refused causes.Memory → IsRefusedBy sources bytes e
 memory_bytes sources bytes e is = subst (IsRefusedBy sources bytes) (sym is) (λ n. absurd (n refl))
 
-pub is_refused : (sources : (glyphs : ℕ) → Sources) (bytes : List ℕ) (font : View) (e : Error) → view bytes 0 ≡ Got font 0 → FontRefusedBy bytes font (sources (length font.char_strings)) e → IsRefusedBy sources bytes e
+pub is_refused : (sources : (glyphs : ℕ) → Sources) (bytes : List ℕ) (font : View) (e : Error) → view bytes 0 ≡ Got font 0 →
+    FontRefusedBy bytes font (sources (length font.char_strings)) e → IsRefusedBy sources bytes e
 is_refused sources bytes font (Glyph glyph cause) is h = (font, is, h)
 is_refused sources bytes font (Refused cause) is h = λ n. inr (font, is, h n)
 is_refused sources bytes font SeveralFonts is h = absurd h
@@ -144,7 +148,6 @@ is_refused sources bytes font (MissingPart glyph) is h = (font, is, h)
 is_refused sources bytes font (MissingName glyph) is h = (font, is, h)
 is_refused sources bytes font NoGlyphs is h = absurd h
 is_refused sources bytes font TooLarge is h = (font, is, h)
-is_refused sources bytes font NotReadBack is h = (font, is, h)
 
 pub not_opened : (sources : (glyphs : ℕ) → Sources) (bytes : List ℕ) (e : Error) → IsNotOpened bytes e → IsRefusedBy sources bytes e
 not_opened sources bytes (Glyph glyph cause) h = absurd h
@@ -155,10 +158,10 @@ not_opened sources bytes (MissingPart glyph) h = absurd h
 not_opened sources bytes (MissingName glyph) h = absurd h
 not_opened sources bytes NoGlyphs h = absurd h
 not_opened sources bytes TooLarge h = absurd h
-not_opened sources bytes NotReadBack h = absurd h
 
 -- the refusal of a glyph, running out of memory aside
-pub run_refused : (font : View) (glyph number : ℕ) (code : List ℕ) (part : PrivateDict) (cause : base.Error) (e : Error) → slice_get font.char_strings glyph ≡ Some code → slice_get font.parts number ≡ Some part →
+pub run_refused : (font : View) (glyph number : ℕ) (code : List ℕ) (part : PrivateDict) (cause : base.Error) (e : Error) →
+    slice_get font.char_strings glyph ≡ Some code → slice_get font.parts number ≡ Some part →
     (cause ≡ causes.Memory) ⊎ (fault_of (run_in font part code).end ≡ Some (refusal_of cause)) →
     (e ≡ Refused causes.Memory) ⊎ ((cause ≢ causes.Memory) × (e ≡ Glyph glyph cause)) → RefusedFor font (Some glyph) number e
 run_refused font glyph number code part cause e has_code has_part fault is = elim is [

@@ -6,11 +6,13 @@ use Rattle.postscript_base.specs.Numbers.{big_endian}
 use Rattle.postscript_write.specs.Texts.{Stands}
 
 -- a slice of the text
-slice_there : (text out : List ℕ) (place k n : ℕ) → Stands text out place → k + n ≤ length text → take n (drop (place + k) out) ≡ take n (drop k text)
+slice_there : (text out : List ℕ) (place k n : ℕ) → Stands text out place → k + n ≤ length text →
+    take n (drop (place + k) out) ≡ take n (drop k text)
 slice_there text out place k n s less =
     let rest : List ℕ = s.behind in
     let high : n ≤ length (drop k text) = omega (arith, less, length-drop k text) in
-    ap (take n) (sym (drop-drop k place out) ∙ ap (drop k) s.there ∙ drop-append-le k text rest (omega (arith, less))) ∙ take-append-le n (drop k text) rest high
+    ap (take n) (sym (drop-drop k place out) ∙ ap (drop k) s.there ∙ drop-append-le k text rest (omega (arith, less)))
+    ∙ take-append-le n (drop k text) rest high
 
 module _ (text a b : List ℕ) (p q : ℕ) (sa : Stands text a p) (sb : Stands text b q) where
   pub slice_moves : (k n : ℕ) → k + n ≤ length text → take n (drop (q + k) b) ≡ take n (drop (p + k) a)

@@ -17,14 +17,14 @@ use Rattle.postscript_base.proofs.DictionaryMaps.{operators_total}
 use Rattle.postscript_write.specs.Arrangement.{place_at, places_of}
 use Rattle.postscript_write.specs.Dictionaries.{IsPlaced, operation_of}
 use Rattle.postscript_write.specs.Parts.{IsAmong, naming}
-use Rattle.postscript_write.specs.Renumbered.{all_renamed, new_identifier, renamed_if}
+use Rattle.postscript_write.specs.Renumbered.{IsRenamed, all_renamed, new_identifier, renamed_if}
 use Rattle.postscript_write.specs.Strings.{identifier_from, identifier_in}
 use Rattle.postscript_write.specs.declared.dictionaries.Place.{Place}
 use Rattle.postscript_write.specs.declared.layout.Parts.{Parts}
 use Rattle.postscript_write.specs.declared.strings.Strings.{Strings}
 use Rattle.std.proofs.lemmas.List.{map-append}
 use Rattle.postscript_write.proofs.Placing.{same_operator}
-use Rattle.postscript_write.proofs.PlacesNamed.{IsApart, last_append, named_by, none_named, one_renamed, stays, whole_is}
+use Rattle.postscript_write.proofs.PlacesNamed.{IsApart, last_append, look_renamed, named_by, none_named, not_private, one_renamed, stays, whole_is}
 
 or_same : {A : Type 0} (x : Option A) → option_or x x ≡ x
 or_same None = refl
@@ -42,7 +42,8 @@ module _ (strings : Strings) (old : Dictionary) (operator : Operator) where
   abbrev named : Option (List Decimal)
   named = named_by (own operator) operator
 
-  joined : (others : List Operator) (other : Operator) (x : Option (List Decimal)) → named_by (flat_map own others) operator ≡ x → named_by (flat_map own (other ∷ others)) operator ≡ option_or x (named_by (own other) operator)
+  joined : (others : List Operator) (other : Operator) (x : Option (List Decimal)) → named_by (flat_map own others) operator ≡ x →
+      named_by (flat_map own (other ∷ others)) operator ≡ option_or x (named_by (own other) operator)
   joined others other x is =
       ap (λ os. last_of os operator) (map-append operation_of (own other) (flat_map own others))
       ∙ last_append (map operation_of (own other)) (map operation_of (flat_map own others)) operator
@@ -58,7 +59,8 @@ module _ (strings : Strings) (old : Dictionary) (operator : Operator) where
   either [] = inl refl
   either (other ∷ others) = by (either others) (eq_by_cmp operator_cmp operator other) refl
     where
-      by : (named_by (flat_map own others) operator ≡ None) ⊎ (named_by (flat_map own others) operator ≡ named) → (b : Bool) → eq_by_cmp operator_cmp operator other ≡ b →
+      by : (named_by (flat_map own others) operator ≡ None) ⊎ (named_by (flat_map own others) operator ≡ named) → (b : Bool) →
+          eq_by_cmp operator_cmp operator other ≡ b →
           (named_by (flat_map own (other ∷ others)) operator ≡ None) ⊎ (named_by (flat_map own (other ∷ others)) operator ≡ named)
       by (inl rest) true e = inr (joined others other None rest ∙ this other e)
       by (inr rest) true e = inr (joined others other named rest ∙ ap (option_or named) (this other e) ∙ or_same named)
@@ -72,26 +74,46 @@ module _ (strings : Strings) (old : Dictionary) (operator : Operator) where
       first : named_by (own other) operator ≡ named
       first = ap (λ o. named_by (own o) operator) (sym same)
 
-      by : (named_by (flat_map own others) operator ≡ None) ⊎ (named_by (flat_map own others) operator ≡ named) → named_by (flat_map own (other ∷ others)) operator ≡ named
+      by : (named_by (flat_map own others) operator ≡ None) ⊎ (named_by (flat_map own others) operator ≡ named) →
+          named_by (flat_map own (other ∷ others)) operator ≡ named
       by (inl rest) = joined others other None rest ∙ first
       by (inr rest) = joined others other named rest ∙ ap (option_or named) first ∙ or_same named
   of_all (other ∷ others) (inr later) = by (of_all others later) (eq_by_cmp operator_cmp operator other) refl
     where
-      by : named_by (flat_map own others) operator ≡ named → (b : Bool) → eq_by_cmp operator_cmp operator other ≡ b → named_by (flat_map own (other ∷ others)) operator ≡ named
+      by : named_by (flat_map own others) operator ≡ named → (b : Bool) → eq_by_cmp operator_cmp operator other ≡ b →
+          named_by (flat_map own (other ∷ others)) operator ≡ named
       by rest true e = joined others other named rest ∙ ap (option_or named) (this other e) ∙ or_same named
       by rest false e = joined others other named rest ∙ ap (option_or named) (none other e) ∙ or_none named
 
 -- no part is named by an operator that names a string
 apart : (operator : Operator) → IsAmong operator naming → IsApart operator
-apart operator (inl is) = subst IsApart (sym is) (record { other = record { encoding = refl; select = refl; char_strings = refl; char_set = refl }; private = refl; array = refl })
-apart operator (inr (inl is)) = subst IsApart (sym is) (record { other = record { encoding = refl; select = refl; char_strings = refl; char_set = refl }; private = refl; array = refl })
-apart operator (inr (inr (inl is))) = subst IsApart (sym is) (record { other = record { encoding = refl; select = refl; char_strings = refl; char_set = refl }; private = refl; array = refl })
-apart operator (inr (inr (inr (inl is)))) = subst IsApart (sym is) (record { other = record { encoding = refl; select = refl; char_strings = refl; char_set = refl }; private = refl; array = refl })
-apart operator (inr (inr (inr (inr (inl is))))) = subst IsApart (sym is) (record { other = record { encoding = refl; select = refl; char_strings = refl; char_set = refl }; private = refl; array = refl })
-apart operator (inr (inr (inr (inr (inr (inl is)))))) = subst IsApart (sym is) (record { other = record { encoding = refl; select = refl; char_strings = refl; char_set = refl }; private = refl; array = refl })
-apart operator (inr (inr (inr (inr (inr (inr (inl is))))))) = subst IsApart (sym is) (record { other = record { encoding = refl; select = refl; char_strings = refl; char_set = refl }; private = refl; array = refl })
-apart operator (inr (inr (inr (inr (inr (inr (inr (inl is)))))))) = subst IsApart (sym is) (record { other = record { encoding = refl; select = refl; char_strings = refl; char_set = refl }; private = refl; array = refl })
-apart operator (inr (inr (inr (inr (inr (inr (inr (inr (inl is))))))))) = subst IsApart (sym is) (record { other = record { encoding = refl; select = refl; char_strings = refl; char_set = refl }; private = refl; array = refl })
+apart operator (inl is) =
+    subst IsApart (sym is) (record
+    { other = record { encoding = refl; select = refl; char_strings = refl; char_set = refl }; private = refl; array = refl })
+apart operator (inr (inl is)) =
+    subst IsApart (sym is) (record
+    { other = record { encoding = refl; select = refl; char_strings = refl; char_set = refl }; private = refl; array = refl })
+apart operator (inr (inr (inl is))) =
+    subst IsApart (sym is) (record
+    { other = record { encoding = refl; select = refl; char_strings = refl; char_set = refl }; private = refl; array = refl })
+apart operator (inr (inr (inr (inl is)))) =
+    subst IsApart (sym is) (record
+    { other = record { encoding = refl; select = refl; char_strings = refl; char_set = refl }; private = refl; array = refl })
+apart operator (inr (inr (inr (inr (inl is))))) =
+    subst IsApart (sym is) (record
+    { other = record { encoding = refl; select = refl; char_strings = refl; char_set = refl }; private = refl; array = refl })
+apart operator (inr (inr (inr (inr (inr (inl is)))))) =
+    subst IsApart (sym is) (record
+    { other = record { encoding = refl; select = refl; char_strings = refl; char_set = refl }; private = refl; array = refl })
+apart operator (inr (inr (inr (inr (inr (inr (inl is))))))) =
+    subst IsApart (sym is) (record
+    { other = record { encoding = refl; select = refl; char_strings = refl; char_set = refl }; private = refl; array = refl })
+apart operator (inr (inr (inr (inr (inr (inr (inr (inl is)))))))) =
+    subst IsApart (sym is) (record
+    { other = record { encoding = refl; select = refl; char_strings = refl; char_set = refl }; private = refl; array = refl })
+apart operator (inr (inr (inr (inr (inr (inr (inr (inr (inl is))))))))) =
+    subst IsApart (sym is) (record
+    { other = record { encoding = refl; select = refl; char_strings = refl; char_set = refl }; private = refl; array = refl })
 apart operator (inr (inr (inr (inr (inr (inr (inr (inr (inr never))))))))) = absurd never
 
 same_number : (m n : ℕ) → m ≡ n → (m == n) ≡ true
@@ -109,22 +131,29 @@ number_named n low = ap identifier_from (whole_is n (omega (arith, low))) ∙ ap
     below n less = grind (arith, nat_tests)
 
 -- Each operator that names a string names it by the new identifier.
-module _ (strings : Strings) (old named new : Dictionary) (start : ℕ) (parts : Parts) (renamed : IsPlaced old (all_renamed strings old) named) (placed : IsPlaced named (places_of start parts) new) where
-  says : (operator : Operator) → IsAmong operator naming → look new operator ≡ option_or (named_by (renamed_if strings operator (identifier_in old operator)) operator) (look old operator)
+module _ (strings : Strings) (old named new : Dictionary) (start : ℕ) (parts : Parts)
+    (renamed : IsRenamed old (all_renamed strings old) named) (placed : IsPlaced named (places_of start parts) new) where
+  says : (operator : Operator) → IsAmong operator naming →
+      look new operator ≡ option_or (named_by (renamed_if strings operator (identifier_in old operator)) operator) (look old operator)
   says operator is =
       stays named new (places_of start parts) operator placed (none_named start parts operator (apart operator is))
-      ∙ renamed operator
+      ∙ look_renamed old named (all_renamed strings old) operator renamed (λ _. not_private operator (apart operator is).private)
       ∙ ap (λ x. option_or x (look old operator)) (of_all strings old operator naming is)
 
   -- where the new identifier is the old one, the operands stay
-  pub same_operands : (operator : Operator) → IsAmong operator naming → ((identifier : ℕ) → identifier_in old operator ≡ Some identifier → new_identifier strings identifier ≡ identifier) → look new operator ≡ look old operator
+  pub same_operands : (operator : Operator) → IsAmong operator naming →
+      ((identifier : ℕ) → identifier_in old operator ≡ Some identifier → new_identifier strings identifier ≡ identifier) →
+      look new operator ≡ look old operator
   same_operands operator is same = says operator is ∙ ap (λ x. option_or x (look old operator)) (by (identifier_in old operator) refl)
     where
       by : (x : Option ℕ) → identifier_in old operator ≡ x → named_by (renamed_if strings operator x) operator ≡ None
       by None e = refl
-      by (Some identifier) e = ap (λ (b : Bool). named_by (if b then [] else place_at operator (new_identifier strings identifier) ∷ []) operator) (same_number (new_identifier strings identifier) identifier (same identifier e))
+      by (Some identifier) e =
+          ap (λ (b : Bool). named_by (if b then [] else place_at operator (new_identifier strings identifier) ∷ []) operator)
+          (same_number (new_identifier strings identifier) identifier (same identifier e))
 
-  pub identifier_is : (operator : Operator) → IsAmong operator naming → ((identifier : ℕ) → identifier_in old operator ≡ Some identifier → new_identifier strings identifier < 65536) →
+  pub identifier_is : (operator : Operator) → IsAmong operator naming →
+      ((identifier : ℕ) → identifier_in old operator ≡ Some identifier → new_identifier strings identifier < 65536) →
       identifier_in new operator ≡ option_map (new_identifier strings) (identifier_in old operator)
   unfolding identifier_in
   identifier_is operator is low = by (identifier_in old operator) refl
@@ -137,11 +166,13 @@ module _ (strings : Strings) (old named new : Dictionary) (start : ℕ) (parts :
 
       by : (x : Option ℕ) → identifier_in old operator ≡ x → read (look new operator) ≡ option_map (new_identifier strings) x
       by None e = ap read (says operator is) ∙ ap (λ x. found (renamed_if strings operator x)) e ∙ e
-      by (Some identifier) e = ap read (says operator is) ∙ ap (λ x. found (renamed_if strings operator x)) e ∙ either (n == identifier) refl
+      by (Some identifier) e =
+          ap read (says operator is) ∙ ap (λ x. found (renamed_if strings operator x)) e ∙ either (n == identifier) refl
         where
           n : ℕ
           n = new_identifier strings identifier
 
           either : (b : Bool) → (n == identifier) ≡ b → found (if b then [] else place_at operator n ∷ []) ≡ Some n
           either true t = e ∙ ap (λ m. Some m) (sym (eqb-true n identifier t))
-          either false t = ap (λ operands. read (option_or operands (look old operator))) (at_own operator n) ∙ number_named n (low identifier e)
+          either false t =
+              ap (λ operands. read (option_or operands (look old operator))) (at_own operator n) ∙ number_named n (low identifier e)

@@ -26,11 +26,14 @@ use Rattle.postscript_write.proofs.PlacesNamed.{before, behind, dictionaries_apa
 use Rattle.postscript_write.proofs.TextsEnd.{char_set_there, encoding_there, select_there}
 
 -- the offset of an operator whose operand is a number of 31 bits
-pub offset_is : (map : Dictionary) (operator : Operator) (n : ℕ) → n < 2 ^ 31 → look map operator ≡ Some (whole (pos n) ∷ []) → offset_of map operator ≡ Some n
+pub offset_is : (map : Dictionary) (operator : Operator) (n : ℕ) → n < 2 ^ 31 → look map operator ≡ Some (whole (pos n) ∷ []) →
+    offset_of map operator ≡ Some n
 unfolding offset_of
-offset_is map operator n low is = ap (λ (x : Option (List Decimal)). offset_from (option_and_then to_i32 (first_of x))) is ∙ ap offset_from (whole_is n low)
+offset_is map operator n low is =
+    ap (λ (x : Option (List Decimal)). offset_from (option_and_then to_i32 (first_of x))) is ∙ ap offset_from (whole_is n low)
 
-pub same_offset : (old new : Dictionary) (operator : Operator) → look new operator ≡ look old operator → offset_of new operator ≡ offset_of old operator
+pub same_offset : (old new : Dictionary) (operator : Operator) → look new operator ≡ look old operator →
+    offset_of new operator ≡ offset_of old operator
 unfolding offset_of
 same_offset old new operator is = ap (λ (x : Option (List Decimal)). offset_from (option_and_then to_i32 (first_of x))) is
 
@@ -41,7 +44,8 @@ place_held operator n held =
 
 -- the encoding
 pub of_encoding : (start : ℕ) (parts : Parts) →
-    named_by (places_of start parts) Encoding ≡ named_by (place_if Encoding parts.glyphs.now.encoding start ++ standard_place parts.glyphs.now.standard) Encoding
+    named_by (places_of start parts) Encoding ≡ named_by
+    (place_if Encoding parts.glyphs.now.encoding start ++ standard_place parts.glyphs.now.standard) Encoding
 of_encoding start parts =
     let glyphs = parts.glyphs.now in
     let at = beginnings start parts in
@@ -59,7 +63,9 @@ of_encoding start parts =
     ∙ if_other Encoding CharSet glyphs.char_set at.char_set refl)
 
 -- FDSelect
-pub of_select : (start : ℕ) (parts : Parts) → named_by (places_of start parts) FDSelect ≡ named_by (place_if FDSelect parts.glyphs.now.select (beginnings start parts).select) FDSelect
+pub of_select : (start : ℕ) (parts : Parts) →
+    named_by (places_of start parts) FDSelect ≡ named_by
+    (place_if FDSelect parts.glyphs.now.select (beginnings start parts).select) FDSelect
 of_select start parts =
     let glyphs = parts.glyphs.now in
     let at = beginnings start parts in
@@ -77,7 +83,9 @@ of_select start parts =
     ∙ if_other FDSelect CharSet glyphs.char_set at.char_set refl)
 
 -- the char set
-pub of_char_set : (start : ℕ) (parts : Parts) → named_by (places_of start parts) CharSet ≡ named_by (place_if CharSet parts.glyphs.now.char_set (beginnings start parts).char_set) CharSet
+pub of_char_set : (start : ℕ) (parts : Parts) →
+    named_by (places_of start parts) CharSet ≡ named_by
+    (place_if CharSet parts.glyphs.now.char_set (beginnings start parts).char_set) CharSet
 of_char_set start parts =
     let glyphs = parts.glyphs.now in
     let at = beginnings start parts in
@@ -100,30 +108,47 @@ pub encoding_ends : (old new : Dictionary) (out : List ℕ) (encoding : Option (
 encoding_ends old new out (Some text) true start is held past stands gives = absurd gives
 encoding_ends old new out (Some text) false start is held past stands gives =
     inr (past, offset_is new Encoding start (place_held Encoding start held) is, encoding_there text.items out start stands gives)
-encoding_ends old new out None true start is held past stands gives = inl (0, offset_is new Encoding 0 (omega arith) is, omega arith, omega arith)
-encoding_ends old new out None false start is held past stands gives = inl (gives.0, same_offset old new Encoding is ∙ gives.1, gives.2, omega arith)
+encoding_ends old new out None true start is held past stands gives =
+    inl (0, offset_is new Encoding 0 (omega arith) is, omega arith, omega arith)
+encoding_ends old new out None false start is held past stands gives =
+    inl (gives.0, same_offset old new Encoding is ∙ gives.1, gives.2, omega arith)
 
 pub select_ends : (new : Dictionary) (out : List ℕ) (select : Option (Vec ℕ Global)) (glyphs place : ℕ) (other : Option (List Decimal)) →
     look new FDSelect ≡ option_or (named_by (place_if FDSelect select place) FDSelect) other →
-    All IsHeld (place_if FDSelect select place) → (IsSome select → IsCidKeyed new) → (IsCidKeyed new → IsSome select) → Stands (text_of select) out place →
+    All IsHeld (place_if FDSelect select place) → (IsSome select → IsCidKeyed new) → (IsCidKeyed new → IsSome select) → Stands
+    (text_of select) out place →
     GivesSelect glyphs select → KeyedEnds new FDSelect (SelectEnds out glyphs) place (place + length (text_of select))
-select_ends new out None glyphs place other is held keyed only stands gives = inl (λ some. let never = only some in absurd (cc), omega arith)
+select_ends new out None glyphs place other is held keyed only stands gives =
+    inl (λ some. let never = only some in absurd (cc), omega arith)
 select_ends new out (Some text) glyphs place other is held keyed only stands gives =
-    inr (keyed refl, offset_is new FDSelect place (place_held FDSelect place held) is, select_there text.items out place glyphs stands gives)
+    inr (
+      keyed refl,
+      offset_is new FDSelect place (place_held FDSelect place held) is,
+      select_there text.items out place glyphs stands gives,
+    )
 
-pub array_ends : (new : Dictionary) (out : List ℕ) (select : Option (Vec ℕ Global)) (dictionaries : List (List ℕ)) (place : ℕ) (named other : Option (List Decimal)) →
+pub array_ends : (new : Dictionary) (out : List ℕ) (select : Option (Vec ℕ Global)) (dictionaries : List (List ℕ)) (place : ℕ)
+    (named other : Option (List Decimal)) →
     look new FDArray ≡ option_or named other → (IsSome select → (named ≡ Some (whole (pos place) ∷ [])) × (place < 2 ^ 31)) →
-    (IsSome select → IsCidKeyed new) → (IsCidKeyed new → IsSome select) → (IsSome select → Fits dictionaries) → Stands (dictionaries_text select dictionaries) out place →
+    (IsSome select → IsCidKeyed new) → (IsCidKeyed new → IsSome select) → (IsSome select → Fits dictionaries) → Stands
+    (dictionaries_text select dictionaries) out place →
     KeyedEnds new FDArray (IndexEnds out) place (place + length (dictionaries_text select dictionaries))
-array_ends new out None dictionaries place named other is names keyed only fits stands = inl (λ some. let never = only some in absurd (cc), omega arith)
+array_ends new out None dictionaries place named other is names keyed only fits stands =
+    inl (λ some. let never = only some in absurd (cc), omega arith)
 array_ends new out (Some text) dictionaries place named other is names keyed only fits stands =
     let own = names refl in
-    inr (keyed refl, offset_is new FDArray place own.1 (is ∙ ap (λ x. option_or x other) own.0), (dictionaries, writes_indices dictionaries out place (fits refl) stands))
+    inr (
+      keyed refl,
+      offset_is new FDArray place own.1 (is ∙ ap (λ x. option_or x other) own.0),
+      (dictionaries, writes_indices dictionaries out place (fits refl) stands),
+    )
 
 pub char_set_ends : (old new : Dictionary) (out : List ℕ) (char_set : Option (Vec ℕ Global)) (glyphs place : ℕ) →
     look new CharSet ≡ option_or (named_by (place_if CharSet char_set place) CharSet) (look old CharSet) →
-    All IsHeld (place_if CharSet char_set place) → 3 ≤ place → Stands (text_of char_set) out place → drop place out ≡ text_of char_set → GivesCharSet old glyphs char_set →
+    All IsHeld (place_if CharSet char_set place) → 3 ≤ place → Stands
+    (text_of char_set) out place → drop place out ≡ text_of char_set → GivesCharSet old glyphs char_set →
     OwnEnds new CharSet 3 (CharSetEnds out glyphs) place (place + length (text_of char_set))
-char_set_ends old new out None glyphs place is held past stands last gives = inl (gives.0, same_offset old new CharSet is ∙ gives.1, gives.2, omega arith)
+char_set_ends old new out None glyphs place is held past stands last gives =
+    inl (gives.0, same_offset old new CharSet is ∙ gives.1, gives.2, omega arith)
 char_set_ends old new out (Some text) glyphs place is held past stands last gives =
     inr (past, offset_is new CharSet place (place_held CharSet place held) is, char_set_there text.items out place glyphs stands last gives)

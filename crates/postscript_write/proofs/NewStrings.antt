@@ -33,9 +33,11 @@ length_none zero = refl
 length_none (suc n) = ap suc (length_none n)
 
 -- no string is written yet
-pub none_written : (old : List (List ℕ)) (renumbered : List (Option ℕ)) → renumbered ≡ replicate (length old) None → AreRenumbered old [] renumbered
+pub none_written : (old : List (List ℕ)) (renumbered : List (Option ℕ)) → renumbered ≡ replicate (length old) None →
+    AreRenumbered old [] renumbered
 none_written old renumbered is =
-    let none : (number : ℕ) → get_or renumbered number None ≡ None = λ number. ap (λ rs. get_or rs number None) is ∙ none_new (length old) number in
+    let none : (number : ℕ) → get_or renumbered number None ≡ None = λ number. ap (λ rs. get_or rs number None) is
+    ∙ none_new (length old) number in
     let left : left_of renumbered old ≡ old = ap (λ rs. left_of rs old) is ∙ all_left old in
     record {
       many = ap length is ∙ length_none (length old);
@@ -46,7 +48,8 @@ none_written old renumbered is =
     }
 
 -- one string less is left
-one_less : (renumbered : List (Option ℕ)) (old : List (List ℕ)) (k new : ℕ) → k < length renumbered → k < length old → get_or renumbered k None ≡ None →
+one_less : (renumbered : List (Option ℕ)) (old : List (List ℕ)) (k new : ℕ) → k < length renumbered → k < length old →
+    get_or renumbered k None ≡ None →
     (length (left_of (set renumbered k (Some new)) old) + 1 ≡ length (left_of renumbered old))
     × (bytes_in (left_of (set renumbered k (Some new)) old) + length (get_or old k []) ≡ bytes_in (left_of renumbered old))
 unfolding left_of
@@ -65,7 +68,8 @@ one_less (None ∷ rs) (string ∷ old) (suc k) new less there none =
 one_less (Some n ∷ rs) (string ∷ old) (suc k) new less there none = one_less rs old k new (omega (arith, less)) (omega (arith, there)) none
 
 -- one string more is written
-pub one_written : (old texts : List (List ℕ)) (renumbered : List (Option ℕ)) (k new : ℕ) (text : List ℕ) → k < length old → get_or renumbered k None ≡ None → text ≡ get_or old k [] → new ≡ 391 + length texts →
+pub one_written : (old texts : List (List ℕ)) (renumbered : List (Option ℕ)) (k new : ℕ) (text : List ℕ) → k < length old →
+    get_or renumbered k None ≡ None → text ≡ get_or old k [] → new ≡ 391 + length texts →
     AreRenumbered old texts renumbered → AreRenumbered old (texts ++ text ∷ []) (set renumbered k (Some new))
 one_written old texts renumbered k new text less none is named are =
     let many = are.many in
@@ -102,7 +106,8 @@ one_written old texts renumbered k new text less none is named are =
       own = λ place within. elim (cases_lt place (length texts)) [
         | inl before ↦
             (let one = are.own place before in
-            let elsewhere : one.0 ≡ k → ⊥ = λ at. let never : None ≡ Some (391 + place) = sym none ∙ ap (λ n. get_or renumbered n None) (sym at) ∙ one.1 in absurd (cc) in
+            let elsewhere : one.0 ≡ k → ⊥ = λ at. let never : None ≡ Some (391 + place) = sym none
+            ∙ ap (λ n. get_or renumbered n None) (sym at) ∙ one.1 in absurd (cc) in
             (one.0, get_or-set_other renumbered k one.0 (Some new) None elsewhere ∙ one.1))
         | inr last ↦
             (let at : new ≡ 391 + place = omega (arith, last, within, long, named) in
@@ -113,7 +118,8 @@ one_written old texts renumbered k new text less none is named are =
     }
 
 -- so there are not more strings, and not more bytes
-pub few_written : (old texts : List (List ℕ)) (renumbered : List (Option ℕ)) → AreRenumbered old texts renumbered → (length texts ≤ length old) × (bytes_in texts ≤ bytes_in old)
+pub few_written : (old texts : List (List ℕ)) (renumbered : List (Option ℕ)) → AreRenumbered old texts renumbered →
+    (length texts ≤ length old) × (bytes_in texts ≤ bytes_in old)
 few_written old texts renumbered are =
     let counted = are.counted in
     let sized = are.sized in
@@ -132,14 +138,18 @@ none_added before identifiers = record {
   only = λ number has. inl has;
 }
 
-pub one_added : (before after new : List (Option ℕ)) (identifiers : List ℕ) (i identifier : ℕ) → length new ≡ length after → identifier ≡ get_or identifiers i 0 →
-    ((number : ℕ) → identifier ≡ 391 + number → number < length new → HasNew new number) → ((number : ℕ) → HasNew after number → HasNew new number) →
-    ((number : ℕ) → HasNew new number → HasNew after number ⊎ (identifier ≡ 391 + number)) → AreAdded before identifiers i after → AreAdded before identifiers (i + 1) new
+pub one_added : (before after new : List (Option ℕ)) (identifiers : List ℕ) (i identifier : ℕ) → length new ≡ length after →
+    identifier ≡ get_or identifiers i 0 →
+    ((number : ℕ) → identifier ≡ 391 + number → number < length new → HasNew new number) → ((number : ℕ) → HasNew after number → HasNew
+    new number) →
+    ((number : ℕ) → HasNew new number → HasNew after number ⊎ (identifier ≡ 391 + number)) → AreAdded before identifiers i
+    after → AreAdded before identifiers (i + 1) new
 one_added before after new identifiers i identifier many is named kept only added = record {
   kept = λ number has. kept number (added.kept number has);
   named = λ number there one. elim (cases_lt one.0 i) [
     | inl earlier ↦ kept number (added.named number (omega (arith, there, many)) (one.0, earlier, one.2))
-    | inr last ↦ (let less = one.1 in let at : i ≡ one.0 = omega (arith, last, less) in named number (is ∙ ap (λ k. get_or identifiers k 0) at ∙ one.2) there)
+    | inr last ↦ (let less = one.1 in let at : i ≡ one.0 = omega (arith, last, less) in
+        named number (is ∙ ap (λ k. get_or identifiers k 0) at ∙ one.2) there)
   ];
   only = λ number has. elim (only number has) [
     | inr now ↦ inr (i, omega arith, sym is ∙ now)
@@ -150,10 +160,13 @@ one_added before after new identifiers i identifier many is named kept only adde
   ];
 }
 
-pub both_added : (map : Dictionary) (identifiers operators : List ℕ) (before middle after : List (Option ℕ)) → operators ≡ filter_map (identifier_in map) naming → length after ≡ length middle →
-    ((number : ℕ) → HasNew before number → ⊥) → AreAdded before operators (length operators) middle → AreAdded middle identifiers (length identifiers) after → AreNamed map identifiers after
+pub both_added : (map : Dictionary) (identifiers operators : List ℕ) (before middle after : List (Option ℕ)) →
+    operators ≡ filter_map (identifier_in map) naming → length after ≡ length middle →
+    ((number : ℕ) → HasNew before number → ⊥) → AreAdded before operators (length operators) middle → AreAdded middle identifiers
+    (length identifiers) after → AreNamed map identifiers after
 both_added map identifiers operators before middle after is many none first second =
-    let added : AreAdded before (filter_map (identifier_in map) naming) (length (filter_map (identifier_in map) naming)) middle = subst (λ (ns : List ℕ). AreAdded before ns (length ns) middle) is first in
+    let added : AreAdded before (filter_map (identifier_in map) naming) (length (filter_map (identifier_in map) naming)) middle = subst
+    (λ (ns : List ℕ). AreAdded before ns (length ns) middle) is first in
     record {
       all = λ number there one. elim one [
         | inl operator ↦ second.kept number (added.named number (omega (arith, there, many)) operator)
@@ -169,13 +182,15 @@ both_added map identifiers operators before middle after is many none first seco
     }
 
 -- one more of those that give a value
-pub one_given : {X A : Type 0} (h : X → Option A) (xs : List X) (i : ℕ) (d : X) (y : A) (old new : List A) → i < length xs → old ≡ filter_map h (take i xs) → h (get_or xs i d) ≡ Some y → new ≡ old ++ y ∷ [] →
+pub one_given : {X A : Type 0} (h : X → Option A) (xs : List X) (i : ℕ) (d : X) (y : A) (old new : List A) → i < length xs →
+    old ≡ filter_map h (take i xs) → h (get_or xs i d) ≡ Some y → new ≡ old ++ y ∷ [] →
     new ≡ filter_map h (take (i + 1) xs)
 one_given h xs i d y old new less so_far gives more =
     more ∙ ap (λ ys. ys ++ y ∷ []) so_far ∙ ap (λ o. filter_map h (take i xs) ++ cons_option o []) (sym gives)
     ∙ sym (filter_map-append h (take i xs) (get_or xs i d ∷ [])) ∙ ap (filter_map h) (sym (take_more xs i d less))
 
-pub none_given : {X A : Type 0} (h : X → Option A) (xs : List X) (i : ℕ) (d : X) (old new : List A) → i < length xs → old ≡ filter_map h (take i xs) → h (get_or xs i d) ≡ None → new ≡ old →
+pub none_given : {X A : Type 0} (h : X → Option A) (xs : List X) (i : ℕ) (d : X) (old new : List A) → i < length xs →
+    old ≡ filter_map h (take i xs) → h (get_or xs i d) ≡ None → new ≡ old →
     new ≡ filter_map h (take (i + 1) xs)
 none_given h xs i d old new less so_far gives same =
     same ∙ so_far ∙ sym (append-nil (filter_map h (take i xs))) ∙ ap (λ o. filter_map h (take i xs) ++ cons_option o []) (sym gives)

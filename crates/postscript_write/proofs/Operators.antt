@@ -5,7 +5,8 @@ use Rattle.postscript_base.specs.declared.compact1.operator.Operator.{Operator}
 use Rattle.postscript_base.specs.declared.compact1.operator.Operator.TheVariants.{ROS}
 use Rattle.postscript_write.specs.Parts.{IsAmong, naming, placing}
 
-at : (operators : List Operator) (k : ℕ) (operator : Operator) → k < length operators → slice_index_or operators k operator ≡ operator → IsAmong operator operators
+at : (operators : List Operator) (k : ℕ) (operator : Operator) → k < length operators → slice_index_or operators k operator ≡ operator →
+    IsAmong operator operators
 at [] k operator less is = absurd (omega (arith, less))
 at (other ∷ others) zero operator less is = inl (sym is)
 at (other ∷ others) (suc k) operator less is = inr (at others k operator (omega (arith, less)) is)

@@ -32,7 +32,8 @@ codes_within (Ranges ranges) bytes place next (format, held, is) =
     let within = held.within in
     record { end = inr (format, is); order = omega (arith, is); within = omega (arith, is, within) }
 
-encoding_within : (bytes supplements : List ℕ) (place codes : ℕ) → CodesWithin bytes place codes → AreSupplementsAt bytes (number_at bytes place 1) codes supplements → EndsWithin bytes place
+encoding_within : (bytes supplements : List ℕ) (place codes : ℕ) → CodesWithin bytes place codes →
+    AreSupplementsAt bytes (number_at bytes place 1) codes supplements → EndsWithin bytes place
 encoding_within bytes supplements place codes are (inl (low, none)) = record {
   next = codes;
   ends = (codes, are.end, inl (low, refl));
@@ -49,12 +50,14 @@ encoding_within bytes supplements place codes are (inr (high, there, held)) =
       within = omega (arith, within);
     }
 
-named_within : (encoding : EncodingView) (bytes : List ℕ) (offset : ℕ) → 2 ≤ offset → IsNamedBy encoding bytes offset → EndsWithin bytes offset
+named_within : (encoding : EncodingView) (bytes : List ℕ) (offset : ℕ) → 2 ≤ offset → IsNamedBy encoding bytes offset →
+    EndsWithin bytes offset
 named_within encoding bytes offset own (inl (is, codes, none)) = absurd (omega (arith, own, is))
 named_within encoding bytes offset own (inr (inl (is, codes, none))) = absurd (omega (arith, own, is))
 named_within encoding bytes offset own (inr (inr (least, is))) =
     encoding_within bytes encoding.supplements.now offset is.0 (codes_within encoding.codes bytes offset is.0 is.2) is.3
 
-pub own_encoding_within : (encoding : EncodingView) (bytes : List ℕ) (map : Dictionary) (place : ℕ) → offset_of map operators.Encoding ≡ Some place → 2 ≤ place → IsEncodingOf encoding bytes map → EndsWithin bytes place
+pub own_encoding_within : (encoding : EncodingView) (bytes : List ℕ) (map : Dictionary) (place : ℕ) →
+    offset_of map operators.Encoding ≡ Some place → 2 ≤ place → IsEncodingOf encoding bytes map → EndsWithin bytes place
 own_encoding_within encoding bytes map place named own (offset, is, by) =
     subst (λ n. EndsWithin bytes n) (one_some is named) (named_within encoding bytes offset (omega (arith, own, one_some is named)) by)

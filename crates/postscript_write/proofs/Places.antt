@@ -27,10 +27,12 @@ pub record Rises (named : List ℕ) (sources : Sources) (glyphs : ℕ) : Type 0 
   pub own : (i glyph : ℕ) → StandsAt sources i glyph → is_kept named glyph ≡ true
 
 stands-left : (s more : Sources) (i glyph : ℕ) → StandsAt s i glyph → StandsAt (s ++ more) i glyph
-stands-left s more i glyph h = record { there = let less = h.there in omega (arith, less, length-append s more); is = get_or_append_left s more None i h.there ∙ h.is }
+stands-left s more i glyph h =
+    record { there = let less = h.there in omega (arith, less, length-append s more); is = get_or_append_left s more None i h.there ∙ h.is }
 
 -- what stands in a list with one more: in the list, or at its end
-stands-cases : (s : Sources) (one i glyph : ℕ) → StandsAt (s ++ Some one ∷ []) i glyph → StandsAt s i glyph ⊎ ((i ≡ length s) × (one ≡ glyph))
+stands-cases : (s : Sources) (one i glyph : ℕ) → StandsAt (s ++ Some one ∷ []) i glyph →
+    StandsAt s i glyph ⊎ ((i ≡ length s) × (one ≡ glyph))
 stands-cases s one i glyph h = by
   where
     last : i ≡ length s → one ≡ glyph
@@ -42,7 +44,8 @@ stands-cases s one i glyph h = by
     by : StandsAt s i glyph ⊎ ((i ≡ length s) × (one ≡ glyph))
     by = elim (nat_cases i (length s)) [
       | inl less ↦ inl (before less)
-      | inr far ↦ (let there = h.there in let e : i ≡ length s = omega (arith, there, far, length-append s (Some one ∷ [])) in inr (e, last e))
+      | inr far ↦ (let there = h.there in let e : i ≡ length s = omega (arith, there, far, length-append s (Some one ∷ [])) in
+          inr (e, last e))
     ]
 
 kept-one : (named : List ℕ) (s : Sources) (n : ℕ) → is_kept named n ≡ true → Rises named s n → Rises named (s ++ Some n ∷ []) (n + 1)
@@ -64,7 +67,8 @@ kept-one named s n e r = record {
   ];
   all = λ glyph kept below. elim (nat_cases glyph n) [
     | inl less ↦ let at = r.all glyph kept less in (at.0, stands-left s (Some n ∷ []) at.0 glyph at.1)
-    | inr far ↦ (let same : n ≡ glyph = omega (arith, below, far) in (length s, subst (λ g. StandsAt (s ++ Some n ∷ []) (length s) g) same (here (length s) refl)))
+    | inr far ↦ (let same : n ≡ glyph = omega (arith, below, far) in
+        (length s, subst (λ g. StandsAt (s ++ Some n ∷ []) (length s) g) same (here (length s) refl)))
   ];
   own = λ i glyph h. elim (stands-cases s n i glyph h) [
     | inl old ↦ r.own i glyph old
@@ -82,12 +86,14 @@ left-out named s n out r = record {
   rise = r.rise;
   all = λ glyph kept below. elim (nat_cases glyph n) [
     | inl less ↦ r.all glyph kept less
-    | inr far ↦ (let same : n ≡ glyph = omega (arith, below, far) in let never : false ≡ true = sym out ∙ ap (is_kept named) same ∙ kept in absurd (cc))
+    | inr far ↦ (let same : n ≡ glyph = omega (arith, below, far) in let never : false ≡ true = sym out ∙ ap (is_kept named) same
+        ∙ kept in absurd (cc))
   ];
   own = r.own;
 }
 
-one-step : (named : List ℕ) (s : Sources) (n : ℕ) (b : Bool) → is_kept named n ≡ b → Rises named s n → Rises named (s ++ (if b then Some n ∷ [] else [])) (n + 1)
+one-step : (named : List ℕ) (s : Sources) (n : ℕ) (b : Bool) → is_kept named n ≡ b → Rises named s n →
+    Rises named (s ++ (if b then Some n ∷ [] else [])) (n + 1)
 one-step named s n true e r = kept-one named s n e r
 one-step named s n false e r = subst (λ (xs : Sources). Rises named xs (n + 1)) (sym (append-nil s)) (left-out named s n e r)
 
@@ -103,7 +109,8 @@ none-rises named = record {
 pub chosen-rises : (named : List ℕ) (n : ℕ) → Rises named (chosen named n) n
 chosen-rises named zero = none-rises named
 chosen-rises named (suc n) =
-    let all : Rises named (chosen named (n + 1)) (n + 1) = subst (λ (xs : Sources). Rises named xs (n + 1)) (sym (chosen_more named n)) (one-step named (chosen named n) n (is_kept named n) refl (chosen-rises named n)) in
+    let all : Rises named (chosen named (n + 1)) (n + 1) = subst (λ (xs : Sources). Rises named xs (n + 1)) (sym (chosen_more named n))
+    (one-step named (chosen named n) n (is_kept named n) refl (chosen-rises named n)) in
     subst (λ m. Rises named (chosen named m) m) (add-one n) all
 
 -- What two char sets say of glyphs that are taken over, and of the place of each in the new font.
@@ -113,7 +120,8 @@ pub record Takes (kept : ℕ → Type 0) (old_set new_set : CharSetView) (identi
   pub below : (i : ℕ) → i < m → origin i < n
   pub place : (glyph : ℕ) → kept glyph → glyph < n → (i : ℕ) × (i < m) × (origin i ≡ glyph)
 
-pub first-forth : (kept : ℕ → Type 0) (old_set new_set : CharSetView) (identifier n m : ℕ) (origin : ℕ → ℕ) (glyph i : ℕ) → Takes kept old_set new_set identifier n m origin → i < m → origin i ≡ glyph →
+pub first-forth : (kept : ℕ → Type 0) (old_set new_set : CharSetView) (identifier n m : ℕ) (origin : ℕ → ℕ) (glyph i : ℕ) →
+    Takes kept old_set new_set identifier n m origin → i < m → origin i ≡ glyph →
     IsFirstNamed old_set identifier n glyph → IsFirstNamed new_set identifier m i
 first-forth kept old_set new_set identifier n m origin glyph i t less is first = record {
   there = less;
@@ -124,8 +132,10 @@ first-forth kept old_set new_set identifier n m origin glyph i t less is first =
 }
 
 -- Where the first glyph of a name is kept, the first one in the new font was the first one.
-pub first-back : (kept : ℕ → Type 0) (old_set new_set : CharSetView) (identifier n m : ℕ) (origin : ℕ → ℕ) (i : ℕ) → Takes kept old_set new_set identifier n m origin →
-    ((glyph : ℕ) → IsFirstNamed old_set identifier n glyph → kept glyph) → IsFirstNamed new_set identifier m i → IsFirstNamed old_set identifier n (origin i)
+pub first-back : (kept : ℕ → Type 0) (old_set new_set : CharSetView) (identifier n m : ℕ) (origin : ℕ → ℕ) (i : ℕ) →
+    Takes kept old_set new_set identifier n m origin →
+    ((glyph : ℕ) → IsFirstNamed old_set identifier n glyph → kept glyph) → IsFirstNamed new_set identifier m i → IsFirstNamed old_set
+    identifier n (origin i)
 first-back kept old_set new_set identifier n m origin i t closed first = record {
   there = t.below i first.there;
   names = (t.names i first.there).1 first.names;
@@ -146,7 +156,8 @@ first-back kept old_set new_set identifier n m origin i t closed first = record 
         let same = at.2 in
         let past : i < at.0 → ⊥ = λ h. (let rises = t.rise i at.0 h there in omega (arith, rises, same, before)) in
         let equal : at.0 ≡ i → ⊥ = λ e. (let moved : origin at.0 ≡ origin i = ap origin e in omega (arith, moved, same, before)) in
-        first.none_before at.0 (omega (arith, past, equal)) ((t.names at.0 there).0 (subst (λ g. Names old_set g identifier) (sym same) named))
+        first.none_before at.0 (omega (arith, past, equal))
+        ((t.names at.0 there).0 (subst (λ g. Names old_set g identifier) (sym same) named))
 
 -- Where glyphs stand that are taken over: each place stands for a glyph of the old font, in ascending order.
 pub record Placed (kept : ℕ → Type 0) (sources : Sources) (n : ℕ) (origin : ℕ → ℕ) : Type 0 where
@@ -155,7 +166,8 @@ pub record Placed (kept : ℕ → Type 0) (sources : Sources) (n : ℕ) (origin 
   pub all : (glyph : ℕ) → kept glyph → glyph < n → (i : ℕ) × StandsAt sources i glyph × (origin i ≡ glyph)
   pub own : (i glyph : ℕ) → StandsAt sources i glyph → kept glyph
 
-pub one-place : (kept : ℕ → Type 0) (sources : Sources) (n i j : ℕ) (origin : ℕ → ℕ) → Placed kept sources n origin → i < length sources → j < length sources → origin i ≡ origin j → i ≡ j
+pub one-place : (kept : ℕ → Type 0) (sources : Sources) (n i j : ℕ) (origin : ℕ → ℕ) → Placed kept sources n origin → i < length sources →
+    j < length sources → origin i ≡ origin j → i ≡ j
 one-place kept sources n i j origin p x y same =
     let above : i < j → ⊥ = λ h. (let less = p.rise i j h y in omega (arith, less, same)) in
     let below : j < i → ⊥ = λ h. (let less = p.rise j i h x in omega (arith, less, same)) in
@@ -165,13 +177,15 @@ abbrev pub glyph_or : Option ℕ → ℕ
 glyph_or None = 0
 glyph_or (Some glyph) = glyph
 
-pub chosen-placed : (closed : List ℕ) (n : ℕ) → Placed (λ g. is_kept closed g ≡ true) (chosen closed n) n (λ i. glyph_or (get_or (chosen closed n) i None))
+pub chosen-placed : (closed : List ℕ) (n : ℕ) → Placed (λ g. is_kept closed g ≡ true)
+    (chosen closed n) n (λ i. glyph_or (get_or (chosen closed n) i None))
 chosen-placed closed n = record {
   rise = λ i j before there.
       let one = r.some i (omega (arith, before, there)) in
       let other = r.some j there in
       let less = r.rise i j one.0 other.0 before one.1 other.1 in
-      subst (λ g. g < glyph_or (get_or (chosen closed n) j None)) (sym (ap glyph_or one.1.is)) (subst (λ g. one.0 < g) (sym (ap glyph_or other.1.is)) less);
+      subst (λ g. g < glyph_or (get_or (chosen closed n) j None)) (sym (ap glyph_or one.1.is))
+      (subst (λ g. one.0 < g) (sym (ap glyph_or other.1.is)) less);
   below = λ i there. let one = r.some i there in subst (λ g. g < n) (sym (ap glyph_or one.1.is)) (r.below i one.0 one.1);
   all = λ glyph kept less. let one = r.all glyph kept less in (one.0, one.1, ap glyph_or one.1.is);
   own = r.own;
@@ -197,11 +211,16 @@ keeping-placed closed n = record {
   below = λ i there. subst (λ m. i < m) (keeping-many closed n) there;
   all = λ glyph kept less. (
     glyph,
-    record { there = subst (λ m. glyph < m) (sym (keeping-many closed n)) less; is = keeping-at closed n glyph less ∙ ap (λ b. if b then Some glyph else None) kept },
+    record {
+      there =
+          subst (λ m. glyph < m) (sym (keeping-many closed n)) less;
+      is = keeping-at closed n glyph less ∙ ap (λ b. if b then Some glyph else None) kept;
+    },
     refl,
   );
   own = λ i glyph h.
-      let some = kept-some (is_kept closed i) i glyph (sym (keeping-at closed n i (subst (λ m. i < m) (keeping-many closed n) h.there)) ∙ h.is) in
+      let some = kept-some (is_kept closed i) i glyph
+      (sym (keeping-at closed n i (subst (λ m. i < m) (keeping-many closed n) h.there)) ∙ h.is) in
       subst (λ g. is_kept closed g ≡ true) some.1 some.0;
 }
 

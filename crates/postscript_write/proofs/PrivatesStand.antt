@@ -23,15 +23,18 @@ abbrev pub EndsBehind : Dictionary → Option Private → (offset : ℕ) → Typ
 EndsBehind map private offset = PrivateEnds map offset (offset + length (private_text private))
 
 pub private_ends : (old new : Dictionary) (private : Option Private) (offset : ℕ) →
-    look new operators.Private ≡ option_or (named_by (place_of_private private offset) operators.Private) (look old operators.Private) → All IsHeld (place_of_private private offset) →
+    look new operators.Private ≡ option_or (named_by (place_of_private private offset) operators.Private)
+    (look old operators.Private) → All IsHeld (place_of_private private offset) →
     (private ≡ None → first_two_of (look old operators.Private) ≡ None) → EndsBehind new private offset
 private_ends old new None offset is held none = inl (ap first_two_of is ∙ none refl, omega arith)
 private_ends old new (Some private) offset is held none =
     let text : List ℕ = private.text.items in
-    let one : IsHeld (record { operator = operators.Private; size = Some (length text); offset = offset }) = held 0 (record { operator = operators.Private; size = Some (length text); offset = offset }) (omega arith) in
+    let one : IsHeld (record { operator = operators.Private; size = Some (length text); offset = offset }) = held 0
+    (record { operator = operators.Private; size = Some (length text); offset = offset }) (omega arith) in
     let few : length text < 2 ^ 31 = one.1.0 in
     let low : offset < 2 ^ 31 = one.1.1.0 in
-    let two : HasTwo new operators.Private (pos (length text)) (pos offset) = (whole (pos (length text)), whole (pos offset), ap first_two_of is, whole_is (length text) few, whole_is offset low) in
+    let two : HasTwo new operators.Private (pos (length text))
+    (pos offset) = (whole (pos (length text)), whole (pos offset), ap first_two_of is, whole_is (length text) few, whole_is offset low) in
     inr (length text, two, refl)
 
 same_got : {A : Type 0} (x y : A) (n : ℕ) → Got x n ≡ Got y n → x ≡ y
@@ -41,9 +44,11 @@ same_got x y n e = cc
 pub one_dictionary : (text : List ℕ) (a b : Dictionary) → IsDictionary text 0 a → IsDictionary text 0 b → a ≡ b
 one_dictionary text a b x y = same_got a b (length text) (sym (reads_dictionaries.all text 0 a x) ∙ reads_dictionaries.all text 0 b y)
 
-pub all_end : (map : Dictionary) (out : List ℕ) (texts : List (List ℕ)) (parts : List PrivateDict) (privates : List (Option Private)) (start : ℕ) → ArePartsOf out texts parts →
+pub all_end : (map : Dictionary) (out : List ℕ) (texts : List (List ℕ)) (parts : List PrivateDict) (privates : List (Option Private))
+    (start : ℕ) → ArePartsOf out texts parts →
     length privates ≡ length texts →
-    ((k : ℕ) (own : Dictionary) → k < length texts → IsDictionary (get_or texts k []) 0 own → EndsBehind own (get_or privates k None) (private_offset start privates k)) →
+    ((k : ℕ) (own : Dictionary) → k < length texts → IsDictionary (get_or texts k []) 0 own → EndsBehind own (get_or privates k None)
+    (private_offset start privates k)) →
     PrivatesEnd map parts start (start + length (privates_text privates))
 all_end map out [] [] [] start are many each = omega arith
 all_end map out [] [] (p ∷ ps) start are many each = absurd (omega (arith, many))
@@ -57,8 +62,10 @@ all_end map out (text ∷ texts) (part ∷ parts) (p ∷ ps) start are many each
     let zeroth : private_offset start (p ∷ ps) 0 ≡ start = omega arith in
     let first = subst (λ n. EndsBehind own p n) zeroth (each 0 own (omega arith) are.1) in
     let later = λ (k : ℕ) (map : Dictionary) (less : k < length texts) (is : IsDictionary (get_or texts k []) 0 map).
-    let next : private_offset start (p ∷ ps) (suc k) ≡ private_offset behind ps k = omega (arith, length-append (private_text p) (privates_text (take k ps))) in
+    let next : private_offset start (p ∷ ps) (suc k) ≡ private_offset behind ps k = omega
+    (arith, length-append (private_text p) (privates_text (take k ps))) in
     subst (λ n. EndsBehind map (get_or ps k None) n) next (each (suc k) map (omega (arith, less)) is) in
     let rest = all_end map out texts parts ps behind are.3 (omega (arith, many)) later in
-    let end : behind + length (privates_text ps) ≡ start + length (privates_text (p ∷ ps)) = omega (arith, length-append (private_text p) (privates_text ps)) in
+    let end : behind + length (privates_text ps) ≡ start + length (privates_text (p ∷ ps)) = omega
+    (arith, length-append (private_text p) (privates_text ps)) in
     (behind, subst (λ f. PrivateEnds (unwrap_or f map) start behind) (sym font) first, subst (λ n. PrivatesEnd map parts behind n) end rest)

@@ -56,7 +56,8 @@ no_range ranges size = record {
 pub among : (width k n : ℕ) → 0 < width → k ≤ n / width → k * width ≤ n
 among width k n some less = (le-div_iff_mul-le some).0 less
 
-no_less : (ranges : List ℕ) (size glyphs a b : ℕ) → RangesEnd ranges size glyphs a → RangesEnd ranges size glyphs b → b ≤ length ranges → a < b → ⊥
+no_less : (ranges : List ℕ) (size glyphs a b : ℕ) → RangesEnd ranges size glyphs a → RangesEnd ranges size glyphs b → b ≤ length ranges →
+    a < b → ⊥
 no_less ranges size glyphs a b ends others within less = by ends.enough
   where
     by : ((r : ℕ) × (a ≡ r * (2 + size)) × (glyphs ≤ covered ranges size r)) ⊎ (a ≡ length ranges) → ⊥
@@ -66,7 +67,8 @@ no_less ranges size glyphs a b ends others within less = by ends.enough
     by (inr is) = absurd (omega (arith, is, less, within))
 
 -- ranges end in one place
-pub one_end : (ranges : List ℕ) (size glyphs a b : ℕ) → RangesEnd ranges size glyphs a → RangesEnd ranges size glyphs b → a ≤ length ranges → b ≤ length ranges → a ≡ b
+pub one_end : (ranges : List ℕ) (size glyphs a b : ℕ) → RangesEnd ranges size glyphs a → RangesEnd ranges size glyphs b →
+    a ≤ length ranges → b ≤ length ranges → a ≡ b
 one_end ranges size glyphs a b ends others within most = by (cases_lt a b) (cases_lt b a)
   where
     by : (a < b) ⊎ (b ≤ a) → (b < a) ⊎ (a ≤ b) → a ≡ b

@@ -13,7 +13,7 @@ use Rattle.postscript_write.specs.Components.{IsUntold}
 use Rattle.postscript_write.specs.Sources.{AreThere, is_kept}
 use Rattle.postscript_write.specs.Steps.{IsNotChosen}
 use Rattle.postscript_write.specs.declared.error.Error.{Error}
-use Rattle.postscript_write.specs.declared.error.Error.TheVariants.{Refused, Glyph, SeveralFonts, MissingGlyph, MissingPart, MissingName, NoGlyphs, TooLarge, NotReadBack}
+use Rattle.postscript_write.specs.declared.error.Error.TheVariants.{Refused, Glyph, SeveralFonts, MissingGlyph, MissingPart, MissingName, NoGlyphs, TooLarge}
 use Rattle.postscript_write.proofs.Accented.{component-there, or-left, or-right, or-split}
 use Rattle.postscript_write.proofs.Marks.{apart, set_more}
 use Rattle.postscript_write.proofs.Places.{nat_cases}
@@ -48,15 +48,18 @@ only one glyph h = elim (Contains-push_cases [] one glyph h) [
 ]
 
 -- a mark more
-unmarked-set : (marks : List Bool) (glyph : ℕ) → glyph < length marks → get_or marks glyph false ≡ false → unmarked_in (slice_set marks glyph true) + 1 ≡ unmarked_in marks
+unmarked-set : (marks : List Bool) (glyph : ℕ) → glyph < length marks → get_or marks glyph false ≡ false →
+    unmarked_in (slice_set marks glyph true) + 1 ≡ unmarked_in marks
 unmarked-set [] glyph less off = absurd (omega (arith, less))
 unmarked-set (true ∷ marks) zero less off = let never : true ≡ false = off in absurd (cc)
 unmarked-set (false ∷ marks) zero less off = refl
 unmarked-set (true ∷ marks) (suc glyph) less off = unmarked-set marks glyph (omega (arith, less)) off
 unmarked-set (false ∷ marks) (suc glyph) less off = ap (λ n. n + 1) (unmarked-set marks glyph (omega (arith, less)) off)
 
-still-set : (marks : List Bool) (i glyph : ℕ) (b : Bool) → (i == glyph) ≡ b → i < length marks → get_or marks glyph false ≡ true → get_or (slice_set marks i true) glyph false ≡ true
-still-set marks i glyph true e less set = ap (λ k. get_or (slice_set marks i true) k false) (sym (eqb-true i glyph e)) ∙ get_or-set_same marks i true false less
+still-set : (marks : List Bool) (i glyph : ℕ) (b : Bool) → (i == glyph) ≡ b → i < length marks → get_or marks glyph false ≡ true →
+    get_or (slice_set marks i true) glyph false ≡ true
+still-set marks i glyph true e less set =
+    ap (λ k. get_or (slice_set marks i true) k false) (sym (eqb-true i glyph e)) ∙ get_or-set_same marks i true false less
 still-set marks i glyph false e less set = get_or-set_other marks i glyph true false (apart i glyph e) ∙ set
 
 pub grow-none : (marks : List Bool) (glyphs : List ℕ) → AreMarkedAs marks glyphs → Grow marks glyphs [] marks glyphs
@@ -75,7 +78,8 @@ grow-none marks glyphs marked = record {
   spent = refl;
 }
 
-pub grow-marked : (marks : List Bool) (glyphs : List ℕ) (one : ℕ) → get_or marks one false ≡ true → AreMarkedAs marks glyphs → Grow marks glyphs (one ∷ []) marks glyphs
+pub grow-marked : (marks : List Bool) (glyphs : List ℕ) (one : ℕ) → get_or marks one false ≡ true → AreMarkedAs marks glyphs →
+    Grow marks glyphs (one ∷ []) marks glyphs
 grow-marked marks glyphs one set marked = record {
   many = refl;
   marked = marked;
@@ -91,7 +95,8 @@ grow-marked marks glyphs one set marked = record {
   spent = refl;
 }
 
-pub grow-one : (marks : List Bool) (glyphs : List ℕ) (one : ℕ) → one < length marks → get_or marks one false ≡ false → length (slice_set marks one true) ≡ length marks → AreMarkedAs marks glyphs →
+pub grow-one : (marks : List Bool) (glyphs : List ℕ) (one : ℕ) → one < length marks → get_or marks one false ≡ false →
+    length (slice_set marks one true) ≡ length marks → AreMarkedAs marks glyphs →
     Grow marks glyphs (one ∷ []) (slice_set marks one true) (glyphs ++ one ∷ [])
 grow-one marks glyphs one less off many marked = record {
   many = many;
@@ -117,7 +122,8 @@ grow-one marks glyphs one less off many marked = record {
   spent = (let set = unmarked-set marks one less off in omega (arith, set, length-append glyphs (one ∷ [])));
 }
 
-pub grow-then : (a b c : List Bool) (xs ys zs added more : List ℕ) → Grow a xs added b ys → Grow b ys more c zs → Grow a xs (added ++ more) c zs
+pub grow-then : (a b c : List Bool) (xs ys zs added more : List ℕ) → Grow a xs added b ys → Grow b ys more c zs →
+    Grow a xs (added ++ more) c zs
 grow-then a b c xs ys zs added more x y = record {
   many = y.many ∙ x.many;
   marked = y.marked;
@@ -150,7 +156,8 @@ pub record Follows (font : FontView) (start : List ℕ) (marks : List Bool) (gly
   pub least : (glyph : ℕ) → Contains glyphs glyph → IsReached font start glyph
   pub done : (k one : ℕ) → k < next → IsComponentOf font (get_or glyphs k 0) one → Contains glyphs one
 
-pub follows-none : (font : FontView) (marks : List Bool) (glyphs : List ℕ) → length marks ≡ glyphs_of font → AreMarkedAs marks glyphs → Follows font glyphs marks glyphs 0
+pub follows-none : (font : FontView) (marks : List Bool) (glyphs : List ℕ) → length marks ≡ glyphs_of font → AreMarkedAs marks glyphs →
+    Follows font glyphs marks glyphs 0
 follows-none font marks glyphs many marked = record {
   many = many;
   marked = marked;
@@ -159,7 +166,8 @@ follows-none font marks glyphs many marked = record {
   done = λ k one less. absurd (omega (arith, less));
 }
 
-pub follows-more : (font : FontView) (start : List ℕ) (marks more : List Bool) (glyphs others added : List ℕ) (next : ℕ) → Follows font start marks glyphs next → next < length glyphs →
+pub follows-more : (font : FontView) (start : List ℕ) (marks more : List Bool) (glyphs others added : List ℕ) (next : ℕ) →
+    Follows font start marks glyphs next → next < length glyphs →
     AreComponentsOf font (get_or glyphs next 0) added → Grow marks glyphs added more others → Follows font start more others (next + 1)
 follows-more font start marks more glyphs others added next f less are g = record {
   many = g.many ∙ f.many;
@@ -167,11 +175,15 @@ follows-more font start marks more glyphs others added next f less are g = recor
   holds = λ glyph h. (g.all glyph).1 (inl (f.holds glyph h));
   least = λ glyph h. elim ((g.all glyph).0 h) [
     | inl old ↦ f.least glyph old
-    | inr new ↦ is_drawn_with (get_or glyphs next 0) glyph (f.least (get_or glyphs next 0) (Contains-get_or glyphs next 0 less)) ((are glyph).0 new)
+    | inr new ↦ is_drawn_with (get_or glyphs next 0) glyph (f.least (get_or glyphs next 0) (Contains-get_or glyphs next 0 less))
+        ((are glyph).0 new)
   ];
   done = λ k one before is. elim (nat_cases k next) [
     | inl old ↦ (g.all one).1 (inl (f.done k one old (subst (λ from. IsComponentOf font from one) (still k (omega (arith, old, less))) is)))
-    | inr far ↦ (let same : k ≡ next = omega (arith, before, far) in (g.all one).1 (inr ((are one).1 (subst (λ j. IsComponentOf font (get_or glyphs j 0) one) same (subst (λ from. IsComponentOf font from one) (still k (omega (arith, before, less))) is)))))
+    | inr far ↦ (let same : k ≡ next = omega (arith, before, far) in
+        (g.all one).1 (inr ((are one).1
+        (subst (λ j. IsComponentOf font (get_or glyphs j 0) one) same
+        (subst (λ from. IsComponentOf font from one) (still k (omega (arith, before, less))) is)))))
   ];
 }
   where
@@ -179,7 +191,8 @@ follows-more font start marks more glyphs others added next f less are g = recor
     still k within = ap (λ xs. get_or xs k 0) g.front ∙ get_or_append_left glyphs g.more 0 k within
 
 -- Where all are followed, these are the glyphs that are reached.
-pub follows-all : (font : FontView) (start : List ℕ) (marks : List Bool) (glyphs : List ℕ) (next : ℕ) → Follows font start marks glyphs next → length glyphs ≤ next → Contains start 0 → AreReached font start glyphs
+pub follows-all : (font : FontView) (start : List ℕ) (marks : List Bool) (glyphs : List ℕ) (next : ℕ) →
+    Follows font start marks glyphs next → length glyphs ≤ next → Contains start 0 → AreReached font start glyphs
 follows-all font start marks glyphs next f past notdef glyph = (f.least glyph, reached glyph)
   where
     reached : (g : ℕ) → IsReached font start g → Contains glyphs g
@@ -196,16 +209,21 @@ follows-all font start marks glyphs next f past notdef glyph = (f.least glyph, r
 pub marked-there : (marks : List Bool) (glyphs : List ℕ) (n : ℕ) → length marks ≡ n → AreMarkedAs marks glyphs → AreThere glyphs n
 marked-there marks glyphs n many marked k less =
     let set : get_or marks (get_or glyphs k 0) false ≡ true = (marked (get_or glyphs k 0)).1 (Contains-get_or glyphs k 0 less) in
-    let past : n ≤ get_or glyphs k 0 → ⊥ = λ far. (let off : get_or marks (get_or glyphs k 0) false ≡ false = get_or_past marks (get_or glyphs k 0) false (omega (arith, many, far)) in let never : true ≡ false = sym set ∙ off in absurd (cc)) in
+    let past : n ≤ get_or glyphs k
+    0 → ⊥ = λ far. (let off : get_or marks (get_or glyphs k 0) false ≡ false = get_or_past marks (get_or glyphs k 0) false
+    (omega (arith, many, far)) in let never : true ≡ false = sym set ∙ off in absurd (cc)) in
     omega (arith, past)
 
 -- what is reached from others is reached from those that these hold
-reached-from : (font : FontView) (start named : List ℕ) → ((glyph : ℕ) → is_kept start glyph ≡ true → is_kept named glyph ≡ true) → (glyph : ℕ) → IsReached font start glyph → IsReached font named glyph
+reached-from : (font : FontView) (start named : List ℕ) → ((glyph : ℕ) → is_kept start glyph ≡ true → is_kept named glyph ≡ true) →
+    (glyph : ℕ) → IsReached font start glyph → IsReached font named glyph
 reached-from font start named holds _ (is_named glyph h) = is_named glyph (holds glyph h)
-reached-from font start named holds _ (is_drawn_with from glyph r is) = is_drawn_with from glyph (reached-from font start named holds from r) is
+reached-from font start named holds _ (is_drawn_with from glyph r is) =
+    is_drawn_with from glyph (reached-from font start named holds from r) is
 
 -- Of those that are named and .notdef, what is reached is what is reached from those that are named.
-pub closed-of : (font : FontView) (a b : List Bool) (start named closed : List ℕ) → Grow a [] (named ++ 0 ∷ []) b start → AreReached font start closed →
+pub closed-of : (font : FontView) (a b : List Bool) (start named closed : List ℕ) → Grow a [] (named ++ 0 ∷ []) b start →
+    AreReached font start closed →
     (glyph : ℕ) → (is_kept closed glyph ≡ true) ↔ IsReached font named glyph
 closed-of font a b start named closed grown reached glyph = (
   λ kept. reached-from font start named starts glyph (elim (kept-cases closed glyph kept) [
@@ -234,7 +252,8 @@ closed-of font a b start named closed grown reached glyph = (
     ]
 
 -- the components of a glyph are there
-pub untold-of : (font : FontView) (from : ℕ) (added : List ℕ) (e : Error) → AreComponentsOf font from added → IsNotChosen added (glyphs_of font) e → IsUntold font e
+pub untold-of : (font : FontView) (from : ℕ) (added : List ℕ) (e : Error) → AreComponentsOf font from added →
+    IsNotChosen added (glyphs_of font) e → IsUntold font e
 untold-of font from added (Refused cause) are h = λ n. absurd (n h)
 untold-of font from added (MissingGlyph glyph) are h =
     let has = (are glyph).0 (h.place, h.there, get_or_default added h.place glyph 0 h.there ∙ h.is) in
@@ -247,7 +266,6 @@ untold-of font from added (MissingPart glyph) are h = absurd h
 untold-of font from added (MissingName glyph) are h = absurd h
 untold-of font from added NoGlyphs are h = absurd h
 untold-of font from added TooLarge are h = absurd h
-untold-of font from added NotReadBack are h = absurd h
 
 pub on_ok : {E : Type 0} {P Q : Type 0} (r : Result (Unit {0}) E) → (P → Q) → OnOk r P → OnOk r Q
 on_ok (Ok done) f h = f h

@@ -26,7 +26,8 @@ same_got x y n e = cc
 pub one_view : (flat : List ℕ) (a b : View) → view flat 0 ≡ Got a 0 → IsLaidOut flat 0 b → b ≡ a
 one_view flat a b found laid = same_got b a 0 (sym ((reads_layout flat 0 b).1 laid) ∙ found)
 
-strings_as : (keeps : Bool) (sources : Sources) (old : View) (old_set : CharSetView) (new : View) (new_set : CharSetView) → AreStrings keeps sources old old_set new new_set → SameStrings keeps sources old old_set new new_set
+strings_as : (keeps : Bool) (sources : Sources) (old : View) (old_set : CharSetView) (new : View) (new_set : CharSetView) →
+    AreStrings keeps sources old old_set new new_set → SameStrings keeps sources old old_set new new_set
 strings_as true sources old old_set new new_set are = are
 strings_as false sources old old_set new new_set are = record {
   operators = are.operators;
@@ -34,21 +35,26 @@ strings_as false sources old old_set new new_set are = record {
   needed = are.needed;
 }
 
-module _ (sources : Sources) (bytes : List ℕ) (old : View) (old_set : CharSetView) (encoding : EncodingView) (numbers : List ℕ) (codes : List (List ℕ)) (flat : List ℕ) (new : View) (was : IsEncodingOf encoding bytes old.tables.dictionary) where
-  codes_as : (new_set : CharSetView) → SameNames old_set sources new_set → HasCodes true encoding flat new.tables.dictionary → KeepsCodes sources bytes old flat new old_set new_set
+module _ (sources : Sources) (bytes : List ℕ) (old : View) (old_set : CharSetView) (encoding : EncodingView) (numbers : List ℕ)
+    (codes : List (List ℕ)) (flat : List ℕ) (new : View) (was : IsEncodingOf encoding bytes old.tables.dictionary) where
+  codes_as : (new_set : CharSetView) → SameNames old_set sources new_set → HasCodes true encoding flat new.tables.dictionary →
+      KeepsCodes sources bytes old flat new old_set new_set
   codes_as new_set names has = record {
     old_encoding = encoding;
     new_encoding = has.encoding;
     was = was;
     is = has.is;
     codes = λ code glyph less same.
-        keeps_code encoding has.encoding (has.same has.encoding has.is) old_set new_set code glyph (subst (λ source. SameName old_set source new_set glyph) same (names glyph less));
+        keeps_code encoding has.encoding (has.same has.encoding has.is) old_set new_set code glyph
+        (subst (λ source. SameName old_set source new_set glyph) same (names glyph less));
   }
 
   way_as : HasCodes false encoding flat new.tables.dictionary → GivesWay bytes old flat new
   way_as has = record { old_encoding = encoding; new_encoding = has.encoding; was = was; is = has.is; codes = has.same has.encoding has.is }
 
-  pub font_as : (kept : Bool) → IsCharSetOf old_set bytes old.tables.dictionary (length old.char_strings) → AreNumbersOf bytes old sources numbers → AreCodesOf old sources numbers codes → IsReadAs kept sources old old_set encoding numbers codes flat new → IsFontOf kept sources bytes old flat new
+  pub font_as : (kept : Bool) → IsCharSetOf old_set bytes old.tables.dictionary (length old.char_strings) →
+      AreNumbersOf bytes old sources numbers → AreCodesOf old sources numbers codes →
+      IsReadAs kept sources old old_set encoding numbers codes flat new → IsFontOf kept sources bytes old flat new
   font_as kept has_set numbers_are codes_are is =
       let written = is.written in
       let names = is.names in
@@ -57,19 +63,29 @@ module _ (sources : Sources) (bytes : List ℕ) (old : View) (old_set : CharSetV
       record {
         header = written.header;
         repeats = written.repeats;
+        unnamed = is.unnamed;
         many = ap length written.char_strings ∙ codes_are.many;
         glyphs = λ i less.
             let code = slice_index_or codes i [] in
             let numbered = numbers_are.many in
             let many = codes_are.many in
-            let there = ap (λ (cs : List (List ℕ)). slice_get cs i) written.char_strings ∙ slice_get-get_or codes i [] (omega (arith, less, many)) in
-            made bytes flat old new (slice_index_or sources i None) i (slice_index_or numbers i 0) code written.repeats.parts there (numbers_are.each i less) (codes_are.each i less) (written.parts i (omega (arith, less, numbered)));
-        naming = record { old_set = old_set; new_set = set; was = has_set; is = names.is; strings = strings_as (keeps_strings kept old.tables.dictionary) sources old old_set new set strings };
+            let there = ap (λ (cs : List (List ℕ)). slice_get cs i) written.char_strings
+            ∙ slice_get-get_or codes i [] (omega (arith, less, many)) in
+            made bytes flat old new (slice_index_or sources i None) i (slice_index_or numbers i 0) code written.repeats.parts there
+            (numbers_are.each i less) (codes_are.each i less) (written.parts i (omega (arith, less, numbered)));
+        naming = record {
+          old_set = old_set;
+          new_set = set;
+          was = has_set;
+          is = names.is;
+          strings = strings_as (keeps_strings kept old.tables.dictionary) sources old old_set new set strings;
+        };
         codes = keeps kept set strings is.same_codes;
         encoding = gives kept is.same_codes;
       }
     where
-      keeps : (kept : Bool) (set : CharSetView) → AreStrings (keeps_strings kept old.tables.dictionary) sources old old_set new set → HasCodes kept encoding flat new.tables.dictionary → IsTrue kept → KeepsCodes sources bytes old flat new old_set set
+      keeps : (kept : Bool) (set : CharSetView) → AreStrings (keeps_strings kept old.tables.dictionary) sources old old_set new set →
+          HasCodes kept encoding flat new.tables.dictionary → IsTrue kept → KeepsCodes sources bytes old flat new old_set set
       keeps true set strings has is = codes_as set strings.glyphs has
       keeps false set strings has is = absurd (cc)
 

@@ -51,7 +51,8 @@ index_most (item ∷ items) =
     omega (arith, is, most)
 
 -- the places of parts that end before 2^31 can be written
-if_held : (operator : Operator) (text : Option (Vec ℕ Global)) (n : ℕ) → IsWritable operator → n + length (text_of text) < 2 ^ 31 → All IsHeld (place_if operator text n)
+if_held : (operator : Operator) (text : Option (Vec ℕ Global)) (n : ℕ) → IsWritable operator → n + length (text_of text) < 2 ^ 31 →
+    All IsHeld (place_if operator text n)
 if_held operator None n is h = All-nil IsHeld
 if_held operator (Some text) n is h = All-cons IsHeld _ [] (is, (omega (arith, h), tt)) (All-nil IsHeld)
 
@@ -68,7 +69,8 @@ only_held [] n h = All-nil IsHeld
 only_held (private ∷ []) n h = private_held private n (omega (arith, h, length-append (private_text private) []))
 only_held (p ∷ q ∷ ps) n h = All-nil IsHeld
 
-dictionaries_held : (select : Option (Vec ℕ Global)) (privates : List (Option Private)) (m n : ℕ) → m + length (privates_text privates) < 2 ^ 31 → n < 2 ^ 31 → All IsHeld (dictionaries_place select privates m n)
+dictionaries_held : (select : Option (Vec ℕ Global)) (privates : List (Option Private)) (m n : ℕ) →
+    m + length (privates_text privates) < 2 ^ 31 → n < 2 ^ 31 → All IsHeld (dictionaries_place select privates m n)
 dictionaries_held (Some select) privates m n h k = All-cons IsHeld _ [] (search rules, (k, tt)) (All-nil IsHeld)
 dictionaries_held None privates m n h k = only_held privates m h
 
@@ -80,7 +82,8 @@ places_held start parts few =
     (All-append IsHeld _ _ (standard_held glyphs.standard)
     (All-append IsHeld _ _ (if_held FDSelect glyphs.select at.select (search rules) (omega (arith, few)))
     (All-cons IsHeld _ _ (search rules, (omega (arith, few), tt))
-    (All-append IsHeld _ _ (dictionaries_held glyphs.select parts.privates.items at.privates at.dictionaries (omega (arith, few)) (omega (arith, few)))
+    (All-append IsHeld _ _ (dictionaries_held glyphs.select parts.privates.items at.privates at.dictionaries (omega (arith, few))
+    (omega (arith, few)))
     (if_held CharSet glyphs.char_set at.char_set (search rules) (omega (arith, few)))))))
 
 -- their operations have few bytes
@@ -101,7 +104,8 @@ only_few [] n = omega arith
 only_few (private ∷ []) n = private_few private n
 only_few (p ∷ q ∷ ps) n = omega arith
 
-dictionaries_few : (select : Option (Vec ℕ Global)) (privates : List (Option Private)) (m n : ℕ) → places_size (dictionaries_place select privates m n) ≤ 11
+dictionaries_few : (select : Option (Vec ℕ Global)) (privates : List (Option Private)) (m n : ℕ) →
+    places_size (dictionaries_place select privates m n) ≤ 11
 dictionaries_few (Some select) privates m n = omega arith
 dictionaries_few None privates m n = only_few privates m
 
@@ -118,7 +122,8 @@ places_few start parts =
     let e : List Place = dictionaries_place glyphs.select parts.privates.items at.privates at.dictionaries in
     let f : List Place = place_if CharSet glyphs.char_set at.char_set in
     let one : List Place = place_at CharStrings at.char_strings ∷ [] in
-    let fifth = together e f 11 6 (dictionaries_few glyphs.select parts.privates.items at.privates at.dictionaries) (if_few CharSet glyphs.char_set at.char_set) in
+    let fifth = together e f 11 6 (dictionaries_few glyphs.select parts.privates.items at.privates at.dictionaries)
+    (if_few CharSet glyphs.char_set at.char_set) in
     let fourth = together one (e ++ f) 6 17 (omega arith) fifth in
     let third = together d (one ++ (e ++ f)) 7 23 (if_few FDSelect glyphs.select at.select) fourth in
     let second = together b (d ++ (one ++ (e ++ f))) 6 30 (standard_few glyphs.standard) third in
@@ -132,7 +137,8 @@ renamed_by operator old new = by (new == old)
     by true = omega arith
     by false = omega arith
 
-renamed_of : (strings : Strings) (operator : Operator) (old : Option ℕ) → places_size (renamed_if strings operator old) ≤ 5 + operator_size operator
+renamed_of : (strings : Strings) (operator : Operator) (old : Option ℕ) →
+    places_size (renamed_if strings operator old) ≤ 5 + operator_size operator
 renamed_of strings operator None = omega arith
 renamed_of strings operator (Some old) = renamed_by operator old (new_identifier strings old)
 
@@ -145,7 +151,8 @@ renamed_all : (strings : Strings) (names : Dictionary) (operators : List Operato
 unfolding operations_of
 renamed_all strings names [] = omega arith
 renamed_all strings names (operator ∷ operators) =
-    together (renamed_if strings operator (identifier_in names operator)) (flat_map (λ operator. renamed_if strings operator (identifier_in names operator)) operators) (5 + operator_size operator)
+    together (renamed_if strings operator (identifier_in names operator))
+    (flat_map (λ operator. renamed_if strings operator (identifier_in names operator)) operators) (5 + operator_size operator)
     (operations_of operators) (renamed_of strings operator (identifier_in names operator)) (renamed_all strings names operators)
 
 pub renamed_few : (strings : Strings) (names : Dictionary) → places_size (all_renamed strings names) ≤ 58
@@ -153,7 +160,8 @@ unfolding operations_of
 renamed_few strings names = renamed_all strings names naming
 
 -- font dictionaries, with the places of their private dictionaries
-more_than : (items texts : List (List ℕ)) → length texts ≡ length items → ((k : ℕ) → k < length items → length (get_or texts k []) ≤ length (get_or items k []) + 11) →
+more_than : (items texts : List (List ℕ)) → length texts ≡ length items →
+    ((k : ℕ) → k < length items → length (get_or texts k []) ≤ length (get_or items k []) + 11) →
     length (concat texts) ≤ length (concat items) + 11 * length items
 more_than [] [] many each = omega arith
 more_than [] (text ∷ texts) many each = absurd (omega (arith, many))
@@ -163,9 +171,11 @@ more_than (item ∷ items) (text ∷ texts) many each =
     let rest = more_than items texts (omega (arith, many)) (λ k h. each (suc k) (omega (arith, h))) in
     omega (arith, length-append item (concat items), length-append text (concat texts), first, rest)
 
-pub dictionaries_most : (items : List (List ℕ)) (privates : List (Option Private)) (texts : List (List ℕ)) → AreSized items privates texts → length (concat texts) ≤ length (concat items) + 11 * length items
+pub dictionaries_most : (items : List (List ℕ)) (privates : List (Option Private)) (texts : List (List ℕ)) →
+    AreSized items privates texts → length (concat texts) ≤ length (concat items) + 11 * length items
 dictionaries_most items privates texts sized =
     more_than items texts sized.many (λ k less.
-    let one = sized_within (get_or items k []) (place_of_private (get_or privates k None) 0) (length (get_or texts k [])) (sized.each k less) in
+    let one = sized_within (get_or items k []) (place_of_private (get_or privates k None) 0) (length (get_or texts k []))
+    (sized.each k less) in
     let few = private_few (get_or privates k None) 0 in
     omega (arith, one, few))

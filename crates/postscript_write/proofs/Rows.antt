@@ -7,14 +7,16 @@ use Rattle.postscript_view.proofs.Agreeing.{number_is}
 use Rattle.postscript_write.specs.Texts.{number_text, Stands}
 use Rattle.postscript_write.proofs.Standing.{length-number_text, number_stands, stands_first, stands_second}
 
-pub rows_length : (text : ℕ → List ℕ) (width : ℕ) → ((n : ℕ) → length (text n) ≡ width) → (xs : List ℕ) → length (flat_map text xs) ≡ length xs * width
+pub rows_length : (text : ℕ → List ℕ) (width : ℕ) → ((n : ℕ) → length (text n) ≡ width) → (xs : List ℕ) →
+    length (flat_map text xs) ≡ length xs * width
 rows_length text width long [] = omega arith
 rows_length text width long (x ∷ xs) =
     let all = ap length (flat_map-cons text x xs) ∙ length-append (text x) (flat_map text xs) in
     omega (arith, all, long x, rows_length text width long xs)
 
 -- each stands in its place
-pub row_stands : {bytes : List ℕ} (text : ℕ → List ℕ) (width : ℕ) → ((n : ℕ) → length (text n) ≡ width) → (xs : List ℕ) (place i d : ℕ) → i < length xs →
+pub row_stands : {bytes : List ℕ} (text : ℕ → List ℕ) (width : ℕ) → ((n : ℕ) → length (text n) ≡ width) → (xs : List ℕ) (place i d : ℕ) →
+    i < length xs →
     Stands (flat_map text xs) bytes place → Stands (text (get_or xs i d)) bytes (place + i * width)
 row_stands text width long [] place i d less s = absurd (omega (arith, less))
 row_stands {bytes = bytes} text width long (x ∷ xs) place zero d less s =
@@ -23,13 +25,16 @@ row_stands {bytes = bytes} text width long (x ∷ xs) place zero d less s =
 row_stands {bytes = bytes} text width long (x ∷ xs) place (suc i) d less s =
     let rest : Stands (flat_map text xs) bytes (place + length (text x)) = stands_second (text x) (flat_map text xs) s in
     let there : place + length (text x) + i * width ≡ place + suc i * width = omega (arith, long x) in
-    subst (λ n. Stands (text (get_or xs i d)) bytes n) there (row_stands text width long xs (place + length (text x)) i d (omega (arith, less)) rest)
+    subst (λ n. Stands (text (get_or xs i d)) bytes n) there
+    (row_stands text width long xs (place + length (text x)) i d (omega (arith, less)) rest)
 
 -- a number that stands at a place is read there
-pub number_read : {bytes : List ℕ} {place : ℕ} (size n : ℕ) → n < 2 ^ (8 * size) → Stands (number_text size n) bytes place → number_at bytes place size ≡ n
+pub number_read : {bytes : List ℕ} {place : ℕ} (size n : ℕ) → n < 2 ^ (8 * size) → Stands (number_text size n) bytes place →
+    number_at bytes place size ≡ n
 number_read {bytes = bytes} {place = place} size n small s = number_is bytes place size n (number_stands size n small s)
 
 -- what stands behind a number
-pub behind_number : {bytes : List ℕ} {place : ℕ} (size n : ℕ) (rest : List ℕ) → Stands (number_text size n ++ rest) bytes place → Stands rest bytes (place + size)
+pub behind_number : {bytes : List ℕ} {place : ℕ} (size n : ℕ) (rest : List ℕ) → Stands (number_text size n ++ rest) bytes place →
+    Stands rest bytes (place + size)
 behind_number {bytes = bytes} {place = place} size n rest s =
     subst (λ m. Stands rest bytes (place + m)) (length-number_text size n) (stands_second (number_text size n) rest s)

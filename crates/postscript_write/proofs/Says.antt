@@ -18,7 +18,7 @@ use Rattle.postscript_write.specs.Dictionaries.{IsPlaced, operation_of}
 use Rattle.postscript_write.specs.LeftOut.{IsLess}
 use Rattle.postscript_write.specs.Parts.{IsAmong, SameBut, naming, placing}
 use Rattle.postscript_write.specs.Privates.{place_of_private}
-use Rattle.postscript_write.specs.Renumbered.{all_renamed, new_identifier, renamed_if}
+use Rattle.postscript_write.specs.Renumbered.{IsRenamed, all_renamed, new_identifier, renamed_if}
 use Rattle.postscript_write.specs.Strings.{identifier_in}
 use Rattle.postscript_write.specs.declared.dictionaries.Place.{Place}
 use Rattle.postscript_write.specs.declared.layout.Parts.{Parts}
@@ -26,15 +26,17 @@ use Rattle.postscript_write.specs.declared.layout.Private.{Private as OwnPrivate
 use Rattle.postscript_write.specs.declared.strings.Strings.{Strings}
 use Rattle.postscript_write.proofs.Operators.{among}
 use Rattle.postscript_write.proofs.Placing.{same_operator}
-use Rattle.postscript_write.proofs.PlacesNamed.{named_by, stays}
+use Rattle.postscript_write.proofs.PlacesNamed.{named_by, not_private, stays}
 
 -- places are named by these operators
 abbrev AreOf : List Operator → List Place → Type 0
 AreOf operators places = All (λ place. IsAmong place.operator operators) places
 
-some_among : (operators : List Operator) (places : List Place) (operator : Operator) (operands : List Decimal) → AreOf operators places → named_by places operator ≡ Some operands → IsAmong operator operators
+some_among : (operators : List Operator) (places : List Place) (operator : Operator) (operands : List Decimal) → AreOf operators places →
+    named_by places operator ≡ Some operands → IsAmong operator operators
 some_among operators [] operator operands of is = let never : None ≡ Some operands = is in absurd (cc)
-some_among operators (place ∷ places) operator operands of is = by (some_among operators places operator operands rest) (eq_by_cmp operator_cmp operator place.operator) refl
+some_among operators (place ∷ places) operator operands of is =
+    by (some_among operators places operator operands rest) (eq_by_cmp operator_cmp operator place.operator) refl
   where
     rest : AreOf operators places
     rest = λ k d less. of (suc k) d (omega (arith, less))
@@ -43,13 +45,16 @@ some_among operators (place ∷ places) operator operands of is = by (some_among
     or_none None = refl
     or_none (Some a) = refl
 
-    by : (named_by places operator ≡ Some operands → IsAmong operator operators) → (b : Bool) → eq_by_cmp operator_cmp operator place.operator ≡ b → IsAmong operator operators
+    by : (named_by places operator ≡ Some operands → IsAmong operator operators) → (b : Bool) →
+        eq_by_cmp operator_cmp operator place.operator ≡ b → IsAmong operator operators
     by later true e = subst (λ o. IsAmong o operators) (sym (same_operator operator place.operator e)) (of 0 place (omega arith))
     by later false e =
-        let none = ap (λ b. option_or (named_by places operator) (if b then Some (operation_of place).1 else None)) e ∙ or_none (named_by places operator) in
+        let none = ap (λ b. option_or (named_by places operator) (if b then Some (operation_of place).1 else None)) e
+        ∙ or_none (named_by places operator) in
         later (sym none ∙ is)
 
-pub says_else : (operators : List Operator) (old new : Dictionary) (places : List Place) → IsPlaced old places new → AreOf operators places → SameBut operators old new
+pub says_else : (operators : List Operator) (old new : Dictionary) (places : List Place) → IsPlaced old places new →
+    AreOf operators places → SameBut operators old new
 says_else operators old new places placed of operator = by (named_by places operator) refl
   where
     by : (x : Option (List Decimal)) → named_by places operator ≡ x → (look new operator ≡ look old operator) ⊎ IsAmong operator operators
@@ -58,23 +63,31 @@ says_else operators old new places placed of operator = by (named_by places oper
 
 if_of : (operator : Operator) (text : Option (Vec ℕ Global)) (n : ℕ) → IsAmong operator placing → AreOf placing (place_if operator text n)
 if_of operator None n is = All-nil (λ place. IsAmong place.operator placing)
-if_of operator (Some text) n is = All-cons (λ place. IsAmong place.operator placing) (place_at operator n) [] is (All-nil (λ place. IsAmong place.operator placing))
+if_of operator (Some text) n is =
+    All-cons (λ place. IsAmong place.operator placing) (place_at operator n) [] is (All-nil (λ place. IsAmong place.operator placing))
 
 standard_of : (standard : Bool) → AreOf placing (standard_place standard)
-standard_of true = All-cons (λ place. IsAmong place.operator placing) (place_at Encoding 0) [] (search rules) (All-nil (λ place. IsAmong place.operator placing))
+standard_of true =
+    All-cons (λ place. IsAmong place.operator placing) (place_at Encoding 0) [] (search rules)
+    (All-nil (λ place. IsAmong place.operator placing))
 standard_of false = All-nil (λ place. IsAmong place.operator placing)
 
-private_of : (operators : List Operator) (private : Option OwnPrivate) (n : ℕ) → IsAmong Private operators → AreOf operators (place_of_private private n)
+private_of : (operators : List Operator) (private : Option OwnPrivate) (n : ℕ) → IsAmong Private operators →
+    AreOf operators (place_of_private private n)
 private_of operators None n is = All-nil (λ place. IsAmong place.operator operators)
-private_of operators (Some private) n is = All-cons (λ place. IsAmong place.operator operators) _ [] is (All-nil (λ place. IsAmong place.operator operators))
+private_of operators (Some private) n is =
+    All-cons (λ place. IsAmong place.operator operators) _ [] is (All-nil (λ place. IsAmong place.operator operators))
 
 only_of : (privates : List (Option OwnPrivate)) (n : ℕ) → AreOf placing (only_place privates n)
 only_of [] n = All-nil (λ place. IsAmong place.operator placing)
 only_of (private ∷ []) n = private_of placing private n (search rules)
 only_of (p ∷ q ∷ ps) n = All-nil (λ place. IsAmong place.operator placing)
 
-dictionaries_of : (select : Option (Vec ℕ Global)) (privates : List (Option OwnPrivate)) (m n : ℕ) → AreOf placing (dictionaries_place select privates m n)
-dictionaries_of (Some select) privates m n = All-cons (λ place. IsAmong place.operator placing) (place_at FDArray n) [] (search rules) (All-nil (λ place. IsAmong place.operator placing))
+dictionaries_of : (select : Option (Vec ℕ Global)) (privates : List (Option OwnPrivate)) (m n : ℕ) →
+    AreOf placing (dictionaries_place select privates m n)
+dictionaries_of (Some select) privates m n =
+    All-cons (λ place. IsAmong place.operator placing) (place_at FDArray n) [] (search rules)
+    (All-nil (λ place. IsAmong place.operator placing))
 dictionaries_of None privates m n = only_of privates m
 
 places_are : (start : ℕ) (parts : Parts) → AreOf placing (places_of start parts)
@@ -90,23 +103,28 @@ places_are start parts =
     (if_of CharSet glyphs.char_set at.char_set (search rules))))))
 
 -- the new identifiers of strings are named by the operators that name strings
-one_of : (strings : Strings) (operator : Operator) (old : Option ℕ) → IsAmong operator naming → AreOf naming (renamed_if strings operator old)
+one_of : (strings : Strings) (operator : Operator) (old : Option ℕ) → IsAmong operator naming →
+    AreOf naming (renamed_if strings operator old)
 one_of strings operator None is = All-nil (λ place. IsAmong place.operator naming)
 one_of strings operator (Some old) is = by (new_identifier strings old == old)
   where
     by : (b : Bool) → AreOf naming (if b then [] else place_at operator (new_identifier strings old) ∷ [])
     by true = All-nil (λ place. IsAmong place.operator naming)
-    by false = All-cons (λ place. IsAmong place.operator naming) (place_at operator (new_identifier strings old)) [] is (All-nil (λ place. IsAmong place.operator naming))
+    by false =
+        All-cons (λ place. IsAmong place.operator naming) (place_at operator (new_identifier strings old)) [] is
+        (All-nil (λ place. IsAmong place.operator naming))
 
 all_of : (strings : Strings) (names : Dictionary) (operators : List Operator) → All (λ operator. IsAmong operator naming) operators →
     AreOf naming (flat_map (λ operator. renamed_if strings operator (identifier_in names operator)) operators)
 all_of strings names [] of = All-nil (λ place. IsAmong place.operator naming)
 all_of strings names (operator ∷ operators) of =
-    All-append (λ place. IsAmong place.operator naming) (renamed_if strings operator (identifier_in names operator)) _ (one_of strings operator (identifier_in names operator) (of 0 operator (omega arith)))
+    All-append (λ place. IsAmong place.operator naming) (renamed_if strings operator (identifier_in names operator)) _
+    (one_of strings operator (identifier_in names operator) (of 0 operator (omega arith)))
     (all_of strings names operators (λ k d less. of (suc k) d (omega (arith, less))))
 
 renamed_are : (strings : Strings) (names : Dictionary) → AreOf naming (all_renamed strings names)
-renamed_are strings names = all_of strings names naming (λ k d less. among naming (get_or naming k d) (k, less, get_or_default naming k (get_or naming k d) d less))
+renamed_are strings names =
+    all_of strings names naming (λ k d less. among naming (get_or naming k d) (k, less, get_or_default naming k (get_or naming k d) d less))
 
 among_left : (operator : Operator) (xs ys : List Operator) → IsAmong operator xs → IsAmong operator (xs ++ ys)
 among_left operator [] ys is = absurd is
@@ -118,19 +136,27 @@ among_right operator [] ys is = is
 among_right operator (x ∷ xs) ys is = inr (among_right operator xs ys is)
 
 -- the dictionary of a font that is written says else what that of the font says
-pub font_says : (strings : Strings) (old named new : Dictionary) (start : ℕ) (parts : Parts) → IsPlaced old (all_renamed strings old) named → IsPlaced named (places_of start parts) new → SameBut (placing ++ naming) old new
+pub font_says : (strings : Strings) (old named new : Dictionary) (start : ℕ) (parts : Parts) →
+    IsRenamed old (all_renamed strings old) named → IsPlaced named (places_of start parts) new → SameBut (placing ++ naming) old new
 font_says strings old named new start parts renamed placed operator =
     elim (says_else placing named new (places_of start parts) placed (places_are start parts) operator) [
-      | inl same ↦ elim (says_else naming old named (all_renamed strings old) renamed (renamed_are strings old) operator) [
-        | inl also ↦ inl (same ∙ also)
+      | inl same ↦ elim (says_else naming renamed.kept named (all_renamed strings old) renamed.placed (renamed_are strings old) operator) [
+        | inl also ↦ kept (eq_by_cmp operator_cmp operator Private) refl (same ∙ also)
         | inr is ↦ inr (among_right operator placing naming is)
       ]
       | inr is ↦ inr (among_left operator placing naming is)
     ]
+  where
+    kept : (b : Bool) → eq_by_cmp operator_cmp operator Private ≡ b → look new operator ≡ look renamed.kept operator →
+        (look new operator ≡ look old operator) ⊎ IsAmong operator (placing ++ naming)
+    kept true is same = inr (among_left operator placing naming (inr (inr (inr (inl (same_operator operator Private is))))))
+    kept false is same = inl (same ∙ renamed.unnamed.same operator (λ _. not_private operator is))
 
 -- and so does a font dictionary
-pub own_says : (old new : Dictionary) (private : Option OwnPrivate) (n : ℕ) → IsPlaced old (place_of_private private n) new → SameBut (Private ∷ []) old new
-own_says old new private n placed = says_else (Private ∷ []) old new (place_of_private private n) placed (private_of (Private ∷ []) private n (inl refl))
+pub own_says : (old new : Dictionary) (private : Option OwnPrivate) (n : ℕ) → IsPlaced old (place_of_private private n) new →
+    SameBut (Private ∷ []) old new
+own_says old new private n placed =
+    says_else (Private ∷ []) old new (place_of_private private n) placed (private_of (Private ∷ []) private n (inl refl))
 
 -- and a private dictionary
 pub less_says : (old new : Dictionary) → IsLess (Subrs ∷ []) old new → SameBut (Subrs ∷ []) old new
@@ -144,5 +170,7 @@ less_says old new less operator = by (eq_by_cmp operator_cmp operator Subrs) ref
         other has = apart (among (Subrs ∷ []) operator has)
           where
             apart : IsAmong operator (Subrs ∷ []) → ⊥
-            apart (inl same) = let both : eq_by_cmp operator_cmp operator Subrs ≡ true = subst (λ o. eq_by_cmp operator_cmp o Subrs ≡ true) (sym same) refl in let never : false ≡ true = sym e ∙ both in absurd (cc)
+            apart (inl same) =
+                let both : eq_by_cmp operator_cmp operator Subrs ≡ true = subst (λ o. eq_by_cmp operator_cmp o Subrs ≡ true)
+                (sym same) refl in let never : false ≡ true = sym e ∙ both in absurd (cc)
             apart (inr never) = never

@@ -15,16 +15,24 @@ one_byte n = length-number_text 1 n
 
 -- format 0
 pub listed_length : (numbers : List ℕ) → length (listed_text numbers) ≡ 1 + length numbers
-listed_length numbers = omega (arith, length-append (number_text 1 0) (flat_map (number_text 1) numbers), one_byte 0, rows_length (number_text 1) 1 one_byte numbers)
+listed_length numbers =
+    omega (
+      arith,
+      length-append (number_text 1 0) (flat_map (number_text 1) numbers),
+      one_byte 0,
+      rows_length (number_text 1) 1 one_byte numbers,
+    )
 
 pub lists_all : (numbers : List ℕ) → AreLow numbers → SelectsAll (listed_text numbers) numbers
 lists_all numbers low = record {
   gives = λ bytes place i s less.
-      let format : number_at bytes place 1 ≡ 0 = number_read 1 0 (omega arith) (stands_first (number_text 1 0) (flat_map (number_text 1) numbers) s) in
+      let format : number_at bytes place 1 ≡ 0 = number_read 1 0 (omega arith)
+      (stands_first (number_text 1 0) (flat_map (number_text 1) numbers) s) in
       let rest = behind_number 1 0 (flat_map (number_text 1) numbers) s in
       let own = row_stands (number_text 1) 1 one_byte numbers (place + 1) i 0 less rest in
       let small = low i less in
-      let read : number_at bytes (place + 1 + i * 1) 1 ≡ get_or numbers i 0 = number_read 1 (get_or numbers i 0) (omega (arith, small)) own in
+      let read : number_at bytes (place + 1 + i * 1) 1 ≡ get_or numbers i 0 = number_read 1 (get_or numbers i 0)
+      (omega (arith, small)) own in
       let at : place + 1 + i * 1 ≡ place + 1 + i = omega arith in
       inl (record {
         format = format;
@@ -33,14 +41,20 @@ lists_all numbers low = record {
         dictionary = sym read ∙ ap (λ p. number_at bytes p 1) at;
       });
   ends = λ bytes place s.
-      let format : number_at bytes place 1 ≡ 0 = number_read 1 0 (omega arith) (stands_first (number_text 1 0) (flat_map (number_text 1) numbers) s) in
+      let format : number_at bytes place 1 ≡ 0 = number_read 1 0 (omega arith)
+      (stands_first (number_text 1 0) (flat_map (number_text 1) numbers) s) in
       inl (format, omega (arith, listed_length numbers));
 }
 
 -- format 3
 range_long : (numbers : List ℕ) (first : ℕ) → length (range_text numbers first) ≡ 3
 range_long numbers first =
-    omega (arith, length-append (number_text 2 first) (number_text 1 (get_or numbers first 0)), length-number_text 2 first, length-number_text 1 (get_or numbers first 0))
+    omega (
+      arith,
+      length-append (number_text 2 first) (number_text 1 (get_or numbers first 0)),
+      length-number_text 2 first,
+      length-number_text 1 (get_or numbers first 0),
+    )
 
 pub ranges_length : (numbers firsts : List ℕ) → length (ranges_text numbers firsts) ≡ 5 + 3 * length firsts
 ranges_length numbers firsts =
@@ -63,7 +77,8 @@ record AreRanges (numbers firsts bytes : List ℕ) (place : ℕ) : Type 0 where
   first : (r : ℕ) → r ≤ length firsts → first_glyph bytes (place + 3) r ≡ get_or firsts r (length numbers)
   number : (r : ℕ) → r < length firsts → number_at bytes (place + 3 + r * 3 + 2) 1 ≡ get_or numbers (get_or firsts r (length numbers)) 0
 
-are_ranges : (numbers firsts bytes : List ℕ) (place : ℕ) → AreFirsts numbers firsts (length numbers) → AreLow numbers → length numbers < 2 ^ 16 →
+are_ranges : (numbers firsts bytes : List ℕ) (place : ℕ) → AreFirsts numbers firsts (length numbers) → AreLow numbers →
+    length numbers < 2 ^ 16 →
     Stands (ranges_text numbers firsts) bytes place → AreRanges numbers firsts bytes place
 are_ranges numbers firsts bytes place are low few s =
     let rows : List ℕ = flat_map (range_text numbers) firsts in
@@ -74,7 +89,8 @@ are_ranges numbers firsts bytes place are low few s =
     let s2 : Stands (rows ++ end) bytes (place + 1 + 2) = behind_number 2 (length firsts) (rows ++ end) s1 in
     let three : place + 1 + 2 ≡ place + 3 = omega arith in
     let s3 : Stands (rows ++ end) bytes (place + 3) = subst (λ n. Stands (rows ++ end) bytes n) three s2 in
-    let row : (r : ℕ) → r < length firsts → Stands (range_text numbers (get_or firsts r (length numbers))) bytes (place + 3 + r * 3) = λ r less.
+    let row : (r : ℕ) → r < length firsts → Stands (range_text numbers (get_or firsts r (length numbers))) bytes
+    (place + 3 + r * 3) = λ r less.
     row_stands (range_text numbers) 3 (range_long numbers) firsts (place + 3) r (length numbers) less (stands_first rows end s3) in
     record {
       format = number_read 1 3 (omega arith) (stands_first (number_text 1 3) first_part s);
@@ -83,20 +99,25 @@ are_ranges numbers firsts bytes place are low few s =
         | inl less ↦
             (let first : ℕ = get_or firsts r (length numbers) in
             let below = are.below r less in
-            number_read 2 first (omega (arith, below, few)) (stands_first (number_text 2 first) (number_text 1 (get_or numbers first 0)) (row r less)))
+            number_read 2 first (omega (arith, below, few))
+            (stands_first (number_text 2 first) (number_text 1 (get_or numbers first 0)) (row r less)))
         | inr last ↦
             (let behind = stands_second rows end s3 in
-            let there : place + 3 + length rows ≡ place + 3 + r * 3 = omega (arith, rows_length (range_text numbers) 3 (range_long numbers) firsts, least, last) in
-            number_read 2 (length numbers) (omega (arith, few)) (subst (λ n. Stands end bytes n) there behind) ∙ sym (past firsts r (length numbers) last))
+            let there : place + 3 + length rows ≡ place + 3 + r * 3 = omega
+            (arith, rows_length (range_text numbers) 3 (range_long numbers) firsts, least, last) in
+            number_read 2 (length numbers) (omega (arith, few)) (subst (λ n. Stands end bytes n) there behind)
+            ∙ sym (past firsts r (length numbers) last))
       ];
       number = λ r less.
           let first : ℕ = get_or firsts r (length numbers) in
           let below = are.below r less in
           let small = low first below in
-          number_read 1 (get_or numbers first 0) (omega (arith, small)) (behind_number 2 first (number_text 1 (get_or numbers first 0)) (row r less));
+          number_read 1 (get_or numbers first 0) (omega (arith, small))
+          (behind_number 2 first (number_text 1 (get_or numbers first 0)) (row r less));
     }
 
-pub ranges_all : (numbers firsts : List ℕ) → AreFirsts numbers firsts (length numbers) → AreLow numbers → length numbers < 2 ^ 16 → SelectsAll (ranges_text numbers firsts) numbers
+pub ranges_all : (numbers firsts : List ℕ) → AreFirsts numbers firsts (length numbers) → AreLow numbers → length numbers < 2 ^ 16 →
+    SelectsAll (ranges_text numbers firsts) numbers
 ranges_all numbers firsts are low few = record {
   gives = λ bytes place i s less.
       let ranges = are_ranges numbers firsts bytes place are low few s in

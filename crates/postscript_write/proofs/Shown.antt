@@ -10,7 +10,8 @@ use Rattle.postscript_view.specs.declared.font.FontView.{FontView}
 use Rattle.postscript_view.specs.declared.private_dict.PrivateDict.{PrivateDict}
 use Rattle.postscript_write.specs.Glyphs.{DrawsAs}
 
-pub shown_part : (font : FontView) (number : ℕ) (part : PrivateDict) → slice_get font.parts.items number ≡ Some part → slice_get (view_shown font).parts number ≡ Some (part_shown part)
+pub shown_part : (font : FontView) (number : ℕ) (part : PrivateDict) → slice_get font.parts.items number ≡ Some part →
+    slice_get (view_shown font).parts number ≡ Some (part_shown part)
 shown_part font number part h = slice_get-map part_shown font.parts.items number ∙ ap (option_map part_shown) h
 
 -- what keeps the meaning of a run draws what it draws

@@ -30,7 +30,8 @@ every_kept glyphs = record {
   many = every_long glyphs;
   first = λ some. get_or-map-range_with_len Some 0 glyphs 0 0 None (omega (arith, some, every_long glyphs)) (omega arith);
   each = λ i glyph less is.
-      let own : get_or (every glyphs) i None ≡ Some i = get_or-map-range_with_len Some 0 glyphs i i None (omega (arith, less, every_long glyphs)) (omega arith) in
+      let own : get_or (every glyphs) i None ≡ Some i = get_or-map-range_with_len Some 0 glyphs i i None
+      (omega (arith, less, every_long glyphs)) (omega arith) in
       let both : Some i ≡ Some glyph = sym own ∙ is in
       cc;
 }
@@ -59,7 +60,8 @@ keeping_kept named glyphs = record {
       ∙ ap (λ b. if b then Some 0 else None) (first_kept named);
   each = λ i glyph less is.
       own_number named i glyph
-      (sym (get_or-map-range_with_len (kept_or_none named) 0 glyphs i i None (omega (arith, less, keeping_long named glyphs)) (omega arith)) ∙ is);
+      (sym (get_or-map-range_with_len (kept_or_none named) 0 glyphs i i None (omega (arith, less, keeping_long named glyphs))
+      (omega arith)) ∙ is);
 }
 
 -- glyphs that are chosen get new numbers, `.notdef` the first

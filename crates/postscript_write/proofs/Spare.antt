@@ -40,7 +40,9 @@ unfolding identifier_in
 identifier_low map operator n is = from_low (option_and_then to_i32 (first_of (look map operator))) n is
 
 -- a new identifier has few bits
-new_low : (strings : Strings) (old most : ℕ) → old < 2 ^ 16 → ((number new : ℕ) → get_or strings.renumbered.items number None ≡ Some new → new < most) → most < 2 ^ 31 → new_identifier strings old < 2 ^ 31
+new_low : (strings : Strings) (old most : ℕ) → old < 2 ^ 16 →
+    ((number new : ℕ) → get_or strings.renumbered.items number None ≡ Some new → new < most) → most < 2 ^ 31 →
+    new_identifier strings old < 2 ^ 31
 new_low strings old most few new less = by (nat_lt old 391)
   where
     of : (found : Option ℕ) → get_or strings.renumbered.items (old - 391) None ≡ found → unwrap_or found old < 2 ^ 31
@@ -58,32 +60,43 @@ renamed_held operator old new is less = by (new == old)
     by true = All-nil IsHeld
     by false = All-cons IsHeld _ [] (is, (less, tt)) (All-nil IsHeld)
 
-if_held : (strings : Strings) (map : Dictionary) (operator : Operator) (most : ℕ) → IsWritable operator → ((number new : ℕ) → get_or strings.renumbered.items number None ≡ Some new → new < most) → most < 2 ^ 31 →
+if_held : (strings : Strings) (map : Dictionary) (operator : Operator) (most : ℕ) → IsWritable operator →
+    ((number new : ℕ) → get_or strings.renumbered.items number None ≡ Some new → new < most) → most < 2 ^ 31 →
     All IsHeld (renamed_if strings operator (identifier_in map operator))
 if_held strings map operator most is new less = by (identifier_in map operator) refl
   where
     by : (old : Option ℕ) → identifier_in map operator ≡ old → All IsHeld (renamed_if strings operator old)
     by None named = All-nil IsHeld
-    by (Some old) named = renamed_held operator old (new_identifier strings old) is (new_low strings old most (identifier_low map operator old named) new less)
+    by (Some old) named =
+        renamed_held operator old (new_identifier strings old) is
+        (new_low strings old most (identifier_low map operator old named) new less)
 
 AreWritable : List Operator → Type 0
 AreWritable [] = Unit {0}
 AreWritable (operator ∷ operators) = IsWritable operator × AreWritable operators
 
-all_held : (strings : Strings) (map : Dictionary) (operators : List Operator) (most : ℕ) → AreWritable operators → ((number new : ℕ) → get_or strings.renumbered.items number None ≡ Some new → new < most) → most < 2 ^ 31 →
+all_held : (strings : Strings) (map : Dictionary) (operators : List Operator) (most : ℕ) → AreWritable operators →
+    ((number new : ℕ) → get_or strings.renumbered.items number None ≡ Some new → new < most) → most < 2 ^ 31 →
     All IsHeld (flat_map (λ operator. renamed_if strings operator (identifier_in map operator)) operators)
 unfolding AreWritable
 all_held strings map [] most are new less = All-nil IsHeld
 all_held strings map (operator ∷ operators) most are new less =
-    All-append IsHeld (renamed_if strings operator (identifier_in map operator)) (flat_map (λ operator. renamed_if strings operator (identifier_in map operator)) operators)
+    All-append IsHeld (renamed_if strings operator (identifier_in map operator))
+    (flat_map (λ operator. renamed_if strings operator (identifier_in map operator)) operators)
     (if_held strings map operator most are.0 new less) (all_held strings map operators most are.1 new less)
 
 naming_held : AreWritable naming
 unfolding AreWritable
-naming_held =
-    (search rules, (search rules, (search rules, (search rules, (search rules, (search rules, (search rules, (search rules, (search rules, tt)))))))))
+naming_held = (
+  search rules,
+  (
+    search rules,
+    (search rules, (search rules, (search rules, (search rules, (search rules, (search rules, (search rules, tt))))))),
+  ),
+)
 
-pub has_room : (font : FontView) (glyphs : Glyphs) (codes : List (List ℕ)) → IsRead font → AreLow font.bytes.now → length codes < 2 ^ 16 → (IsLarge font.bytes.now (view_shown font) codes → ⊥) → AreLittle font glyphs → HasRoom font glyphs codes
+pub has_room : (font : FontView) (glyphs : Glyphs) (codes : List (List ℕ)) → IsRead font → AreLow font.bytes.now → length codes < 2 ^ 16 →
+    (IsLarge font.bytes.now (view_shown font) codes → ⊥) → AreLittle font glyphs → HasRoom font glyphs codes
 has_room font glyphs codes read low few small little =
     let names = names_few font read low in
     let strings = strings_few font read low in
@@ -92,18 +105,22 @@ has_room font glyphs codes read low few small little =
     let encoding = little.encoding in
     let select = little.select in
     let char_set = little.char_set in
-    let sum : 4 * length font.bytes.now + bytes_in (items_of font.names) + bytes_in (items_of font.strings) + bytes_in codes < 2000000000 = not_large in
+    let sum : 4 * length font.bytes.now + bytes_in (items_of font.names) + bytes_in
+    (items_of font.strings) + bytes_in codes < 2000000000 = not_large in
     record {
       few_names = names;
       few_strings = omega (arith, many, strings);
       few_codes = few;
       few_parts = parts_few font read low;
-      renamed = all_held glyphs.strings font.dictionary naming (391 + length (texts glyphs.strings.texts.items)) naming_held little.strings.new (omega (arith, many, strings));
+      renamed = all_held glyphs.strings font.dictionary naming
+          (391 + length (texts glyphs.strings.texts.items)) naming_held little.strings.new (omega (arith, many, strings));
       all = omega (arith, names, strings, many, bytes, few, encoding, select, char_set, sum);
     }
   where
     not_large : 4 * length font.bytes.now + bytes_in (items_of font.names) + bytes_in (items_of font.strings) + bytes_in codes < 2000000000
-    not_large = elim (cases_lt (4 * length font.bytes.now + bytes_in (items_of font.names) + bytes_in (items_of font.strings) + bytes_in codes) 2000000000) [
-      | inl less ↦ less
-      | inr large ↦ absurd (small large)
-    ]
+    not_large =
+        elim (cases_lt (4 * length font.bytes.now + bytes_in (items_of font.names) + bytes_in (items_of font.strings) + bytes_in codes)
+        2000000000) [
+          | inl less ↦ less
+          | inr large ↦ absurd (small large)
+        ]

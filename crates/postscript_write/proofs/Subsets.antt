@@ -16,18 +16,21 @@ use Rattle.postscript_write.specs.Refusals.{FontRefusedBy, IsChoiceRefusedBy, Is
 use Rattle.postscript_write.specs.Sources.{AreThere, is_kept, kept_of}
 use Rattle.postscript_write.specs.Steps.{IsNotChosen, IsNotClosed, IsNotOpened}
 use Rattle.postscript_write.specs.declared.error.Error.{Error}
-use Rattle.postscript_write.specs.declared.error.Error.TheVariants.{Refused, Glyph, SeveralFonts, MissingGlyph, MissingPart, MissingName, NoGlyphs, TooLarge, NotReadBack}
+use Rattle.postscript_write.specs.declared.error.Error.TheVariants.{Refused, Glyph, SeveralFonts, MissingGlyph, MissingPart, MissingName, NoGlyphs, TooLarge}
 use Rattle.postscript_write.proofs.Making.{is_refused}
 
 abbrev pub Choice : Type 0
 Choice = (closed : List ℕ) (glyphs : ℕ) → Sources
 
-pub closed-so : (bytes named closed : List ℕ) (font : FontView) → IsOpened bytes font → ((glyph : ℕ) → (is_kept closed glyph ≡ true) ↔ IsReached font named glyph) → AreClosed bytes named closed
+pub closed-so : (bytes named closed : List ℕ) (font : FontView) → IsOpened bytes font →
+    ((glyph : ℕ) → (is_kept closed glyph ≡ true) ↔ IsReached font named glyph) → AreClosed bytes named closed
 closed-so bytes named closed font opened all = record { font = font; opened = opened; all = all }
 
-pub subset-made : (r : Result (Vec ℕ Global) Error) (kept : Bool) (choice : Choice) (font : FontView) (bytes named closed : List ℕ) (sources : Sources) → IsOpened bytes font → AreClosed bytes named closed →
+pub subset-made : (r : Result (Vec ℕ Global) Error) (kept : Bool) (choice : Choice) (font : FontView) (bytes named closed : List ℕ)
+    (sources : Sources) → IsOpened bytes font → AreClosed bytes named closed →
     sources ≡ choice closed (length (view_shown font).char_strings) →
-    IfOk r (λ flat. (new : View) × (view flat.items 0 ≡ Got new 0) × IsFontOf kept sources font.bytes.now (view_shown font) flat.items new) → IfOk r (λ flat. IsSubset kept choice named bytes flat.items)
+    IfOk r (λ flat. (new : View) × (view flat.items 0 ≡ Got new 0) × IsFontOf kept sources font.bytes.now
+    (view_shown font) flat.items new) → IfOk r (λ flat. IsSubset kept choice named bytes flat.items)
 subset-made (Ok flat) kept choice font bytes named closed sources opened are same made = record {
   closed = closed;
   are = are;
@@ -36,13 +39,15 @@ subset-made (Ok flat) kept choice font bytes named closed sources opened are sam
     new = made.0;
     was = opened.shown;
     is = made.1;
-    made = subst (λ (s : Sources). IsFontOf kept s bytes (view_shown font) flat.items made.0) same (subst (λ (bs : List ℕ). IsFontOf kept sources bs (view_shown font) flat.items made.0) opened.there made.2);
+    made = subst (λ (s : Sources). IsFontOf kept s bytes (view_shown font) flat.items made.0) same
+        (subst (λ (bs : List ℕ). IsFontOf kept sources bs (view_shown font) flat.items made.0) opened.there made.2);
   };
 }
 subset-made (Err e) kept choice font bytes named closed sources opened are same made = tt
 
 -- a refusal that says something of the font that glyphs are taken from
-of-closed : (named closed : List ℕ) (choice : Choice) (bytes : List ℕ) (e : Error) → AreClosed bytes named closed → IsRefusedBy (choice closed) bytes e → IsSubsetRefusedBy named choice bytes e
+of-closed : (named closed : List ℕ) (choice : Choice) (bytes : List ℕ) (e : Error) → AreClosed bytes named closed →
+    IsRefusedBy (choice closed) bytes e → IsSubsetRefusedBy named choice bytes e
 of-closed named closed choice bytes (Glyph glyph cause) are h = (closed, are, h)
 of-closed named closed choice bytes (Refused cause) are h = h
 of-closed named closed choice bytes SeveralFonts are h = h
@@ -51,17 +56,19 @@ of-closed named closed choice bytes (MissingPart glyph) are h = (closed, are, h)
 of-closed named closed choice bytes (MissingName glyph) are h = (closed, are, h)
 of-closed named closed choice bytes NoGlyphs are h = absurd h.2
 of-closed named closed choice bytes TooLarge are h = (closed, are, h)
-of-closed named closed choice bytes NotReadBack are h = (closed, are, h)
 
-pub subset-refused : (r : Result (Vec ℕ Global) Error) (choice : Choice) (font : FontView) (bytes named closed : List ℕ) (sources : Sources) → IsOpened bytes font → AreClosed bytes named closed →
+pub subset-refused : (r : Result (Vec ℕ Global) Error) (choice : Choice) (font : FontView) (bytes named closed : List ℕ)
+    (sources : Sources) → IsOpened bytes font → AreClosed bytes named closed →
     sources ≡ choice closed (length (view_shown font).char_strings) →
     IfErr r (λ e. FontRefusedBy font.bytes.now (view_shown font) sources e) → IfErr r (λ e. IsSubsetRefusedBy named choice bytes e)
 subset-refused (Ok flat) choice font bytes named closed sources opened are same h = tt
 subset-refused (Err e) choice font bytes named closed sources opened are same h =
     of-closed named closed choice bytes e are (is_refused (choice closed) bytes (view_shown font) e opened.shown
-    (subst (λ (s : Sources). FontRefusedBy bytes (view_shown font) s e) same (subst (λ (bs : List ℕ). FontRefusedBy bs (view_shown font) sources e) opened.there h)))
+    (subst (λ (s : Sources). FontRefusedBy bytes (view_shown font) s e) same
+    (subst (λ (bs : List ℕ). FontRefusedBy bs (view_shown font) sources e) opened.there h)))
 
-pub not-opened : (named : List ℕ) (choice : Choice) (bytes : List ℕ) (e : Error) → IsNotOpened bytes e → IsSubsetRefusedBy named choice bytes e
+pub not-opened : (named : List ℕ) (choice : Choice) (bytes : List ℕ) (e : Error) → IsNotOpened bytes e →
+    IsSubsetRefusedBy named choice bytes e
 not-opened named choice bytes (Glyph glyph cause) h = absurd h
 not-opened named choice bytes (Refused cause) h = λ n. inl (h n)
 not-opened named choice bytes SeveralFonts h = h
@@ -70,11 +77,16 @@ not-opened named choice bytes (MissingPart glyph) h = absurd h
 not-opened named choice bytes (MissingName glyph) h = absurd h
 not-opened named choice bytes NoGlyphs h = absurd h
 not-opened named choice bytes TooLarge h = absurd h
-not-opened named choice bytes NotReadBack h = absurd h
 
 -- the font has no char set, or a glyph is named that it does not have
-pub not-closed : (named : List ℕ) (choice : Choice) (bytes : List ℕ) (font : FontView) (e : Error) → IsOpened bytes font → IsNotClosed font named e → IsSubsetRefusedBy named choice bytes e
-not-closed named choice bytes font (Refused cause) opened h = λ n. inr (view_shown font, opened.shown, inl (λ has. h n has.0 (subst (λ (bs : List ℕ). IsCharSetOf has.0 bs font.dictionary (glyphs_of font)) (sym opened.there) has.1)))
+pub not-closed : (named : List ℕ) (choice : Choice) (bytes : List ℕ) (font : FontView) (e : Error) → IsOpened bytes font →
+    IsNotClosed font named e → IsSubsetRefusedBy named choice bytes e
+not-closed named choice bytes font (Refused cause) opened h =
+    λ n. inr (
+      view_shown font,
+      opened.shown,
+      inl (λ has. h n has.0 (subst (λ (bs : List ℕ). IsCharSetOf has.0 bs font.dictionary (glyphs_of font)) (sym opened.there) has.1)),
+    )
 not-closed named choice bytes font (MissingGlyph glyph) opened h = (view_shown font, opened.shown, h)
 not-closed named choice bytes font (Glyph glyph cause) opened h = absurd h
 not-closed named choice bytes font SeveralFonts opened h = absurd h
@@ -82,7 +94,6 @@ not-closed named choice bytes font (MissingPart glyph) opened h = absurd h
 not-closed named choice bytes font (MissingName glyph) opened h = absurd h
 not-closed named choice bytes font NoGlyphs opened h = absurd h
 not-closed named choice bytes font TooLarge opened h = absurd h
-not-closed named choice bytes font NotReadBack opened h = absurd h
 
 -- where all are there, none is past the end
 not-past : (glyphs : List ℕ) (n glyph : ℕ) → AreThere glyphs n → IsFirstPast glyphs n glyph → ⊥
@@ -92,7 +103,8 @@ not-past glyphs n glyph there past =
     let far = past.past in
     omega (arith, less, is, far)
 
-pub not-chosen : (named closed : List ℕ) (choice : Choice) (bytes : List ℕ) (n : ℕ) (e : Error) → AreThere closed n → IsNotChosen closed n e → IsSubsetRefusedBy named choice bytes e
+pub not-chosen : (named closed : List ℕ) (choice : Choice) (bytes : List ℕ) (n : ℕ) (e : Error) → AreThere closed n →
+    IsNotChosen closed n e → IsSubsetRefusedBy named choice bytes e
 not-chosen named closed choice bytes n (Refused cause) there h = λ other. absurd (other h)
 not-chosen named closed choice bytes n (MissingGlyph glyph) there h = absurd (not-past closed n glyph there h)
 not-chosen named closed choice bytes n (Glyph glyph cause) there h = absurd h
@@ -101,12 +113,14 @@ not-chosen named closed choice bytes n (MissingPart glyph) there h = absurd h
 not-chosen named closed choice bytes n (MissingName glyph) there h = absurd h
 not-chosen named closed choice bytes n NoGlyphs there h = absurd h
 not-chosen named closed choice bytes n TooLarge there h = absurd h
-not-chosen named closed choice bytes n NotReadBack there h = absurd h
 
 -- the glyphs that are kept, told
-pub kept-so : (r : Result (Vec ℕ Global) Error) (bytes named closed : List ℕ) (font : FontView) → IsOpened bytes font → ((glyph : ℕ) → (is_kept closed glyph ≡ true) ↔ IsReached font named glyph) →
-    (others : List ℕ) → others ≡ kept_of closed (glyphs_of font) → IfOk r (λ kept. kept.items ≡ others) → IfOk r (λ kept. AreKept named bytes kept.items)
-kept-so (Ok kept) bytes named closed font opened h others same is = record { closed = closed; are = record { font = font; opened = opened; all = h }; all = is ∙ same }
+pub kept-so : (r : Result (Vec ℕ Global) Error) (bytes named closed : List ℕ) (font : FontView) → IsOpened bytes font →
+    ((glyph : ℕ) → (is_kept closed glyph ≡ true) ↔ IsReached font named glyph) →
+    (others : List ℕ) → others ≡ kept_of closed (glyphs_of font) → IfOk r (λ kept. kept.items ≡ others) → IfOk r
+    (λ kept. AreKept named bytes kept.items)
+kept-so (Ok kept) bytes named closed font opened h others same is =
+    record { closed = closed; are = record { font = font; opened = opened; all = h }; all = is ∙ same }
 kept-so (Err e) bytes named closed font opened h others same is = tt
 
 pub choice-not-opened : (named bytes : List ℕ) (e : Error) → IsNotOpened bytes e → IsChoiceRefusedBy named bytes e
@@ -118,9 +132,9 @@ choice-not-opened named bytes (MissingPart glyph) h = h
 choice-not-opened named bytes (MissingName glyph) h = h
 choice-not-opened named bytes NoGlyphs h = absurd h
 choice-not-opened named bytes TooLarge h = h
-choice-not-opened named bytes NotReadBack h = h
 
-pub choice-not-closed : (named bytes : List ℕ) (font : FontView) (e : Error) → IsOpened bytes font → IsNotClosed font named e → IsChoiceRefusedBy named bytes e
+pub choice-not-closed : (named bytes : List ℕ) (font : FontView) (e : Error) → IsOpened bytes font → IsNotClosed font named e →
+    IsChoiceRefusedBy named bytes e
 choice-not-closed named bytes font (Refused cause) opened h = λ n. inr (
   view_shown font,
   opened.shown,
@@ -133,9 +147,9 @@ choice-not-closed named bytes font (MissingPart glyph) opened h = h
 choice-not-closed named bytes font (MissingName glyph) opened h = h
 choice-not-closed named bytes font NoGlyphs opened h = absurd h
 choice-not-closed named bytes font TooLarge opened h = h
-choice-not-closed named bytes font NotReadBack opened h = h
 
-pub choice-not-chosen : (named closed bytes : List ℕ) (n : ℕ) (e : Error) → AreThere closed n → IsNotChosen closed n e → IsChoiceRefusedBy named bytes e
+pub choice-not-chosen : (named closed bytes : List ℕ) (n : ℕ) (e : Error) → AreThere closed n → IsNotChosen closed n e →
+    IsChoiceRefusedBy named bytes e
 choice-not-chosen named closed bytes n (Refused cause) there h = λ other. absurd (other h)
 choice-not-chosen named closed bytes n (MissingGlyph glyph) there h = absurd (not-past closed n glyph there h)
 choice-not-chosen named closed bytes n (Glyph glyph cause) there h = h
@@ -144,4 +158,3 @@ choice-not-chosen named closed bytes n (MissingPart glyph) there h = h
 choice-not-chosen named closed bytes n (MissingName glyph) there h = h
 choice-not-chosen named closed bytes n NoGlyphs there h = absurd h
 choice-not-chosen named closed bytes n TooLarge there h = h
-choice-not-chosen named closed bytes n NotReadBack there h = h

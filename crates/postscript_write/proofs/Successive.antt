@@ -10,20 +10,27 @@ use Rattle.postscript_view.specs.declared.private_dict.PrivateDict.{PrivateDict}
 use Rattle.postscript_write.specs.Whole.{PrivateEnds, PrivatesEnd}
 
 -- the parts from part i on
-split : (parts : List PrivateDict) (i : ℕ) (part : PrivateDict) → i < length parts → part ≡ get_or parts i part → drop i parts ≡ part ∷ drop (i + 1) parts
-split parts i part less is = drop-cons parts i part less ∙ ap (λ p. p ∷ drop (suc i) parts) (sym is) ∙ ap (λ n. part ∷ drop n parts) (sym (add-one i))
+split : (parts : List PrivateDict) (i : ℕ) (part : PrivateDict) → i < length parts → part ≡ get_or parts i part →
+    drop i parts ≡ part ∷ drop (i + 1) parts
+split parts i part less is =
+    drop-cons parts i part less ∙ ap (λ p. p ∷ drop (suc i) parts) (sym is) ∙ ap (λ n. part ∷ drop n parts) (sym (add-one i))
 
 -- where those from part i on end, all end
 abbrev pub EndWith : Dictionary → List PrivateDict → (i place next : ℕ) → Type 0
-EndWith map parts i place next = (end : ℕ) → PrivatesEnd map (parts_shown (drop i parts)) next end → PrivatesEnd map (parts_shown parts) place end
+EndWith map parts i place next =
+    (end : ℕ) → PrivatesEnd map (parts_shown (drop i parts)) next end → PrivatesEnd map (parts_shown parts) place end
 
-pub one_more : (map : Dictionary) (parts : List PrivateDict) (i place next behind : ℕ) (part : PrivateDict) → i < length parts → part ≡ get_or parts i part →
+pub one_more : (map : Dictionary) (parts : List PrivateDict) (i place next behind : ℕ) (part : PrivateDict) → i < length parts →
+    part ≡ get_or parts i part →
     PrivateEnds (unwrap_or part.font_dictionary map) next behind → EndWith map parts i place next → EndWith map parts (i + 1) place behind
 one_more map parts i place next behind part less is ends before end rest =
-    before end (subst (λ (ps : List PrivateDict). PrivatesEnd map (parts_shown ps) next end) (sym (split parts i part less is)) (behind, ends, rest))
+    before end (subst (λ (ps : List PrivateDict). PrivatesEnd map (parts_shown ps) next end) (sym (split parts i part less is))
+    (behind, ends, rest))
 
-pub none_left : (map : Dictionary) (parts : List PrivateDict) (i place next : ℕ) → length parts ≤ i → EndWith map parts i place next → PrivatesEnd map (parts_shown parts) place next
-none_left map parts i place next past before = before next (subst (λ (ps : List PrivateDict). PrivatesEnd map (parts_shown ps) next next) (sym (drop_of_length-le parts past)) refl)
+pub none_left : (map : Dictionary) (parts : List PrivateDict) (i place next : ℕ) → length parts ≤ i → EndWith map parts i place next →
+    PrivatesEnd map (parts_shown parts) place next
+none_left map parts i place next past before =
+    before next (subst (λ (ps : List PrivateDict). PrivatesEnd map (parts_shown ps) next next) (sym (drop_of_length-le parts past)) refl)
 
 -- a private dictionary ends behind where it begins, and so do all
 past_private : (map : Dictionary) (place next : ℕ) → PrivateEnds map place next → place ≤ next
@@ -42,7 +49,8 @@ abbrev pub LeftEnd : Dictionary → List PrivateDict → (i place next : ℕ) �
 LeftEnd map parts i place next =
     (end : ℕ) → end < 2 ^ 63 → PrivatesEnd map (parts_shown parts) place end → PrivatesEnd map (parts_shown (drop i parts)) next end
 
-pub no_more : (map : Dictionary) (parts : List PrivateDict) (i place next end : ℕ) → length parts ≤ i → end < 2 ^ 63 → PrivatesEnd map (parts_shown parts) place end →
+pub no_more : (map : Dictionary) (parts : List PrivateDict) (i place next end : ℕ) → length parts ≤ i → end < 2 ^ 63 →
+    PrivatesEnd map (parts_shown parts) place end →
     LeftEnd map parts i place next → end ≡ next
 no_more map parts i place next end past small all left =
     subst (λ (ps : List PrivateDict). PrivatesEnd map (parts_shown ps) next end) (drop_of_length-le parts past) (left end small all)

@@ -14,27 +14,35 @@ use Rattle.postscript_write.proofs.IndexStands.{writes_indices}
 use Rattle.postscript_write.proofs.Rests.{none_fit}
 use Rattle.postscript_write.proofs.Standing.{stands_first, stands_second}
 
-is_opened : (bytes : List ℕ) (place : ℕ) (items : List (List ℕ)) (next : ℕ) → IsIndex bytes place items next → IsOpened bytes place items next
+pub is_opened : (bytes : List ℕ) (place : ℕ) (items : List (List ℕ)) (next : ℕ) → IsIndex bytes place items next →
+    IsOpened bytes place items next
 is_opened bytes place items next (inl empty) = inl empty
 is_opened bytes place items next (inr filled) = inr (record { laid = filled.laid; slices = filled.slices })
 
-opened_there : (items : List (List ℕ)) (bytes : List ℕ) (place : ℕ) → Fits items → Stands (index_text items) bytes place → IsOpened bytes place items (place + length (index_text items))
-opened_there items bytes place fits stands = is_opened bytes place items (place + length (index_text items)) (writes_indices items bytes place fits stands)
+opened_there : (items : List (List ℕ)) (bytes : List ℕ) (place : ℕ) → Fits items → Stands (index_text items) bytes place →
+    IsOpened bytes place items (place + length (index_text items))
+opened_there items bytes place fits stands =
+    is_opened bytes place items (place + length (index_text items)) (writes_indices items bytes place fits stands)
 
-pub index_there : (items : List (List ℕ)) (bytes : List ℕ) (place : ℕ) → length bytes < 2 ^ 64 → Fits items → Stands (index_text items) bytes place → IsIndexAt bytes place items
+pub index_there : (items : List (List ℕ)) (bytes : List ℕ) (place : ℕ) → length bytes < 2 ^ 64 → Fits items →
+    Stands (index_text items) bytes place → IsIndexAt bytes place items
 index_there items bytes place small fits stands =
     let within = stands.within in
     (place + length (index_text items), omega (arith, within, small), opened_there items bytes place fits stands)
 
-pub dictionaries_there : (select : Option (Vec ℕ Global)) (dictionaries : List (List ℕ)) (bytes : List ℕ) (place : ℕ) → length bytes < 2 ^ 64 → (IsSome select → Fits dictionaries) → Stands (dictionaries_text select dictionaries) bytes place → IsSome select →
+pub dictionaries_there : (select : Option (Vec ℕ Global)) (dictionaries : List (List ℕ)) (bytes : List ℕ) (place : ℕ) →
+    length bytes < 2 ^ 64 → (IsSome select → Fits dictionaries) → Stands (dictionaries_text select dictionaries) bytes place →
+    IsSome select →
     IsIndexAt bytes place dictionaries
 dictionaries_there (Some s) dictionaries bytes place small fits stands some = index_there dictionaries bytes place small (fits some) stands
 dictionaries_there None dictionaries bytes place small fits stands some = absurd (cc)
 
-pub header_is : (out behind : List ℕ) (names strings : List (List ℕ)) (placed : List ℕ) → out ≡ tables_text names placed strings ++ behind → HasHeader out
+pub header_is : (out behind : List ℕ) (names strings : List (List ℕ)) (placed : List ℕ) →
+    out ≡ tables_text names placed strings ++ behind → HasHeader out
 header_is out behind names strings placed is = subst HasHeader (sym is) refl
 
-pub tables_are : (out behind : List ℕ) (names strings : List (List ℕ)) (placed : List ℕ) (new : Dictionary) → out ≡ tables_text names placed strings ++ behind → Fits names → Fits (placed ∷ []) → Fits strings → IsDictionary placed 0 new →
+pub tables_are : (out behind : List ℕ) (names strings : List (List ℕ)) (placed : List ℕ) (new : Dictionary) →
+    out ≡ tables_text names placed strings ++ behind → Fits names → Fits (placed ∷ []) → Fits strings → IsDictionary placed 0 new →
     AreTables out 4 0 (record { names = names; dictionary = new; strings = strings; subroutines = [] })
 tables_are out behind names strings placed new is names_fit placed_fits strings_fit dictionary =
     let a : List ℕ = index_text names in

@@ -8,16 +8,19 @@ use Rattle.postscript_write.specs.Whole.{CharSetEnds, CodesEnd, EncodingEnds, Ra
 use Rattle.postscript_write.proofs.Endings.{behind_codes}
 
 -- a number of a text is read where the text stands
-pub number_there : (text out : List ℕ) (place k size at : ℕ) → Stands text out place → k + size ≤ length text → at ≡ place + k → number_at out at size ≡ number_at text k size
+pub number_there : (text out : List ℕ) (place k size at : ℕ) → Stands text out place → k + size ≤ length text → at ≡ place + k →
+    number_at out at size ≡ number_at text k size
 unfolding number_at
 number_there text out place k size at stands within is =
     let behind : List ℕ = stands.behind in
     let past : drop at out ≡ drop k text ++ behind =
-    ap (λ n. drop n out) is ∙ sym (drop-drop k place out) ∙ ap (drop k) stands.there ∙ drop-append-le k text behind (omega (arith, within)) in
+    ap (λ n. drop n out) is ∙ sym (drop-drop k place out) ∙ ap (drop k) stands.there
+    ∙ drop-append-le k text behind (omega (arith, within)) in
     let enough : size ≤ length (drop k text) = omega (arith, within, length-drop k text) in
     ap (λ (xs : List ℕ). big_endian (take size xs)) past ∙ ap big_endian (take-append-le size (drop k text) behind enough)
 
-codes_there : (text out : List ℕ) (place codes : ℕ) → Stands text out place → codes ≤ length text → CodesEnd text 0 codes → CodesEnd out place (place + codes)
+codes_there : (text out : List ℕ) (place codes : ℕ) → Stands text out place → codes ≤ length text → CodesEnd text 0 codes →
+    CodesEnd out place (place + codes)
 codes_there text out place codes stands within (inl (format, is)) =
     let first = number_there text out place 0 1 place stands (omega (arith, within, is)) (omega arith) in
     let second = number_there text out place 1 1 (place + 1) stands (omega (arith, within, is)) refl in
@@ -38,7 +41,8 @@ some_codes : (text : List ℕ) (codes : ℕ) → CodesEnd text 0 codes → 2 ≤
 some_codes text codes (inl (format, is)) = omega (arith, is)
 some_codes text codes (inr (format, is)) = omega (arith, is)
 
-pub encoding_there : (text out : List ℕ) (place : ℕ) → Stands text out place → EncodingEnds text 0 (length text) → EncodingEnds out place (place + length text)
+pub encoding_there : (text out : List ℕ) (place : ℕ) → Stands text out place → EncodingEnds text 0 (length text) →
+    EncodingEnds out place (place + length text)
 encoding_there text out place stands ends =
     let codes : ℕ = ends.0 in
     let behind = behind_codes text (number_at text 0 1) codes (length text) ends.2 in
@@ -46,10 +50,12 @@ encoding_there text out place stands ends =
     let first = number_there text out place 0 1 place stands (omega (arith, behind, some)) (omega arith) in (
       place + codes,
       codes_there text out place codes stands behind ends.1,
-      subst (λ format. SupplementsEnd out format (place + codes) (place + length text)) (sym first) (supplements_there text out place (number_at text 0 1) codes stands ends.2),
+      subst (λ format. SupplementsEnd out format (place + codes) (place + length text)) (sym first)
+          (supplements_there text out place (number_at text 0 1) codes stands ends.2),
     )
 
-pub select_there : (text out : List ℕ) (place glyphs : ℕ) → Stands text out place → SelectEnds text glyphs 0 (length text) → SelectEnds out glyphs place (place + length text)
+pub select_there : (text out : List ℕ) (place glyphs : ℕ) → Stands text out place → SelectEnds text glyphs 0 (length text) →
+    SelectEnds out glyphs place (place + length text)
 select_there text out place glyphs stands (inl (format, is)) =
     let first = number_there text out place 0 1 place stands (omega (arith, is)) (omega arith) in
     inl (first ∙ format, omega (arith, is))
@@ -59,7 +65,8 @@ select_there text out place glyphs stands (inr (format, is)) =
     inr (first ∙ format, omega (arith, is, count))
 
 -- a char set is the last part, so that ranges too end where they do alone
-pub char_set_there : (text out : List ℕ) (place glyphs : ℕ) → Stands text out place → drop place out ≡ text → CharSetEnds text glyphs 0 (length text) →
+pub char_set_there : (text out : List ℕ) (place glyphs : ℕ) → Stands text out place → drop place out ≡ text →
+    CharSetEnds text glyphs 0 (length text) →
     CharSetEnds out glyphs place (place + length text)
 char_set_there text out place glyphs stands last (inl (format, is)) =
     let first = number_there text out place 0 1 place stands (omega (arith, is)) (omega arith) in

@@ -11,9 +11,11 @@ use Rattle.postscript_write.proofs.Drawings.{component-moved, many-of}
 use Rattle.postscript_write.proofs.Marks.{kept_more}
 use Rattle.std.proofs.Common.{add-one, zero, suc}
 
-reached-moved : (bytes named : List ℕ) (a b : FontView) → IsOpened bytes a → IsOpened bytes b → (glyph : ℕ) → IsReached a named glyph → IsReached b named glyph
+reached-moved : (bytes named : List ℕ) (a b : FontView) → IsOpened bytes a → IsOpened bytes b → (glyph : ℕ) → IsReached a named glyph →
+    IsReached b named glyph
 reached-moved bytes named a b was is _ (is_named glyph h) = is_named glyph h
-reached-moved bytes named a b was is _ (is_drawn_with from glyph r c) = is_drawn_with from glyph (reached-moved bytes named a b was is from r) (component-moved bytes a b from glyph was is c)
+reached-moved bytes named a b was is _ (is_drawn_with from glyph r c) =
+    is_drawn_with from glyph (reached-moved bytes named a b was is from r) (component-moved bytes a b from glyph was is c)
 
 same-bool : (a b : Bool) → (a ≡ true → b ≡ true) → (b ≡ true → a ≡ true) → a ≡ b
 same-bool true b f g = sym (f refl)
@@ -21,7 +23,8 @@ same-bool false true f g = g refl
 same-bool false false f g = refl
 
 -- one list of glyphs is reached from those that are named
-one-closed : (bytes named xs ys : List ℕ) → AreClosed bytes named xs → AreClosed bytes named ys → (glyph : ℕ) → is_kept xs glyph ≡ is_kept ys glyph
+one-closed : (bytes named xs ys : List ℕ) → AreClosed bytes named xs → AreClosed bytes named ys → (glyph : ℕ) →
+    is_kept xs glyph ≡ is_kept ys glyph
 one-closed bytes named xs ys a b glyph = same-bool (is_kept xs glyph) (is_kept ys glyph) (moved xs ys a b) (moved ys xs b a)
   where
     moved : (p q : List ℕ) → AreClosed bytes named p → AreClosed bytes named q → is_kept p glyph ≡ true → is_kept q glyph ≡ true
@@ -30,7 +33,8 @@ one-closed bytes named xs ys a b glyph = same-bool (is_kept xs glyph) (is_kept y
 same-kept : (xs ys : List ℕ) → ((glyph : ℕ) → is_kept xs glyph ≡ is_kept ys glyph) → (n : ℕ) → kept_of xs n ≡ kept_of ys n
 same-kept xs ys same zero = refl
 same-kept xs ys same (suc n) = subst (λ m. kept_of xs m ≡ kept_of ys m) (add-one n)
-    (kept_more xs n ∙ ap (λ l. l ++ (if is_kept xs n then n ∷ [] else [])) (same-kept xs ys same n) ∙ ap (λ b. kept_of ys n ++ (if b then n ∷ [] else [])) (same n) ∙ sym (kept_more ys n))
+    (kept_more xs n ∙ ap (λ l. l ++ (if is_kept xs n then n ∷ [] else [])) (same-kept xs ys same n)
+    ∙ ap (λ b. kept_of ys n ++ (if b then n ∷ [] else [])) (same n) ∙ sym (kept_more ys n))
 
 pub kept-are-written : KeptAreWritten
 kept-are-written named bytes flat kept k s =

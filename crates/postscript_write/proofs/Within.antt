@@ -25,10 +25,14 @@ index_within items = omega (arith, index_most items, all_bytes items)
 
 -- names, strings and codes
 pub names_fit : (font : FontView) (glyphs : Glyphs) (codes : List (List ℕ)) → HasRoom font glyphs codes → Fits (items_of font.names)
-names_fit font glyphs codes room = let all = room.all in they_fit (items_of font.names) room.few_names (omega (arith, all, all_bytes (items_of font.names)))
+names_fit font glyphs codes room =
+    let all = room.all in they_fit (items_of font.names) room.few_names (omega (arith, all, all_bytes (items_of font.names)))
 
-pub strings_fit : (font : FontView) (glyphs : Glyphs) (codes : List (List ℕ)) → HasRoom font glyphs codes → Fits (texts glyphs.strings.texts.items)
-strings_fit font glyphs codes room = let all = room.all in they_fit (texts glyphs.strings.texts.items) room.few_strings (omega (arith, all, all_bytes (texts glyphs.strings.texts.items)))
+pub strings_fit : (font : FontView) (glyphs : Glyphs) (codes : List (List ℕ)) → HasRoom font glyphs codes →
+    Fits (texts glyphs.strings.texts.items)
+strings_fit font glyphs codes room =
+    let all = room.all in they_fit (texts glyphs.strings.texts.items) room.few_strings
+    (omega (arith, all, all_bytes (texts glyphs.strings.texts.items)))
 
 pub codes_fit : (font : FontView) (glyphs : Glyphs) (codes : List (List ℕ)) → HasRoom font glyphs codes → Fits codes
 codes_fit font glyphs codes room = let all = room.all in they_fit codes room.few_codes (omega (arith, all, all_bytes codes))
@@ -44,7 +48,8 @@ pub record HasFew (font : FontView) (codes : List (List ℕ)) (parts : Parts) : 
   pub dictionaries : parts.dictionaries ≤ 21000000
 
 -- the parts end before 2^31
-pub end_within : (font : FontView) (codes : List (List ℕ)) (parts : Parts) (start : ℕ) → HasRoom font parts.glyphs.now codes → HasFew font codes parts → start ≤ tables_room font parts.glyphs.now →
+pub end_within : (font : FontView) (codes : List (List ℕ)) (parts : Parts) (start : ℕ) → HasRoom font parts.glyphs.now codes →
+    HasFew font codes parts → start ≤ tables_room font parts.glyphs.now →
     (beginnings start parts).end < 2 ^ 31
 end_within font codes parts start room few begins =
     let all = room.all in
@@ -54,14 +59,16 @@ end_within font codes parts start room few begins =
     omega (arith, all, long, index_within codes, privates, dictionaries, begins)
 
 -- the dictionary with the places of parts has few bytes
-pub dictionary_within : (font : FontView) (strings : Strings) (dictionary : List ℕ) (parts : Parts) (start : ℕ) (places : List Place) → length dictionary ≤ length font.bytes.now + places_size (all_renamed strings font.dictionary) → places ≡ places_of start parts →
+pub dictionary_within : (font : FontView) (strings : Strings) (dictionary : List ℕ) (parts : Parts) (start : ℕ) (places : List Place) →
+    length dictionary ≤ length font.bytes.now + places_size (all_renamed strings font.dictionary) → places ≡ places_of start parts →
     length dictionary + places_size places ≤ length font.bytes.now + 100
 dictionary_within font strings dictionary parts start places few are =
     let same = ap places_size are in
     omega (arith, few, same, renamed_few strings font.dictionary, places_few start parts)
 
 -- and so have the tables
-pub tables_within : (font : FontView) (glyphs : Glyphs) (dictionary placed : List ℕ) (places : List Place) → length dictionary + places_size places ≤ length font.bytes.now + 100 → HasSize dictionary places (length placed) →
+pub tables_within : (font : FontView) (glyphs : Glyphs) (dictionary placed : List ℕ) (places : List Place) →
+    length dictionary + places_size places ≤ length font.bytes.now + 100 → HasSize dictionary places (length placed) →
     length (tables_text (items_of font.names) placed (texts glyphs.strings.texts.items)) ≤ tables_room font glyphs
 unfolding index_text
 tables_within font glyphs dictionary placed places few size =
@@ -82,6 +89,9 @@ tables_within font glyphs dictionary placed places few size =
     )
 
 -- the places of parts can be written
-pub all_held : (font : FontView) (codes : List (List ℕ)) (parts : Parts) (start : ℕ) (places : List Place) → HasRoom font parts.glyphs.now codes → HasFew font codes parts → start ≤ tables_room font parts.glyphs.now → places ≡ places_of start parts →
+pub all_held : (font : FontView) (codes : List (List ℕ)) (parts : Parts) (start : ℕ) (places : List Place) →
+    HasRoom font parts.glyphs.now codes → HasFew font codes parts → start ≤ tables_room font parts.glyphs.now →
+    places ≡ places_of start parts →
     All IsHeld places
-all_held font codes parts start places room few begins are = subst (All IsHeld) (sym are) (places_held start parts (end_within font codes parts start room few begins))
+all_held font codes parts start places room few begins are =
+    subst (All IsHeld) (sym are) (places_held start parts (end_within font codes parts start room few begins))

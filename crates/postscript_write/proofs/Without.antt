@@ -27,12 +27,14 @@ use Rattle.postscript_write.proofs.Locality.{operation_local, operations_local}
 use Rattle.postscript_write.proofs.Moving.{operation_back, operation_moved}
 use Rattle.postscript_write.proofs.OperationsStand.{one_more}
 
-pub one_kept : (left_out : List Operator) (all left : List Operation) (o : Operation) → AreLeft left_out all left → (Contains left_out o.0 → ⊥) → AreLeft left_out (all ++ o ∷ []) (left ++ o ∷ [])
+pub one_kept : (left_out : List Operator) (all left : List Operation) (o : Operation) → AreLeft left_out all left →
+    (Contains left_out o.0 → ⊥) → AreLeft left_out (all ++ o ∷ []) (left ++ o ∷ [])
 one_kept left_out _ _ o none out = kept o [] [] out none
 one_kept left_out _ _ o (kept x all left other h) out = kept x (all ++ o ∷ []) (left ++ o ∷ []) other (one_kept left_out all left o h out)
 one_kept left_out _ _ o (gone x all left is h) out = gone x (all ++ o ∷ []) (left ++ o ∷ []) is (one_kept left_out all left o h out)
 
-pub one_gone : (left_out : List Operator) (all left : List Operation) (o : Operation) → AreLeft left_out all left → Contains left_out o.0 → AreLeft left_out (all ++ o ∷ []) left
+pub one_gone : (left_out : List Operator) (all left : List Operation) (o : Operation) → AreLeft left_out all left →
+    Contains left_out o.0 → AreLeft left_out (all ++ o ∷ []) left
 one_gone left_out _ _ o none is = gone o [] [] is none
 one_gone left_out _ _ o (kept x all left other h) is = kept x (all ++ o ∷ []) left other (one_gone left_out all left o h is)
 one_gone left_out _ _ o (gone x all left was h) is = gone x (all ++ o ∷ []) left was (one_gone left_out all left o h is)
@@ -46,7 +48,8 @@ pub record IsSoFar (text : List ℕ) (left_out : List Operator) (place : ℕ) (o
   pub stand : OperationsAt out 0 left (length out)
 
 -- the text of an operation stands behind others
-pub spelled_more : (text out : List ℕ) (place next : ℕ) (left : List Operation) (o : Operation) → place ≤ next → next ≤ length text → OperationAt text place o next → OperationsAt out 0 left (length out) →
+pub spelled_more : (text out : List ℕ) (place next : ℕ) (left : List Operation) (o : Operation) → place ≤ next → next ≤ length text →
+    OperationAt text place o next → OperationsAt out 0 left (length out) →
     OperationsAt (out ++ take (next - place) (drop place text)) 0 (left ++ o ∷ []) (length (out ++ take (next - place) (drop place text)))
 spelled_more text out place next left o up within at so_far =
     let front : List ℕ = take place text in
@@ -61,16 +64,23 @@ spelled_more text out place next left o up within at so_far =
     (subst (λ p. OperationAt text p o next) (omega (arith, at_front)) at) in
     let alone = operation_back front behind 0 next o there in
     let size : alone.0 ≡ count = let e = alone.1 in omega (arith, e, at_front) in
-    let split : OperationAt (spelled ++ drop count behind) 0 o count = subst (λ bs. OperationAt bs 0 o count) (sym (take-append-drop count behind)) (subst (λ n. OperationAt behind 0 o n) size alone.2) in
-    let cut : OperationAt spelled 0 o count = subst (λ bs. OperationAt bs 0 o count) (append-nil spelled) (operation_local spelled (drop count behind) [] 0 count o split (omega (arith, many))).1 in
+    let split : OperationAt (spelled ++ drop count behind) 0 o count = subst (λ bs. OperationAt bs 0 o count)
+    (sym (take-append-drop count behind)) (subst (λ n. OperationAt behind 0 o n) size alone.2) in
+    let cut : OperationAt spelled 0 o count = subst (λ bs. OperationAt bs 0 o count) (append-nil spelled)
+    (operation_local spelled (drop count behind) [] 0 count o split (omega (arith, many))).1 in
     let moved : OperationAt (out ++ spelled) (length out + 0) o (length out + count) = operation_moved out spelled 0 count o cut in
-    let before : OperationsAt (out ++ spelled) 0 left (length out) = (operations_local out [] spelled 0 (length out) left (subst (λ bs. OperationsAt bs 0 left (length out)) (sym (append-nil out)) so_far) (omega arith)).1 in
+    let before : OperationsAt (out ++ spelled) 0 left
+    (length out) = (operations_local out [] spelled 0 (length out) left
+    (subst (λ bs. OperationsAt bs 0 left (length out)) (sym (append-nil out)) so_far) (omega arith)).1 in
     let end : length out + count ≡ length (out ++ spelled) = omega (arith, many, length-append out spelled) in
     one_more (out ++ spelled) 0 left (length out) o (length (out ++ spelled)) before
-    (subst (λ n. OperationAt (out ++ spelled) (length out) o n) end (subst (λ p. OperationAt (out ++ spelled) p o (length out + count)) (omega arith) moved))
+    (subst (λ n. OperationAt (out ++ spelled) (length out) o n) end
+    (subst (λ p. OperationAt (out ++ spelled) p o (length out + count)) (omega arith) moved))
 
 pub reached : (text : List ℕ) (place next : ℕ) (o : Operation) → operation text place ≡ Got o next → (place < next) × (next ≤ length text)
-reached text place next o e = let goes = subst (Goes {A = Operation} (place + 1) (length text)) e (operation_goes text place) in let up = goes.0 in (omega (arith, up), goes.1)
+reached text place next o e =
+    let goes = subst (Goes {A = Operation} (place + 1) (length text)) e (operation_goes text place) in let up = goes.0 in
+    (omega (arith, up), goes.1)
 
 -- one operation more
 pub one_more_so : (text out more : List ℕ) (left_out : List Operator) (place next : ℕ) (o : Operation) → operation text place ≡ Got o next →
@@ -100,26 +110,35 @@ one_more_so text out more left_out place next o e put h =
 -- one operation more, as it is spelled
 pub left_more : (text out more : List ℕ) (left_out : List Operator) (place next : ℕ) (o : Operation) → operation text place ≡ Got o next →
     (Contains left_out o.0 × (more ≡ out)) ⊎ ((Contains left_out o.0 → ⊥) × (more ≡ out ++ take (next - place) (drop place text))) →
-    ((rest : List ℕ) → IsLeftText text left_out place rest → IsLeftText text left_out 0 (out ++ rest)) → (rest : List ℕ) → IsLeftText text left_out next rest → IsLeftText text left_out 0 (more ++ rest)
-left_more text out more left_out place next o got (inl out_of) before rest h = subst (λ xs. IsLeftText text left_out 0 (xs ++ rest)) (sym out_of.1) (before rest (leaves place next o rest got out_of.0 h))
+    ((rest : List ℕ) → IsLeftText text left_out place rest → IsLeftText text left_out 0 (out ++ rest)) → (rest : List ℕ) → IsLeftText text
+    left_out next rest → IsLeftText text left_out 0 (more ++ rest)
+left_more text out more left_out place next o got (inl out_of) before rest h =
+    subst (λ xs. IsLeftText text left_out 0 (xs ++ rest)) (sym out_of.1) (before rest (leaves place next o rest got out_of.0 h))
 left_more text out more left_out place next o got (inr stays) before rest h =
     let spelled : List ℕ = take (next - place) (drop place text) in
-    subst (IsLeftText text left_out 0) (sym (ap (λ xs. xs ++ rest) stays.1 ∙ append_assoc out spelled rest)) (before (spelled ++ rest) (keeps place next o rest (spelled ++ rest) got stays.0 h refl))
+    subst (IsLeftText text left_out 0) (sym (ap (λ xs. xs ++ rest) stays.1 ∙ append_assoc out spelled rest))
+    (before (spelled ++ rest) (keeps place next o rest (spelled ++ rest) got stays.0 h refl))
 
 same_got : (x y : Operation) (n m : ℕ) → Got x n ≡ Got y m → (x ≡ y) × (n ≡ m)
 same_got x y n m e = (cc, cc)
 
 -- one text is left
-pub one_left : (text : List ℕ) (left_out : List Operator) (place other : ℕ) (a b : List ℕ) → place ≡ other → IsLeftText text left_out place a → IsLeftText text left_out other b → a ≡ b
+pub one_left : (text : List ℕ) (left_out : List Operator) (place other : ℕ) (a b : List ℕ) → place ≡ other →
+    IsLeftText text left_out place a → IsLeftText text left_out other b → a ≡ b
 one_left text left_out _ _ _ _ at (ends place stops) (ends other again) = refl
-one_left text left_out _ _ _ b at (ends place stops) (keeps other next o rest _ got out h e) = absurd (stops o next (subst (λ p. operation text p ≡ Got o next) (sym at) got))
-one_left text left_out _ _ _ b at (ends place stops) (leaves other next o _ got is h) = absurd (stops o next (subst (λ p. operation text p ≡ Got o next) (sym at) got))
-one_left text left_out _ _ a _ at (keeps place next o rest _ got out h e) (ends other stops) = absurd (stops o next (subst (λ p. operation text p ≡ Got o next) at got))
-one_left text left_out _ _ a _ at (leaves place next o _ got is h) (ends other stops) = absurd (stops o next (subst (λ p. operation text p ≡ Got o next) at got))
+one_left text left_out _ _ _ b at (ends place stops) (keeps other next o rest _ got out h e) =
+    absurd (stops o next (subst (λ p. operation text p ≡ Got o next) (sym at) got))
+one_left text left_out _ _ _ b at (ends place stops) (leaves other next o _ got is h) =
+    absurd (stops o next (subst (λ p. operation text p ≡ Got o next) (sym at) got))
+one_left text left_out _ _ a _ at (keeps place next o rest _ got out h e) (ends other stops) =
+    absurd (stops o next (subst (λ p. operation text p ≡ Got o next) at got))
+one_left text left_out _ _ a _ at (leaves place next o _ got is h) (ends other stops) =
+    absurd (stops o next (subst (λ p. operation text p ≡ Got o next) at got))
 one_left text left_out _ _ a b at (keeps place next o rest _ got out h e) (keeps other after q more _ got2 out2 h2 e2) =
     let same = same_got o q next after (sym (subst (λ p. operation text p ≡ Got o next) at got) ∙ got2) in
     let tail = one_left text left_out next after rest more same.1 h h2 in
-    e ∙ ap (λ xs. take (next - place) (drop place text) ++ xs) tail ∙ ap (λ n. take (n - place) (drop place text) ++ more) same.1 ∙ ap (λ p. take (after - p) (drop p text) ++ more) at ∙ sym e2
+    e ∙ ap (λ xs. take (next - place) (drop place text) ++ xs) tail ∙ ap (λ n. take (n - place) (drop place text) ++ more) same.1
+    ∙ ap (λ p. take (after - p) (drop p text) ++ more) at ∙ sym e2
 one_left text left_out _ _ a b at (leaves place next o _ got is h) (leaves other after q _ got2 is2 h2) =
     let same = same_got o q next after (sym (subst (λ p. operation text p ≡ Got o next) at got) ∙ got2) in
     one_left text left_out next after a b same.1 h h2
@@ -131,10 +150,12 @@ one_left text left_out _ _ a b at (leaves place next o _ got is h) (keeps other 
     absurd (out2 (subst (λ (x : Operation). Contains left_out x.0) same.0 is))
 
 -- places of the same operators, of the same size, make dictionaries of one size
-pub one_size : (text : List ℕ) (places other : List Place) (n m : ℕ) → HasSize text places n → HasSize text other m → map (λ place. place.operator) places ≡ map (λ place. place.operator) other → places_size places ≡ places_size other →
+pub one_size : (text : List ℕ) (places other : List Place) (n m : ℕ) → HasSize text places n → HasSize text other m →
+    map (λ place. place.operator) places ≡ map (λ place. place.operator) other → places_size places ≡ places_size other →
     n ≡ m
 one_size text places other n m x y same sizes =
-    let left = ap length (one_left text (map (λ place. place.operator) other) 0 0 x.0 y.0 refl (subst (λ os. IsLeftText text os 0 x.0) same x.1) y.1) in
+    let left = ap length (one_left text (map (λ place. place.operator) other) 0 0 x.0 y.0 refl
+    (subst (λ os. IsLeftText text os 0 x.0) same x.1) y.1) in
     let a = x.2 in
     let b = y.2 in
     omega (arith, a, b, left, sizes)
@@ -143,15 +164,27 @@ not_end : (e : Error) → e ≢ UnexpectedEof → (refusal : Refusal) → Refuse
 not_end e other refusal h = grind arith
 
 -- bytes with operations, behind which one is refused that the end does not cut, are no dictionary
-pub no_dictionary : (text : List ℕ) (place : ℕ) (all : List Operation) (e : Error) → OperationsAt text 0 all place → RefusedAs e (operation text place) → e ≢ UnexpectedEof → (map : Dictionary) → IsDictionary text 0 map → ⊥
+pub no_dictionary : (text : List ℕ) (place : ℕ) (all : List Operation) (e : Error) → OperationsAt text 0 all place →
+    RefusedAs e (operation text place) → e ≢ UnexpectedEof → (map : Dictionary) → IsDictionary text 0 map → ⊥
 no_dictionary text place all e are h other map is = by (operation text place) (operation_is text place) h
   where
     by : (o : Outcome Operation) → IsOperation [] text place o → RefusedAs e o → ⊥
     by (Got o next) it h = h
     by (Fault refusal) it h =
         let whole : is_end refusal ≡ false = not_end e other refusal h in
-        let refused : IsRefused text 0 refusal = record { operations = all; front = place; are = are; operands = it.operands; next = it.next; stand = it.are; bad = it.bad; whole = bad_cut text it.next refusal it.bad ∙ whole } in
-        let never : Got map (length text) ≡ Fault refusal = sym (reads_dictionaries.all text 0 map is) ∙ reads_dictionaries.refused text 0 refusal refused in
+        let refused : IsRefused text 0
+        refusal = record {
+          operations = all;
+          front = place;
+          are = are;
+          operands = it.operands;
+          next = it.next;
+          stand = it.are;
+          bad = it.bad;
+          whole = bad_cut text it.next refusal it.bad ∙ whole;
+        } in
+        let never : Got map (length text) ≡ Fault refusal = sym (reads_dictionaries.all text 0 map is)
+        ∙ reads_dictionaries.refused text 0 refusal refused in
         absurd (cc)
     by Past it h = it
 
@@ -161,15 +194,20 @@ held_at [] i held less = absurd (omega (arith, less))
 held_at (n ∷ ns) zero held less = held.0
 held_at (n ∷ ns) (suc i) held less = held_at ns i held.1 (omega (arith, less))
 
-pub place_held : (place : Place) (numbers : List ℕ) → numbers_of place.size place.offset ≡ numbers → (IsWritable place.operator → AreHeld numbers → ⊥) → IsHeld place → ⊥
+pub place_held : (place : Place) (numbers : List ℕ) → numbers_of place.size place.offset ≡ numbers →
+    (IsWritable place.operator → AreHeld numbers → ⊥) → IsHeld place → ⊥
 place_held place numbers are never held = never held.0 (subst AreHeld are held.1)
 
 -- what holds of those so far, and of one more
-pub held_more : {X : Type 0} (P : X → Type 0) (xs : List X) (i : ℕ) (one : X) → i < length xs → P (get_or xs i one) → ((k : ℕ) (d : X) → k < i → P (get_or xs k d)) → (k : ℕ) (d : X) → k < i + 1 → P (get_or xs k d)
-held_more {X = X} P xs i one less here before k d h = below_more (λ k. (d : X) → P (get_or xs k d)) i (λ k under d. before k d under) (λ d. subst P (get_or_default xs i one d less) here) k h d
+pub held_more : {X : Type 0} (P : X → Type 0) (xs : List X) (i : ℕ) (one : X) → i < length xs → P (get_or xs i one) →
+    ((k : ℕ) (d : X) → k < i → P (get_or xs k d)) → (k : ℕ) (d : X) → k < i + 1 → P (get_or xs k d)
+held_more {X =
+    X} P xs i one less here before k d h = below_more (λ k. (d : X) → P (get_or xs k d)) i (λ k under d. before k d under)
+    (λ d. subst P (get_or_default xs i one d less) here) k h d
 
 -- what is left of a dictionary is no longer than the dictionary
-left_within : (text : List ℕ) (left_out : List Operator) (place : ℕ) (out : List ℕ) → place ≤ length text → IsLeftText text left_out place out → place + length out ≤ length text
+left_within : (text : List ℕ) (left_out : List Operator) (place : ℕ) (out : List ℕ) → place ≤ length text →
+    IsLeftText text left_out place out → place + length out ≤ length text
 left_within text left_out _ _ within (ends place stops) = omega (arith, within)
 left_within text left_out _ _ within (keeps place next o rest out got stays h e) =
     let goes = reached text place next o got in

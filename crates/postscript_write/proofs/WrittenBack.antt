@@ -44,9 +44,11 @@ use Rattle.postscript_write.proofs.ReadAgain.{one_view}
 use Rattle.postscript_view.proofs.LayoutLaws.{reads_layout}
 
 -- FDSelect gives a glyph its number where the dictionary names it
-selected : (new : Dictionary) (out : List ℕ) (select : Option (Vec ℕ Global)) (numbers : List ℕ) (place i : ℕ) (other : Option (List Decimal)) →
+selected : (new : Dictionary) (out : List ℕ) (select : Option (Vec ℕ Global)) (numbers : List ℕ) (place i : ℕ)
+    (other : Option (List Decimal)) →
     look new FDSelect ≡ option_or (named_by (place_if FDSelect select place) FDSelect) other → All IsHeld (place_if FDSelect select place) →
-    Stands (text_of select) out place → GivesNumbers numbers select → i < length numbers → IsSome select → IsSelected out new (length numbers) i (get_or numbers i 0)
+    Stands (text_of select) out place → GivesNumbers numbers select → i < length numbers → IsSome select → IsSelected out new
+    (length numbers) i (get_or numbers i 0)
 selected new out None numbers place i other is held stands gives less some = absurd (cc)
 selected new out (Some text) numbers place i other is held stands gives less some =
     (place, offset_is new FDSelect place (place_held FDSelect place held) is, gives out place i stands less)
@@ -56,25 +58,31 @@ one_part out map parts (OfFont part none is one) = inl (ap length one)
 one_part out map parts (OfFontDictionaries items keyed names are) = inr keyed
 
 -- an encoding of the font's own stands where the font says
-own_stands : (encoding : EncodingView) (bytes : List ℕ) (place : ℕ) → 2 ≤ place → IsNamedBy encoding bytes place → StandsAt encoding bytes place
+own_stands : (encoding : EncodingView) (bytes : List ℕ) (place : ℕ) → 2 ≤ place → IsNamedBy encoding bytes place →
+    StandsAt encoding bytes place
 own_stands encoding bytes place past (inl (is, codes, none)) = absurd (omega (arith, past, is))
 own_stands encoding bytes place past (inr (inl (is, codes, none))) = absurd (omega (arith, past, is))
 own_stands encoding bytes place past (inr (inr (most, stands))) = stands
 
 -- a predefined one is named in any bytes
-predefined_kept : (encoding : EncodingView) (bytes out : List ℕ) (place : ℕ) → place < 2 → IsNamedBy encoding bytes place → IsNamedBy encoding out place
+predefined_kept : (encoding : EncodingView) (bytes out : List ℕ) (place : ℕ) → place < 2 → IsNamedBy encoding bytes place →
+    IsNamedBy encoding out place
 predefined_kept encoding bytes out place low (inl x) = inl x
 predefined_kept encoding bytes out place low (inr (inl x)) = inr (inl x)
 predefined_kept encoding bytes out place low (inr (inr (most, stands))) = absurd (omega (arith, low, most))
 
-encoding_kept : (old new : Dictionary) (bytes out : List ℕ) (text : Option (Vec ℕ Global)) (standard : Bool) (start : ℕ) (encoding : EncodingView) →
-    look new Encoding ≡ option_or (named_by (place_if Encoding text start ++ standard_place standard) Encoding) (look old Encoding) → All IsHeld (place_if Encoding text start) →
-    2 ≤ start → Stands (text_of text) out start → StaysEncoded bytes old text standard → IsEncodingOf encoding bytes old → IsEncodingOf encoding out new
+encoding_kept : (old new : Dictionary) (bytes out : List ℕ) (text : Option (Vec ℕ Global)) (standard : Bool) (start : ℕ)
+    (encoding : EncodingView) →
+    look new Encoding ≡ option_or (named_by (place_if Encoding text start ++ standard_place standard) Encoding)
+    (look old Encoding) → All IsHeld (place_if Encoding text start) →
+    2 ≤ start → Stands (text_of text) out start → StaysEncoded bytes old text standard → IsEncodingOf encoding bytes old → IsEncodingOf
+    encoding out new
 encoding_kept old new bytes out (Some text) true start encoding is held past stands stays was = absurd stays
 encoding_kept old new bytes out None true start encoding is held past stands stays was = absurd stays
 encoding_kept old new bytes out (Some text) false start encoding is held past stands stays was =
     let named = subst (λ n. IsNamedBy encoding bytes n) (one_some was.1 stays.named) was.2 in
-    let kept = standing_kept text.items bytes out stays.place start stays.stands stands encoding stays.ends (own_stands encoding bytes stays.place stays.past named) in
+    let kept = standing_kept text.items bytes out stays.place start stays.stands stands encoding stays.ends
+    (own_stands encoding bytes stays.place stays.past named) in
     (start, offset_is new Encoding start (place_held Encoding start held) is, inr (inr (past, kept)))
 encoding_kept old new bytes out None false start encoding is held past stands stays was =
     let same = one_some was.1 stays.1 in
@@ -95,14 +103,16 @@ record IsOther (encoding : EncodingView) (out : List ℕ) (map : Dictionary) : T
   named : other.codes ≡ Predefined kind
   codes : codes_for encoding.codes ≡ Predefined kind
 
-predefined_stays : (encoding : EncodingView) (bytes out : List ℕ) (place : ℕ) (map : Dictionary) → place < 2 → offset_of map Encoding ≡ Some place → IsNamedBy encoding bytes place → IsOther encoding out map
+predefined_stays : (encoding : EncodingView) (bytes out : List ℕ) (place : ℕ) (map : Dictionary) → place < 2 →
+    offset_of map Encoding ≡ Some place → IsNamedBy encoding bytes place → IsOther encoding out map
 predefined_stays encoding bytes out place map low named (inl (is, codes, none)) =
     record { other = encoding; kind = Standard; is = (place, named, inl (is, codes, none)); named = codes; codes = ap codes_for codes }
 predefined_stays encoding bytes out place map low named (inr (inl (is, codes, none))) =
     record { other = encoding; kind = Expert; is = (place, named, inr (inl (is, codes, none))); named = codes; codes = ap codes_for codes }
 predefined_stays encoding bytes out place map low named (inr (inr (most, stands))) = absurd (omega (arith, low, most))
 
-encoding_other : (old new : Dictionary) (bytes out : List ℕ) (text : Option (Vec ℕ Global)) (standard : Bool) (start : ℕ) (encoding : EncodingView) →
+encoding_other : (old new : Dictionary) (bytes out : List ℕ) (text : Option (Vec ℕ Global)) (standard : Bool) (start : ℕ)
+    (encoding : EncodingView) →
     look new Encoding ≡ option_or (named_by (place_if Encoding text start ++ standard_place standard) Encoding) (look old Encoding) →
     GivesWayTo old text standard → IsEncodingOf encoding bytes old → IsOther encoding out new
 encoding_other old new bytes out (Some text) standard start encoding is gives was = absurd gives
@@ -125,11 +135,15 @@ same_kind kind (Predefined encoding) same = ap (λ e. Predefined e) same
 same_kind kind (Listed codes) same = absurd same
 same_kind kind (Ranges ranges) same = absurd same
 
-module _ (font : FontView) (glyphs : Glyphs) (codes : List (List ℕ)) (out : List ℕ) (w : IsWritten font glyphs codes out) (t : TablesStand font glyphs w.parts (length w.tables) out) where
+module _ (font : FontView) (glyphs : Glyphs) (codes : List (List ℕ)) (out : List ℕ) (w : IsWritten font glyphs codes out)
+    (t : TablesStand font glyphs w.parts (length w.tables) out) where
   -- each glyph has the part of its number
-  pub numbers_there : (view : View) → IsLaidOut out 0 view → view.char_strings ≡ codes → SelectsExactly font glyphs → (numbers : List ℕ) → length numbers ≡ length codes →
-      ((i : ℕ) → i < length numbers → get_or numbers i 0 < length view.parts) → GivesNumbers numbers glyphs.select → (i : ℕ) → i < length numbers → HasPart out view i (get_or numbers i 0)
-  numbers_there view laid are exactly numbers many below gives i less = record { there = below i less; selected = by (cases_lt (length view.parts) 2) }
+  pub numbers_there : (view : View) → IsLaidOut out 0 view → view.char_strings ≡ codes → SelectsExactly font glyphs → (numbers : List ℕ) →
+      length numbers ≡ length codes →
+      ((i : ℕ) → i < length numbers → get_or numbers i 0 < length view.parts) → GivesNumbers numbers glyphs.select → (i : ℕ) → i < length
+      numbers → HasPart out view i (get_or numbers i 0)
+  numbers_there view laid are exactly numbers many below gives i less =
+      record { there = below i less; selected = by (cases_lt (length view.parts) 2) }
     where
       n : ℕ
       n = get_or numbers i 0
@@ -145,35 +159,46 @@ module _ (font : FontView) (glyphs : Glyphs) (codes : List (List ℕ)) (out : Li
           let held = places_held font glyphs codes out w t in
           let is = t.placed FDSelect ∙ ap (λ x. option_or x (look t.named FDSelect)) (of_select (length w.tables) w.parts) in
           let found = selected t.new out g.select numbers at.select i (look t.named FDSelect) is held.1 w.stand.select own less some in
-          subst (λ m. IsSelected out m (length view.char_strings) i n) named (subst (λ k. IsSelected out t.new k i n) (many ∙ ap length (sym are)) found)
+          subst (λ m. IsSelected out m (length view.char_strings) i n) named
+          (subst (λ k. IsSelected out t.new k i n) (many ∙ ap length (sym are)) found)
 
       by : (length view.parts < 2) ⊎ (2 ≤ length view.parts) →
-          ((length view.parts ≡ 1) × (n ≡ 0)) ⊎ ((length view.parts ≢ 1) × IsSelected out view.tables.dictionary (length view.char_strings) i n)
+          ((length view.parts ≡ 1) × (n ≡ 0)) ⊎ ((length view.parts ≢ 1) × IsSelected out view.tables.dictionary
+          (length view.char_strings) i n)
       by (inl few) = let first = below i less in inl (omega (arith, few, first), omega (arith, few, first))
       by (inr several) = elim (one_part out view.tables.dictionary view.parts laid.parts) [
         | inl one ↦ absurd (omega (arith, several, one))
-        | inr keyed ↦ inr (λ one. absurd (omega (arith, several, one)), is_selected ((keyed_is font glyphs codes out w t exactly).1 (subst IsCidKeyed (sym named) keyed)))
+        | inr keyed ↦ inr (
+          λ one. absurd (omega (arith, several, one)),
+          is_selected ((keyed_is font glyphs codes out w t exactly).1 (subst IsCidKeyed (sym named) keyed)),
+        )
       ]
 
   -- an encoding that stays is read as it was
-  pub codes_there : (view : View) → IsLaidOut out 0 view → (encoding : EncodingView) → IsEncodingOf encoding font.bytes.now font.dictionary →
+  pub codes_there : (view : View) → IsLaidOut out 0 view → (encoding : EncodingView) →
+      IsEncodingOf encoding font.bytes.now font.dictionary →
       StaysEncoded font.bytes.now font.dictionary glyphs.encoding glyphs.standard → HasSameCodes encoding out view.tables.dictionary
   codes_there view laid encoding was stays =
       let g = w.parts.glyphs.now in
-      let own : StaysEncoded font.bytes.now font.dictionary g.encoding g.standard = subst (λ (h : Glyphs). StaysEncoded font.bytes.now font.dictionary h.encoding h.standard) (sym w.of_glyphs) stays in
+      let own : StaysEncoded font.bytes.now font.dictionary g.encoding g.standard = subst
+      (λ (h : Glyphs). StaysEncoded font.bytes.now font.dictionary h.encoding h.standard) (sym w.of_glyphs) stays in
       let start = some_tables font glyphs codes out w t in
       let held = places_held font glyphs codes out w t in
-      let kept = encoding_kept font.dictionary t.new font.bytes.now out g.encoding g.standard (length w.tables) encoding (encoding_look font glyphs codes out w t) held.0 (omega (arith, start)) w.stand.encoding own was in
+      let kept = encoding_kept font.dictionary t.new font.bytes.now out g.encoding g.standard (length w.tables) encoding
+      (encoding_look font glyphs codes out w t) held.0 (omega (arith, start)) w.stand.encoding own was in
       let is = subst (λ m. IsEncodingOf encoding out m) (dictionary_is font glyphs codes out w t view laid) kept in
       record { encoding = encoding; is = is; same = λ other there. one_encoding out view.tables.dictionary encoding other is there }
 
   -- and one that gives way is read as the one that takes its place
-  pub other_codes_there : (view : View) → IsLaidOut out 0 view → (encoding : EncodingView) → IsEncodingOf encoding font.bytes.now font.dictionary →
+  pub other_codes_there : (view : View) → IsLaidOut out 0 view → (encoding : EncodingView) →
+      IsEncodingOf encoding font.bytes.now font.dictionary →
       GivesWayTo font.dictionary glyphs.encoding glyphs.standard → HasOtherCodes encoding out view.tables.dictionary
   other_codes_there view laid encoding was gives =
       let g = w.parts.glyphs.now in
-      let own : GivesWayTo font.dictionary g.encoding g.standard = subst (λ (h : Glyphs). GivesWayTo font.dictionary h.encoding h.standard) (sym w.of_glyphs) gives in
-      let o = encoding_other font.dictionary t.new font.bytes.now out g.encoding g.standard (length w.tables) encoding (encoding_look font glyphs codes out w t) own was in
+      let own : GivesWayTo font.dictionary g.encoding g.standard = subst
+      (λ (h : Glyphs). GivesWayTo font.dictionary h.encoding h.standard) (sym w.of_glyphs) gives in
+      let o = encoding_other font.dictionary t.new font.bytes.now out g.encoding g.standard (length w.tables) encoding
+      (encoding_look font glyphs codes out w t) own was in
       let is = subst (λ m. IsEncodingOf o.other out m) (dictionary_is font glyphs codes out w t view laid) o.is in
       record {
         encoding = o.other;
@@ -184,15 +209,21 @@ module _ (font : FontView) (glyphs : Glyphs) (codes : List (List ℕ)) (out : Li
       }
 
 -- what is written is as it was to be written
-pub as_written : (font : FontView) (glyphs : Glyphs) (codes : List (List ℕ)) (out : List ℕ) (w : IsWritten font glyphs codes out) (read : IsRead font) (exactly : SelectsExactly font glyphs) → AreGiven font glyphs (length codes) →
-    (numbers : List ℕ) → AreTheirNumbers font glyphs (length codes) numbers → (view : View) → IsLaidOut out 0 view → IsAsWritten numbers codes (view_shown font) out view
-as_written font glyphs codes out w read exactly given numbers their view laid = subst (IsAsWritten numbers codes (view_shown font) out) (sym (one_view out own.view view ((reads_layout out 0 own.view).1 own.laid) laid)) (record {
-  header = t.header;
-  repeats = own.repeats;
-  char_strings = own.char_strings;
-  parts = numbers_there font glyphs codes out w t own.view own.laid own.char_strings exactly numbers their.counted (λ i less. let few = their.below i less in omega (arith, few, own.repeats.parts.many, length-map font.parts.items part_shown)) their.gives;
-  whole = none_beside_view font glyphs codes out w t own.view own.laid own.char_strings read exactly given;
-})
+pub as_written : (font : FontView) (glyphs : Glyphs) (codes : List (List ℕ)) (out : List ℕ) (w : IsWritten font glyphs codes out)
+    (read : IsRead font) (exactly : SelectsExactly font glyphs) → AreGiven font glyphs (length codes) →
+    (numbers : List ℕ) → AreTheirNumbers font glyphs
+    (length codes) numbers → (view : View) → IsLaidOut out 0 view → IsAsWritten numbers codes (view_shown font) out view
+as_written font glyphs codes out w read exactly given numbers their view laid =
+    subst (IsAsWritten numbers codes (view_shown font) out)
+    (sym (one_view out own.view view ((reads_layout out 0 own.view).1 own.laid) laid)) (record {
+      header = t.header;
+      repeats = own.repeats;
+      char_strings = own.char_strings;
+      parts = numbers_there font glyphs codes out w t own.view own.laid own.char_strings exactly numbers their.counted
+          (λ i less. let few = their.below i less in omega (arith, few, own.repeats.parts.many, length-map font.parts.items part_shown))
+          their.gives;
+      whole = none_beside_view font glyphs codes out w t own.view own.laid own.char_strings read exactly given;
+    })
   where
     own : IsLaidOutOf font glyphs codes out
     own = laid_out font glyphs codes out w read exactly

@@ -1,10 +1,14 @@
 -- A font without subroutines that is made of glyphs of another one.
 use Rattle.std.specs.Prelude.{◌≡◌, ℕ, ◌<◌, List, [], ◌∷◌, ◌++◌, Option, Some, None, Bool, false, IsTrue, length, take, slice_get, slice_index_or}
+use Rattle.postscript_base.specs.Compact1.Defaults.{look}
+use Rattle.postscript_base.specs.Compact1.Dictionary.{Dictionary}
+use Rattle.postscript_base.specs.declared.compact1.operator.Operator.TheVariants as operators
 use Rattle.postscript_type2.specs.Program.Inlined.{inlined_text}
 use Rattle.postscript_type2.specs.Program.Routines.{Lists}
 use Rattle.postscript_type2.specs.Program.Runs.{fault_of}
+use Rattle.postscript_view.specs.Cids.{IsCidKeyed}
 use Rattle.postscript_view.specs.Contents.{View, PrivateDict}
-use Rattle.postscript_write.specs.Glyphs.{DrawsAs, HasPart, Sources, run_in}
+use Rattle.postscript_write.specs.Glyphs.{DrawsAs, HasPart, Sources, code_text, run_in}
 use Rattle.postscript_write.specs.Naming.{GivesWay, KeepsCodes}
 use Rattle.postscript_write.specs.Parts.{SameBut, SamePart, SameParts, naming, placing}
 use Rattle.postscript_write.specs.Strings.{KeepsNames}
@@ -31,7 +35,7 @@ pub record IsMadeOf (bytes : List ℕ) (old : View) (glyph : ℕ) (flat : List �
   pub is : HasGlyph flat new i new_code number new_part
   pub faultless : fault_of (run_in old old_part old_code).end ≡ None
   pub draws : (lists : Lists) → DrawsAs lists new_code (run_in old old_part old_code)
-  pub text : new_code ≡ inlined_text (run_in old old_part old_code).trace
+  pub text : new_code ≡ code_text (inlined_text (run_in old old_part old_code).trace)
   pub same : SamePart old_part new_part
 
 -- An empty glyph is `endchar` alone, with the first part.
@@ -51,11 +55,16 @@ pub record Repeats (old new : View) : Type 0 where
   pub dictionary : SameBut (placing ++ naming) old.tables.dictionary new.tables.dictionary
   pub parts : SameParts old.parts new.parts
 
+-- The dictionary of a CID-keyed font names no private dictionary: its font dictionaries do (section 18).
+abbrev pub NamesNoPrivateIfKeyed : Dictionary → Type 0
+NamesNoPrivateIfKeyed map = IsCidKeyed map → look map operators.Private ≡ None
+
 -- The new font is made of these glyphs of the old one, in this order. It says what the old one says: also by its encoding, where
 -- glyphs keep their numbers; else one of the old font's own gives way to the standard one.
 pub record IsFontOf (retain_gids : Bool) (sources : Sources) (bytes : List ℕ) (old : View) (flat : List ℕ) (new : View) : Type 0 where
   pub header : HasHeader flat
   pub repeats : Repeats old new
+  pub unnamed : NamesNoPrivateIfKeyed new.tables.dictionary
   pub many : length new.char_strings ≡ length sources
   pub glyphs : (i : ℕ) → i < length sources → IsMade bytes old (slice_index_or sources i None) flat new i
   pub naming : KeepsNames retain_gids sources bytes old flat new

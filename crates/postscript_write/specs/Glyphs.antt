@@ -29,6 +29,12 @@ pub record DrawsAs (lists : Lists) (code : List ℕ) (run : Run) : Type 0 where
   pub faultless : fault_of (run_of lists code).end ≡ None
   pub no_calls : AllPass (λ said. is_flat said.operator) (run_of lists code).trace
 
+-- The code of a text, as it is written: where there is no byte, 0 and `drop`, which draw nothing. An INDEX of whole fonts has no items
+-- of no bytes.
+abbrev pub code_text : List ℕ → List ℕ
+code_text [] = 0x8b ∷ 0x0c ∷ 0x12 ∷ []
+code_text (b ∷ text) = b ∷ text
+
 -- No fault ends the run of a glyph with the part of a number, and a code draws, over any lists, what it draws. It is the text of
 -- that run without calls and returns, so hints, the bytes of masks and all other operands stay.
 pub record IsCodeOf (font : View) (glyph number : ℕ) (flat : List ℕ) : Type 0 where
@@ -38,7 +44,7 @@ pub record IsCodeOf (font : View) (glyph number : ℕ) (flat : List ℕ) : Type 
   pub has_part : slice_get font.parts number ≡ Some part
   pub faultless : fault_of (run_in font part code).end ≡ None
   pub draws : (lists : Lists) → DrawsAs lists flat (run_in font part code)
-  pub text : flat ≡ inlined_text (run_in font part code).trace
+  pub text : flat ≡ code_text (inlined_text (run_in font part code).trace)
 
 -- A glyph that is written is made of one of the font, or it is empty: `endchar` alone.
 abbrev pub Sources : Type 0

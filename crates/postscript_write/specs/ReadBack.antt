@@ -1,16 +1,21 @@
 -- What is written is the font that it was to be (Technical Note 5176, sections 7, 10, 12, 13 and 19).
-use Rattle.std.specs.Prelude.{◌≡◌, ℕ, ◌<◌, List, Bool, MatchBool, length, slice_index_or}
+use Rattle.std.specs.Prelude.{◌≡◌, ℕ, ◌<◌, ◌≤◌, ◌^◌, List, Bool, MatchBool, Option, Some, None, Vec, length, slice_index_or}
+use Rattle.std.specs.declared.alloc.Global.{Global}
+use Rattle.postscript_base.specs.Compact1.Defaults.{look}
 use Rattle.postscript_base.specs.Compact1.Dictionary.{Dictionary}
+use Rattle.postscript_base.specs.declared.compact1.operator.Operator.TheVariants as operators
 use Rattle.postscript_view.specs.CharSets.{IsCharSetOf}
 use Rattle.postscript_view.specs.Contents.{View}
 use Rattle.postscript_view.specs.Encodings.{IsEncodingOf}
 use Rattle.postscript_view.specs.Layout.{IsLaidOut}
+use Rattle.postscript_view.specs.Select.{offset_of}
 use Rattle.postscript_view.specs.declared.char_set.CharSetView.{CharSetView}
 use Rattle.postscript_view.specs.declared.encoding.EncodingView.{EncodingView}
-use Rattle.postscript_write.specs.Fonts.{HasHeader, Repeats}
+use Rattle.postscript_write.specs.Fonts.{HasHeader, NamesNoPrivateIfKeyed, Repeats}
 use Rattle.postscript_write.specs.Glyphs.{HasPart, Sources}
 use Rattle.postscript_write.specs.Naming.{SameEncoding, codes_for}
 use Rattle.postscript_write.specs.Strings.{AreNamedAs, AreNeeded, KeepsStrings, NameSame, keeps_strings}
+use Rattle.postscript_write.specs.Texts.{Stands}
 use Rattle.postscript_write.specs.Whole.{HasNoByteBeside}
 
 -- Operators and glyphs name the same strings, glyphs by identifiers of both fonts, and each string is needed.
@@ -45,6 +50,12 @@ pub record HasOtherCodes (old : EncodingView) (flat : List ℕ) (map : Dictionar
 abbrev pub HasCodes : (kept : Bool) → EncodingView → List ℕ → Dictionary → Type 0
 HasCodes kept old flat map = MatchBool kept (HasSameCodes old flat map) (HasOtherCodes old flat map)
 
+-- The text of the char set stands where the new dictionary names it. Where there is none, both dictionaries name the same predefined one.
+abbrev pub HasCharSetText : (old : Dictionary) → Option (Vec ℕ Global) → List ℕ → (new : Dictionary) → Type 0
+HasCharSetText old None out new = look new operators.CharSet ≡ look old operators.CharSet
+HasCharSetText old (Some text) out new =
+    (place : ℕ) × (offset_of new operators.CharSet ≡ Some place) × (3 ≤ place) × (place < 2 ^ 31) × Stands text.items out place
+
 -- The new font has the header, says what the old one says, has these codes and numbers of parts, and no byte stands beside its parts.
 pub record IsAsWritten (numbers : List ℕ) (codes : List (List ℕ)) (old : View) (flat : List ℕ) (new : View) : Type 0 where
   pub header : HasHeader flat
@@ -60,3 +71,4 @@ pub record IsReadAs (kept : Bool) (sources : Sources) (old : View) (old_set : Ch
   pub written : IsAsWritten numbers codes old flat new
   pub names : HasNames (keeps_strings kept old.tables.dictionary) sources old old_set flat new
   pub same_codes : HasCodes kept encoding flat new.tables.dictionary
+  pub unnamed : NamesNoPrivateIfKeyed new.tables.dictionary

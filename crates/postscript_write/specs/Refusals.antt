@@ -7,10 +7,9 @@ use Rattle.postscript_view.specs.Order.{fonts, view}
 use Rattle.postscript_view.specs.Contents.{View}
 use Rattle.postscript_write.specs.Components.{AreClosed}
 use Rattle.postscript_write.specs.Glyphs.{AreCodesOf, AreNumbersOf, Sources}
-use Rattle.postscript_write.specs.Readings.{HasLenientFont}
 use Rattle.postscript_write.specs.Sizes.{IsLarge}
 use Rattle.postscript_write.specs.declared.error.Error.{Error}
-use Rattle.postscript_write.specs.declared.error.Error.TheVariants.{Refused, Glyph, SeveralFonts, MissingGlyph, MissingPart, MissingName, NoGlyphs, TooLarge, NotReadBack}
+use Rattle.postscript_write.specs.declared.error.Error.TheVariants.{Refused, Glyph, SeveralFonts, MissingGlyph, MissingPart, MissingName, NoGlyphs, TooLarge}
 use Rattle.postscript_write.specs.RefusedGlyphs.{IsFirst, IsPartless, IsNameless, HasSet, HasEncoding, AreSound}
 
 -- With the codes of these glyphs the font is too large to be written.
@@ -21,15 +20,13 @@ pub record IsTooLarge (bytes : List ℕ) (font : View) (sources : Sources) : Typ
   pub are_codes : AreCodesOf font sources numbers codes
   pub large : IsLarge bytes font codes
 
--- What a refusal says of the font that glyphs are taken from. `TooLarge` and `NotReadBack` come only where nothing is wrong with it, and
--- `NotReadBack` only where `FontSet::read_lenient` reads it, since that has to read what is written, too.
+-- What a refusal says of the font that glyphs are taken from. `TooLarge` comes only where nothing is wrong with it.
 abbrev pub FontRefusedBy : List ℕ → View → Sources → Error → Type 0
 FontRefusedBy bytes font sources (Glyph glyph cause) = IsFirst bytes font sources glyph cause
 FontRefusedBy bytes font sources (Refused cause) = cause ≢ Memory → (HasSet bytes font → ⊥) ⊎ (HasEncoding bytes font → ⊥)
 FontRefusedBy bytes font sources (MissingPart glyph) = IsPartless bytes font sources glyph
 FontRefusedBy bytes font sources (MissingName glyph) = IsNameless bytes font sources glyph
 FontRefusedBy bytes font sources TooLarge = AreSound bytes font sources × IsTooLarge bytes font sources
-FontRefusedBy bytes font sources NotReadBack = AreSound bytes font sources × HasLenientFont bytes
 FontRefusedBy bytes font sources SeveralFonts = ⊥
 FontRefusedBy bytes font sources (MissingGlyph glyph) = ⊥
 FontRefusedBy bytes font sources NoGlyphs = ⊥

@@ -1,9 +1,13 @@
--- The identifiers of the strings that are written (Technical Note 5176, section 10).
-use Rattle.std.specs.Prelude.{ℕ, ◌-◌, ◌==◌, nat_lt, if◌then◌else◌, List, [], ◌∷◌, Option, Some, None, flat_map, slice_index_or}
+-- The identifiers of the strings that are written, and the dictionary of a font that names them (Technical Note 5176, sections 9, 10 and 18).
+use Rattle.std.specs.Prelude.{◌≡◌, ◌≢◌, ℕ, ◌-◌, ◌==◌, nat_lt, if◌then◌else◌, List, [], ◌∷◌, Option, Some, None, flat_map, slice_index_or}
 use Rattle.std.specs.Option.{unwrap_or}
+use Rattle.postscript_base.specs.Compact1.Defaults.{look}
 use Rattle.postscript_base.specs.Compact1.Dictionary.{Dictionary}
 use Rattle.postscript_base.specs.declared.compact1.operator.Operator.{Operator}
+use Rattle.postscript_base.specs.declared.compact1.operator.Operator.TheVariants.{Private}
+use Rattle.postscript_view.specs.Sizes.{IsKeyed}
 use Rattle.postscript_write.specs.Arrangement.{place_at}
+use Rattle.postscript_write.specs.Dictionaries.{IsPlaced}
 use Rattle.postscript_write.specs.Parts.{naming}
 use Rattle.postscript_write.specs.Strings.{identifier_in}
 use Rattle.postscript_write.specs.declared.dictionaries.Place.{Place}
@@ -26,3 +30,14 @@ renamed_if strings operator None = []
 -- those of the operators of a dictionary that name strings
 abbrev pub all_renamed : Strings → Dictionary → List Place
 all_renamed strings map = flat_map (λ operator. renamed_if strings operator (identifier_in map operator)) naming
+
+-- The dictionary of a CID-keyed font names no private dictionary: its font dictionaries do. Else a dictionary says the same.
+pub record IsUnnamed (old new : Dictionary) : Type 0 where
+  pub same : (operator : Operator) → (IsKeyed old → operator ≢ Private) → look new operator ≡ look old operator
+  pub gone : IsKeyed old → look new Private ≡ None
+
+-- So it is written, and with these places.
+pub record IsRenamed (old : Dictionary) (places : List Place) (new : Dictionary) : Type 0 where
+  pub kept : Dictionary
+  pub unnamed : IsUnnamed old kept
+  pub placed : IsPlaced kept places new

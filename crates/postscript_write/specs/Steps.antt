@@ -6,11 +6,10 @@ use Rattle.postscript_write.specs.Glyphs.{Sources}
 use Rattle.postscript_view.specs.Contents.{View}
 use Rattle.postscript_view.specs.declared.char_set.CharSetView.{CharSetView}
 use Rattle.postscript_view.specs.declared.font.FontView.{FontView}
-use Rattle.postscript_write.specs.Readings.{HasLenientFont}
 use Rattle.postscript_write.specs.Refusals.{HasOtherFonts, IsFirstPast, IsRefusedAs}
 use Rattle.postscript_write.specs.RefusedGlyphs.{IsFirstRefused, IsRunRefused}
 use Rattle.postscript_write.specs.declared.error.Error.{Error}
-use Rattle.postscript_write.specs.declared.error.Error.TheVariants.{Refused, Glyph, SeveralFonts, MissingGlyph, NotReadBack}
+use Rattle.postscript_write.specs.declared.error.Error.TheVariants.{Refused, Glyph, SeveralFonts, MissingGlyph}
 
 -- of opening the only font of a set
 abbrev pub IsNotOpened : List ℕ → Error → Type 0
@@ -41,9 +40,3 @@ abbrev pub RefusedBy : View → Sources → (numbers : List ℕ) → Error → T
 RefusedBy font sources numbers (Glyph glyph cause) = IsFirstRefused font sources numbers glyph cause
 RefusedBy font sources numbers (Refused cause) = cause ≡ Memory
 RefusedBy font sources numbers _ = ⊥
-
--- of what is written, when the codes are there: the reading of whole fonts takes the old font
-abbrev pub IsLate : (bytes : List ℕ) → Error → Type 0
-IsLate bytes (Refused cause) = cause ≡ Memory
-IsLate bytes NotReadBack = HasLenientFont bytes
-IsLate bytes _ = ⊥

@@ -14,7 +14,7 @@ use Rattle.postscript_write.specs.Dictionaries.{IsHeld, IsPlaced, IsWithPlaces}
 use Rattle.postscript_write.specs.Fonts.{HasHeader}
 use Rattle.postscript_write.specs.Index.{Fits, index_text}
 use Rattle.postscript_write.specs.Privates.{AreOwnPrivates, NoneIsNamed, private_offset, private_text}
-use Rattle.postscript_write.specs.Renumbered.{all_renamed}
+use Rattle.postscript_write.specs.Renumbered.{IsRenamed, all_renamed}
 use Rattle.postscript_write.specs.Texts.{Stands}
 use Rattle.postscript_write.specs.declared.layout.Glyphs.{Glyphs}
 use Rattle.postscript_write.specs.declared.layout.Parts.{Parts}
@@ -25,7 +25,7 @@ pub record TablesStand (font : FontView) (glyphs : Glyphs) (parts : Parts) (star
   pub header : HasHeader out
   pub named : Dictionary
   pub new : Dictionary
-  pub renamed : IsPlaced font.dictionary (all_renamed glyphs.strings font.dictionary) named
+  pub renamed : IsRenamed font.dictionary (all_renamed glyphs.strings font.dictionary) named
   pub placed : IsPlaced named (places_of start parts) new
   pub are : AreTables out 4 0 (record {
     names = items_of font.names;
@@ -56,7 +56,7 @@ pub record IsWritten (font : FontView) (glyphs : Glyphs) (codes : List (List ℕ
       AreOwnPrivates (parts_shown font.parts.items) parts.privates.items
   pub none_named : NoneIsNamed font.dictionary (parts_shown font.parts.items) parts.privates.items
   pub renamed : AreTables font.bytes.now (number_at font.bytes.now 2 1) 0 (view_shown font).tables →
-      (new : Dictionary) × IsDictionary dictionary 0 new × IsPlaced font.dictionary (all_renamed glyphs.strings font.dictionary) new
+      (new : Dictionary) × IsDictionary dictionary 0 new × IsRenamed font.dictionary (all_renamed glyphs.strings font.dictionary) new
   pub places : IsWithPlaces dictionary (places_of (length tables) parts) placed
   pub held : All IsHeld (places_of (length tables) parts)
   pub tables_stand : AreTables font.bytes.now (number_at font.bytes.now 2 1) 0 (view_shown font).tables →

@@ -1,6 +1,5 @@
 //! What writing is refused with.
 ghost use Rattle.std.specs.Prelude.{◌≡◌, ◌≢◌};
-ghost use Rattle.postscript_write.specs.Steps.{IsLate};
 ghost use Rattle.postscript_base.specs.declared.error.Error.TheVariants as causes;
 ghost use Rattle.postscript_write.specs.declared.error.Error.TheVariants as errors;
 
@@ -39,9 +38,6 @@ pub enum Error {
     /// 2,000,000,000 bytes or more together.
     #[error("the font is too large to be written")]
     TooLarge,
-    /// `FontSet::read_lenient` reads the font, and would not read what is written: as where a glyph has no byte without its calls.
-    #[error("the font is not read back as it was written")]
-    NotReadBack,
 }
 
 /// A refusal of a font: `Refused`. Never refused.
@@ -72,11 +68,11 @@ impl<T: Drop> From<AllocFailed<T>> for Error {
 }
 
 /// The refusal where nothing but memory can be refused.
-pub(crate) fn not_back(fault: Cause) -> Error
+pub(crate) fn of_memory(fault: Cause) -> Error
     ensures memory { (fault ≢ causes.Memory → ⊥) → result ≡ errors.Refused causes.Memory }
 {
     match fault {
         Cause::Memory => Error::Refused(Cause::Memory),
-        _ => Error::NotReadBack,
+        fault => Error::Refused(fault),
     }
 }

@@ -48,7 +48,7 @@ fn only_font<'l>(alloc: Global, bytes: &'l [u8]) -> Result<FontView<'l>>
 /// Refused: `Glyph` with the first glyph whose run is refused, and why; `Refused` where the font, its char set or its encoding is
 /// refused, or where memory is; `MissingPart` where FDSelect gives a glyph no font dictionary; `SeveralFonts` where there is
 /// not one font; `TooLarge` where the new codes, the names and the strings, and four times the bytes that the font is read from, are
-/// 2,000,000,000 bytes or more together; `NotReadBack` where `FontSet::read_lenient` reads the font, and would not read what is written.
+/// 2,000,000,000 bytes or more together.
 pub fn flat_font(alloc: Global, bytes: &[u8]) -> Result<Vec<u8>>
     ensures drawn { IfOk result (λ flat. KeepsDrawings the_every bytes.now flat.items) }
     ensures written { IfOk result (λ flat. IsWritten true the_every bytes.now flat.items) }

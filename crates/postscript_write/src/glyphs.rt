@@ -5,7 +5,7 @@ ghost use Rattle.postscript_type2.specs.Program.Routines.{texts};
 ghost use Rattle.postscript_write.specs.declared.error.Error.TheVariants as errors;
 ghost use Rattle.postscript_view.specs.Value.{view_shown};
 ghost use Rattle.postscript_base.specs.Index.Lent.{items_of};
-ghost use Rattle.postscript_write.specs.Glyphs.{AreCodesOf, AreGlyphs, AreNumbersOf, HasPartFor, IsCodeFor, IsCodeOf, IsGlyph};
+ghost use Rattle.postscript_write.specs.Glyphs.{AreCodesOf, AreGlyphs, AreNumbersOf, HasPartFor, IsCodeFor, IsCodeOf, IsGlyph, code_text};
 ghost use Rattle.postscript_view.specs.Glyphs.{HasPartNumber};
 ghost use Rattle.postscript_write.specs.Refusals.{FontRefusedBy};
 ghost use Rattle.postscript_write.specs.Steps.{RefusedBy, RefusedFor};
@@ -60,6 +60,18 @@ fn refusal(glyph: usize, cause: Cause) -> Error
     }
 }
 
+/// The code as it is written: where it has no byte, 0 and `drop`, since the items of an INDEX have a byte at least, as `FontSet` reads them.
+fn never_empty(code: Vec<u8>) -> Result<Vec<u8>>
+    ensures code { IfOk result (λ written. written.items ≡ code_text code.items) }
+    ensures memory { IfErr result (λ e. e ≡ errors.Refused causes.Memory) }
+{
+    let mut written = code;
+    if written.is_empty() {
+        written.extend_from_slice(&[0x8b, 0x0c, 0x12])?;
+    }
+    Ok(written)
+}
+
 /// The code of a glyph without calls.
 fn flat_code(alloc: Global, font: &FontView<'_>, glyph: usize, number: usize) -> Result<Vec<u8>>
     requires glyph { glyph < length (items_of font.now.char_strings) }
@@ -71,7 +83,7 @@ fn flat_code(alloc: Global, font: &FontView<'_>, glyph: usize, number: usize) ->
     let part = &font.parts[number];
     let subroutines = Subroutines::indexes(font.global_subroutines, part.subroutines);
     match (Charstring { code, subroutines }).inlined(alloc) {
-        Ok(flat) => Ok(flat),
+        Ok(flat) => never_empty(flat),
         Err(cause) => Err(refusal(glyph, cause)),
     }
 }

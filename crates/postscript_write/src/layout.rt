@@ -22,6 +22,7 @@ ghost use Rattle.postscript_write.specs.Arrangement.{beginnings, dictionaries_pl
 ghost use Rattle.postscript_write.specs.ArrangedText.{AreSizedFor, NameParts, dictionaries_text, parts_text, tables_text};
 ghost use Rattle.postscript_write.specs.Dictionaries.{IsHeld, IsPlaced, IsWithPlaces};
 ghost use Rattle.postscript_write.specs.DictionarySizes.{HasSize, places_size};
+ghost use Rattle.postscript_write.specs.Fonts.{NamesNoPrivateIfKeyed};
 ghost use Rattle.postscript_write.specs.Given.{AreGiven};
 ghost use Rattle.postscript_write.specs.GivenNumbers.{AreTheirNumbers, GivesWayTo, StaysEncoded};
 ghost use Rattle.postscript_write.specs.Index.{Fits, index_text};
@@ -32,8 +33,8 @@ ghost use Rattle.postscript_write.specs.Own.{IsCut, IsOwnCharSet, IsOwnEncoding}
 ghost use Rattle.postscript_write.specs.Privates.{AreFontDictionaries, AreSized, AreOwnPrivates, IsFontDictionary, IsOwnPrivate, IsSomeDictionary, NoneIsNamed, place_of_private, private_text, privates_text};
 ghost use Rattle.postscript_write.specs.Glyphs.{Sources};
 ghost use Rattle.postscript_write.specs.Identified.{AreNamesFor, Identifiers};
-ghost use Rattle.postscript_write.specs.ReadBack.{HasNames, HasOtherCodes, HasSameCodes, IsAsWritten};
-ghost use Rattle.postscript_write.specs.Renumbered.{all_renamed, renamed_if};
+ghost use Rattle.postscript_write.specs.ReadBack.{HasCharSetText, HasNames, HasOtherCodes, HasSameCodes, IsAsWritten};
+ghost use Rattle.postscript_write.specs.Renumbered.{IsRenamed, IsUnnamed, all_renamed, renamed_if};
 ghost use Rattle.postscript_write.specs.Room.{HasRoom, IsRead, SelectsOnlyIfKeyed};
 ghost use Rattle.postscript_write.specs.Strings.{identifier_in as the_identifier, keeps_strings};
 ghost use Rattle.postscript_write.specs.Whole.{IsWhole};
@@ -466,11 +467,24 @@ fn renamed(alloc: Global, dictionary: &Operations, strings: &Strings) -> Result<
     Ok(places)
 }
 
-/// The dictionary of a font, whose operators name strings by their new identifiers.
+/// The dictionary of a font as it stands, but that of a CID-keyed font names no private dictionary: its font dictionaries do (section 18).
+fn without_private(alloc: Global, font: &FontView<'_>, text: &[u8]) -> Result<Vec<u8>>
+    ensures unnamed { IfOk result (λ out. IsDictionary text.now 0 font.now.dictionary →
+        (kept : Dictionary) × IsDictionary out.items 0 kept × IsUnnamed font.now.dictionary kept) }
+    ensures within { IfOk result (λ out. length out.items ≤ length text.now) }
+    ensures refused { IfErr result (λ e. e ≢ errors.Memory → (dictionary : Dictionary) → IsDictionary text.now 0 dictionary → ⊥) }
+{
+    if font.is_cid_keyed() {
+        return without(alloc, text, &[Operator::Private]);
+    }
+    without(alloc, text, &[])
+}
+
+/// The dictionary of a font, whose operators name strings by their new identifiers. That of a CID-keyed font names no private dictionary.
 fn dictionary_with(alloc: Global, font: &FontView<'_>, strings: &Strings) -> Result<Vec<u8>>
     ensures renamed { IfOk result (λ out. AreTables font.now.bytes.now (number_at font.now.bytes.now 2 1) 0 (view_shown font.now).tables →
         (new : Dictionary) × IsDictionary out.items 0 new
-        × IsPlaced font.now.dictionary (all_renamed strings.now font.now.dictionary) new) }
+        × IsRenamed font.now.dictionary (all_renamed strings.now font.now.dictionary) new) }
     ensures sized { IfOk result (λ out.
         length out.items ≤ length font.now.bytes.now + places_size (all_renamed strings.now font.now.dictionary)) }
     ensures refused { IfErr result (λ e. e ≢ errors.Memory → 3 ≤ length font.now.bytes.now →
@@ -479,7 +493,8 @@ fn dictionary_with(alloc: Global, font: &FontView<'_>, strings: &Strings) -> Res
 {
     let places = renamed(alloc, &font.dictionary, strings)?;
     let first = first_dictionary(font.bytes)?;
-    with_places(alloc, first, &places)
+    let kept = without_private(alloc, font, first)?;
+    with_places(alloc, &kept, &places)
 }
 
 /// Appends an INDEX of one dictionary, with places in it.
@@ -664,6 +679,10 @@ pub(crate) fn written(
         AreNamesFor kept font.now set sources identifiers glyphs.now → length (texts codes.now) ≡ length sources → (new : View) →
         IsLaidOut out.items 0 new →
         HasNames (keeps_strings kept font.now.dictionary) sources (view_shown font.now) set out.items new) }
+    ensures char_set { IfOk result (λ out. IsRead font.now → (new : View) → IsLaidOut out.items 0 new →
+        HasCharSetText font.now.dictionary glyphs.now.char_set out.items new.tables.dictionary) }
+    ensures unnamed { IfOk result (λ out. IsRead font.now → SelectsExactly font.now glyphs.now → (new : View) →
+        IsLaidOut out.items 0 new → NamesNoPrivateIfKeyed new.tables.dictionary) }
     ensures refused { IfErr result (λ e. e ≢ errors.Memory → IsRead font.now → SelectsOnlyIfKeyed font.now glyphs.now →
         HasRoom font.now glyphs.now (texts codes.now) → ⊥) }
 {

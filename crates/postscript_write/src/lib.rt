@@ -13,7 +13,6 @@ mod layout;
 mod naming;
 mod number;
 mod numbering;
-mod readings;
 mod sizes;
 mod sources;
 mod spans;

@@ -18,7 +18,7 @@ ghost use Rattle.postscript_write.specs.Refusals.{FontRefusedBy};
 ghost use Rattle.postscript_write.specs.Selected.{AreFirsts, listed_text, range_text, ranges_text};
 ghost use Rattle.postscript_write.specs.declared.error.Error.TheVariants as errors;
 
-use crate::error::{Error, Result, not_back};
+use crate::error::{Error, Result, of_memory};
 use crate::layout::{Glyphs, own_char_set, own_encoding};
 use crate::number::put_number;
 use crate::strings::Strings;
@@ -49,7 +49,7 @@ fn encoding_of(alloc: Global, font: &FontView<'_>) -> Result<Option<Vec<u8>>>
 {
     match own_encoding(font.bytes, &font.dictionary) {
         Ok(own) => copied(alloc, own),
-        Err(fault) => Err(not_back(fault)),
+        Err(fault) => Err(of_memory(fault)),
     }
 }
 
@@ -62,7 +62,7 @@ fn char_set_of(alloc: Global, font: &FontView<'_>) -> Result<Option<Vec<u8>>>
 {
     match own_char_set(font.bytes, &font.dictionary, font.char_strings.len()) {
         Ok(own) => copied(alloc, own),
-        Err(fault) => Err(not_back(fault)),
+        Err(fault) => Err(of_memory(fault)),
     }
 }
 

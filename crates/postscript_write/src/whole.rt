@@ -18,15 +18,13 @@ ghost use Rattle.postscript_write.specs.Refusals.{FontRefusedBy};
 ghost use Rattle.postscript_write.specs.Room.{IsRead};
 ghost use Rattle.postscript_write.specs.Selected.{AreLow};
 ghost use Rattle.postscript_write.specs.Sizes.{IsLarge};
-ghost use Rattle.postscript_write.specs.Steps.{IsLate};
 ghost use Rattle.postscript_write.specs.Whole.{IsWhole};
 ghost use Rattle.postscript_write.specs.declared.error.Error.TheVariants as errors;
 
-use crate::error::{Error, Result, not_back};
+use crate::error::{Error, Result, of_memory};
 use crate::glyphs::{codes_of, numbers_of};
 use crate::layout::written;
 use crate::numbering::{identifiers_of, numbered};
-use crate::readings::stays_read;
 use crate::sizes::is_large;
 use postscript_base::compact1::StringID;
 use postscript_view::{CharSetView, EncodingView, FontView};
@@ -46,8 +44,8 @@ struct Making<'m, 'l> {
 }
 
 /// The font that is made of codes of glyphs of another one. Where their identifiers are not listed, char set, encoding and strings
-/// stay as they are.
-fn made(
+/// stay as they are. Refused for memory alone.
+fn put_together(
     alloc: Global,
     from: &Making<'_, '_>,
     identifiers: &Option<Vec<StringID>>,
@@ -65,42 +63,18 @@ fn made(
     requires small { IsLarge from.now.font.now.bytes.now (view_shown from.now.font.now) (texts from.now.codes.now) → ⊥ }
     ensures made { IfOk result (λ flat. (new : View) × IsReadAs from.now.retain_gids from.now.sources.now (view_shown from.now.font.now)
         from.now.set.now from.now.encoding.now from.now.numbers.now (texts from.now.codes.now) flat.items new) }
-    ensures memory { IfErr result (λ e. e ≡ errors.Refused causes.Memory) }
-{
-    let glyphs = numbered(alloc, from.font, from.numbers, identifiers)?;
-    match written(alloc, from.font, &glyphs, from.codes) {
-        Ok(flat) => Ok(flat),
-        Err(fault) => Err(not_back(fault)),
-    }
-}
-
-/// The same, where `FontSet::read_lenient` reads it too, if it reads the old font.
-fn put_together(
-    alloc: Global,
-    from: &Making<'_, '_>,
-    identifiers: &Option<Vec<StringID>>,
-) -> Result<Vec<u8>>
-    requires read { IsRead from.now.font.now }
-    requires low { AreLow from.now.font.now.bytes.now }
-    requires set { IsCharSetOf from.now.set.now from.now.font.now.bytes.now from.now.font.now.dictionary
-        (length (items_of from.now.font.now.char_strings)) }
-    requires encoding { IsEncodingOf from.now.encoding.now from.now.font.now.bytes.now from.now.font.now.dictionary }
-    requires numbers { AreNumbersOf from.now.font.now.bytes.now (view_shown from.now.font.now) from.now.sources.now from.now.numbers.now }
-    requires codes { AreCodesOf (view_shown from.now.font.now) from.now.sources.now from.now.numbers.now (texts from.now.codes.now) }
-    requires few { length from.now.sources.now < 2 ^ 16 }
-    requires sources { AreSourcesFor from.now.retain_gids from.now.set.now (length (items_of from.now.font.now.char_strings))
-        from.now.sources.now identifiers.now }
-    requires small { IsLarge from.now.font.now.bytes.now (view_shown from.now.font.now) (texts from.now.codes.now) → ⊥ }
     ensures font { IfOk result (λ flat. (new : View) × (the_view flat.items 0 ≡ Got new 0)
         × IsFontOf from.now.retain_gids from.now.sources.now from.now.font.now.bytes.now (view_shown from.now.font.now) flat.items new) }
     ensures whole { IfOk result (λ flat. IsWhole flat.items) }
     ensures codes { IfOk result (λ flat. (new : View) → the_view flat.items 0 ≡ Got new 0 → new.char_strings ≡ texts from.now.codes.now) }
     ensures lenient { IfOk result (λ flat. HasLenientFont from.now.font.now.bytes.now → HasLenientFont flat.items) }
-    ensures late { IfErr result (λ e. IsLate from.now.font.now.bytes.now e) }
+    ensures memory { IfErr result (λ e. e ≡ errors.Refused causes.Memory) }
 {
-    let flat = made(alloc, from, identifiers)?;
-    stays_read(alloc, from.font.bytes, &flat)?;
-    Ok(flat)
+    let glyphs = numbered(alloc, from.font, from.numbers, identifiers)?;
+    match written(alloc, from.font, &glyphs, from.codes) {
+        Ok(flat) => Ok(flat),
+        Err(fault) => Err(of_memory(fault)),
+    }
 }
 
 /// The identifiers of glyphs, where they do not keep their numbers.

@@ -11,7 +11,9 @@ pub returns-clause-closed : goal.returns-clause-closed
 returns-clause-closed c =
     let named = c.args.named.now in
     let first : Grow c.in_ok-marks.marks.items [] named c.reach_all.new.marks.items c.reach_all.new.glyphs.items =
-    subst (λ (xs : List ℕ). Grow c.in_ok-marks.marks.items xs named c.reach_all.new.marks.items c.reach_all.new.glyphs.items) c.new-closed.ensures.items c.in_ok-reach_all.ensures.grown in
+    subst (λ (xs : List ℕ). Grow c.in_ok-marks.marks.items xs named c.reach_all.new.marks.items c.reach_all.new.glyphs.items)
+    c.new-closed.ensures.items c.in_ok-reach_all.ensures.grown in
     closed-of c.args.font.now c.in_ok-marks.marks.items c.reach.new.marks.items c.reach.new.glyphs.items named c.follow.new.glyphs.items
-    (grow-then c.in_ok-marks.marks.items c.reach_all.new.marks.items c.reach.new.marks.items [] c.reach_all.new.glyphs.items c.reach.new.glyphs.items named (0 ∷ []) first c.in_ok-reach.ensures.grown)
+    (grow-then c.in_ok-marks.marks.items c.reach_all.new.marks.items c.reach.new.marks.items [] c.reach_all.new.glyphs.items
+    c.reach.new.glyphs.items named (0 ∷ []) first c.in_ok-reach.ensures.grown)
     c.in_ok-follow.ensures.reached

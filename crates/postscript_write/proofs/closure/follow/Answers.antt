@@ -19,7 +19,9 @@ loop-next-preserved c =
     let grown = c.in_ok-reach_components.ensures.grown in
     let is = c.index-glyph.ensures ∙ sym (get_or_default l.glyphs.items l.next 0 c.index-glyph.result.now less) in
     let more =
-    follows-more c.args.font.now c.args.glyphs.now.items l.marks.items c.reach_components.new.marks.items l.glyphs.items c.reach_components.new.glyphs.items grown.0 l.next l.invariant.follows less (subst (λ g. AreComponentsOf c.args.font.now g grown.0) is grown.1) grown.2 in
+    follows-more c.args.font.now c.args.glyphs.now.items l.marks.items c.reach_components.new.marks.items l.glyphs.items
+    c.reach_components.new.glyphs.items grown.0 l.next l.invariant.follows less
+    (subst (λ g. AreComponentsOf c.args.font.now g grown.0) is grown.1) grown.2 in
     record { follows = more; known = c.in_ok-reach_components.ensures.known }
 
 pub returns-clause-reached : goal.returns-clause-reached
@@ -27,7 +29,9 @@ returns-clause-reached c =
     let test = c.loop-next-test.false in
     let len = c.len.ensures in
     let past : length c.loop-next.glyphs.items ≤ c.loop-next.next = omega (arith, test, len) in
-    follows-all c.args.font.now c.args.glyphs.now.items c.loop-next.marks.items c.loop-next.glyphs.items c.loop-next.next c.loop-next.invariant.follows past c.requires.notdef
+    follows-all c.args.font.now c.args.glyphs.now.items c.loop-next.marks.items c.loop-next.glyphs.items c.loop-next.next
+    c.loop-next.invariant.follows past c.requires.notdef
 
 pub returns-clause-there : goal.returns-clause-there
-returns-clause-there c = marked-there c.loop-next.marks.items c.loop-next.glyphs.items _ c.loop-next.invariant.follows.many c.loop-next.invariant.follows.marked
+returns-clause-there c =
+    marked-there c.loop-next.marks.items c.loop-next.glyphs.items _ c.loop-next.invariant.follows.many c.loop-next.invariant.follows.marked

@@ -18,8 +18,10 @@ loop-i-preserved c =
     let below = c.if-glyph-len.false in
     let len = c.len.ensures in
     let here : one < length c.args.marks.now.items = omega (arith, many, below, len) in
-    let both = grow-then c.args.marks.now.items c.loop-i.marks.items c.reach.new.marks.items c.args.glyphs.now.items c.loop-i.glyphs.items c.reach.new.glyphs.items (take i added) (one ∷ []) so_far.0 c.in_ok-reach.ensures.grown in (
-      subst (λ (xs : List ℕ). Grow c.args.marks.now.items c.args.glyphs.now.items xs c.reach.new.marks.items c.reach.new.glyphs.items) (sym (take_more added i 0 c.loop-i-test.true)) both,
+    let both = grow-then c.args.marks.now.items c.loop-i.marks.items c.reach.new.marks.items c.args.glyphs.now.items c.loop-i.glyphs.items
+    c.reach.new.glyphs.items (take i added) (one ∷ []) so_far.0 c.in_ok-reach.ensures.grown in (
+      subst (λ (xs : List ℕ). Grow c.args.marks.now.items c.args.glyphs.now.items xs c.reach.new.marks.items c.reach.new.glyphs.items)
+          (sym (take_more added i 0 c.loop-i-test.true)) both,
       λ k less. elim (nat_cases k i) [
         | inl before ↦ so_far.1 k before
         | inr far ↦ (let same : i ≡ k = omega (arith, less, far) in subst (λ j. get_or added j 0 < length c.args.marks.now.items) same here)

@@ -12,7 +12,8 @@ returns-clause-grown c =
     on_ok c.reach_all.result (λ grown. (
       pushed.0,
       pushed.1,
-      subst (λ (xs : List ℕ). Grow c.args.marks.now.items c.args.glyphs.now.items xs c.reach_all.new.marks.items c.reach_all.new.glyphs.items) all grown,
+      subst (λ (xs : List ℕ). Grow c.args.marks.now.items c.args.glyphs.now.items xs c.reach_all.new.marks.items
+          c.reach_all.new.glyphs.items) all grown,
     )) c.reach_all.ensures.grown
 
 pub returns-clause-untold : goal.returns-clause-untold
@@ -20,4 +21,5 @@ returns-clause-untold c =
     let pushed = c.in_ok-push_components.ensures.pushed in
     let all = c.deref.ensures.value ∙ pushed.2 ∙ ap (λ xs. xs ++ pushed.0) c.new-components.ensures.items in
     if_err c.reach_all.result (λ e h. untold-of c.args.font.now c.args.glyph pushed.0 e pushed.1
-    (subst (λ n. IsNotChosen pushed.0 n e) c.requires.many (subst (λ (xs : List ℕ). IsNotChosen xs (length c.args.marks.now.items) e) all h))) c.reach_all.ensures.refused
+    (subst (λ n. IsNotChosen pushed.0 n e) c.requires.many
+    (subst (λ (xs : List ℕ). IsNotChosen xs (length c.args.marks.now.items) e) all h))) c.reach_all.ensures.refused

@@ -10,5 +10,9 @@ returns-in-Some-clause-pushed c =
     (subst (λ o. IsSaidOf c.args.font.now c.args.glyph o) c.in-Some.is c.in_ok-said.ensures.said) c.push_both.ensures.pushed
 
 pub returns-in-None-clause-pushed : goal.returns-in-None-clause-pushed
-returns-in-None-clause-pushed c =
-    ([], none-of c.args.font.now c.args.glyph (subst (λ o. IsSaidOf c.args.font.now c.args.glyph o) c.in-None.is c.in_ok-said.ensures.said), sym (append-nil c.args.components.now.items))
+returns-in-None-clause-pushed c = (
+  [],
+  none-of c.args.font.now c.args.glyph
+      (subst (λ o. IsSaidOf c.args.font.now c.args.glyph o) c.in-None.is c.in_ok-said.ensures.said),
+  sym (append-nil c.args.components.now.items),
+)

@@ -9,4 +9,5 @@ pub returns-in-Ok-clause-said : goal.returns-in-Ok-clause-said
 returns-in-Ok-clause-said c =
     let same : c.operands_at_end.result.now ≡ taken_by (run_by c.args.glyph.now).end =
     c.operands_at_end.ensures ∙ c.in-Ok.ensures.taken ∙ ap (λ p. taken_by p.end) c.program-program.ensures in
-    subst (λ xs. MatchOption c.named_by.result ((accent : Accent) → IsAccent xs accent → ⊥) (λ accent. IsAccent xs accent)) same c.named_by.ensures
+    subst (λ xs. MatchOption c.named_by.result ((accent : Accent) → IsAccent xs accent → ⊥) (λ accent. IsAccent xs accent)) same
+    c.named_by.ensures

@@ -8,12 +8,14 @@ use Rattle.postscript_write.proofs.dictionaries.is_among.Goals as goal
 pub returns-then-eq : goal.returns-then-eq
 returns-then-eq c =
     let operators = c.args.operators.now in
-    let is : get_or operators c.loop-i.i Version ≡ c.args.operator = same_true the_type (search rules) _ _ (sym c.eq.ensures ∙ c.if-eq.true) in
+    let is : get_or operators c.loop-i.i Version ≡ c.args.operator = same_true the_type (search rules) _ _
+    (sym c.eq.ensures ∙ c.if-eq.true) in
     (λ _. (c.loop-i.i, search rules, sym (get_or_default operators c.loop-i.i Version c.args.operator c.loop-i-test.true) ∙ is), λ _. refl)
 
 pub loop-i-preserved : goal.loop-i-preserved
 loop-i-preserved c =
-    below_more (λ k. get_or c.args.operators.now k Version ≡ c.args.operator → ⊥) c.loop-i.i c.loop-i.invariant (same_false the_type _ _ (sym c.eq.ensures ∙ c.if-eq.false))
+    below_more (λ k. get_or c.args.operators.now k Version ≡ c.args.operator → ⊥) c.loop-i.i c.loop-i.invariant
+    (same_false the_type _ _ (sym c.eq.ensures ∙ c.if-eq.false))
 
 pub returns : goal.returns
 returns c = (

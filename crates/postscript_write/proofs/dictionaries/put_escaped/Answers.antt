@@ -6,8 +6,10 @@ use Rattle.postscript_write.proofs.dictionaries.put_escaped.Goals as goal
 
 pub returns-clause-one_more : goal.returns-clause-one_more
 returns-clause-one_more c =
-    appended_escaped c.args.out.now.items c.put_integers.new.out.items c.put_number.new.out.items c.put_number-2.new.out.items c.args.numbers.now c.args.second c.args.operator c.in_ok-put_integers.ensures.held c.requires
-    c.in_ok-put_integers.ensures.ok c.in_ok-put_number.ensures.ok (c.in_ok-put_number-2.ensures.ok ∙ ap (λ n. c.put_number.new.out.items ++ number_text 1 n) c.from.ensures)
+    appended_escaped c.args.out.now.items c.put_integers.new.out.items c.put_number.new.out.items c.put_number-2.new.out.items
+    c.args.numbers.now c.args.second c.args.operator c.in_ok-put_integers.ensures.held c.requires
+    c.in_ok-put_integers.ensures.ok c.in_ok-put_number.ensures.ok
+    (c.in_ok-put_number-2.ensures.ok ∙ ap (λ n. c.put_number.new.out.items ++ number_text 1 n) c.from.ensures)
 
 pub returns-clause-sized : goal.returns-clause-sized
 returns-clause-sized c =

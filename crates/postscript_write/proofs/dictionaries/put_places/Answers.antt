@@ -13,6 +13,7 @@ returns-in_err-put_place-clause-refused c =
 pub loop-place-preserved : goal.loop-place-preserved
 loop-place-preserved c = record {
   more = grind (arith, common_steps);
-  held = held_more IsHeld c.args.places.now c.loop-place.place-index _ (omega arith) c.in_ok-put_place.ensures.held c.loop-place.invariant.held;
+  held = held_more IsHeld c.args.places.now c.loop-place.place-index _
+      (omega arith) c.in_ok-put_place.ensures.held c.loop-place.invariant.held;
   sized = grind (arith, common_steps);
 }

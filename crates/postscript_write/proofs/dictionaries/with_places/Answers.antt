@@ -16,15 +16,18 @@ returns-clause-placed c =
     let text = c.args.text.now in
     let rest = c.in_ok-rest.rest.items in
     let left : IsWithout text (map (λ place. place.operator) c.args.places.now) rest =
-    subst (λ (os : List Operator). IsWithout text os rest) (c.deref.ensures.value ∙ c.in_ok-operators.ensures.are) c.in_ok-rest.ensures.left in
-    if_ok c.followed_by.result (λ out more old is. placed text rest out.items c.args.places.now old left (more left.1 left.6) is) c.followed_by.ensures.more
+    subst (λ (os : List Operator). IsWithout text os rest)
+    (c.deref.ensures.value ∙ c.in_ok-operators.ensures.are) c.in_ok-rest.ensures.left in
+    if_ok c.followed_by.result
+    (λ out more old is. placed text rest out.items c.args.places.now old left (more left.1 left.6) is) c.followed_by.ensures.more
 
 pub returns-clause-sized : goal.returns-clause-sized
 returns-clause-sized c =
     let text = c.args.text.now in
     let rest = c.in_ok-rest.rest.items in
     let left : IsLeftText text (map (λ place. place.operator) c.args.places.now) 0 rest =
-    subst (λ (os : List Operator). IsLeftText text os 0 rest) (c.deref.ensures.value ∙ c.in_ok-operators.ensures.are) c.in_ok-rest.ensures.text in
+    subst (λ (os : List Operator). IsLeftText text os 0 rest)
+    (c.deref.ensures.value ∙ c.in_ok-operators.ensures.are) c.in_ok-rest.ensures.text in
     if_ok c.followed_by.result (λ out size. (rest, left, size)) c.followed_by.ensures.sized
 
 pub returns-clause-refused : goal.returns-clause-refused

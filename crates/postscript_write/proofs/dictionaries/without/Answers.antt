@@ -25,7 +25,8 @@ returns-in_err-operator-clause-refused c =
     rw (error.1, error.2) (λ other map is.
     let refused = c.in_err-operator.ensures.refused other in
     no_dictionary c.args.text.now c.operations.place so_far.so_far.all _ so_far.so_far.are
-    (subst (λ p. RefusedAs c.in_err-operator.field-0.0 (operation c.args.text.now p)) so_far.position (subst (λ bs. RefusedAs c.in_err-operator.field-0.0 (operation bs c.operations.tape.pos)) so_far.inner refused.0)) refused.1 map is)
+    (subst (λ p. RefusedAs c.in_err-operator.field-0.0 (operation c.args.text.now p)) so_far.position
+    (subst (λ bs. RefusedAs c.in_err-operator.field-0.0 (operation bs c.operations.tape.pos)) so_far.inner refused.0)) refused.1 map is)
 
 pub operations-preserved : goal.operations-preserved
 operations-preserved c =
@@ -37,18 +38,24 @@ operations-preserved c =
     let one : Operation = (c.in-Some.operator, found.0) in
     let next : end ≡ c.position-next.result = sym c.position-next.ensures in
     let got : operation text c.operations.place ≡ Got one c.position-next.result =
-    subst (λ p. operation text p ≡ Got one end) so_far.position (subst (λ bs. operation bs c.operations.tape.pos ≡ Got one end) so_far.inner found.1) ∙ ap (λ n. Got one n) next in
+    subst (λ p. operation text p ≡ Got one end) so_far.position
+    (subst (λ bs. operation bs c.operations.tape.pos ≡ Got one end) so_far.inner found.1) ∙ ap (λ n. Got one n) next in
     record {
       inner = c.in_ok-operator.ensures.kept ∙ so_far.inner;
       position = next;
       within = let past = onward.1 in let same = ap length so_far.inner in omega (arith, past, same, next);
-      so_far = one_more_so text c.operations.out.items c.put_unless.new.out.items c.args.left_out.now c.operations.place c.position-next.result one got c.in_ok-put_unless.ensures.either so_far.so_far;
-      spelled = left_more text c.operations.out.items c.put_unless.new.out.items c.args.left_out.now c.operations.place c.position-next.result one got c.in_ok-put_unless.ensures.either so_far.spelled;
+      so_far = one_more_so text c.operations.out.items c.put_unless.new.out.items c.args.left_out.now c.operations.place
+          c.position-next.result one got c.in_ok-put_unless.ensures.either so_far.so_far;
+      spelled = left_more text c.operations.out.items c.put_unless.new.out.items c.args.left_out.now c.operations.place
+          c.position-next.result one got c.in_ok-put_unless.ensures.either so_far.spelled;
     }
 
 pub returns-clause-text : goal.returns-clause-text
 returns-clause-text c =
     let so_far = c.operations.invariant in
     let text = c.args.text.now in
-    subst (λ xs. IsLeftText text c.args.left_out.now 0 xs) (append-nil c.operations.out.items) (so_far.spelled [] (ends c.operations.place (λ o next got.
-    c.in_ok-operator.ensures.ends c.in_default.is o next (subst (λ bs. operation bs c.operations.tape.pos ≡ Got o next) (sym so_far.inner) (subst (λ p. operation text p ≡ Got o next) (sym so_far.position) got)))))
+    subst (λ xs. IsLeftText text c.args.left_out.now 0 xs) (append-nil c.operations.out.items)
+    (so_far.spelled [] (ends c.operations.place (λ o next got.
+    c.in_ok-operator.ensures.ends c.in_default.is o next
+    (subst (λ bs. operation bs c.operations.tape.pos ≡ Got o next) (sym so_far.inner)
+    (subst (λ p. operation text p ≡ Got o next) (sym so_far.position) got)))))

@@ -17,7 +17,8 @@ pub returns-clause-written : goal.returns-clause-written
 returns-clause-written c =
     let old = view_shown c.in_ok-font.font in
     let bytes = c.in_ok-font.ensures.bytes in
-    let are : c.deref.result.now ≡ every (length old.char_strings) = c.deref.ensures.value ∙ c.in_ok-sources.ensures.sources ∙ ap (λ n. every n) c.len.ensures in
+    let are : c.deref.result.now ≡ every (length old.char_strings) = c.deref.ensures.value ∙ c.in_ok-sources.ensures.sources
+    ∙ ap (λ n. every n) c.len.ensures in
     if_ok c.font_of.result (λ flat made. record {
       old = old;
       new = made.0;
@@ -31,10 +32,12 @@ pub returns-clause-refused : goal.returns-clause-refused
 returns-clause-refused c =
     let old = view_shown c.in_ok-font.font in
     let bytes = c.in_ok-font.ensures.bytes in
-    let are : c.deref.result.now ≡ every (length old.char_strings) = c.deref.ensures.value ∙ c.in_ok-sources.ensures.sources ∙ ap (λ n. every n) c.len.ensures in
+    let are : c.deref.result.now ≡ every (length old.char_strings) = c.deref.ensures.value ∙ c.in_ok-sources.ensures.sources
+    ∙ ap (λ n. every n) c.len.ensures in
     if_err c.font_of.result (λ e h.
     is_refused every c.args.bytes.now old e c.in_ok-font.ensures.is
-    (subst (λ (s : List (Option ℕ)). FontRefusedBy c.args.bytes.now old s e) are (subst (λ (bs : List ℕ). FontRefusedBy bs old c.deref.result.now e) bytes h))) c.font_of.ensures.refused
+    (subst (λ (s : List (Option ℕ)). FontRefusedBy c.args.bytes.now old s e) are
+    (subst (λ (bs : List ℕ). FontRefusedBy bs old c.deref.result.now e) bytes h))) c.font_of.ensures.refused
 
 pub returns-in_err-font-clause-refused : goal.returns-in_err-font-clause-refused
 returns-in_err-font-clause-refused c =
@@ -50,7 +53,9 @@ pub returns-clause-drawn : goal.returns-clause-drawn
 returns-clause-drawn c = flat-drawn c.font_of.result c.args.bytes.now (returns-clause-written c)
 
 pub returns-clause-lenient : goal.returns-clause-lenient
-returns-clause-lenient c = subst (λ (bs : List ℕ). IfOk c.font_of.result (λ flat. HasLenientFont bs → HasLenientFont flat.items)) c.in_ok-font.ensures.bytes c.font_of.ensures.lenient
+returns-clause-lenient c =
+    subst (λ (bs : List ℕ). IfOk c.font_of.result (λ flat. HasLenientFont bs → HasLenientFont flat.items)) c.in_ok-font.ensures.bytes
+    c.font_of.ensures.lenient
 
 pub font_of-requires-clause-few : goal.font_of-requires-clause-few
 font_of-requires-clause-few c =

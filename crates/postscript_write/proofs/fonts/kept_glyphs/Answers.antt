@@ -18,12 +18,16 @@ returns-clause-kept c =
     let opened : IsOpened c.args.bytes.now font = record { shown = c.in_ok-font.ensures.is; there = c.in_ok-font.ensures.bytes } in
     let closed = c.in_ok-closed.closed.items in
     let same = ap (λ n. kept_of c.deref.result.now n) c.len.ensures ∙ ap (λ xs. kept_of xs (glyphs_of font)) c.deref.ensures.value in
-    kept-so c.kept_of.result c.args.bytes.now c.args.named.now closed font opened c.in_ok-closed.ensures.closed _ same c.kept_of.ensures.kept
+    kept-so c.kept_of.result c.args.bytes.now c.args.named.now closed font opened c.in_ok-closed.ensures.closed _ same
+    c.kept_of.ensures.kept
 
 pub returns-clause-refused : goal.returns-clause-refused
 returns-clause-refused c =
-    let same : (e : Error) → IsNotChosen c.deref.result.now c.len.result e → IsNotChosen c.in_ok-closed.closed.items (glyphs_of c.in_ok-font.font) e = λ e h. subst (λ (xs : List ℕ). IsNotChosen xs (glyphs_of c.in_ok-font.font) e) c.deref.ensures.value (subst (λ (n : ℕ). IsNotChosen c.deref.result.now n e) c.len.ensures h) in
-    if_err c.kept_of.result (λ e h. choice-not-chosen c.args.named.now c.in_ok-closed.closed.items c.args.bytes.now (glyphs_of c.in_ok-font.font) e c.in_ok-closed.ensures.there (same e h)) c.kept_of.ensures.refused
+    let same : (e : Error) → IsNotChosen c.deref.result.now c.len.result e → IsNotChosen c.in_ok-closed.closed.items
+    (glyphs_of c.in_ok-font.font) e = λ e h. subst (λ (xs : List ℕ). IsNotChosen xs (glyphs_of c.in_ok-font.font) e) c.deref.ensures.value
+    (subst (λ (n : ℕ). IsNotChosen c.deref.result.now n e) c.len.ensures h) in
+    if_err c.kept_of.result (λ e h. choice-not-chosen c.args.named.now c.in_ok-closed.closed.items c.args.bytes.now
+    (glyphs_of c.in_ok-font.font) e c.in_ok-closed.ensures.there (same e h)) c.kept_of.ensures.refused
 
 pub returns-clause-there : goal.returns-clause-there
 returns-clause-there c =
@@ -40,5 +44,6 @@ returns-in_err-font-clause-refused c =
 pub returns-in_err-closed-clause-refused : goal.returns-in_err-closed-clause-refused
 returns-in_err-closed-clause-refused c =
     let error = err_from_is_err_and c.from_residual-in_err-closed.result c.from_residual-in_err-closed.ensures.1 in
-    let opened : IsOpened c.args.bytes.now c.in_ok-font.font = record { shown = c.in_ok-font.ensures.is; there = c.in_ok-font.ensures.bytes } in
+    let opened : IsOpened c.args.bytes.now
+    c.in_ok-font.font = record { shown = c.in_ok-font.ensures.is; there = c.in_ok-font.ensures.bytes } in
     rw (error.1, error.2) (choice-not-closed c.args.named.now c.args.bytes.now c.in_ok-font.font _ opened c.in_err-closed.ensures.refused)

@@ -23,7 +23,8 @@ returns-clause-written c =
     let font = c.in_ok-font.font in
     let opened : IsOpened c.args.bytes.now font = record { shown = c.in_ok-font.ensures.is; there = c.in_ok-font.ensures.bytes } in
     let closed = c.in_ok-closed.closed.items in
-    let same = c.deref-2.ensures.value ∙ c.in_ok-sources.ensures.sources ∙ ap (λ n. keeping c.deref.result.now n) c.len.ensures ∙ ap (λ xs. keeping xs (glyphs_of font)) c.deref.ensures.value in
+    let same = c.deref-2.ensures.value ∙ c.in_ok-sources.ensures.sources ∙ ap (λ n. keeping c.deref.result.now n) c.len.ensures
+    ∙ ap (λ xs. keeping xs (glyphs_of font)) c.deref.ensures.value in
     subset-made c.font_of.result true keeping font c.args.bytes.now c.args.named.now closed c.deref-2.result.now opened
     (closed-so c.args.bytes.now c.args.named.now closed font opened c.in_ok-closed.ensures.closed) same c.font_of.ensures.font
 
@@ -32,7 +33,8 @@ returns-clause-refused c =
     let font = c.in_ok-font.font in
     let opened : IsOpened c.args.bytes.now font = record { shown = c.in_ok-font.ensures.is; there = c.in_ok-font.ensures.bytes } in
     let closed = c.in_ok-closed.closed.items in
-    let same = c.deref-2.ensures.value ∙ c.in_ok-sources.ensures.sources ∙ ap (λ n. keeping c.deref.result.now n) c.len.ensures ∙ ap (λ xs. keeping xs (glyphs_of font)) c.deref.ensures.value in
+    let same = c.deref-2.ensures.value ∙ c.in_ok-sources.ensures.sources ∙ ap (λ n. keeping c.deref.result.now n) c.len.ensures
+    ∙ ap (λ xs. keeping xs (glyphs_of font)) c.deref.ensures.value in
     subset-refused c.font_of.result keeping font c.args.bytes.now c.args.named.now closed c.deref-2.result.now opened
     (closed-so c.args.bytes.now c.args.named.now closed font opened c.in_ok-closed.ensures.closed) same c.font_of.ensures.refused
 
@@ -51,21 +53,26 @@ returns-in_err-font-clause-refused c =
 pub returns-in_err-closed-clause-refused : goal.returns-in_err-closed-clause-refused
 returns-in_err-closed-clause-refused c =
     let error = err_from_is_err_and c.from_residual-in_err-closed.result c.from_residual-in_err-closed.ensures.1 in
-    let opened : IsOpened c.args.bytes.now c.in_ok-font.font = record { shown = c.in_ok-font.ensures.is; there = c.in_ok-font.ensures.bytes } in
+    let opened : IsOpened c.args.bytes.now
+    c.in_ok-font.font = record { shown = c.in_ok-font.ensures.is; there = c.in_ok-font.ensures.bytes } in
     rw (error.1, error.2) (not-closed c.args.named.now keeping c.args.bytes.now c.in_ok-font.font _ opened c.in_err-closed.ensures.refused)
 
 pub returns-in_err-sources-clause-refused : goal.returns-in_err-sources-clause-refused
 returns-in_err-sources-clause-refused c =
     let error = err_from_is_err_and c.from_residual-in_err-sources.result c.from_residual-in_err-sources.ensures.1 in
-    let same : (e : Error) → IsNotChosen c.deref.result.now c.len.result e → IsNotChosen c.in_ok-closed.closed.items (glyphs_of c.in_ok-font.font) e = λ e h. subst (λ (xs : List ℕ). IsNotChosen xs (glyphs_of c.in_ok-font.font) e) c.deref.ensures.value (subst (λ (n : ℕ). IsNotChosen c.deref.result.now n e) c.len.ensures h) in
-    rw (error.1, error.2) (not-chosen c.args.named.now c.in_ok-closed.closed.items keeping c.args.bytes.now (glyphs_of c.in_ok-font.font) _ c.in_ok-closed.ensures.there (same _ c.in_err-sources.ensures.refused))
+    let same : (e : Error) → IsNotChosen c.deref.result.now c.len.result e → IsNotChosen c.in_ok-closed.closed.items
+    (glyphs_of c.in_ok-font.font) e = λ e h. subst (λ (xs : List ℕ). IsNotChosen xs (glyphs_of c.in_ok-font.font) e) c.deref.ensures.value
+    (subst (λ (n : ℕ). IsNotChosen c.deref.result.now n e) c.len.ensures h) in
+    rw (error.1, error.2) (not-chosen c.args.named.now c.in_ok-closed.closed.items keeping c.args.bytes.now
+    (glyphs_of c.in_ok-font.font) _ c.in_ok-closed.ensures.there (same _ c.in_err-sources.ensures.refused))
 
 pub returns-clause-drawn : goal.returns-clause-drawn
 returns-clause-drawn c = keeping-drawn c.font_of.result c.args.named.now c.args.bytes.now (returns-clause-written c)
 
 pub returns-clause-lenient : goal.returns-clause-lenient
 returns-clause-lenient c =
-    if_ok c.font_of.result (λ flat stays. subst (λ (bs : List ℕ). HasLenientFont bs → HasLenientFont flat.items) c.in_ok-font.ensures.bytes stays) c.font_of.ensures.lenient
+    if_ok c.font_of.result (λ flat stays. subst
+    (λ (bs : List ℕ). HasLenientFont bs → HasLenientFont flat.items) c.in_ok-font.ensures.bytes stays) c.font_of.ensures.lenient
 
 pub font_of-requires-clause-few : goal.font_of-requires-clause-few
 font_of-requires-clause-few c =

@@ -7,4 +7,5 @@ use Rattle.postscript_write.proofs.glyphs.codes_of.Given as goal
 abbrev pub invariant-loop-i : goal.invariant-loop-i
 invariant-loop-i l =
     (length l.flats.items ≡ l.i)
-    × ((k : ℕ) → k < l.i → IsCodeFor (view_shown l.font) (get_or l.sources k None) (get_or l.numbers k 0) (get_or (texts l.flats.items) k []))
+    × ((k : ℕ) → k < l.i → IsCodeFor (view_shown l.font) (get_or l.sources k None) (get_or l.numbers k 0)
+    (get_or (texts l.flats.items) k []))

@@ -19,14 +19,16 @@ pub returns-clause-len : goal.returns-clause-len
 returns-clause-len c =
     let ds = texts c.in_ok-dictionaries.dictionaries.items in
     let some : is_none c.args.glyphs.now.select ≡ false = search rules in
-    let written = c.in_ok-put_index.ensures.ok ∙ ap (λ xs. xs ++ index_text (texts c.deref.result.now)) c.new-out.ensures.items ∙ ap (λ ds. index_text (texts ds)) c.deref.ensures.value ∙ some_text c.args.glyphs.now.select ds some in
+    let written = c.in_ok-put_index.ensures.ok ∙ ap (λ xs. xs ++ index_text (texts c.deref.result.now)) c.new-out.ensures.items
+    ∙ ap (λ ds. index_text (texts ds)) c.deref.ensures.value ∙ some_text c.args.glyphs.now.select ds some in
     (ds, omega (arith, c.len.ensures, ap length written, c.put_index.new.out.ok.0), λ is. c.in_ok-dictionaries.ensures.sized)
 
 pub returns-in_err-dictionaries-clause-refused : goal.returns-in_err-dictionaries-clause-refused
 returns-in_err-dictionaries-clause-refused c =
     let error = err_from_is_err_and c.from_residual.result c.from_residual.ensures.1 in
     let some : IsSome c.args.glyphs.now.select = search rules in
-    rw (error.1, error.2) (λ other read selects parts own few. c.in_err-dictionaries.ensures.refused other (selects some) read.laid.parts own (omega (arith, few)))
+    rw (error.1, error.2) (λ other read selects parts own few. c.in_err-dictionaries.ensures.refused other
+    (selects some) read.laid.parts own (omega (arith, few)))
 
 pub returns-in_err-put_index-clause-refused : goal.returns-in_err-put_index-clause-refused
 returns-in_err-put_index-clause-refused c =
@@ -40,7 +42,8 @@ returns-in_err-put_index-clause-refused c =
       | inl memory ↦ other memory
       | inr bad ↦
           bad.1 (subst (λ (ds : List (Vec ℕ Global)). Fits (texts ds)) (sym c.deref.ensures.value)
-          (few_fit ds (are_few font.bytes.now font.dictionary font.parts.items c.args.privates.now ds keyed (read.few keyed) read.laid.parts parts c.in_ok-dictionaries.ensures.sized)))
+          (few_fit ds (are_few font.bytes.now font.dictionary font.parts.items c.args.privates.now ds keyed
+          (read.few keyed) read.laid.parts parts c.in_ok-dictionaries.ensures.sized)))
     ])
 
 pub returns-clause-few : goal.returns-clause-few
@@ -48,8 +51,10 @@ returns-clause-few c =
     let font = c.args.font.now in
     let ds = texts c.in_ok-dictionaries.dictionaries.items in
     let some : IsSome c.args.glyphs.now.select = search rules in
-    let written = c.in_ok-put_index.ensures.ok ∙ ap (λ xs. xs ++ index_text (texts c.deref.result.now)) c.new-out.ensures.items ∙ ap (λ ds. index_text (texts ds)) c.deref.ensures.value in
+    let written = c.in_ok-put_index.ensures.ok ∙ ap (λ xs. xs ++ index_text (texts c.deref.result.now)) c.new-out.ensures.items
+    ∙ ap (λ ds. index_text (texts ds)) c.deref.ensures.value in
     λ read selects parts.
     let keyed = selects some in
-    let most = few_most ds (are_few font.bytes.now font.dictionary font.parts.items c.args.privates.now ds keyed (read.few keyed) read.laid.parts parts c.in_ok-dictionaries.ensures.sized) in
+    let most = few_most ds (are_few font.bytes.now font.dictionary font.parts.items c.args.privates.now ds keyed
+    (read.few keyed) read.laid.parts parts c.in_ok-dictionaries.ensures.sized) in
     omega (arith, c.len.ensures, ap length written, c.put_index.new.out.ok.0, most)

@@ -32,8 +32,10 @@ pub returns-clause-placed : goal.returns-clause-placed
 returns-clause-placed c =
     let font = c.args.font.now in
     IfOk-weaker c.placed_dictionaries.result _ _ (λ out are items names fits.
-    let same = named_opened font.bytes.now font.dictionary operators.FDArray c.in_ok-place.place c.in_ok-sources._next (items_of c.in_ok-sources.sources) items c.in_ok-place.ensures.first c.in_ok-sources.ensures.exact names in
-    subst (λ xs. AreFontDictionaries xs c.args.privates.now c.args.start (texts out.items)) same (are fits)) c.placed_dictionaries.ensures.placed
+    let same = named_opened font.bytes.now font.dictionary operators.FDArray c.in_ok-place.place c.in_ok-sources._next
+    (items_of c.in_ok-sources.sources) items c.in_ok-place.ensures.first c.in_ok-sources.ensures.exact names in
+    subst (λ xs. AreFontDictionaries xs c.args.privates.now c.args.start (texts out.items)) same (are fits))
+    c.placed_dictionaries.ensures.placed
 
 pub returns-clause-refused : goal.returns-clause-refused
 returns-clause-refused c =
@@ -41,12 +43,20 @@ returns-clause-refused c =
     let parts = parts_shown font.parts.items in
     if_err c.placed_dictionaries.result (λ e never other keyed are own few.
     let has = keyed_items font.bytes.now font.dictionary parts keyed are in
-    let same = named_opened font.bytes.now font.dictionary operators.FDArray c.in_ok-place.place c.in_ok-sources._next (items_of c.in_ok-sources.sources) has.0 c.in_ok-place.ensures.first c.in_ok-sources.ensures.exact has.1 in
+    let same = named_opened font.bytes.now font.dictionary operators.FDArray c.in_ok-place.place c.in_ok-sources._next
+    (items_of c.in_ok-sources.sources) has.0 c.in_ok-place.ensures.first c.in_ok-sources.ensures.exact has.1 in
     let all = all_dictionaries font.bytes.now has.0 parts has.2 in
     let many = own.many in
     let long = ap length same in
-    never other (subst (All IsSomeDictionary) (sym same) all.0) (omega (arith, many, long, all.1)) few) c.placed_dictionaries.ensures.refused
+    never other (subst (All IsSomeDictionary) (sym same) all.0) (omega (arith, many, long, all.1)) few)
+    c.placed_dictionaries.ensures.refused
 
 pub returns-clause-sized : goal.returns-clause-sized
 returns-clause-sized c =
-    IfOk-weaker c.placed_dictionaries.result _ _ (λ out sized. (items_of c.in_ok-sources.sources, (c.in_ok-place.place, c.in_ok-place.ensures.first, (c.in_ok-sources._next, omega arith, c.in_ok-sources.ensures.exact)), sized)) c.placed_dictionaries.ensures.sized
+    IfOk-weaker c.placed_dictionaries.result _ _
+    (λ out sized. (
+      items_of c.in_ok-sources.sources,
+      (c.in_ok-place.place, c.in_ok-place.ensures.first, (c.in_ok-sources._next, omega arith, c.in_ok-sources.ensures.exact)),
+      sized,
+    ))
+    c.placed_dictionaries.ensures.sized

@@ -11,7 +11,8 @@ use Rattle.postscript_write.specs.declared.dictionaries.Place.{Place}
 use Rattle.postscript_write.proofs.layout.font_dictionary.Goals as goal
 
 abbrev Placed : List ℕ → List Place → List ℕ → Type 0
-Placed text places out = (old : Dictionary) → IsDictionary text 0 old → (new : Dictionary) × IsDictionary out 0 new × IsPlaced old places new
+Placed text places out =
+    (old : Dictionary) → IsDictionary text 0 old → (new : Dictionary) × IsDictionary out 0 new × IsPlaced old places new
 
 abbrev Held : List ℕ → List Place → Type 0
 Held text places = All IsHeld places → (old : Dictionary) → IsDictionary text 0 old → ⊥
@@ -35,11 +36,13 @@ returns-in-Some-clause-refused c =
 
 pub returns-in-None-clause-placed : goal.returns-in-None-clause-placed
 returns-in-None-clause-placed c =
-    subst (λ places. IfOk c.with_places-in-None.result (λ out. Placed c.args.text.now places out.items)) (ap (λ p. place_of_private p c.args.offset) (sym c.in-None.is)) c.with_places-in-None.ensures.placed
+    subst (λ places. IfOk c.with_places-in-None.result (λ out. Placed c.args.text.now places out.items))
+    (ap (λ p. place_of_private p c.args.offset) (sym c.in-None.is)) c.with_places-in-None.ensures.placed
 
 pub returns-in-None-clause-refused : goal.returns-in-None-clause-refused
 returns-in-None-clause-refused c =
-    subst (λ places. IfErr c.with_places-in-None.result (λ e. e ≢ errors.Memory → Held c.args.text.now places)) (ap (λ p. place_of_private p c.args.offset) (sym c.in-None.is)) c.with_places-in-None.ensures.refused
+    subst (λ places. IfErr c.with_places-in-None.result (λ e. e ≢ errors.Memory → Held c.args.text.now places))
+    (ap (λ p. place_of_private p c.args.offset) (sym c.in-None.is)) c.with_places-in-None.ensures.refused
 
 pub returns-in-Some-clause-sized : goal.returns-in-Some-clause-sized
 unfolding one
@@ -50,7 +53,8 @@ returns-in-Some-clause-sized c =
 
 pub returns-in-None-clause-sized : goal.returns-in-None-clause-sized
 returns-in-None-clause-sized c =
-    subst (λ places. IfOk c.with_places-in-None.result (λ out. HasSize c.args.text.now places (length out.items))) (ap (λ p. place_of_private p 0) (sym c.in-None.is)) c.with_places-in-None.ensures.sized
+    subst (λ places. IfOk c.with_places-in-None.result (λ out. HasSize c.args.text.now places (length out.items)))
+    (ap (λ p. place_of_private p 0) (sym c.in-None.is)) c.with_places-in-None.ensures.sized
 
 pub returns-in-Some-clause-held : goal.returns-in-Some-clause-held
 unfolding one
@@ -60,4 +64,6 @@ returns-in-Some-clause-held c =
     subst (λ places. OnOk c.with_places.result (All IsHeld places)) same c.with_places.ensures.held
 
 pub returns-in-None-clause-held : goal.returns-in-None-clause-held
-returns-in-None-clause-held c = subst (λ places. OnOk c.with_places-in-None.result (All IsHeld places)) (ap (λ p. place_of_private p c.args.offset) (sym c.in-None.is)) c.with_places-in-None.ensures.held
+returns-in-None-clause-held c =
+    subst (λ places. OnOk c.with_places-in-None.result (All IsHeld places))
+    (ap (λ p. place_of_private p c.args.offset) (sym c.in-None.is)) c.with_places-in-None.ensures.held

@@ -22,7 +22,8 @@ returns-in_err-source-clause-refused c =
     let some : is_none (first_two_of (look c.args.dictionary.now operators.Private)) ≡ false = search rules in
     rw (error.1, error.2) (λ other font part is.
     let has = own c.args.bytes.now c.args.dictionary.now font part is some in
-    no_source c.args.bytes.now c.args.dictionary.now part.dictionary has.0 _ _ _ _ has.1 (c.in_ok-size.ensures.exact c.args.bytes.now 0) (c.in_err-source.ensures.exact 0 other))
+    no_source c.args.bytes.now c.args.dictionary.now part.dictionary has.0 _ _ _ _ has.1 (c.in_ok-size.ensures.exact c.args.bytes.now 0)
+    (c.in_err-source.ensures.exact 0 other))
 
 pub returns-in_err-text-clause-refused : goal.returns-in_err-text-clause-refused
 returns-in_err-text-clause-refused c =
@@ -31,14 +32,16 @@ returns-in_err-text-clause-refused c =
     rw (error.1, error.2) (λ other font part is.
     let has = own c.args.bytes.now c.args.dictionary.now font part is some in
     c.in_err-text.ensures.refused other part.dictionary
-    (source_is c.args.bytes.now c.args.dictionary.now part.dictionary has.0 _ _ _ c.in_ok-source.source.now has.1 (c.in_ok-size.ensures.exact c.args.bytes.now 0) (c.in_ok-source.ensures.exact 0)))
+    (source_is c.args.bytes.now c.args.dictionary.now part.dictionary has.0 _ _ _ c.in_ok-source.source.now has.1
+    (c.in_ok-size.ensures.exact c.args.bytes.now 0) (c.in_ok-source.ensures.exact 0)))
 
 pub returns-clause-own : goal.returns-clause-own
 returns-clause-own c = λ font part is.
     let some : is_none (first_two_of (look c.args.dictionary.now operators.Private)) ≡ false = search rules in
     let has = own c.args.bytes.now c.args.dictionary.now font part is some in
     less c.in_ok-source.source.now c.in_ok-text.text.items (operators.Subrs ∷ []) part.dictionary c.in_ok-text.ensures.left
-    (source_is c.args.bytes.now c.args.dictionary.now part.dictionary has.0 _ _ _ c.in_ok-source.source.now has.1 (c.in_ok-size.ensures.exact c.args.bytes.now 0) (c.in_ok-source.ensures.exact 0))
+    (source_is c.args.bytes.now c.args.dictionary.now part.dictionary has.0 _ _ _ c.in_ok-source.source.now has.1
+    (c.in_ok-size.ensures.exact c.args.bytes.now 0) (c.in_ok-source.ensures.exact 0))
 
 pub returns-clause-sized : goal.returns-clause-sized
 returns-clause-sized c =

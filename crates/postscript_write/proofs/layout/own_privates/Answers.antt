@@ -28,7 +28,8 @@ returns-in_err-private-clause-refused c =
     rw (error.1, error.2) (λ other are.
     c.in_err-private.ensures.refused other shown.font shown
     (subst (λ m. IsPart font.bytes.now m shown.font shown) (sym c.naming_dictionary-dictionary.ensures)
-    (each_part font.bytes.now font.dictionary (parts_shown font.parts.items) c.loop-i.i shown are (shown_at font.parts.items c.loop-i.i c.index.result.now less (search rules)))))
+    (each_part font.bytes.now font.dictionary (parts_shown font.parts.items) c.loop-i.i shown are
+    (shown_at font.parts.items c.loop-i.i c.index.result.now less (search rules)))))
 
 pub loop-i-preserved : goal.loop-i-preserved
 loop-i-preserved c =
@@ -43,25 +44,32 @@ loop-i-preserved c =
     record {
       many = omega (arith, many, long);
       each = λ are.
-          one_more None (λ k private. (part : PrivateDict) → slice_get (parts_shown font.parts.items) k ≡ Some part → IsOwnPrivate part private) c.loop-i.privates.items c.push.new.self.items c.in_ok-private.private c.loop-i.i many more
+          one_more None (λ k private. (part : PrivateDict) → slice_get
+          (parts_shown font.parts.items) k ≡ Some part → IsOwnPrivate part private) c.loop-i.privates.items c.push.new.self.items
+          c.in_ok-private.private c.loop-i.i many more
           (λ part there.
           let both : Some shown ≡ Some part = sym at ∙ there in
           let same : shown ≡ part = cc in
           subst (λ (p : PrivateDict). IsOwnPrivate p c.in_ok-private.private) same (c.in_ok-private.ensures.own shown.font shown
-          (subst (λ m. IsPart font.bytes.now m shown.font shown) (sym c.naming_dictionary-dictionary.ensures) (each_part font.bytes.now font.dictionary (parts_shown font.parts.items) c.loop-i.i shown are at))))
+          (subst (λ m. IsPart font.bytes.now m shown.font shown) (sym c.naming_dictionary-dictionary.ensures)
+          (each_part font.bytes.now font.dictionary (parts_shown font.parts.items) c.loop-i.i shown are at))))
           (so_far.each are);
       named =
-          one_more None (λ k private. (part : PrivateDict) → slice_get (parts_shown font.parts.items) k ≡ Some part → private ≡ None → first_two_of (look (unwrap_or part.font font.dictionary) operators.Private) ≡ None) c.loop-i.privates.items c.push.new.self.items
+          one_more None (λ k private. (part : PrivateDict) → slice_get
+          (parts_shown font.parts.items) k ≡ Some part → private ≡ None → first_two_of
+          (look (unwrap_or part.font font.dictionary) operators.Private) ≡ None) c.loop-i.privates.items c.push.new.self.items
           c.in_ok-private.private c.loop-i.i many more
           (λ part there none.
           let both : Some shown ≡ Some part = sym at ∙ there in
           let same : shown ≡ part = cc in
           subst (λ (p : PrivateDict). first_two_of (look (unwrap_or p.font font.dictionary) operators.Private) ≡ None) same
-          (subst (λ m. first_two_of (look m operators.Private) ≡ None) c.naming_dictionary-dictionary.ensures (c.in_ok-private.ensures.named none)))
+          (subst (λ m. first_two_of (look m operators.Private) ≡ None) c.naming_dictionary-dictionary.ensures
+          (c.in_ok-private.ensures.named none)))
           so_far.named;
       sized =
           let text = ap privates_text more ∙ flat_map-append private_text c.loop-i.privates.items (c.in_ok-private.private ∷ []) in
-          let both = ap length text ∙ length-append (privates_text c.loop-i.privates.items) (privates_text (c.in_ok-private.private ∷ [])) in
+          let both = ap length text
+          ∙ length-append (privates_text c.loop-i.privates.items) (privates_text (c.in_ok-private.private ∷ [])) in
           let one = length-append (private_text c.in_ok-private.private) [] in
           let sum = sum_by_more (named_size font.dictionary) font.parts.items c.loop-i.i c.index.result.now less in
           let is : c.index.result.now ≡ get_or font.parts.items c.loop-i.i c.index.result.now = search rules in
@@ -70,7 +78,8 @@ loop-i-preserved c =
           let before = so_far.sized in
           let most = c.in_ok-private.ensures.sized in
           omega (arith, both, one, sum, own, named, before, most);
-      within = one_more None (λ k private. length (private_text private) ≤ length font.bytes.now) c.loop-i.privates.items c.push.new.self.items c.in_ok-private.private c.loop-i.i many more c.in_ok-private.ensures.within so_far.within;
+      within = one_more None (λ k private. length (private_text private) ≤ length font.bytes.now) c.loop-i.privates.items
+          c.push.new.self.items c.in_ok-private.private c.loop-i.i many more c.in_ok-private.ensures.within so_far.within;
     }
 
 pub returns-clause-own : goal.returns-clause-own
@@ -84,7 +93,8 @@ returns-clause-own c = λ are.
     let least = c.loop-i.auto.i-end in
     record {
       many = omega (arith, many, long, past, ends, least);
-      each = λ k part at. let within = slice_get_within (parts_shown font.parts.items) k part at in so_far.each are k (omega (arith, within, long, past, ends, least)) part at;
+      each = λ k part at. let within = slice_get_within (parts_shown font.parts.items) k part at in
+          so_far.each are k (omega (arith, within, long, past, ends, least)) part at;
     }
 
 pub returns-clause-few : goal.returns-clause-few
@@ -97,7 +107,9 @@ returns-clause-few c = λ read.
     let ends = c.len-i-end.ensures in
     let least = c.loop-i.auto.i-end in
     let all = ap (sum_by (named_size font.dictionary)) (take_all c.loop-i.i font.parts.items (omega (arith, past, ends, least))) in
-    privates_few font.bytes.now font.dictionary font.parts.items c.loop-i.privates.items read.laid.parts read.few (omega (arith, many, past, ends, least)) (omega (arith, sized, all)) (λ k less. so_far.within k (omega (arith, less, past, ends, least)))
+    privates_few font.bytes.now font.dictionary font.parts.items c.loop-i.privates.items read.laid.parts read.few
+    (omega (arith, many, past, ends, least)) (omega (arith, sized, all))
+    (λ k less. so_far.within k (omega (arith, less, past, ends, least)))
 
 pub returns-clause-named : goal.returns-clause-named
 returns-clause-named c = λ k part at none.

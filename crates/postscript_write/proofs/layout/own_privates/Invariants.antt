@@ -16,7 +16,8 @@ invariant-loop-i l = record {
   many : length l.privates.items ≡ l.i;
   each : AreParts l.font.bytes.now l.font.dictionary (parts_shown l.font.parts.items) → (k : ℕ) → k < l.i → (part : PrivateDict) →
       slice_get (parts_shown l.font.parts.items) k ≡ Some part → IsOwnPrivate part (get_or l.privates.items k None);
-  named : (k : ℕ) → k < l.i → (part : PrivateDict) → slice_get (parts_shown l.font.parts.items) k ≡ Some part → get_or l.privates.items k None ≡ None →
+  named : (k : ℕ) → k < l.i → (part : PrivateDict) → slice_get (parts_shown l.font.parts.items) k ≡ Some part →
+      get_or l.privates.items k None ≡ None →
       first_two_of (look (unwrap_or part.font l.font.dictionary) operators.Private) ≡ None;
   sized : length (privates_text l.privates.items) ≤ sum_by (named_size l.font.dictionary) (take l.i l.font.parts.items);
   within : (k : ℕ) → k < l.i → length (private_text (get_or l.privates.items k None)) ≤ length l.font.bytes.now;

@@ -21,7 +21,8 @@ returns-in_err-font_dictionary-clause-refused c =
     rw (error.1, error.2) (λ other all many few.
     let so_far = c.loop-i.invariant.offset (omega (arith, few)) in
     let one = subst IsSomeDictionary (sym c.item.ensures) (all c.loop-i.i c.item.result.now (omega (arith, c.len-i-end.ensures))) in
-    c.in_err-font_dictionary.ensures.refused other (held c.in_ok-private.private.now c.loop-i.offset (omega (arith, next.more, next.within, so_far, few))) one.0 one.1)
+    c.in_err-font_dictionary.ensures.refused other
+    (held c.in_ok-private.private.now c.loop-i.offset (omega (arith, next.more, next.within, so_far, few))) one.0 one.1)
 
 pub loop-i-preserved : goal.loop-i-preserved
 loop-i-preserved c =
@@ -32,7 +33,8 @@ loop-i-preserved c =
     let at = rw c.in_ok-private.ensures.ok_part at c.get.ensures.lookup in
     let next = is_next privates c.loop-i.i private at.3.0 at.1 in
     let less : c.loop-i.i < length items = omega (arith, c.len-i-end.ensures) in
-    let item_is : get_or items c.loop-i.i [] ≡ c.item.result.now = get_or_default items c.loop-i.i [] c.item.result.now less ∙ sym c.item.ensures in
+    let item_is : get_or items c.loop-i.i [] ≡ c.item.result.now = get_or_default items c.loop-i.i [] c.item.result.now less
+    ∙ sym c.item.ensures in
     let private_is : private ≡ get_or privates c.loop-i.i None = at.1 ∙ get_or_default privates c.loop-i.i private None at.3.0 in
     let many = c.loop-i.invariant.many in
     let more : c.push.new.self.items ≡ c.loop-i.all.items ++ font ∷ [] = search rules in
@@ -41,17 +43,24 @@ loop-i-preserved c =
       many = omega (arith, many, long);
       offset = λ fits. let so_far = c.loop-i.invariant.offset fits in omega (arith, next.more, next.within, so_far, fits);
       each = λ fits.
-          text_more (λ k text. (old : Dictionary) → IsDictionary (get_or items k []) 0 old → IsFontDictionary old (get_or privates k None) (private_offset c.args.start privates k) text) c.loop-i.all.items c.push.new.self.items font c.loop-i.i many more
+          text_more (λ k text. (old : Dictionary) → IsDictionary (get_or items k []) 0 old → IsFontDictionary old (get_or privates k None)
+          (private_offset c.args.start privates k) text) c.loop-i.all.items c.push.new.self.items font c.loop-i.i many more
           (λ old is.
-          subst (λ p. IsFontDictionary old p (private_offset c.args.start privates c.loop-i.i) font.items) private_is (subst (λ n. IsFontDictionary old private n font.items) (c.loop-i.invariant.offset fits)
+          subst (λ p. IsFontDictionary old p (private_offset c.args.start privates c.loop-i.i) font.items) private_is
+          (subst (λ n. IsFontDictionary old private n font.items) (c.loop-i.invariant.offset fits)
           (c.in_ok-font_dictionary.ensures.placed old (subst (λ (bs : List ℕ). IsDictionary bs 0 old) item_is is))))
           (c.loop-i.invariant.each fits);
       held = λ fits.
-          below_more (λ k. All IsHeld (place_of_private (get_or privates k None) (private_offset c.args.start privates k))) c.loop-i.i (c.loop-i.invariant.held fits)
-          (subst (λ p. All IsHeld (place_of_private p (private_offset c.args.start privates c.loop-i.i))) private_is (subst (λ n. All IsHeld (place_of_private private n)) (c.loop-i.invariant.offset fits) c.in_ok-font_dictionary.ensures.held));
+          below_more (λ k. All IsHeld (place_of_private (get_or privates k None) (private_offset c.args.start privates k))) c.loop-i.i
+          (c.loop-i.invariant.held fits)
+          (subst (λ p. All IsHeld (place_of_private p (private_offset c.args.start privates c.loop-i.i))) private_is
+          (subst (λ n. All IsHeld (place_of_private private n)) (c.loop-i.invariant.offset fits) c.in_ok-font_dictionary.ensures.held));
       sized =
-          text_more (λ k text. HasSize (get_or items k []) (place_of_private (get_or privates k None) 0) (length text)) c.loop-i.all.items c.push.new.self.items font c.loop-i.i many more
-          (subst (λ p. HasSize (get_or items c.loop-i.i []) (place_of_private p 0) (length font.items)) private_is (subst (λ (bs : List ℕ). HasSize bs (place_of_private private 0) (length font.items)) (sym item_is) c.in_ok-font_dictionary.ensures.sized))
+          text_more (λ k text. HasSize (get_or items k []) (place_of_private (get_or privates k None) 0) (length text)) c.loop-i.all.items
+          c.push.new.self.items font c.loop-i.i many more
+          (subst (λ p. HasSize (get_or items c.loop-i.i []) (place_of_private p 0) (length font.items)) private_is
+          (subst (λ (bs : List ℕ). HasSize bs (place_of_private private 0) (length font.items))
+          (sym item_is) c.in_ok-font_dictionary.ensures.sized))
           c.loop-i.invariant.sized;
     }
 

@@ -14,8 +14,11 @@ abbrev pub invariant-loop-i : goal.invariant-loop-i
 invariant-loop-i l = record {
   many : length l.all.items ≡ l.i;
   offset : l.start + length (privates_text l.privates) < 2 ^ 64 → l.offset ≡ private_offset l.start l.privates l.i;
-  each : l.start + length (privates_text l.privates) < 2 ^ 64 → (k : ℕ) → k < l.i → (old : Dictionary) → IsDictionary (get_or (items_of l.sources) k []) 0 old →
+  each : l.start + length (privates_text l.privates) < 2 ^ 64 → (k : ℕ) → k < l.i → (old : Dictionary) →
+      IsDictionary (get_or (items_of l.sources) k []) 0 old →
       IsFontDictionary old (get_or l.privates k None) (private_offset l.start l.privates k) (get_or (texts l.all.items) k []);
-  held : l.start + length (privates_text l.privates) < 2 ^ 64 → (k : ℕ) → k < l.i → All IsHeld (place_of_private (get_or l.privates k None) (private_offset l.start l.privates k));
-  sized : (k : ℕ) → k < l.i → HasSize (get_or (items_of l.sources) k []) (place_of_private (get_or l.privates k None) 0) (length (get_or (texts l.all.items) k []));
+  held : l.start + length (privates_text l.privates) < 2 ^ 64 → (k : ℕ) → k < l.i →
+      All IsHeld (place_of_private (get_or l.privates k None) (private_offset l.start l.privates k));
+  sized : (k : ℕ) → k < l.i → HasSize (get_or (items_of l.sources) k []) (place_of_private (get_or l.privates k None) 0)
+      (length (get_or (texts l.all.items) k []));
 }

@@ -18,10 +18,14 @@ returns-clause-text c =
     let ds = texts c.in_ok-dictionaries.dictionaries.items in
     let some : is_none c.args.parts.now.glyphs.now.select ≡ false = search rules in (
       ds,
-      c.in_ok-put_index.ensures.ok ∙ ap (λ ds. c.args.out.now.items ++ index_text (texts ds)) c.deref-2.ensures.value ∙ ap (λ xs. c.args.out.now.items ++ xs) (some_text c.args.parts.now.glyphs.now.select ds some),
+      c.in_ok-put_index.ensures.ok ∙ ap (λ ds. c.args.out.now.items ++ index_text (texts ds)) c.deref-2.ensures.value
+          ∙ ap (λ xs. c.args.out.now.items ++ xs) (some_text c.args.parts.now.glyphs.now.select ds some),
       λ fits is items names.
-          subst (λ ps. AreFontDictionaries items ps c.args.start ds) c.deref.ensures.value (c.in_ok-dictionaries.ensures.placed items names (subst (λ ps. c.args.start + length (privates_text ps) < 2 ^ 64) (sym c.deref.ensures.value) fits)),
-      λ is. subst (λ ps. AreSizedFor c.args.font.now.bytes.now c.args.font.now.dictionary ps ds) c.deref.ensures.value c.in_ok-dictionaries.ensures.sized,
+          subst (λ ps. AreFontDictionaries items ps c.args.start ds) c.deref.ensures.value
+          (c.in_ok-dictionaries.ensures.placed items names
+          (subst (λ ps. c.args.start + length (privates_text ps) < 2 ^ 64) (sym c.deref.ensures.value) fits)),
+      λ is. subst (λ ps. AreSizedFor c.args.font.now.bytes.now c.args.font.now.dictionary ps ds) c.deref.ensures.value
+          c.in_ok-dictionaries.ensures.sized,
       λ is. subst (λ ds. Fits (texts ds)) c.deref-2.ensures.value c.in_ok-put_index.ensures.fits,
     )
 
@@ -31,7 +35,8 @@ returns-in_err-dictionaries-clause-refused c =
     let font = c.args.font.now in
     let some : IsSome c.args.parts.now.glyphs.now.select = search rules in
     rw (error.1, error.2) (λ other read selects parts own few.
-    c.in_err-dictionaries.ensures.refused other (selects some) read.laid.parts (subst (AreOwnPrivates (parts_shown font.parts.items)) (sym c.deref.ensures.value) own)
+    c.in_err-dictionaries.ensures.refused other (selects some) read.laid.parts
+    (subst (AreOwnPrivates (parts_shown font.parts.items)) (sym c.deref.ensures.value) own)
     (subst (λ ps. c.args.start + length (privates_text ps) < 2 ^ 31) (sym c.deref.ensures.value) few))
 
 pub returns-in_err-put_index-clause-refused : goal.returns-in_err-put_index-clause-refused
@@ -46,5 +51,6 @@ returns-in_err-put_index-clause-refused c =
       | inl memory ↦ other memory
       | inr bad ↦
           bad.1 (subst (λ (ds : List (Vec ℕ Global)). Fits (texts ds)) (sym c.deref-2.ensures.value)
-          (few_fit ds (are_few font.bytes.now font.dictionary font.parts.items c.deref.result.now ds keyed (read.few keyed) read.laid.parts parts c.in_ok-dictionaries.ensures.sized)))
+          (few_fit ds (are_few font.bytes.now font.dictionary font.parts.items c.deref.result.now ds keyed
+          (read.few keyed) read.laid.parts parts c.in_ok-dictionaries.ensures.sized)))
     ])

@@ -17,10 +17,12 @@ returns-in_err-put_index-clause-refused c =
     let error = err_from_is_err_and c.from_residual-in_err-put_index.result c.from_residual-in_err-put_index.ensures.1 in
     let placed = c.in_ok-with_places.field-0 in
     let more : c.push.new.self.items ≡ c.new-dictionaries.result.items ++ placed ∷ [] = search rules in
-    let is : c.deref.result.now ≡ placed ∷ [] = c.deref.ensures.value ∙ more ∙ ap (λ xs. xs ++ placed ∷ []) c.new-dictionaries.ensures.items in
+    let is : c.deref.result.now ≡ placed ∷ [] = c.deref.ensures.value ∙ more
+    ∙ ap (λ xs. xs ++ placed ∷ []) c.new-dictionaries.ensures.items in
     rw (error.1, error.2) (λ other held some few.
     let size = sized_within c.args.dictionary.now c.args.places.now (length placed.items) c.in_ok-with_places.ensures.sized in
     elim c.in_err-put_index.ensures.refused [
       | inl memory ↦ other memory
-      | inr bad ↦ bad.1 (subst (λ (ds : List (Vec ℕ Global)). Fits (texts ds)) (sym is) (single_fits placed.items (omega (arith, size, few))))
+      | inr bad ↦ bad.1 (subst (λ (ds : List (Vec ℕ Global)). Fits (texts ds)) (sym is)
+          (single_fits placed.items (omega (arith, size, few))))
     ])

@@ -6,4 +6,6 @@ use Rattle.postscript_write.specs.declared.naming.TheConstants.{SID_OPERATORS}
 use Rattle.postscript_write.proofs.layout.renamed.Given as goal
 
 abbrev pub invariant-loop-operator : goal.invariant-loop-operator
-invariant-loop-operator l = l.places.items ≡ flat_map (λ operator. renamed_if l.strings operator (identifier_in l.dictionary operator)) (take l.operator-index SID_OPERATORS)
+invariant-loop-operator l =
+    l.places.items ≡ flat_map (λ operator. renamed_if l.strings operator (identifier_in l.dictionary operator))
+    (take l.operator-index SID_OPERATORS)

@@ -18,7 +18,10 @@ use Rattle.postscript_write.proofs.Arranged.{private_there}
 use Rattle.postscript_write.proofs.TablesStand.{dictionaries_there, header_is, index_there, tables_are}
 use Rattle.postscript_write.proofs.Within.{all_held, codes_fit, dictionary_within, end_within, HasFew, names_fit, strings_fit, tables_room, tables_within}
 use Rattle.postscript_write.proofs.LaidOut.{laid_out}
-use Rattle.postscript_write.proofs.NoByteBeside.{whole_out}
+use Rattle.postscript_write.specs.Fonts.{NamesNoPrivateIfKeyed}
+use Rattle.postscript_write.specs.ReadBack.{HasCharSetText}
+use Rattle.postscript_write.proofs.NoByteBeside.{dictionary_is, whole_out}
+use Rattle.postscript_write.proofs.SetStands.{set_there, unnamed_there}
 use Rattle.postscript_write.proofs.WrittenBack.{as_written, codes_there, other_codes_there}
 use Rattle.postscript_write.proofs.NamesBack.{names_back}
 use Rattle.postscript_write.proofs.layout.written.Goals as goal
@@ -27,7 +30,12 @@ pub returns-clause-written : goal.returns-clause-written
 returns-clause-written c =
     let font = c.args.font.now in
     let glyphs = c.args.glyphs.now in
-    let parts : Parts = record { glyphs = c.args.glyphs; char_strings = c.put_index.new.out; privates = c.in_ok-privates.privates; dictionaries = c.in_ok-dictionaries_len.field-0 } in
+    let parts : Parts = record {
+      glyphs = c.args.glyphs;
+      char_strings = c.put_index.new.out;
+      privates = c.in_ok-privates.privates;
+      dictionaries = c.in_ok-dictionaries_len.field-0;
+    } in
     let dictionary : List ℕ = c.in_ok-dictionary.dictionary.items in
     let names : List (List ℕ) = items_of font.names in
     let strings : List (List ℕ) = texts glyphs.strings.texts.items in
@@ -37,28 +45,44 @@ returns-clause-written c =
     let counted = c.in_ok-dictionaries_len.ensures.len in
     let tables : List ℕ = c.put_tables-2.new.out.items in
     let are_draft : c.put_tables.new.out.items ≡ tables_text names draft.0 strings =
-    draft.1 ∙ ap (λ xs. xs ++ tables_text names draft.0 (texts c.deref-3.result.now)) c.new-draft.ensures.items ∙ ap (λ ts. tables_text names draft.0 (texts ts)) c.deref-3.ensures.value in
+    draft.1 ∙ ap (λ xs. xs ++ tables_text names draft.0 (texts c.deref-3.result.now)) c.new-draft.ensures.items
+    ∙ ap (λ ts. tables_text names draft.0 (texts ts)) c.deref-3.ensures.value in
     let are_tables : tables ≡ tables_text names put.0 strings =
-    put.1 ∙ ap (λ xs. xs ++ tables_text names put.0 (texts c.deref-6.result.now)) c.new-out.ensures.items ∙ ap (λ ts. tables_text names put.0 (texts ts)) c.deref-6.ensures.value in
+    put.1 ∙ ap (λ xs. xs ++ tables_text names put.0 (texts c.deref-6.result.now)) c.new-out.ensures.items
+    ∙ ap (λ ts. tables_text names put.0 (texts ts)) c.deref-6.ensures.value in
     let len : parts.dictionaries ≡ length (dictionaries_text glyphs.select behind.0) =
-    counted.1 ∙ same_text font.bytes.now font.dictionary parts.privates.items glyphs.select counted.0 behind.0 (λ is. subst (λ ps. AreSizedFor font.bytes.now font.dictionary ps counted.0) c.deref.ensures.value (counted.2 is)) behind.3 in
+    counted.1 ∙ same_text font.bytes.now font.dictionary parts.privates.items glyphs.select counted.0 behind.0
+    (λ is. subst (λ ps. AreSizedFor font.bytes.now font.dictionary ps counted.0) c.deref.ensures.value (counted.2 is)) behind.3 in
     let written = ap length behind.1 ∙ length-append tables (parts_text parts behind.0) in
     let begins : c.len.result ≡ length c.put_tables.new.out.items = omega (arith, c.len.ensures, c.put_tables.new.out.ok.0) in
     let few = c.put_tables.new.out.small in
     let small = c.put_parts.new.out.small in
     let fits : (beginnings c.len.result parts).end < 2 ^ 64 =
-    omega (arith, parts_end parts behind.0 c.len.result len, written, begins, few, small, c.put_tables.new.out.ok.0, c.put_parts.new.out.ok.0) in
+    omega (
+      arith,
+      parts_end parts behind.0 c.len.result len,
+      written,
+      begins,
+      few,
+      small,
+      c.put_tables.new.out.ok.0,
+      c.put_parts.new.out.ok.0,
+    ) in
     let fits_first : (beginnings 0 parts).end < 2 ^ 64 =
     omega (arith, parts_end parts behind.0 0 len, written, small, c.put_parts.new.out.ok.0) in
     let first_places = c.deref-4.ensures.value ∙ c.in_ok-places.ensures.places fits_first in
     let second_places = c.deref-7.ensures.value ∙ c.in_ok-places-2.ensures.places fits in
     let first_size : HasSize dictionary (places_of 0 parts) (length draft.0) =
-    subst (λ (d : List ℕ). HasSize d (places_of 0 parts) (length draft.0)) c.deref-2.ensures.value (subst (λ ps. HasSize c.deref-2.result.now ps (length draft.0)) first_places draft.3) in
+    subst (λ (d : List ℕ). HasSize d (places_of 0 parts) (length draft.0)) c.deref-2.ensures.value
+    (subst (λ ps. HasSize c.deref-2.result.now ps (length draft.0)) first_places draft.3) in
     let second_size : HasSize dictionary (places_of c.len.result parts) (length put.0) =
-    subst (λ (d : List ℕ). HasSize d (places_of c.len.result parts) (length put.0)) c.deref-5.ensures.value (subst (λ ps. HasSize c.deref-5.result.now ps (length put.0)) second_places put.3) in
-    let place : c.len.result ≡ length tables = begins ∙ ap length are_draft ∙ same_tables names strings dictionary parts 0 c.len.result draft.0 put.0 first_size second_size ∙ sym (ap length are_tables) in
+    subst (λ (d : List ℕ). HasSize d (places_of c.len.result parts) (length put.0)) c.deref-5.ensures.value
+    (subst (λ ps. HasSize c.deref-5.result.now ps (length put.0)) second_places put.3) in
+    let place : c.len.result ≡ length tables = begins ∙ ap length are_draft
+    ∙ same_tables names strings dictionary parts 0 c.len.result draft.0 put.0 first_size second_size ∙ sym (ap length are_tables) in
     let out : List ℕ = c.put_parts.new.out.items in
-    let whole : out ≡ tables_text names put.0 strings ++ parts_text parts behind.0 = behind.1 ∙ ap (λ xs. xs ++ parts_text parts behind.0) are_tables in
+    let whole : out ≡ tables_text names put.0 strings ++ parts_text parts behind.0 = behind.1
+    ∙ ap (λ xs. xs ++ parts_text parts behind.0) are_tables in
     let less : length out < 2 ^ 64 = omega (arith, small, c.put_parts.new.out.ok.0) in
     let stand = parts_stand parts behind.0 tables out len behind.1 in
     let codes_are : parts.char_strings.items ≡ index_text (texts c.args.codes.now) =
@@ -66,7 +90,9 @@ returns-clause-written c =
     let at = beginnings (length tables) parts in
     let strings_fit = subst (λ ts. Fits (texts ts)) c.deref-6.ensures.value c.in_ok-put_tables-2.ensures.strings_fit in
     let places : IsWithPlaces dictionary (places_of (length tables) parts) put.0 =
-    subst (λ n. IsWithPlaces dictionary (places_of n parts) put.0) place (subst (λ (d : List ℕ). IsWithPlaces d (places_of c.len.result parts) put.0) c.deref-5.ensures.value (subst (λ ps. IsWithPlaces c.deref-5.result.now ps put.0) second_places put.2)) in
+    subst (λ n. IsWithPlaces dictionary (places_of n parts) put.0) place
+    (subst (λ (d : List ℕ). IsWithPlaces d (places_of c.len.result parts) put.0) c.deref-5.ensures.value
+    (subst (λ ps. IsWithPlaces c.deref-5.result.now ps put.0) second_places put.2)) in
     record {
       parts = parts;
       dictionary = dictionary;
@@ -97,9 +123,11 @@ returns-clause-written c =
             new = new.0;
             renamed = named.2;
             placed = new.2;
-            are = tables_are out (parts_text parts behind.0) names strings put.0 new.0 whole c.in_ok-put_tables-2.ensures.names_fit put.4 strings_fit new.1;
+            are = tables_are out (parts_text parts behind.0) names strings put.0 new.0 whole c.in_ok-put_tables-2.ensures.names_fit put.4
+                strings_fit new.1;
           };
-      codes_stand = index_there (texts c.args.codes.now) out at.char_strings less c.in_ok-put_index.ensures.fits (subst (λ xs. Stands xs out at.char_strings) codes_are stand.char_strings);
+      codes_stand = index_there (texts c.args.codes.now) out at.char_strings less c.in_ok-put_index.ensures.fits
+          (subst (λ xs. Stands xs out at.char_strings) codes_are stand.char_strings);
       dictionaries_stand = dictionaries_there glyphs.select behind.0 out at.dictionaries less behind.4 stand.font_dictionaries;
       stand = stand;
       privates_stand = λ number less. private_there parts.privates.items number out at.privates less stand.privates;
@@ -107,26 +135,56 @@ returns-clause-written c =
     }
 
 pub returns-clause-laid_out : goal.returns-clause-laid_out
-returns-clause-laid_out c = λ read exactly. laid_out c.args.font.now c.args.glyphs.now (texts c.args.codes.now) c.put_parts.new.out.items (returns-clause-written c) read exactly
+returns-clause-laid_out c =
+    λ read exactly. laid_out c.args.font.now c.args.glyphs.now (texts c.args.codes.now) c.put_parts.new.out.items
+    (returns-clause-written c) read exactly
 
 pub returns-clause-whole : goal.returns-clause-whole
-returns-clause-whole c = λ read exactly given. whole_out c.args.font.now c.args.glyphs.now (texts c.args.codes.now) c.put_parts.new.out.items (returns-clause-written c) read exactly given
+returns-clause-whole c =
+    λ read exactly given. whole_out c.args.font.now c.args.glyphs.now (texts c.args.codes.now) c.put_parts.new.out.items
+    (returns-clause-written c) read exactly given
 
 pub returns-clause-back : goal.returns-clause-back
-returns-clause-back c = λ read exactly given. as_written c.args.font.now c.args.glyphs.now (texts c.args.codes.now) c.put_parts.new.out.items (returns-clause-written c) read exactly given
+returns-clause-back c =
+    λ read exactly given. as_written c.args.font.now c.args.glyphs.now (texts c.args.codes.now) c.put_parts.new.out.items
+    (returns-clause-written c) read exactly given
 
 pub returns-clause-names : goal.returns-clause-names
-returns-clause-names c = λ read exactly. names_back c.args.font.now c.args.glyphs.now (texts c.args.codes.now) c.put_parts.new.out.items (returns-clause-written c) read exactly
+returns-clause-names c =
+    λ read exactly. names_back c.args.font.now c.args.glyphs.now (texts c.args.codes.now) c.put_parts.new.out.items
+    (returns-clause-written c) read exactly
+
+pub returns-clause-char_set : goal.returns-clause-char_set
+returns-clause-char_set c = λ read new laid.
+    let font = c.args.font.now in
+    let glyphs = c.args.glyphs.now in
+    let out = c.put_parts.new.out.items in
+    let w = returns-clause-written c in
+    let t = w.tables_stand read.laid.tables in
+    subst (λ map. HasCharSetText font.dictionary glyphs.char_set out map)
+    (dictionary_is font glyphs (texts c.args.codes.now) out w t new laid) (set_there font glyphs (texts c.args.codes.now) out w t)
+
+pub returns-clause-unnamed : goal.returns-clause-unnamed
+returns-clause-unnamed c = λ read exactly new laid.
+    let font = c.args.font.now in
+    let glyphs = c.args.glyphs.now in
+    let out = c.put_parts.new.out.items in
+    let w = returns-clause-written c in
+    let t = w.tables_stand read.laid.tables in
+    subst NamesNoPrivateIfKeyed (dictionary_is font glyphs (texts c.args.codes.now) out w t new laid)
+    (unnamed_there font glyphs (texts c.args.codes.now) out w t exactly)
 
 pub returns-clause-same_codes : goal.returns-clause-same_codes
 returns-clause-same_codes c = λ read encoding was stays new laid.
     let w = returns-clause-written c in
-    codes_there c.args.font.now c.args.glyphs.now (texts c.args.codes.now) c.put_parts.new.out.items w (w.tables_stand read.laid.tables) new laid encoding was stays
+    codes_there c.args.font.now c.args.glyphs.now (texts c.args.codes.now) c.put_parts.new.out.items w
+    (w.tables_stand read.laid.tables) new laid encoding was stays
 
 pub returns-clause-other_codes : goal.returns-clause-other_codes
 returns-clause-other_codes c = λ read encoding was gives new laid.
     let w = returns-clause-written c in
-    other_codes_there c.args.font.now c.args.glyphs.now (texts c.args.codes.now) c.put_parts.new.out.items w (w.tables_stand read.laid.tables) new laid encoding was gives
+    other_codes_there c.args.font.now c.args.glyphs.now (texts c.args.codes.now) c.put_parts.new.out.items w
+    (w.tables_stand read.laid.tables) new laid encoding was gives
 
 pub returns-in_err-put_index-clause-refused : goal.returns-in_err-put_index-clause-refused
 returns-in_err-put_index-clause-refused c =
@@ -149,13 +207,15 @@ returns-in_err-dictionaries_len-clause-refused c =
     rw (error.1, error.2) (λ other read selects room.
     let few = c.in_ok-privates.ensures.few read in
     let all = room.all in
-    c.in_err-dictionaries_len.ensures.refused other read selects room.few_parts (subst (AreOwnPrivates (parts_shown font.parts.items)) same (c.in_ok-privates.ensures.own read.laid.parts))
+    c.in_err-dictionaries_len.ensures.refused other read selects room.few_parts
+    (subst (AreOwnPrivates (parts_shown font.parts.items)) same (c.in_ok-privates.ensures.own read.laid.parts))
     (subst (λ ps. length (privates_text ps) < 2 ^ 31) same (omega (arith, few, all))))
 
 pub returns-in_err-dictionary-clause-refused : goal.returns-in_err-dictionary-clause-refused
 returns-in_err-dictionary-clause-refused c =
     let error = err_from_is_err_and c.from_residual-in_err-dictionary.result c.from_residual-in_err-dictionary.ensures.1 in
-    rw (error.1, error.2) (λ other read selects room. c.in_err-dictionary.ensures.refused other read.laid.header read.laid.tables room.renamed)
+    rw (error.1, error.2) (λ other read selects room. c.in_err-dictionary.ensures.refused other read.laid.header read.laid.tables
+    room.renamed)
 
 pub returns-in_err-put_tables-clause-refused : goal.returns-in_err-put_tables-clause-refused
 returns-in_err-put_tables-clause-refused c =
@@ -163,9 +223,15 @@ returns-in_err-put_tables-clause-refused c =
     let font = c.args.font.now in
     let glyphs = c.args.glyphs.now in
     let codes : List (List ℕ) = texts c.args.codes.now in
-    let parts : Parts = record { glyphs = c.args.glyphs; char_strings = c.put_index.new.out; privates = c.in_ok-privates.privates; dictionaries = c.in_ok-dictionaries_len.field-0 } in
+    let parts : Parts = record {
+      glyphs = c.args.glyphs;
+      char_strings = c.put_index.new.out;
+      privates = c.in_ok-privates.privates;
+      dictionaries = c.in_ok-dictionaries_len.field-0;
+    } in
     let dictionary : List ℕ = c.in_ok-dictionary.dictionary.items in
-    let codes_are : parts.char_strings.items ≡ index_text codes = c.in_ok-put_index.ensures.ok ∙ ap (λ xs. xs ++ index_text codes) c.new-char_strings.ensures.items in
+    let codes_are : parts.char_strings.items ≡ index_text codes = c.in_ok-put_index.ensures.ok
+    ∙ ap (λ xs. xs ++ index_text codes) c.new-char_strings.ensures.items in
     rw (error.1, error.2) (λ other read selects room.
     let few : HasFew font codes parts = record {
       char_strings = codes_are;
@@ -173,13 +239,17 @@ returns-in_err-put_tables-clause-refused c =
       dictionaries = c.in_ok-dictionaries_len.ensures.few read selects room.few_parts;
     } in
     let end_first = end_within font codes parts 0 room few (omega arith) in
-    let first_places : c.deref-4.result.now ≡ places_of 0 parts = c.deref-4.ensures.value ∙ c.in_ok-places.ensures.places (omega (arith, end_first)) in
-    let first_few = dictionary_within font glyphs.strings dictionary parts 0 c.deref-4.result.now c.in_ok-dictionary.ensures.sized first_places in
+    let first_places : c.deref-4.result.now ≡ places_of 0 parts = c.deref-4.ensures.value
+    ∙ c.in_ok-places.ensures.places (omega (arith, end_first)) in
+    let first_few = dictionary_within font glyphs.strings dictionary parts 0 c.deref-4.result.now c.in_ok-dictionary.ensures.sized
+    first_places in
     let new = c.in_ok-dictionary.ensures.renamed read.laid.tables in
     let all = room.all in
     let is = sym c.deref-2.ensures.value in
-    c.in_err-put_tables.ensures.refused other (all_held font codes parts 0 c.deref-4.result.now room few (omega arith) first_places) (subst (λ (d : List ℕ). IsSomeDictionary d) is (new.0, new.1))
-    (subst (λ (d : List ℕ). length d + places_size c.deref-4.result.now < 2 ^ 31) is (omega (arith, first_few, all))) (names_fit font glyphs codes room)
+    c.in_err-put_tables.ensures.refused other (all_held font codes parts 0 c.deref-4.result.now room few (omega arith) first_places)
+    (subst (λ (d : List ℕ). IsSomeDictionary d) is (new.0, new.1))
+    (subst (λ (d : List ℕ). length d + places_size c.deref-4.result.now < 2 ^ 31) is (omega (arith, first_few, all)))
+    (names_fit font glyphs codes room)
     (subst (λ (ts : List (Vec ℕ Global)). Fits (texts ts)) (sym c.deref-3.ensures.value) (strings_fit font glyphs codes room)))
 
 pub returns-in_err-put_tables-2-clause-refused : goal.returns-in_err-put_tables-2-clause-refused
@@ -188,15 +258,22 @@ returns-in_err-put_tables-2-clause-refused c =
     let font = c.args.font.now in
     let glyphs = c.args.glyphs.now in
     let codes : List (List ℕ) = texts c.args.codes.now in
-    let parts : Parts = record { glyphs = c.args.glyphs; char_strings = c.put_index.new.out; privates = c.in_ok-privates.privates; dictionaries = c.in_ok-dictionaries_len.field-0 } in
+    let parts : Parts = record {
+      glyphs = c.args.glyphs;
+      char_strings = c.put_index.new.out;
+      privates = c.in_ok-privates.privates;
+      dictionaries = c.in_ok-dictionaries_len.field-0;
+    } in
     let dictionary : List ℕ = c.in_ok-dictionary.dictionary.items in
-    let codes_are : parts.char_strings.items ≡ index_text codes = c.in_ok-put_index.ensures.ok ∙ ap (λ xs. xs ++ index_text codes) c.new-char_strings.ensures.items in
+    let codes_are : parts.char_strings.items ≡ index_text codes = c.in_ok-put_index.ensures.ok
+    ∙ ap (λ xs. xs ++ index_text codes) c.new-char_strings.ensures.items in
     let draft = c.in_ok-put_tables.ensures.text in
     let are_draft : c.put_tables.new.out.items ≡ tables_text (items_of font.names) draft.0 (texts glyphs.strings.texts.items) =
     draft.1
     ∙ ap (λ xs. xs ++ tables_text (items_of font.names) draft.0 (texts c.deref-3.result.now)) c.new-draft.ensures.items
     ∙ ap (λ ts. tables_text (items_of font.names) draft.0 (texts ts)) c.deref-3.ensures.value in
-    let first_size : HasSize dictionary c.deref-4.result.now (length draft.0) = subst (λ (d : List ℕ). HasSize d c.deref-4.result.now (length draft.0)) c.deref-2.ensures.value draft.3 in
+    let first_size : HasSize dictionary c.deref-4.result.now (length draft.0) = subst
+    (λ (d : List ℕ). HasSize d c.deref-4.result.now (length draft.0)) c.deref-2.ensures.value draft.3 in
     rw (error.1, error.2) (λ other read selects room.
     let few : HasFew font codes parts = record {
       char_strings = codes_are;
@@ -204,18 +281,30 @@ returns-in_err-put_tables-2-clause-refused c =
       dictionaries = c.in_ok-dictionaries_len.ensures.few read selects room.few_parts;
     } in
     let end_first = end_within font codes parts 0 room few (omega arith) in
-    let first_places : c.deref-4.result.now ≡ places_of 0 parts = c.deref-4.ensures.value ∙ c.in_ok-places.ensures.places (omega (arith, end_first)) in
-    let first_few = dictionary_within font glyphs.strings dictionary parts 0 c.deref-4.result.now c.in_ok-dictionary.ensures.sized first_places in
+    let first_places : c.deref-4.result.now ≡ places_of 0 parts = c.deref-4.ensures.value
+    ∙ c.in_ok-places.ensures.places (omega (arith, end_first)) in
+    let first_few = dictionary_within font glyphs.strings dictionary parts 0 c.deref-4.result.now c.in_ok-dictionary.ensures.sized
+    first_places in
     let begins : c.len.result ≤ tables_room font glyphs =
-    omega (arith, tables_within font glyphs dictionary draft.0 c.deref-4.result.now first_few first_size, ap length are_draft, c.len.ensures, c.put_tables.new.out.ok.0) in
+    omega (
+      arith,
+      tables_within font glyphs dictionary draft.0 c.deref-4.result.now first_few first_size,
+      ap length are_draft,
+      c.len.ensures,
+      c.put_tables.new.out.ok.0,
+    ) in
     let end = end_within font codes parts c.len.result room few begins in
-    let places : c.deref-7.result.now ≡ places_of c.len.result parts = c.deref-7.ensures.value ∙ c.in_ok-places-2.ensures.places (omega (arith, end)) in
-    let second_few = dictionary_within font glyphs.strings dictionary parts c.len.result c.deref-7.result.now c.in_ok-dictionary.ensures.sized places in
+    let places : c.deref-7.result.now ≡ places_of c.len.result parts = c.deref-7.ensures.value
+    ∙ c.in_ok-places-2.ensures.places (omega (arith, end)) in
+    let second_few = dictionary_within font glyphs.strings dictionary parts c.len.result c.deref-7.result.now
+    c.in_ok-dictionary.ensures.sized places in
     let new = c.in_ok-dictionary.ensures.renamed read.laid.tables in
     let all = room.all in
     let is = sym c.deref-5.ensures.value in
-    c.in_err-put_tables-2.ensures.refused other (all_held font codes parts c.len.result c.deref-7.result.now room few begins places) (subst (λ (d : List ℕ). IsSomeDictionary d) is (new.0, new.1))
-    (subst (λ (d : List ℕ). length d + places_size c.deref-7.result.now < 2 ^ 31) is (omega (arith, second_few, all))) (names_fit font glyphs codes room)
+    c.in_err-put_tables-2.ensures.refused other (all_held font codes parts c.len.result c.deref-7.result.now room few begins places)
+    (subst (λ (d : List ℕ). IsSomeDictionary d) is (new.0, new.1))
+    (subst (λ (d : List ℕ). length d + places_size c.deref-7.result.now < 2 ^ 31) is (omega (arith, second_few, all)))
+    (names_fit font glyphs codes room)
     (subst (λ (ts : List (Vec ℕ Global)). Fits (texts ts)) (sym c.deref-6.ensures.value) (strings_fit font glyphs codes room)))
 
 pub returns-in_err-put_parts-clause-refused : goal.returns-in_err-put_parts-clause-refused
@@ -224,22 +313,30 @@ returns-in_err-put_parts-clause-refused c =
     let font = c.args.font.now in
     let glyphs = c.args.glyphs.now in
     let codes : List (List ℕ) = texts c.args.codes.now in
-    let parts : Parts = record { glyphs = c.args.glyphs; char_strings = c.put_index.new.out; privates = c.in_ok-privates.privates; dictionaries = c.in_ok-dictionaries_len.field-0 } in
+    let parts : Parts = record {
+      glyphs = c.args.glyphs;
+      char_strings = c.put_index.new.out;
+      privates = c.in_ok-privates.privates;
+      dictionaries = c.in_ok-dictionaries_len.field-0;
+    } in
     let dictionary : List ℕ = c.in_ok-dictionary.dictionary.items in
-    let codes_are : parts.char_strings.items ≡ index_text codes = c.in_ok-put_index.ensures.ok ∙ ap (λ xs. xs ++ index_text codes) c.new-char_strings.ensures.items in
+    let codes_are : parts.char_strings.items ≡ index_text codes = c.in_ok-put_index.ensures.ok
+    ∙ ap (λ xs. xs ++ index_text codes) c.new-char_strings.ensures.items in
     let draft = c.in_ok-put_tables.ensures.text in
     let are_draft : c.put_tables.new.out.items ≡ tables_text (items_of font.names) draft.0 (texts glyphs.strings.texts.items) =
     draft.1
     ∙ ap (λ xs. xs ++ tables_text (items_of font.names) draft.0 (texts c.deref-3.result.now)) c.new-draft.ensures.items
     ∙ ap (λ ts. tables_text (items_of font.names) draft.0 (texts ts)) c.deref-3.ensures.value in
-    let first_size : HasSize dictionary c.deref-4.result.now (length draft.0) = subst (λ (d : List ℕ). HasSize d c.deref-4.result.now (length draft.0)) c.deref-2.ensures.value draft.3 in
+    let first_size : HasSize dictionary c.deref-4.result.now (length draft.0) = subst
+    (λ (d : List ℕ). HasSize d c.deref-4.result.now (length draft.0)) c.deref-2.ensures.value draft.3 in
     let put = c.in_ok-put_tables-2.ensures.text in
     let tables : List ℕ = c.put_tables-2.new.out.items in
     let are_tables : tables ≡ tables_text (items_of font.names) put.0 (texts glyphs.strings.texts.items) =
     put.1
     ∙ ap (λ xs. xs ++ tables_text (items_of font.names) put.0 (texts c.deref-6.result.now)) c.new-out.ensures.items
     ∙ ap (λ ts. tables_text (items_of font.names) put.0 (texts ts)) c.deref-6.ensures.value in
-    let second_size : HasSize dictionary c.deref-7.result.now (length put.0) = subst (λ (d : List ℕ). HasSize d c.deref-7.result.now (length put.0)) c.deref-5.ensures.value put.3 in
+    let second_size : HasSize dictionary c.deref-7.result.now (length put.0) = subst
+    (λ (d : List ℕ). HasSize d c.deref-7.result.now (length put.0)) c.deref-5.ensures.value put.3 in
     rw (error.1, error.2) (λ other read selects room.
     let few : HasFew font codes parts = record {
       char_strings = codes_are;
@@ -247,12 +344,24 @@ returns-in_err-put_parts-clause-refused c =
       dictionaries = c.in_ok-dictionaries_len.ensures.few read selects room.few_parts;
     } in
     let end_first = end_within font codes parts 0 room few (omega arith) in
-    let first_places : c.deref-4.result.now ≡ places_of 0 parts = c.deref-4.ensures.value ∙ c.in_ok-places.ensures.places (omega (arith, end_first)) in
-    let first_few = dictionary_within font glyphs.strings dictionary parts 0 c.deref-4.result.now c.in_ok-dictionary.ensures.sized first_places in
+    let first_places : c.deref-4.result.now ≡ places_of 0 parts = c.deref-4.ensures.value
+    ∙ c.in_ok-places.ensures.places (omega (arith, end_first)) in
+    let first_few = dictionary_within font glyphs.strings dictionary parts 0 c.deref-4.result.now c.in_ok-dictionary.ensures.sized
+    first_places in
     let begins : c.len.result ≤ tables_room font glyphs =
-    omega (arith, tables_within font glyphs dictionary draft.0 c.deref-4.result.now first_few first_size, ap length are_draft, c.len.ensures, c.put_tables.new.out.ok.0) in
+    omega (
+      arith,
+      tables_within font glyphs dictionary draft.0 c.deref-4.result.now first_few first_size,
+      ap length are_draft,
+      c.len.ensures,
+      c.put_tables.new.out.ok.0,
+    ) in
     let end = end_within font codes parts c.len.result room few begins in
-    let places : c.deref-7.result.now ≡ places_of c.len.result parts = c.deref-7.ensures.value ∙ c.in_ok-places-2.ensures.places (omega (arith, end)) in
-    let second_few = dictionary_within font glyphs.strings dictionary parts c.len.result c.deref-7.result.now c.in_ok-dictionary.ensures.sized places in
-    let within : length tables ≤ tables_room font glyphs = omega (arith, tables_within font glyphs dictionary put.0 c.deref-7.result.now second_few second_size, ap length are_tables) in
-    c.in_err-put_parts.ensures.refused other read selects room.few_parts (c.in_ok-privates.ensures.own read.laid.parts) (end_within font codes parts (length tables) room few within))
+    let places : c.deref-7.result.now ≡ places_of c.len.result parts = c.deref-7.ensures.value
+    ∙ c.in_ok-places-2.ensures.places (omega (arith, end)) in
+    let second_few = dictionary_within font glyphs.strings dictionary parts c.len.result c.deref-7.result.now
+    c.in_ok-dictionary.ensures.sized places in
+    let within : length tables ≤ tables_room font glyphs = omega
+    (arith, tables_within font glyphs dictionary put.0 c.deref-7.result.now second_few second_size, ap length are_tables) in
+    c.in_err-put_parts.ensures.refused other read selects room.few_parts (c.in_ok-privates.ensures.own read.laid.parts)
+    (end_within font codes parts (length tables) room few within))

@@ -6,4 +6,5 @@ pub returns-in-Err-clause-memory : goal.returns-in-Err-clause-memory
 returns-in-Err-clause-memory c =
     let font = c.args.font.now in
     let set = c.requires.0 in
-    absurd (c.in-Err.ensures.refused set (subst (λ (n : ℕ). IsCharSetOf set font.bytes.now font.dictionary n) (sym c.len.ensures) c.requires.1))
+    absurd (c.in-Err.ensures.refused set
+    (subst (λ (n : ℕ). IsCharSetOf set font.bytes.now font.dictionary n) (sym c.len.ensures) c.requires.1))

@@ -8,7 +8,8 @@ loop-r-init c = at_first c.args.ranges.now c.args.size c.args.glyphs (omega (ari
 pub loop-r-preserved : goal.loop-r-preserved
 loop-r-preserved c =
     let left = c.if-left-more.false in
-    one_more c.args.ranges.now c.args.size c.args.glyphs c.loop-r.r c.loop-r.left c.number_at-more.result (c.loop-r.left - (c.number_at-more.result + 1))
+    one_more c.args.ranges.now c.args.size c.args.glyphs c.loop-r.r c.loop-r.left c.number_at-more.result
+    (c.loop-r.left - (c.number_at-more.result + 1))
     c.number_at-more.ensures.value (omega (arith, left)) (omega (arith, left)) c.loop-r.invariant
 
 pub returns-then-left-more : goal.returns-then-left-more

@@ -9,9 +9,14 @@ pub loop-operator-preserved : goal.loop-operator-preserved
 loop-operator-preserved c =
     elim c.match-identifier_in.branch [
       | in-Some+in_ok-push w ↦
-          (let more : c.match-identifier_in.identifiers.items ≡ c.loop-operator.identifiers.items ++ w.in-Some.identifier ∷ [] = search rules in
-          one_given (identifier_in c.args.dictionary.now) SID_OPERATORS c.loop-operator.operator-index _ w.in-Some.identifier c.loop-operator.identifiers.items c.match-identifier_in.identifiers.items c.loop-operator-test.true c.loop-operator.invariant (sym w.in-Some.ensures) more)
+          (let more : c.match-identifier_in.identifiers.items ≡ c.loop-operator.identifiers.items ++ w.in-Some.identifier ∷ [] = search
+          rules in
+          one_given (identifier_in c.args.dictionary.now) SID_OPERATORS c.loop-operator.operator-index _ w.in-Some.identifier
+          c.loop-operator.identifiers.items c.match-identifier_in.identifiers.items c.loop-operator-test.true c.loop-operator.invariant
+          (sym w.in-Some.ensures) more)
       | in_default w ↦
           (let same : c.match-identifier_in.identifiers.items ≡ c.loop-operator.identifiers.items = search rules in
-          none_given (identifier_in c.args.dictionary.now) SID_OPERATORS c.loop-operator.operator-index _ c.loop-operator.identifiers.items c.match-identifier_in.identifiers.items c.loop-operator-test.true c.loop-operator.invariant (sym w.in_default.ensures) same)
+          none_given (identifier_in c.args.dictionary.now) SID_OPERATORS c.loop-operator.operator-index _
+          c.loop-operator.identifiers.items c.match-identifier_in.identifiers.items c.loop-operator-test.true c.loop-operator.invariant
+          (sym w.in_default.ensures) same)
     ]

@@ -5,7 +5,7 @@ use Rattle.postscript_type2.specs.Program.Routines.{texts}
 use Rattle.postscript_view.specs.Value.{view_shown}
 use Rattle.postscript_write.specs.Glyphs.{AreCodesOf}
 use Rattle.postscript_write.specs.Sizes.{IsLarge}
-use Rattle.postscript_write.proofs.Making.{if_err, late_refused, too_large}
+use Rattle.postscript_write.proofs.Making.{if_err, memory_refused, too_large}
 use Rattle.postscript_write.proofs.whole.font_of.Goals as goal
 
 pub returns-in_err-set-clause-refused : goal.returns-in_err-set-clause-refused
@@ -20,13 +20,9 @@ returns-in_err-encoding-clause-refused c =
 
 pub returns-clause-refused : goal.returns-clause-refused
 returns-clause-refused c =
-    let font = view_shown c.args.font.now in
-    let bytes = c.args.font.now.bytes.now in
-    let sources = c.args.sources.now in
-    let numbers = c.in_ok-numbers.numbers.items in
-    let flats = texts c.in_ok-codes.codes.items in
-    let codes : AreCodesOf font sources numbers flats = subst (λ (ns : List ℕ). AreCodesOf font sources ns flats) c.deref.ensures.value c.in_ok-codes.ensures.codes in
-    if_err c.put_together.result (λ e late. late_refused bytes font sources numbers flats e c.in_ok-numbers.ensures.numbers codes late) c.put_together.ensures.late
+    if_err c.put_together.result
+    (λ e memory. memory_refused c.args.font.now.bytes.now (view_shown c.args.font.now) c.args.sources.now e memory)
+    c.put_together.ensures.memory
 
 pub returns-then-is_large-clause-refused : goal.returns-then-is_large-clause-refused
 returns-then-is_large-clause-refused c =
@@ -35,5 +31,7 @@ returns-then-is_large-clause-refused c =
     let sources = c.args.sources.now in
     let numbers = c.in_ok-numbers.numbers.items in
     let flats = texts c.in_ok-codes.codes.items in
-    let codes : AreCodesOf font sources numbers flats = subst (λ (ns : List ℕ). AreCodesOf font sources ns flats) c.deref.ensures.value c.in_ok-codes.ensures.codes in
-    too_large bytes font sources numbers flats c.in_ok-numbers.ensures.numbers codes (subst (λ (cs : List (Vec ℕ Global)). IsLarge bytes font (texts cs)) c.deref-2.ensures.value c.if-is_large.ensures)
+    let codes : AreCodesOf font sources numbers flats = subst
+    (λ (ns : List ℕ). AreCodesOf font sources ns flats) c.deref.ensures.value c.in_ok-codes.ensures.codes in
+    too_large bytes font sources numbers flats c.in_ok-numbers.ensures.numbers codes
+    (subst (λ (cs : List (Vec ℕ Global)). IsLarge bytes font (texts cs)) c.deref-2.ensures.value c.if-is_large.ensures)

@@ -1,31 +1,129 @@
-use Rattle.std.proofs.Common.{sym, ap, subst, ◌∙◌, List, ℕ}
+use Rattle.std.proofs.Common.{◌<◌, ◌^◌, sym, ap, subst, ◌∙◌, length, arith}
+use Rattle.postscript_type2.specs.Program.Routines.{texts}
+use Rattle.postscript_view.proofs.LayoutLaws.{reads_layout}
 use Rattle.postscript_view.specs.Contents.{View}
 use Rattle.postscript_view.specs.Value.{view_shown}
-use Rattle.postscript_view.proofs.LayoutLaws.{reads_layout}
-use Rattle.postscript_type2.specs.Program.Routines.{texts}
-use Rattle.postscript_write.specs.Readings.{HasLenientFont}
+use Rattle.postscript_write.proofs.Counts.{numbers_low}
+use Rattle.postscript_write.proofs.GivenBack.{codes_back, given, their_numbers}
+use Rattle.postscript_write.proofs.Identifying.{few_for}
+use Rattle.postscript_write.proofs.Little.{are_little}
 use Rattle.postscript_write.proofs.ReadAgain.{font_as, one_view}
+use Rattle.postscript_write.proofs.Spare.{has_room}
+use Rattle.postscript_write.proofs.WholeAgain.{stays_whole}
+use Rattle.postscript_write.specs.Given.{AreGiven}
+use Rattle.postscript_write.specs.GivenNumbers.{AreTheirNumbers}
+use Rattle.postscript_write.specs.Numbered.{AreGlyphsFor}
+use Rattle.postscript_write.specs.Room.{HasRoom}
 use Rattle.postscript_write.proofs.whole.put_together.Goals as goal
 
-pub returns-clause-font : goal.returns-clause-font
-returns-clause-font c =
+pub numbered-requires-clause-set : goal.numbered-requires-clause-set
+numbered-requires-clause-set c = (c.args.from.now.set.now, c.requires.set)
+
+pub numbered-requires-clause-encoding : goal.numbered-requires-clause-encoding
+numbered-requires-clause-encoding c = (c.args.from.now.encoding.now, c.requires.encoding)
+
+pub returns-in-Ok-clause-made : goal.returns-in-Ok-clause-made
+returns-in-Ok-clause-made c =
     let from = c.args.from.now in
-    let made = c.in_ok-flat.ensures.made in (
+    let font = from.font.now in
+    let numbers = from.numbers.now in
+    let codes = texts from.codes.now in
+    let sources = from.sources.now in
+    let identifiers = c.args.identifiers.now in
+    let glyphs = c.in_ok-glyphs.glyphs in
+    let found = c.in_ok-glyphs.ensures in
+    let few = c.requires.few in
+    let as_many = c.requires.numbers.many in
+    let many = c.requires.codes.many in
+    let are : AreGlyphsFor font numbers identifiers glyphs =
+    record {
+      exactly =
+          found.selects;
+      select = found.select;
+      strings = found.strings;
+      char_set = found.char_set;
+      encoding = found.encoding;
+    } in
+    let low = numbers_low font.bytes.now (view_shown font) sources numbers c.requires.low c.requires.numbers in
+    let less : length numbers < 2 ^ 16 = omega (arith, few, as_many) in
+    let all : AreGiven font glyphs (length codes) =
+    subst (AreGiven font glyphs) (as_many ∙ sym many)
+    (given font glyphs numbers from.retain_gids from.set.now sources identifiers c.requires.sources as_many low less are) in
+    let their : AreTheirNumbers font glyphs (length codes) numbers =
+    their_numbers font glyphs numbers from.retain_gids from.set.now sources identifiers
+    (length codes) c.requires.sources c.requires.numbers many low less found.select in
+    let laid = c.in-Ok.ensures.laid_out c.requires.read found.selects in (
+      laid.view,
+      record {
+        laid = laid.laid;
+        written = c.in-Ok.ensures.back c.requires.read found.selects all numbers their laid.view laid.laid;
+        names = c.in-Ok.ensures.names c.requires.read found.selects from.retain_gids sources identifiers from.set.now c.requires.set
+            (record { sources_are = c.requires.sources; strings = found.strings; char_set = found.char_set }) many laid.view laid.laid;
+        same_codes =
+            codes_back font glyphs from.retain_gids from.set.now _ sources identifiers from.encoding.now c.in-Ok.flat.items
+            laid.view.tables.dictionary c.requires.sources found.encoding
+            (λ stays. c.in-Ok.ensures.same_codes c.requires.read from.encoding.now c.requires.encoding stays laid.view laid.laid)
+            (λ gives. c.in-Ok.ensures.other_codes c.requires.read from.encoding.now c.requires.encoding gives laid.view laid.laid);
+        unnamed = c.in-Ok.ensures.unnamed c.requires.read found.selects laid.view laid.laid;
+      },
+    )
+
+pub returns-in-Ok-clause-font : goal.returns-in-Ok-clause-font
+returns-in-Ok-clause-font c =
+    let from = c.args.from.now in
+    let made = returns-in-Ok-clause-made c in (
       made.0,
-      (reads_layout c.in_ok-flat.flat.items 0 made.0).1 made.1.laid,
-      font_as from.sources.now from.font.now.bytes.now (view_shown from.font.now) from.set.now from.encoding.now from.numbers.now (texts from.codes.now) c.in_ok-flat.flat.items made.0 c.requires.encoding
+      (reads_layout c.in-Ok.flat.items 0 made.0).1 made.1.laid,
+      font_as from.sources.now from.font.now.bytes.now (view_shown from.font.now) from.set.now from.encoding.now from.numbers.now
+          (texts from.codes.now) c.in-Ok.flat.items made.0 c.requires.encoding
           from.retain_gids c.requires.set c.requires.numbers c.requires.codes made.1,
     )
 
-pub returns-clause-whole : goal.returns-clause-whole
-returns-clause-whole c =
-    let made = c.in_ok-flat.ensures.made in
-    (made.0, (reads_layout c.in_ok-flat.flat.items 0 made.0).1 made.1.laid, made.1.written.whole)
+pub returns-in-Ok-clause-whole : goal.returns-in-Ok-clause-whole
+returns-in-Ok-clause-whole c =
+    let made = returns-in-Ok-clause-made c in
+    (made.0, (reads_layout c.in-Ok.flat.items 0 made.0).1 made.1.laid, made.1.written.whole)
 
-pub returns-clause-codes : goal.returns-clause-codes
-returns-clause-codes c = λ new is.
-    let made = c.in_ok-flat.ensures.made in
-    ap (λ (v : View). v.char_strings) (sym (one_view c.in_ok-flat.flat.items new made.0 is made.1.laid)) ∙ made.1.written.char_strings
+pub returns-in-Ok-clause-codes : goal.returns-in-Ok-clause-codes
+returns-in-Ok-clause-codes c = λ new is.
+    let made = returns-in-Ok-clause-made c in
+    ap (λ (v : View). v.char_strings) (sym (one_view c.in-Ok.flat.items new made.0 is made.1.laid)) ∙ made.1.written.char_strings
 
-pub returns-clause-lenient : goal.returns-clause-lenient
-returns-clause-lenient c = λ was. subst (λ (xs : List ℕ). HasLenientFont xs) c.deref.ensures.value (c.in_ok-stays_read.ensures.lenient was)
+pub returns-in-Ok-clause-lenient : goal.returns-in-Ok-clause-lenient
+unfolding returns-in-Ok-clause-made
+returns-in-Ok-clause-lenient c = λ was.
+    let from = c.args.from.now in
+    let font = from.font.now in
+    let found = c.in_ok-glyphs.ensures in
+    let made = returns-in-Ok-clause-made c in
+    let laid = c.in-Ok.ensures.laid_out c.requires.read found.selects in
+    stays_whole font c.in_ok-glyphs.glyphs from.retain_gids from.set.now from.sources.now c.args.identifiers.now from.encoding.now
+    from.numbers.now (texts from.codes.now) c.in-Ok.flat.items laid.view
+    c.requires.read c.requires.encoding c.requires.sources c.requires.codes found.strings found.char_set made.1 laid.strings
+    (c.in-Ok.ensures.char_set c.requires.read laid.view laid.laid) was
+
+pub returns-clause-memory : goal.returns-clause-memory
+returns-clause-memory c =
+    let font = c.args.from.now.font.now in
+    let numbers = c.args.from.now.numbers.now in
+    let codes = texts c.args.from.now.codes.now in
+    let glyphs = c.in_ok-glyphs.glyphs in
+    let found = c.in_ok-glyphs.ensures in
+    let few = c.requires.few in
+    let as_many = c.requires.numbers.many in
+    let many = c.requires.codes.many in
+    let are : AreGlyphsFor font numbers c.args.identifiers.now glyphs =
+    record {
+      exactly =
+          found.selects;
+      select = found.select;
+      strings = found.strings;
+      char_set = found.char_set;
+      encoding = found.encoding;
+    } in
+    let less : length codes < 2 ^ 16 = omega (arith, few, many) in
+    let listed = few_for c.args.from.now.retain_gids c.args.from.now.set.now _ c.args.from.now.sources.now c.args.identifiers.now
+    c.requires.sources few in
+    let room : HasRoom font glyphs codes = has_room font glyphs codes c.requires.read c.requires.low less c.requires.small
+    (are_little font numbers c.args.identifiers.now glyphs (omega (arith, few, as_many)) listed are) in
+    c.of_memory.ensures.memory (λ other. c.in-Err.ensures.refused other c.requires.read found.selects.0 room)

@@ -15,4 +15,5 @@ returns-clause-renumbered c =
     let none : get_or strings.renumbered.items k None ≡ None = search rules in
     let text : c.item.result.now ≡ get_or own k [] = c.item.ensures ∙ get_or_default own k c.item.result.now [] less in
     rw (c.in_ok-push.ensures.texts, c.in_ok-push.ensures.renumbered)
-    (one_written own (texts strings.texts.items) strings.renumbered.items k (391 + length (texts strings.texts.items)) c.item.result.now less none text refl c.requires)
+    (one_written own (texts strings.texts.items) strings.renumbered.items k
+    (391 + length (texts strings.texts.items)) c.item.result.now less none text refl c.requires)

@@ -12,6 +12,9 @@ loop-i-preserved c =
     let is : c.from.result ≡ get_or c.args.identifiers.now c.loop-i.i 0 = search rules in
     record {
       written = now;
-      added = one_added c.args.self.now.renumbered.items c.loop-i.self.renumbered.items c.add.new.self.renumbered.items c.args.identifiers.now c.loop-i.i c.from.result
-          (now.many ∙ sym before.many) is c.in_ok-add.ensures.named c.in_ok-add.ensures.kept c.in_ok-add.ensures.only c.loop-i.invariant.added;
+      added =
+          one_added c.args.self.now.renumbered.items c.loop-i.self.renumbered.items c.add.new.self.renumbered.items c.args.identifiers.now
+          c.loop-i.i c.from.result
+          (now.many ∙ sym before.many) is c.in_ok-add.ensures.named c.in_ok-add.ensures.kept c.in_ok-add.ensures.only
+          c.loop-i.invariant.added;
     }
